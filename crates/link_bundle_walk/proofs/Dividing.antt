@@ -1,8 +1,8 @@
--- How an input is divided into bundles.
-use Rattle.std.proofs.Common.{◌≡◌, ℕ, zero, suc, ◌+◌, ◌-◌, ◌<◌, ◌≤◌, inr, Bool, true, false, nat_lt, List, [], ◌∷◌, ◌++◌, length, take, drop, Some, None, Result, Ok, Err, if◌then◌else◌, refl, ap, sym, ◌∙◌, subst, ⊎_elim, take_all, append-nil, append_assoc, length-append, length-drop, arith}
-use Rattle.std.proofs.Math.Seq.{take-append_seam, take-append-add, drop-append_seam}
-use Rattle.std.proofs.lemmas.Bool.{cases_Bool, false≢true, lt-ltb, le-ltb}
-use Rattle.std.proofs.lemmas.List.{length-take, take-take}
+-- How an input is divided into bundles, and what a run of bytes shows of the current one.
+use Rattle.std.proofs.Common.{◌≡◌, ℕ, zero, suc, ◌+◌, ◌-◌, ◌<◌, ◌≤◌, inr, Bool, true, false, List, [], ◌∷◌, ◌++◌, length, take, drop, Some, None, Result, Ok, Err, if◌then◌else◌, refl, ap, sym, ◌∙◌, subst, take_all, append-nil, length-append, length-drop, arith}
+use Rattle.std.proofs.Math.Seq.{take-append-add, drop-append_seam, take-append_seam}
+use Rattle.std.proofs.lemmas.Bool.{false≢true, lt-ltb, le-ltb}
+use Rattle.std.proofs.lemmas.List.{length-take, take-take, take-append-le}
 use Rattle.link_cbor.specs.PieceLaws.{taken-idle, taken-cons, taken-nil, joins_pieces, takes_shortest}
 use Rattle.link_cbor.specs.Pieces.{taken}
 use Rattle.link_bundle_types.specs.Faults.{lasts}
@@ -11,22 +11,30 @@ use Rattle.link_bundle_types.specs.declared.fault.BundleFault.TheVariants.{Cut}
 use Rattle.link_bundle_types.specs.declared.fault.State.TheVariants as state
 use Rattle.link_bundle_types.specs.declared.info.BundleInfo.{BundleInfo}
 use Rattle.link_bundle.specs.Bundle.{opening_at, bundle_at, judged_bundle, verdict, state_of, is_going, bundle_goes}
-use Rattle.link_bundle_walk.specs.Bundles.{Packed, Refusal, Longer, Faulty, Divided, IsOpen, bundle_prefix, refused_by, judged_front, with_bundle, divided_by, divided_in, divided, with_bundles}
-use Rattle.link_bundle_walk.specs.BundleRun.{EndsInBundle}
+use Rattle.link_bundle_walk.specs.Bundles.{Packed, Refusal, Longer, Faulty, Divided, IsOpen, bundle_prefix, refused_by, judged_front, with_bundle, divided_by, divided_in, divided}
+use Rattle.link_bundle.specs.Scan.{HasScanned}
+use Rattle.link_report.specs.declared.fault.Fault.TheVariants.{TooLong}
+use Rattle.link_bundle_walk.specs.BundleRun.{Refuses, MakesOf, found_by}
+use Rattle.link_bundle_walk.specs.declared.current.Current.{Current}
+use Rattle.link_bundle_walk.specs.declared.current.Found.{Found}
 
 -- ---- prefixes
 
--- all of the taken bytes are taken again
-pub taken_again : (goes : List ℕ → Bool) (seen bytes : List ℕ)
-    → taken goes seen (taken goes seen bytes) ≡ taken goes seen bytes
-taken_again goes seen [] = rw (taken-nil goes seen) (taken-nil goes seen)
-taken_again goes seen (byte ∷ bytes) =
-    ⊎_elim
-    (λ wanted. rw (taken-cons goes seen byte bytes wanted)
-    (taken-cons goes seen byte (taken goes (seen ++ byte ∷ []) bytes) wanted
-    ∙ ap (λ (rest : List ℕ). byte ∷ rest) (taken_again goes (seen ++ byte ∷ []) bytes)))
-    (λ idle. rw (taken-idle goes seen (byte ∷ bytes) idle) (taken-nil goes seen))
-    (cases_Bool (goes seen))
+-- bytes are their own prefix if each of them was needed
+own_front : (part : List ℕ)
+    → ((count : ℕ) → count < length part → bundle_goes (take count part) ≡ true)
+    → bundle_prefix part ≡ part
+own_front part wanted =
+    sym ((takes_shortest bundle_goes [] part part).0 (record {
+      is_front = sym (take_all (length part) part (omega arith));
+      wanted = wanted;
+      stops = inr refl;
+    }))
+
+pub prefix_again : (bytes : List ℕ) → bundle_prefix (bundle_prefix bytes) ≡ bundle_prefix bytes
+prefix_again bytes =
+    own_front (bundle_prefix bytes)
+    ((takes_shortest bundle_goes [] bytes (bundle_prefix bytes)).1 refl).wanted
 
 -- bytes that are taken whole are followed by the bytes that they still need
 pub front_more : (part more : List ℕ) → bundle_prefix part ≡ part
@@ -37,43 +45,25 @@ front_more part more front =
 pub front_kept : (part piece : List ℕ) → bundle_prefix part ≡ part
     → bundle_prefix (part ++ taken bundle_goes part piece) ≡ part ++ taken bundle_goes part piece
 front_kept part piece front =
-    front_more part (taken bundle_goes part piece) front
-    ∙ ap (λ (bytes : List ℕ). part ++ bytes) (taken_again bundle_goes part piece)
+    rw (sym (front_more part piece front)) (prefix_again (part ++ piece))
 
--- if no more bytes are needed, none are taken
-pub front_stopped : (front more : List ℕ) → bundle_prefix front ≡ front → bundle_goes front ≡ false
-    → bundle_prefix (front ++ more) ≡ front
-front_stopped front more is idle =
-    front_more front more is ∙ ap (λ (bytes : List ℕ). front ++ bytes) (taken-idle bundle_goes front more idle) ∙ append-nil front
-
--- before its last byte, a prefix begins a bundle that goes on
-open_before : (limit : ℕ) (front : List ℕ) → bundle_prefix front ≡ front
-    → (count : ℕ) → count < length front → count ≤ limit → IsOpen limit (take count front)
-open_before limit front is count less within =
-    let wanted = ((takes_shortest bundle_goes [] front front).1 (sym is)).wanted in
-    let part = take count front in
-    let size = length-take count front in
-    record {
-      front = sym ((takes_shortest bundle_goes [] part part).0 (record {
-        is_front = sym (take_all (length part) part (omega arith));
-        wanted = λ fewer short.
-            ap bundle_goes (take-take fewer count front (omega (arith, size)))
-            ∙ wanted fewer (omega (arith, size));
-        stops = inr refl;
-      }));
-      goes = wanted count less;
-      within = omega (arith, size);
-    }
-
--- the same, for a run of bytes at the end of the prefix
+-- before the last byte of a prefix, its bytes begin a bundle that goes on
 pub run_open : (limit : ℕ) (begun run : List ℕ) → bundle_prefix (begun ++ run) ≡ begun ++ run
     → length (begun ++ run) ≤ suc limit
     → (count : ℕ) → count < length run → IsOpen limit (begun ++ take count run)
 run_open limit begun run front within count less =
+    let all = begun ++ run in
+    let wanted = ((takes_shortest bundle_goes [] all all).1 (sym front)).wanted in
+    let at = length begun + count in
     let sizes = length-append begun run in
-    subst (IsOpen limit) (take-append-add begun run count)
-    (open_before limit (begun ++ run) front (length begun + count) (omega (arith, sizes))
-    (omega (arith, sizes)))
+    let size = length-take at all in
+    subst (IsOpen limit) (take-append-add begun run count) (record {
+      front = own_front (take at all) (λ fewer short.
+          ap bundle_goes (take-take fewer at all (omega (arith, size)))
+          ∙ wanted fewer (omega (arith, size)));
+      goes = wanted at (omega (arith, sizes));
+      within = omega (arith, size, sizes);
+    })
 
 -- ---- verdicts
 
@@ -103,23 +93,11 @@ pub some_stopped : (front : List ℕ) → bundle_goes front ≡ false → 0 < le
 some_stopped [] idle = absurd (false≢true (sym idle ∙ none_goes))
 some_stopped (byte ∷ bytes) idle = omega arith
 
+-- the fault of bytes that need more does not last
 going_mends : (stays : Bool) (fault : BundleFault) (offset : ℕ)
     → is_going (if stays then state.Failed fault offset else state.Going) ≡ true → stays ≡ false
 going_mends true fault offset goes = absurd (cc)
 going_mends false fault offset goes = refl
-
-cut_by : (part : List ℕ) (said : Result BundleInfo (BundleFault × ℕ)) → verdict part ≡ said
-    → is_going (state_of said) ≡ true → EndsInBundle part
-cut_by part (Ok info) is goes = absurd (cc)
-cut_by part (Err (fault, offset)) is goes = record { fault = fault; offset = offset; is = is; mends = going_mends (lasts fault) fault offset goes }
-
--- the fault of bytes that need more does not last
-pub open_mends : (part : List ℕ) (fault : BundleFault) (offset : ℕ)
-    → verdict part ≡ Err (fault, offset) → bundle_goes part ≡ true → lasts fault ≡ false
-open_mends part fault offset is goes = going_mends (lasts fault) fault offset (ap (λ said. is_going (state_of said)) (sym is) ∙ goes)
-
-pub goes_cut : (part : List ℕ) → bundle_goes part ≡ true → EndsInBundle part
-goes_cut part goes = cut_by part (verdict part) refl goes
 
 -- ---- the judgement of a prefix
 
@@ -131,56 +109,38 @@ pub beyond_limit : (limit : ℕ) (front : List ℕ) → limit < length front
     → judged_front limit front ≡ Err (Longer limit)
 beyond_limit limit front beyond = rw (lt-ltb limit (length front) beyond) refl
 
-refused_whole : (said : Result BundleInfo (BundleFault × ℕ)) (info : BundleInfo)
-    → refused_by said ≡ Ok info → said ≡ Ok info
-refused_whole (Ok other) info is = cc
-refused_whole (Err (fault, offset)) info is = absurd (cc)
-
-judged_whole_by : (beyond : Bool) (limit : ℕ) (front : List ℕ) (info : BundleInfo)
-    → (if beyond then Err (Longer limit) else refused_by (verdict front)) ≡ Ok info
-    → verdict front ≡ Ok info
-judged_whole_by true limit front info is = absurd (cc)
-judged_whole_by false limit front info is = refused_whole (verdict front) info is
-
--- bytes that are judged to be a bundle are one
-judged_whole : (limit : ℕ) (front : List ℕ) (info : BundleInfo) → judged_front limit front ≡ Ok info
-    → verdict front ≡ Ok info
-judged_whole limit front info is = judged_whole_by (nat_lt limit (length front)) limit front info is
-
 -- ---- the division of an input
 
 -- `next` and `other` divide the same if they agree on the bytes after the bundle
 divided_by-same : (next other : List ℕ → Divided) (front bytes : List ℕ)
     (said : Result BundleInfo Refusal)
-    → ((info : BundleInfo) → said ≡ Ok info
-    → next (drop (length front) bytes) ≡ other (drop (length front) bytes))
+    → next (drop (length front) bytes) ≡ other (drop (length front) bytes)
     → divided_by next front bytes said ≡ divided_by other front bytes said
-divided_by-same next other front bytes (Ok info) same = ap (with_bundle (record { bytes = front; info = info })) (same info refl)
+divided_by-same next other front bytes (Ok info) same =
+    ap (with_bundle (record { bytes = front; info = info })) same
 divided_by-same next other front bytes (Err refusal) same = refl
 
--- after a bundle fewer bytes are left
-fewer_left : (limit byte : ℕ) (bytes front : List ℕ) (info : BundleInfo)
-    → judged_front limit front ≡ Ok info
-    → length (drop (length front) (byte ∷ bytes)) ≤ length bytes
-fewer_left limit byte bytes front info is =
-    let some = some_stopped front (whole_stops front info (judged_whole limit front info is)) in
-    omega (arith, length-drop (length front) (byte ∷ bytes))
+-- after a prefix fewer bytes are left
+fewer_left : (byte : ℕ) (bytes : List ℕ)
+    → length (drop (length (bundle_prefix (byte ∷ bytes))) (byte ∷ bytes)) ≤ length bytes
+fewer_left byte bytes =
+    let some = ap length (taken-cons bundle_goes [] byte bytes none_goes) in
+    omega (arith, some, length-drop (length (bundle_prefix (byte ∷ bytes))) (byte ∷ bytes))
 
 -- each count of at least the number of bytes divides them the same
 enough_turns : (count other limit : ℕ) (bytes : List ℕ) → length bytes ≤ count
     → length bytes ≤ other → divided_in count limit bytes ≡ divided_in other limit bytes
 unfolding divided_in
-enough_turns zero zero limit bytes p q = refl
-enough_turns zero (suc other) limit [] p q = refl
-enough_turns zero (suc other) limit (byte ∷ bytes) p q = absurd (omega arith)
-enough_turns (suc count) zero limit [] p q = refl
+enough_turns count other limit [] p q = refl
+enough_turns zero other limit (byte ∷ bytes) p q = absurd (omega arith)
 enough_turns (suc count) zero limit (byte ∷ bytes) p q = absurd (omega arith)
-enough_turns (suc count) (suc other) limit [] p q = refl
 enough_turns (suc count) (suc other) limit (byte ∷ bytes) p q =
     let front = bundle_prefix (byte ∷ bytes) in
-    divided_by-same (divided_in count limit) (divided_in other limit) front (byte ∷ bytes) (judged_front limit front) (λ info is.
-    let fewer = fewer_left limit byte bytes front info is in
-    enough_turns count other limit (drop (length front) (byte ∷ bytes)) (omega arith) (omega arith))
+    let fewer = fewer_left byte bytes in
+    divided_by-same (divided_in count limit) (divided_in other limit) front (byte ∷ bytes)
+    (judged_front limit front)
+    (enough_turns count other limit (drop (length front) (byte ∷ bytes)) (omega arith)
+    (omega arith))
 
 -- these bundles, and then bytes that do not begin with a bundle that the peer takes
 abbrev pub refused_so : List Packed → (accepted : List ℕ) → Refusal → Divided
@@ -197,9 +157,22 @@ pub divided_front : (limit : ℕ) (front bytes : List ℕ) → 0 < length bytes 
 unfolding divided divided_in
 divided_front limit front [] some is = absurd (omega arith)
 divided_front limit front (byte ∷ bytes) some is =
-    ap (λ (f : List ℕ). divided_by (divided_in (length bytes) limit) f (byte ∷ bytes) (judged_front limit f)) is
-    ∙ divided_by-same (divided_in (length bytes) limit) (divided limit) front (byte ∷ bytes) (judged_front limit front) (λ info whole.
-    enough_turns (length bytes) (length (drop (length front) (byte ∷ bytes))) limit (drop (length front) (byte ∷ bytes)) (fewer_left limit byte bytes front info whole) (omega arith))
+    rw (sym is) (divided_by-same (divided_in (length bytes) limit) (divided limit)
+    (bundle_prefix (byte ∷ bytes)) (byte ∷ bytes)
+    (judged_front limit (bundle_prefix (byte ∷ bytes)))
+    (enough_turns (length bytes) _ limit _ (fewer_left byte bytes) (omega arith)))
+
+-- if no more bytes are needed after the front, the others do not change how it is judged
+divided_stopped : (limit : ℕ) (front more : List ℕ) → bundle_prefix front ≡ front
+    → bundle_goes front ≡ false
+    → divided limit (front ++ more)
+    ≡ divided_by (divided limit) front (front ++ more) (judged_front limit front)
+divided_stopped limit front more is stops =
+    let some = some_stopped front stops in
+    divided_front limit front (front ++ more) (omega (arith, length-append front more))
+    (front_more front more is
+    ∙ ap (λ (bytes : List ℕ). front ++ bytes) (taken-idle bundle_goes front more stops)
+    ∙ append-nil front)
 
 -- the bytes begin with a bundle that the peer takes
 pub divided_whole : (limit : ℕ) (bundle more : List ℕ) (info : BundleInfo)
@@ -207,25 +180,29 @@ pub divided_whole : (limit : ℕ) (bundle more : List ℕ) (info : BundleInfo)
     → divided limit (bundle ++ more)
     ≡ with_bundle (record { bytes = bundle; info = info }) (divided limit more)
 divided_whole limit bundle more info front is within =
-    let stops = whole_stops bundle info is in
-    let some = some_stopped bundle stops in
-    divided_front limit bundle (bundle ++ more) (omega (arith, length-append bundle more)) (front_stopped bundle more front stops)
+    divided_stopped limit bundle more front (whole_stops bundle info is)
     ∙ ap (divided_by (divided limit) bundle (bundle ++ more)) (within_limit limit bundle within ∙ ap refused_by is)
-    ∙ ap (λ (left : List ℕ). with_bundle (record { bytes = bundle; info = info }) (divided limit left)) (drop-append_seam bundle more)
+    ∙ ap (λ (left : List ℕ).
+    with_bundle (record { bytes = bundle; info = info }) (divided limit left))
+    (drop-append_seam bundle more)
 
--- an incomplete bundle has more bytes than the peer takes
-pub divided_longer : (limit : ℕ) (part : List ℕ) (byte : ℕ) (more : List ℕ) → bundle_prefix part ≡ part
-    → bundle_goes part ≡ true → length part ≡ limit
-    → divided limit (part ++ byte ∷ more)
-    ≡ refused_so [] part (Longer limit)
-divided_longer limit part byte more front goes full =
-    let rest = taken bundle_goes (part ++ byte ∷ []) more in
-    divided_front limit (part ++ byte ∷ rest) (part ++ byte ∷ more) (omega (arith, length-append part (byte ∷ more)))
-    (front_more part (byte ∷ more) front ∙ ap (λ (bytes : List ℕ). part ++ bytes) (taken-cons bundle_goes part byte more goes))
-    ∙ ap (divided_by (divided limit) (part ++ byte ∷ rest) (part ++ byte ∷ more)) (beyond_limit limit (part ++ byte ∷ rest) (omega (arith, length-append part (byte ∷ rest))))
+-- the bytes begin with more than the peer takes, and these are no bundle
+pub divided_longer : (limit : ℕ) (bytes more : List ℕ) → limit < length (bundle_prefix bytes)
+    → divided limit (bytes ++ more)
+    ≡ refused_so [] (take limit (bundle_prefix bytes)) (Longer limit)
+divided_longer limit bytes more beyond =
+    let front = bundle_prefix bytes in
+    let run = taken bundle_goes front more in
+    let is = ((takes_shortest bundle_goes [] bytes front).1 refl).is_front in
+    let size = ap length is ∙ length-take (length front) bytes in
+    let longer = length-append front run in
+    divided_front limit (front ++ run) (bytes ++ more)
+    (omega (arith, size, length-append bytes more))
+    (joins_pieces bundle_goes [] bytes more)
+    ∙ ap (divided_by (divided limit) (front ++ run) (bytes ++ more))
+    (beyond_limit limit (front ++ run) (omega arith))
     ∙ ap (λ (accepted : List ℕ). refused_so [] accepted (Longer limit))
-    (ap (λ count. take count (part ++ byte ∷ rest)) (sym full)
-    ∙ take-append_seam part (byte ∷ rest))
+    (take-append-le limit front run (omega arith))
 
 -- the last byte of the prefix shows a fault
 pub divided_faulty : (limit : ℕ) (front more : List ℕ) (fault : BundleFault) (offset : ℕ)
@@ -234,27 +211,113 @@ pub divided_faulty : (limit : ℕ) (front more : List ℕ) (fault : BundleFault)
     → divided limit (front ++ more)
     ≡ refused_so [] (take (length front - 1) front) (Faulty fault offset)
 divided_faulty limit front more fault offset is said stays within =
-    let stops = faulty_stops front fault offset said stays in
-    let some = some_stopped front stops in
-    divided_front limit front (front ++ more) (omega (arith, length-append front more)) (front_stopped front more is stops)
+    divided_stopped limit front more is (faulty_stops front fault offset said stays)
     ∙ ap (divided_by (divided limit) front (front ++ more)) (within_limit limit front within ∙ ap refused_by said)
     ∙ ap (λ test. refused_so [] (if test then take (length front - 1) front else front)
     (Faulty fault offset)) stays
 
 -- the bytes end inside a bundle
 pub divided_open : (limit : ℕ) (part : List ℕ) (fault : BundleFault) (offset : ℕ)
-    → bundle_prefix part ≡ part → bundle_goes part ≡ true → 0 < length part → length part ≤ limit
-    → verdict part ≡ Err (fault, offset)
-    → divided limit part
-    ≡ refused_so [] part (Faulty fault offset)
-divided_open limit part fault offset front goes some within said =
-    divided_front limit part part some front
-    ∙ ap (divided_by (divided limit) part part) (within_limit limit part within ∙ ap refused_by said)
-    ∙ ap (λ test. refused_so [] (if test then take (length part - 1) part else part)
-    (Faulty fault offset)) (open_mends part fault offset said goes)
+    → IsOpen limit part → 0 < length part → verdict part ≡ Err (fault, offset)
+    → (lasts fault ≡ false) × (divided limit part ≡ refused_so [] part (Faulty fault offset))
+divided_open limit part fault offset opened some said =
+    let mends = going_mends (lasts fault) fault offset
+    (ap (λ said. is_going (state_of said)) (sym said) ∙ opened.goes) in (
+      mends,
+      divided_front limit part part some opened.front
+          ∙ ap (divided_by (divided limit) part part)
+          (within_limit limit part opened.within ∙ ap refused_by said)
+          ∙ ap (λ test. refused_so [] (if test then take (length part - 1) part else part)
+          (Faulty fault offset)) mends,
+    )
 
--- ---- the bundles so far
+-- ---- a byte past the limit
 
-pub joined_push : (bundles : List Packed) (bundle : Packed) (more : Divided)
-    → with_bundles bundles (with_bundle bundle more) ≡ with_bundles (bundles ++ bundle ∷ []) more
-joined_push bundles bundle more = ap (λ (all : List Packed). record { bundles = all; rest = more.rest }) (sym (append_assoc bundles (bundle ∷ []) more.bundles))
+pub too_long : (limit number : ℕ) (begun piece : List ℕ) → IsOpen limit begun → 0 < length piece
+    → length begun ≡ limit → Refuses limit number begun (take 1 piece) (TooLong number limit)
+too_long limit number begun [] opened some full = absurd (omega arith)
+too_long limit number begun (byte ∷ bytes) opened some full =
+    let run = byte ∷ [] in
+    let size = length-append begun run in
+    let front : bundle_prefix (begun ++ run) ≡ begun ++ run = front_more begun run opened.front
+    ∙ ap (λ (bytes : List ℕ). begun ++ bytes) (taken-cons bundle_goes begun byte [] opened.goes
+    ∙ ap (λ (bytes : List ℕ). byte ∷ bytes) (taken-nil bundle_goes (begun ++ run))) in
+    let accepted : take limit (bundle_prefix (begun ++ run)) ≡ begun ++ [] =
+    ap (take limit) front ∙ ap (λ n. take n (begun ++ run)) (sym full)
+    ∙ take-append_seam begun run ∙ sym (append-nil begun) in
+    record {
+      refusal = Longer limit;
+      is = refl;
+      lasts = refl;
+      divides = λ more.
+          divided_longer limit (begun ++ run) more (omega (arith, ap length front, size, full))
+          ∙ ap (λ (bytes : List ℕ). refused_so [] bytes (Longer limit)) accepted;
+      before = run_open limit begun run front (omega (arith, size, full));
+    }
+
+-- ---- a run that was scanned
+
+pub taken_some : (begun piece : List ℕ) → bundle_goes begun ≡ true → 0 < length piece
+    → 0 < length (taken bundle_goes begun piece)
+taken_some begun [] goes some = absurd (omega arith)
+taken_some begun (byte ∷ bytes) goes some = rw (taken-cons bundle_goes begun byte bytes goes) (omega arith)
+
+-- all but the last byte
+but_last : (begun run : List ℕ) → 0 < length run
+    → take (length (begun ++ run) - 1) (begun ++ run) ≡ begun ++ take (length run - 1) run
+but_last begun run some =
+    let size : length (begun ++ run) - 1 ≡ length begun + (length run - 1) = omega (arith, length-append begun run) in
+    ap (λ n. take n (begun ++ run)) size ∙ take-append-add begun run (length run - 1)
+
+module _ (limit : ℕ) (current : Current) (begun run : List ℕ) (some : 0 < length run)
+    (scanned : HasScanned current.scan (begun ++ run))
+    (front : bundle_prefix (begun ++ run) ≡ begun ++ run)
+    (within : length (begun ++ run) ≤ limit) where
+  took_fault : (fault : BundleFault) (offset : ℕ) (test : Bool) → lasts fault ≡ test
+      → verdict (begun ++ run) ≡ Err (fault, offset)
+      → MakesOf limit current begun run (found_by current.number (if test
+      then state.Failed fault offset else state.Going))
+  took_fault fault offset true lasting said = record {
+    refusal = Faulty fault offset;
+    is = refl;
+    lasts = lasting;
+    divides = λ more. rw (sym (but_last begun run some))
+        (divided_faulty limit (begun ++ run) more fault offset front said lasting within);
+    before = run_open limit begun run front (omega arith);
+  }
+  took_fault fault offset false lasting said = record {
+    scanned = scanned;
+    opened = record {
+      front = front;
+      goes = ap (λ said. is_going (state_of said)) said
+          ∙ ap (λ test. is_going (if test then state.Failed fault offset else state.Going)) lasting;
+      within = within;
+    };
+  }
+
+  took : (said : Result BundleInfo (BundleFault × ℕ)) → verdict (begun ++ run) ≡ said
+      → MakesOf limit current begun run (found_by current.number (state_of said))
+  took (Ok info) said =
+      record { scanned = scanned; front = front; within = within; info = info; is = said }
+  took (Err (fault, offset)) said = took_fault fault offset (lasts fault) refl said
+
+-- the run is what a scan takes of the first `size` bytes of a piece
+pub judged : (limit : ℕ) (current : Current) (begun piece : List ℕ) (size count : ℕ) (found : Found)
+    → count ≡ length (taken bundle_goes begun (take size piece))
+    → 0 < count → HasScanned current.scan (begun ++ taken bundle_goes begun (take size piece))
+    → bundle_prefix begun ≡ begun → length begun + size ≤ limit
+    → ((seen : List ℕ) → HasScanned current.scan seen
+    → found ≡ found_by current.number (state_of (verdict seen)))
+    → MakesOf limit current begun (take count piece) found
+judged limit current begun piece size count found counted some scanned kept within shows =
+    let part = take size piece in
+    let run = taken bundle_goes begun part in
+    let is = ((takes_shortest bundle_goes begun part run).1 refl).is_front in
+    let few : count ≤ size =
+    omega (arith, ap length is, length-take (length run) part, length-take size piece) in
+    let same : run ≡ take count piece =
+    is ∙ ap (λ n. take n part) (sym counted) ∙ take-take count size piece few in
+    let made = took limit current begun run (omega arith) scanned (front_kept begun part kept)
+    (omega (arith, length-append begun run)) (verdict (begun ++ run)) refl in
+    subst (λ run. MakesOf limit current begun run found) same
+    (subst (MakesOf limit current begun run) (sym (shows (begun ++ run) scanned)) made)

@@ -1,26 +1,24 @@
 -- The state of a walk over bundles, and what a stretch of bytes shows of the current bundle.
-use Rattle.std.specs.Prelude.{◌≡◌, ℕ, ◌+◌, ◌-◌, ◌^◌, ◌<◌, ◌≤◌, Bool, true, false, List, [], ◌++◌, length, take, Option, Some, None, if◌then◌else◌, Result, Ok, Err}
+use Rattle.std.specs.Prelude.{◌≡◌, ℕ, ◌+◌, ◌-◌, ◌^◌, ◌<◌, ◌≤◌, Bool, true, false, List, [], ◌++◌, length, take, Option, Some, None, if◌then◌else◌, Result, Ok}
 use Rattle.link_wire.specs.Device.{Input as Seen, Output}
 use Rattle.link_wire.specs.Source.{window_of, IsSourceAt, IsLive}
 use Rattle.link_wire.specs.declared.IoFault.{IoFault}
 use Rattle.link_wire.specs.declared.Source.{Source}
 use Rattle.link_bundle.specs.Bundle.{verdict}
 use Rattle.link_bundle.specs.Scan.{HasScanned}
-use Rattle.link_bundle_types.specs.Faults.{lasts}
-use Rattle.link_bundle_types.specs.declared.fault.BundleFault.{BundleFault}
 use Rattle.link_bundle_types.specs.declared.fault.State.{State}
 use Rattle.link_bundle_types.specs.declared.fault.State.TheVariants as state
 use Rattle.link_bundle_types.specs.declared.info.BundleInfo.{BundleInfo}
-use Rattle.link_report.specs.Fault.{fault_text}
 use Rattle.link_report.specs.declared.fault.Fault.{Fault}
 use Rattle.link_report.specs.declared.fault.Fault.TheVariants.{Bundle}
-use Rattle.link_run.specs.Run.{Texts, ◌then◌, answer_of, progress_after}
-use Rattle.link_run.specs.Writers.{on_report, AfterLastWrite}
+use Rattle.link_run.specs.Made.{StreamStop, with_fault}
+use Rattle.link_run.specs.Run.{Texts, Outcome, ◌then◌, answer_of, progress_after}
+use Rattle.link_run.specs.Writers.{AfterLastWrite}
 use Rattle.link_run.specs.declared.run.Progress.{Progress}
 use Rattle.link_run.specs.declared.run.Status.{Status}
 use Rattle.link_run.specs.declared.writers.Writers.{Writers}
-use Rattle.link_bundle_walk.specs.Bundles.{Refusal, Faulty, IsOpen, bundle_prefix, divided, with_bundles}
-use Rattle.link_bundle_walk.specs.Telling.{SoFar, none_yet, BundleTelling, Tells, with_run, refusal_fault, lasting, IsShown}
+use Rattle.link_bundle_walk.specs.Bundles.{Refusal, IsOpen, bundle_prefix, divided, with_bundles}
+use Rattle.link_bundle_walk.specs.Telling.{SoFar, none_yet, BundleTelling, Tells, with_run, refusal_fault, lasting, stop_by, IsShown}
 use Rattle.link_bundle_walk.specs.declared.consumer.WholeView.{WholeView}
 use Rattle.link_bundle_walk.specs.declared.current.Current.{Current}
 use Rattle.link_bundle_walk.specs.declared.current.Found.{Found}
@@ -42,11 +40,13 @@ pub record Comes (limit : ℕ) (current : Current) (before : SoFar) (run : List 
   pub some : 0 < length run
   pub few : length before.bundles + length (before.begun ++ run) < 2 ^ 63
 
--- the bytes `run` have come after the bytes `begun`
-pub record Grows (limit : ℕ) (current : Current) (begun run : List ℕ) : Type 0 where
-  pub scanned : HasScanned current.scan (begun ++ run)
-  pub front : bundle_prefix (begun ++ run) ≡ begun ++ run
-  pub within : length (begun ++ run) ≤ limit
+-- exactly these bytes of the bundle have come, and they are a bundle that the peer takes
+pub record IsWhole (limit : ℕ) (current : Current) (bundle : List ℕ) : Type 0 where
+  pub scanned : HasScanned current.scan bundle
+  pub front : bundle_prefix bundle ≡ bundle
+  pub within : length bundle ≤ limit
+  pub info : BundleInfo
+  pub is : verdict bundle ≡ Ok info
 
 -- the bytes of a run before its last byte, which shows a fault
 abbrev pub before_last : (run : List ℕ) → List ℕ
@@ -66,11 +66,14 @@ pub record Refuses (limit number : ℕ) (begun run : List ℕ) (fault : Fault) :
       }
   pub before : (count : ℕ) → count < length run → IsOpen limit (begun ++ take count run)
 
+abbrev pub fault_of : Option StreamStop → Option Fault
+fault_of None = None
+fault_of (Some stop) = Some stop.fault
+
 -- what the bytes `run` show of the bundle, after the bytes `begun`
 abbrev pub MakesOf : (limit : ℕ) → Current → (begun run : List ℕ) → Found → Type 0
 MakesOf limit current begun run found.Part = IsReading limit current (begun ++ run)
-MakesOf limit current begun run found.Whole =
-    Grows limit current begun run × ((info : BundleInfo) × (verdict (begun ++ run) ≡ Ok info))
+MakesOf limit current begun run found.Whole = IsWhole limit current (begun ++ run)
 MakesOf limit current begun run (found.Refused fault) = Refuses limit current.number begun run fault
 
 -- what the state of the scan shows of the bundle
@@ -84,19 +87,14 @@ abbrev pub Shows : (bundle : List ℕ) → Option WholeView → Type 0
 Shows bundle None = ⊥
 Shows bundle (Some whole) = IsShown bundle whole
 
--- the bytes end inside a bundle
-pub record EndsInBundle (bytes : List ℕ) : Type 0 where
-  pub fault : BundleFault
-  pub offset : ℕ
-  pub is : verdict bytes ≡ Err (fault, offset)
-  pub mends : lasts fault ≡ false
-
 -- the fault of an input that ends after the bytes `begun` of a bundle, if there are any
-abbrev pub CutShort : (number : ℕ) → (begun : List ℕ) → Option Fault → Type 0
-CutShort number begun None = begun ≡ []
-CutShort number begun (Some fault) =
-    (0 < length begun) × ((cut : EndsInBundle begun)
-    × (fault ≡ refusal_fault number (Faulty cut.fault cut.offset)))
+abbrev pub cut_at : (limit number : ℕ) → (begun : List ℕ) → Option Fault
+cut_at limit number begun = fault_of (stop_by number (divided limit begun).rest)
+
+-- what is known of that fault, or that no byte of the bundle has come
+abbrev pub CutShort : (limit number : ℕ) → (begun : List ℕ) → Option Fault → Type 0
+CutShort limit number begun None = begun ≡ []
+CutShort limit number begun (Some fault) = cut_at limit number begun ≡ Some fault
 
 -- ---- the state of a walk
 
@@ -145,55 +143,41 @@ module _ {R : Type 0} (look : R → Seen) (telling : BundleTelling) (knows : SoF
 
 -- ---- what the parts of a step do
 
+-- the texts of an input that ends so, and its status
+abbrev pub ended_by : BundleTelling → SoFar → Option Fault → Outcome
+ended_by telling now None =
+    record { texts = telling.ended now.bundles; status = if telling.good now.bundles then 0 else 1 }
+ended_by telling now (Some fault) =
+    record { texts = with_fault fault (telling.texts now); status = 3 }
+
 module _ {W E : Type 0} (out_look : W → Output) (report_look : E → Output)
-    (telling : BundleTelling) (old new : Writers W E) where
-  -- the texts up to `now` were written, the step is not the last, and `stands` holds; or a writer
-  -- failed in them
-  pub record GoesOn (before now : SoFar) (stands : Type 0) (result : Result Progress IoFault)
-      : Type 0 where
+    (telling : BundleTelling) (old new : Writers W E) (before : SoFar) where
+  -- the texts up to `now` were written, and the step is not the last; or a writer failed in them
+  pub record GoesOn (knows : SoFar → Type 0) (current : Current) (now : SoFar)
+      (result : Result Progress IoFault) : Type 0 where
     pub written : Result (Unit {0}) IoFault
     pub is : result ≡ progress_after written
-    pub tells : Tells out_look report_look (telling.texts before) (telling.texts now) stands old new
-        written
+    pub tells : Tells out_look report_look (telling.texts before) (telling.texts now) (knows now)
+        old new written
+    pub number : current.number ≡ length now.bundles
+    pub reading : IsReading telling.limit current now.begun
 
-  -- the texts up to `now` were written, and then the line of this fault; or a writer failed in them
-  pub record Stops (before now : SoFar) (fault : Fault) (result : Result Progress IoFault)
+  -- the texts of an input that ends so were written, or a writer failed in them
+  pub record Ends (now : SoFar) (why : Option Fault) (answer : Result Status IoFault)
       : Type 0 where
     pub texts : Texts
-    pub said : telling.texts before then texts ≡ telling.texts now then on_report (fault_text fault)
-    pub answer : Result Status IoFault
-    pub is : result ≡ answer_of answer
-    pub gives : AfterLastWrite out_look report_look old new texts 3 answer
+    pub said : telling.texts before then texts ≡ (ended_by telling now why).texts
+    pub gives : AfterLastWrite out_look report_look old new texts
+        (ended_by telling now why).status answer
 
   -- what is written once the bytes `run` have come, after what has come before
-  abbrev pub WritesFound : (knows : SoFar → Type 0) → (mid after : Current) → (before : SoFar)
-      → (run : List ℕ) → (what : Found) → MakesOf telling.limit mid before.begun run what
+  abbrev pub WritesFound : (knows : SoFar → Type 0) → Current → (run : List ℕ) → Found
       → Result Progress IoFault → Type 0
-  WritesFound knows mid after before run found.Part took result =
-      let now = with_run before run None in
-      GoesOn before now (Holds telling.limit knows after now) result
-  WritesFound knows mid after before run found.Whole took result =
+  WritesFound knows current run found.Part result =
+      GoesOn knows current (with_run before run None) result
+  WritesFound knows current run found.Whole result =
       (info : BundleInfo) × (verdict (before.begun ++ run) ≡ Ok info)
-      × GoesOn before (with_run before run (Some info))
-      (Holds telling.limit knows after (with_run before run (Some info))) result
-  WritesFound knows mid after before run (found.Refused fault) took result =
-      Stops before (with_run before (before_last run) None) fault result
-
-  -- the fault of an input that ends inside a bundle is reported, or else the end is written
-  abbrev pub WritesEnd : (now : SoFar) → Option Fault → (texts : Texts) → Result Status IoFault
-      → Type 0
-  WritesEnd now None texts answer =
-      (telling.texts now then texts ≡ telling.ended now.bundles)
-      × AfterLastWrite out_look report_look old new texts
-      (if telling.good now.bundles then 0 else 1) answer
-  WritesEnd now (Some fault) texts answer =
-      (texts ≡ on_report (fault_text fault))
-      × AfterLastWrite out_look report_look old new texts 3 answer
-
-  -- what is written at the end of the input
-  pub record WritesFinish (number : ℕ) (now : SoFar) (answer : Result Status IoFault)
-      : Type 0 where
-    pub short : Option Fault
-    pub why : CutShort number now.begun short
-    pub texts : Texts
-    pub gave : WritesEnd now short texts answer
+      × GoesOn knows current (with_run before run (Some info)) result
+  WritesFound knows current run (found.Refused fault) result =
+      (answer : Result Status IoFault) × (result ≡ answer_of answer)
+      × Ends (with_run before (before_last run) None) (Some fault) answer

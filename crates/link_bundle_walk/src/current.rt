@@ -29,12 +29,13 @@ pub struct Current {
 }
 
 impl Current {
-    ghost use Rattle.std.specs.Prelude.{◌+◌, ◌-◌, ◌++◌, min, ◌^◌, ◌<◌, ◌≤◌, true, IfSome, Ok, List, ℕ, [], length, take};
-    ghost use Rattle.link_bundle.specs.Bundle.{verdict, state_of, bundle_goes};
+    ghost use Rattle.std.specs.Prelude.{◌+◌, ◌-◌, ◌++◌, min, ◌^◌, ◌<◌, ◌≤◌, IfSome, Ok, List, ℕ, [], length, take};
+    ghost use Rattle.link_bundle.specs.Bundle.{verdict, state_of};
     ghost use Rattle.link_bundle.specs.Scan.{HasScanned, scan_size};
     ghost use Rattle.link_bundle_types.specs.BundleView.{viewed_info};
     ghost use Rattle.link_bundle_types.specs.declared.info.BundleInfo.{BundleInfo};
     ghost use Rattle.link_bundle_types.specs.ShortNames.{HasShortNames};
+    ghost use Rattle.link_bundle_walk.specs.Bundles.{IsOpen};
     ghost use Rattle.link_bundle_walk.specs.BundleRun.{CutShort, IsReading, MakesOf, Shows, found_by};
 
     /// Nothing of the first bundle has come.
@@ -126,8 +127,8 @@ impl Current {
     ///
     /// It is `None` if no byte of the bundle has come.
     pub fn cut_short(&self) -> Option<Fault>
-        ensures { (begun : List ℕ) → HasScanned self.now.scan begun → bundle_goes begun ≡ true
-            → CutShort self.now.number begun result }
+        ensures { (limit : ℕ) (begun : List ℕ) → HasScanned self.now.scan begun
+            → IsOpen limit begun → CutShort limit self.now.number begun result }
     {
         if self.scan.count() == 0 {
             return None;

@@ -8,7 +8,7 @@ ghost use Rattle.link_run.specs.Run.{Devices, devices_at, looks};
 ghost use Rattle.link_run.specs.Stages.{AfterStage, IsMore, Stands};
 ghost use Rattle.link_run.specs.Writers.{place_of};
 ghost use Rattle.link_bundle_walk.specs.Telling.{SoFar, none_yet, told_of};
-ghost use Rattle.link_bundle_walk.specs.BundleRun.{Comes, Holds, MakesOf, Walks, WritesFinish, WritesFound, before_last};
+ghost use Rattle.link_bundle_walk.specs.BundleRun.{Comes, Ends, Holds, MakesOf, Walks, WritesFound, before_last, cut_at};
 
 use crate::consumer::BundleConsumer;
 use crate::current::{Current, Found};
@@ -148,10 +148,9 @@ fn go_on<W: OutDevice, E: OutDevice, C: BundleConsumer>(
     ensures fits { IsMore result → IsTrue (C.fits consumer.new) }
     ensures gives { (before : SoFar) → C.knows options.now consumer.old before
         → Comes (C.telling options.now).limit current.old before run.now
-        → (took : MakesOf (C.telling options.now).limit current.old before.begun run.now found)
-        → WritesFound W.state E.state (C.telling options.now) writers.old writers.new
-        (C.knows options.now consumer.new) current.old current.new before run.now found took
-        result }
+        → MakesOf (C.telling options.now).limit current.old before.begun run.now found
+        → WritesFound W.state E.state (C.telling options.now) writers.old writers.new before
+        (C.knows options.now consumer.new) current.new run.now found result }
 {
     let number = current.number;
     match found {
@@ -190,17 +189,14 @@ fn finish<W: OutDevice, E: OutDevice, C: BundleConsumer>(
 ) -> Result<Status, IoFault>
     ensures { (now : SoFar) → Holds (C.telling options.now).limit
         (C.knows options.now walker.old.consumer) walker.old.current now
-        → WritesFinish W.state E.state (C.telling options.now) writers.old writers.new
-        walker.old.current.number now result }
+        → Ends W.state E.state (C.telling options.now) writers.old writers.new now now
+        (cut_at (C.telling options.now).limit walker.old.current.number now.begun) result }
 {
     if let Some(fault) = walker.current.cut_short() {
         return writers.report_fault(&fault);
     }
     let status = status(walker.consumer.is_good(options));
-    match walker.consumer.end(options, writers) {
-        Ok(()) => Ok(status),
-        Err(fault) => Err(fault),
-    }
+    walker.consumer.end(options, writers).and(Ok(status))
 }
 
 /// The status of a run that ends without a fault.

@@ -1,7 +1,2 @@
-mod Texts
 pub mod Sending
-mod Keeping
-mod Writing
 pub mod Outcomes
-mod Grown
-mod Telling

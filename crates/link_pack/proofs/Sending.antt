@@ -1,28 +1,29 @@
--- The segments of a bundle that is still incomplete.
-use Rattle.std.proofs.Common.{◌≡◌, ℕ, zero, suc, ◌+◌, ◌-◌, ◌*◌, ◌<◌, ◌≤◌, Bool, true, false, ltb, leb, eqb, cond, ◌&&◌, List, [], ◌∷◌, ◌++◌, length, take, drop, Option, Some, None, refl, ap, ap₂, sym, ◌∙◌, append-nil, append_assoc, length-append, arith}
-use Rattle.std.proofs.lemmas.Bool.{le-ltb}
+-- The segments of a bundle while it comes, and what a cutter writes of them.
+use Rattle.std.proofs.Common.{◌≡◌, ℕ, zero, suc, ◌+◌, ◌-◌, ◌*◌, ◌<◌, ◌≤◌, Bool, true, false, ltb, leb, eqb, cond, ◌&&◌, List, [], ◌∷◌, ◌++◌, length, take, drop, Option, Some, None, refl, ap, ap₂, sym, ◌∙◌, append-nil, append_assoc, length-append, arith, ◌==◌, OnOk, is_some, Result, Ok, Err, subst}
+use Rattle.std.proofs.lemmas.Bool.{le-ltb, ltb-true, ltb-false, eqb-true, eq-eqb, and_parts, cond-false, false_from_ne_true}
 use Rattle.std.proofs.lemmas.Bool.Decides.{nat_tests}
 use Rattle.std.proofs.lemmas.List.{take-append-le, drop-append-le, length-drop, length_push}
 use Rattle.link_transfer.specs.Chunks.{chunk_at, chunk_count, first_chunks}
-use Rattle.link_transfer.specs.Cutting.{beginning, with_bytes, due, due_of, announcement}
+use Rattle.link_transfer.specs.Cutting.{beginning, with_bytes, due, due_of, announcement, Cutting, is_last, next_chunk, next_cut, after_cut, without_chunk, shown}
 use Rattle.link_transfer.specs.declared.cut.Cut.{Cut}
 use Rattle.link_transfer.proofs.Chunking.{first_chunks-zero}
 use Rattle.link_transfer.proofs.Due.{fits_back, given_within, due_more}
-use Rattle.link_pack.specs.Segments.{segment_bytes, Sending, cut_at, segments_from, segments_of, segments_left, all_given, going}
-
--- `a` segments, and then `b` more
-pub segments_from-add : (id : ℕ) (sending : Sending) (k a b : ℕ)
-    → segments_from id sending k (a + b) ≡ segments_from id sending k a
-    ++ segments_from id sending (k + a) b
-unfolding segments_from
-segments_from-add id sending k zero b = ap₂ (λ first count. segments_from id sending first count) {y = k + 0} (omega arith) (omega arith)
-segments_from-add id sending k (suc a) b =
-    let count : suc a + b ≡ suc (a + b) = omega arith in
-    let first : suc k + a ≡ k + suc a = omega arith in
-    let segment = segment_bytes id (cut_at sending k) (chunk_at sending.segment k sending.bundle) in
-    ap (segments_from id sending k) count
-    ∙ ap (λ more. segment ++ more) (segments_from-add id sending (suc k) a b ∙ ap (λ n. segments_from id sending (suc k) a ++ segments_from id sending n b) first)
-    ∙ sym (append_assoc segment (segments_from id sending (suc k) a) (segments_from id sending (k + suc a) b))
+use Rattle.link_pack.specs.Segments.{segment_bytes, Sending, cut_at, segments_from, segments_of, segments_left, all_given, going, flags_of, sending_of}
+use Rattle.std.proofs.Math.Seq.{take-length}
+use Rattle.std.proofs.lemmas.Option.{cond_some}
+use Rattle.link_wire.specs.Device.{Output}
+use Rattle.link_wire.specs.Spelled.{be}
+use Rattle.link_wire.specs.Spelling.{list_bytes, segment_head_bytes}
+use Rattle.link_wire.specs.declared.IoFault.{IoFault}
+use Rattle.link_transfer.specs.Cutter.{IsCutterAt, cut_waits}
+use Rattle.link_transfer.specs.declared.cutter.Cutter.{Cutter}
+use Rattle.link_transfer.proofs.Giving.{next_cut-none}
+use Rattle.link_transfer.proofs.Steps.{next_cut-is}
+use Rattle.link_run.specs.Run.{Texts, ◌then◌}
+use Rattle.link_run.specs.Writers.{on_output, Writes, WritesPart, AfterWrite}
+use Rattle.link_run.specs.declared.writers.Writers.{Writers}
+use Rattle.link_run.proofs.Runs.{writes_none, writes_then, part_of_more, part_behind}
+use Rattle.link_pack.specs.PackRun.{Sends}
 
 -- ---- a due segment of an incomplete bundle stays the same
 
@@ -48,12 +49,6 @@ none_kept : (last : Bool) (segment hold size : ℕ) → hold < size
 none_kept false segment hold size over = refl
 none_kept true segment hold size over = grind (arith, nat_tests)
 
--- two cuts are equal if their fields are
-same_cut : (first l m : Bool) (a b : Option ℕ) → l ≡ m → a ≡ b
-    → ◌≡◌ {A = Cut} (record { first = first; last = l; announce = a })
-    (record { first = first; last = m; announce = b })
-same_cut first l m a b last announce = cc
-
 -- the bytes that have come, and whether they are the whole bundle
 abbrev sends : (segment hold : ℕ) (bundle : List ℕ) (last : Bool) → Sending
 sends segment hold bundle last = record { segment = segment; hold = hold; bundle = bundle; whole = last }
@@ -66,40 +61,45 @@ cut_kept : (segment hold : ℕ) (bundle run : List ℕ) (last : Bool) (k : ℕ)
     ≡ cut_at (sends segment hold (bundle ++ run) last) k
 unfolding announcement
 cut_kept segment hold bundle run last k some next over within =
-    rw length-append
-    (same_cut (eqb k 0) _ _ _ _ (last_kept last segment k (length bundle) (length run) some next within)
-    (ap (λ (announce : Option ℕ). cond (eqb k 0) announce None) (none_kept last segment hold (length bundle + length run) (omega arith))))
-
-kept_from : (id segment hold : ℕ) (bundle run : List ℕ) (last : Bool) (k count : ℕ)
-    → 0 < segment → 0 < length run
-    → hold < length bundle → (k + count) * segment ≤ length bundle
-    → segments_from id (sends segment hold bundle false) k count
-    ≡ segments_from id (sends segment hold (bundle ++ run) last) k count
-unfolding segments_from
-kept_from id segment hold bundle run last k zero some next over within = refl
-kept_from id segment hold bundle run last k (suc count) some next over within =
-    let full : k * segment + segment ≤ length bundle = omega arith in
-    ap₂ (λ (first more : List ℕ). first ++ more)
-    (ap₂ (segment_bytes id) (cut_kept segment hold bundle run last k some next over full) (chunk_kept segment k bundle run full))
-    (kept_from id segment hold bundle run last (suc k) count some next over (omega arith))
+    let cut : Bool → Option ℕ → Cut = λ last announce.
+    record { first = eqb k 0; last = last; announce = announce } in
+    rw length-append (ap₂ cut
+    (last_kept last segment k (length bundle) (length run) some next within)
+    (ap (λ (announce : Option ℕ). cond (eqb k 0) announce None)
+    (none_kept last segment hold (length bundle + length run) (omega arith))))
 
 -- a chunk is due only if the bundle is too long to be announced
 due_over : (segment hold size count : ℕ) → 0 < count → count ≤ due_of false segment hold size
     → hold < size
 due_over segment hold size count some few = grind (arith, nat_tests)
 
-pub segments_kept : (id segment hold : ℕ) (bundle run : List ℕ) (last : Bool) (count : ℕ)
-    → 0 < segment → 0 < length run
-    → count ≤ due_of false segment hold (length bundle)
-    → segments_from id (record { segment = segment; hold = hold; bundle = bundle; whole = false }) 0
-    count
-    ≡ segments_from id (record { segment = segment; hold = hold; bundle = bundle ++ run; whole = last }) 0 count
+-- due segments of the incomplete bundle, and then others once more bytes have come
+grow_from : (id segment hold : ℕ) (bundle run : List ℕ) (last : Bool) (k count rest : ℕ)
+    → 0 < segment → 0 < length run → k + count ≤ due_of false segment hold (length bundle)
+    → segments_from id (sends segment hold bundle false) k count
+    ++ segments_from id (sends segment hold (bundle ++ run) last) (k + count) rest
+    ≡ segments_from id (sends segment hold (bundle ++ run) last) k (count + rest)
 unfolding segments_from
-segments_kept id segment hold bundle run last zero some next few = refl
-segments_kept id segment hold bundle run last (suc count) some next few =
-    let over = due_over segment hold (length bundle) (suc count) (omega arith) few in
-    kept_from id segment hold bundle run last 0 (suc count) some next over
-    (omega (arith, given_within segment hold (suc count) (length bundle) some few))
+grow_from id segment hold bundle run last k zero rest some next few =
+    ap₂ (segments_from id (sends segment hold (bundle ++ run) last)) {y = k} {v = 0 + rest}
+    (omega arith) (omega arith)
+grow_from id segment hold bundle run last k (suc count) rest some next few =
+    let now = sends segment hold (bundle ++ run) last in
+    let size = length bundle in
+    let over = due_over segment hold size (k + suc count) (omega arith) few in
+    let full : k * segment + segment ≤ size =
+    omega (arith, given_within segment hold (k + suc count) size some few) in
+    let front = segments_from id (sends segment hold bundle false) (suc k) count in
+    let first = segment_bytes id (cut_at now k) (chunk_at segment k (bundle ++ run)) in
+    ap₂ (λ (cut : Cut) (chunk : List ℕ). (segment_bytes id cut chunk ++ front)
+    ++ segments_from id now (k + suc count) rest)
+    (cut_kept segment hold bundle run last k some next over full)
+    (chunk_kept segment k bundle run full)
+    ∙ append_assoc first front (segments_from id now (k + suc count) rest)
+    ∙ ap (λ n. first ++ (front ++ segments_from id now n rest)) {y = suc k + count} (omega arith)
+    ∙ ap (λ (more : List ℕ). first ++ more)
+    (grow_from id segment hold bundle run last (suc k) count rest some next (omega arith))
+    ∙ ap (segments_from id now k) {x = suc (count + rest)} (omega arith)
 
 -- ---- an incomplete bundle, with all due chunks given
 
@@ -138,20 +138,6 @@ segments_idle id segment hold bundle =
     left_none id (sends segment hold bundle false) (length (first_chunks segment count bundle)) count (first_chunks-length segment count bundle)
 
 -- the segments so far, followed by those that become due with more bytes
-grow_from : (id segment hold : ℕ) (bundle run : List ℕ) (last : Bool) (given before after : ℕ)
-    → 0 < segment → 0 < length run
-    → before ≡ due_of false segment hold (length bundle) → given ≡ before → before ≤ after
-    → segments_from id (sends segment hold bundle false) 0 before
-    ++ segments_from id (sends segment hold (bundle ++ run) last) given (after - given)
-    ≡ segments_from id (sends segment hold (bundle ++ run) last) 0 after
-grow_from id segment hold bundle run last given before after some next is same few =
-    let all : before + (after - before) ≡ after = omega arith in
-    let from = segments_from id (sends segment hold (bundle ++ run) last) in
-    ap₂ (λ (front : List ℕ) (k : ℕ). front ++ from k (after - k)) (segments_kept id segment hold bundle run last before some next (omega arith)) same
-    ∙ ap (λ k. from 0 before ++ from k (after - before)) {y = 0 + before} (omega arith)
-    ∙ sym (segments_from-add id (sends segment hold (bundle ++ run) last) 0 before (after - before))
-    ∙ ap (from 0) all
-
 pub segments_grow : (id segment hold : ℕ) (bundle run : List ℕ) (last : Bool)
     → 0 < segment → 0 < length run
     → segments_of id (record { segment = segment; hold = hold; bundle = bundle; whole = false })
@@ -160,11 +146,18 @@ pub segments_grow : (id segment hold : ℕ) (bundle run : List ℕ) (last : Bool
 unfolding due
 segments_grow id segment hold bundle [] last some next = absurd (omega arith)
 segments_grow id segment hold bundle (byte ∷ bytes) last some next =
+    let run = byte ∷ bytes in
     let before = due_of false segment hold (length bundle) in
-    let more : before ≤ due_of last segment hold (length (bundle ++ byte ∷ bytes)) =
-    rw length-append (due_more last segment hold before (length bundle) (length (byte ∷ bytes)) some next (omega arith)) in
-    grow_from id segment hold bundle (byte ∷ bytes) last (length (first_chunks segment before bundle)) before
-    (due_of last segment hold (length (bundle ++ byte ∷ bytes))) some next refl (first_chunks-length segment before bundle) more
+    let after = due_of last segment hold (length (bundle ++ run)) in
+    let more : before ≤ after = rw length-append (due_more last segment hold before (length bundle)
+    (length run) some next (omega arith)) in
+    let now = segments_from id (sends segment hold (bundle ++ run) last) in
+    ap (λ given.
+    segments_from id (sends segment hold bundle false) 0 before ++ now given (after - given))
+    {y = 0 + before} (first_chunks-length segment before bundle ∙ omega arith)
+    ∙ grow_from id segment hold bundle run last 0 before (after - (0 + before)) some next
+    (omega arith)
+    ∙ ap (now 0) {y = after} (omega arith)
 
 -- ---- once all due chunks were given
 
@@ -179,3 +172,219 @@ pub all_given_ended : (segment hold : ℕ) (bundle run : List ℕ) → 0 < lengt
     → all_given (with_bytes run true (going segment hold bundle)) ≡ beginning segment hold
 all_given_ended segment hold bundle [] next = absurd (omega arith)
 all_given_ended segment hold bundle (byte ∷ bytes) next = refl
+
+-- ---- chunks written as segments
+
+-- the head of a segment, whose list is there only if it is the first
+pub head_spelled : (id size : ℕ) (first last : Bool) (announce : Option ℕ)
+    → segment_head_bytes (flags_of first last) id size announce
+    ≡ (1 ∷ flags_of first last ∷ []) ++ be 8 id ++ list_bytes first announce ++ be 8 size
+unfolding segment_head_bytes
+head_spelled id size true true announce = refl
+head_spelled id size true false announce = refl
+head_spelled id size false true announce = refl
+head_spelled id size false false announce = refl
+
+-- a fact that holds in any case
+pub holds_if : {A E : Type 0} {P : Type 0} (result : Result A E) → P → OnOk result P
+holds_if (Ok value) holds = holds
+holds_if (Err fault) holds = tt
+
+module _ {W E : Type 0} (out_look : W → Output) (report_look : E → Output) where
+  pub part_more : (old new : Writers W E) (first second : List ℕ) (fault : IoFault)
+      → WritesPart out_look report_look old new (on_output first) fault
+      → WritesPart out_look report_look old new (on_output (first ++ second)) fault
+  part_more old new first second fault part =
+      part_of_more out_look report_look old new (on_output first) (on_output second) fault
+      (λ none. absurd (omega arith)) part
+
+  -- a text was written to the output, and then others, or a writer failed in these
+  pub after_output : (old mid new : Writers W E) (first : List ℕ) (second : Texts)
+      (result : Result (Unit {0}) IoFault)
+      → Writes out_look report_look old mid (on_output first)
+      → AfterWrite out_look report_look mid new second result
+      → AfterWrite out_look report_look old new (on_output first then second) result
+  after_output old mid new first second (Ok done) one two =
+      writes_then out_look report_look old mid new (on_output first) second one two
+  after_output old mid new first second (Err fault) one part =
+      part_behind out_look report_look old mid new first second fault one part
+
+-- ---- a cut
+
+-- the segments left are the next one, and then the others
+segment_then : (id : ℕ) (sending : Sending) (k next due : ℕ) → k < due → k + 1 ≡ next
+    → segments_from id sending k (due - k)
+    ≡ segment_bytes id (cut_at sending k) (chunk_at sending.segment k sending.bundle)
+    ++ segments_from id sending next (due - next)
+unfolding segments_from
+segment_then id sending k next due some is =
+    let count : due - k ≡ suc (due - next) = omega arith in
+    let step : suc k ≡ next = omega arith in
+    ap (segments_from id sending k) count ∙ ap (λ n. segment_bytes id (cut_at sending k)
+    (chunk_at sending.segment k sending.bundle) ++ segments_from id sending n (due - next)) step
+
+-- what a cut of the next chunk leaves
+record Leaves (id : ℕ) (now : Cutting) (cut : Cut) (after : Cutting) : Type 0 where
+  pub left : segments_left id now ≡ segment_bytes id cut (next_chunk now) ++ segments_left id after
+  pub ends : all_given after ≡ all_given now
+  pub shows : shown after ≡ next_chunk now
+
+-- the history of the cutter after the next cut; `last` is whether that chunk is the last
+abbrev left_by : (last : Bool) → Cutting → Cutting
+left_by last now =
+    cond last (record (beginning now.segment now.hold) { chunk = Some (next_chunk now) })
+    (record now { given = now.given ++ next_chunk now ∷ []; chunk = Some (next_chunk now) })
+
+leaves_by : (id : ℕ) (now : Cutting) (last : Bool) → is_last now ≡ last → length now.given < due now
+    → Leaves id now (cut_at (sending_of now) (length now.given)) (left_by last now)
+unfolding due shown
+leaves_by id now true is some =
+    let count = length now.given in
+    let sending = sending_of now in
+    let parts = and_parts now.whole _ is in
+    let all : count + 1 ≡ due now = rw parts.0 (eqb-true _ _ parts.1) in
+    let none = due_none now.segment now.hold in
+    record {
+      left = segment_then id sending count (count + 1) (due now) some refl
+          ∙ ap (λ (more : List ℕ). segment_bytes id (cut_at sending count) (next_chunk now) ++ more)
+          (left_none id sending (count + 1) (due now) all
+          ∙ sym (left_none id (sending_of (beginning now.segment now.hold)) 0 _ (sym none)));
+      ends = rw (parts.0, none, first_chunks-zero now.segment []) refl;
+      shows = refl;
+    }
+leaves_by id now false is some = record {
+  left = segment_then id (sending_of now) (length now.given) _ (due now) some
+      (sym (length_push now.given (next_chunk now)));
+  ends = refl;
+  shows = refl;
+}
+
+after_is : (now : Cutting) (cut : Cut) → next_cut now ≡ Some cut
+    → after_cut now ≡ left_by (is_last now) now
+unfolding after_cut
+after_is now cut is = rw is refl
+
+-- the segment of a cut that waits is the first of those left
+cut_leaves : (id : ℕ) (now : Cutting) (cut : Cut) → next_cut now ≡ Some cut
+    → Leaves id now cut (after_cut now)
+unfolding next_cut announcement
+cut_leaves id now cut is =
+    let waits = cond_some (ltb (length now.given) (due now))
+    (cut_at (sending_of now) (length now.given)) cut is in
+    rw (after_is now cut is) (subst (λ cut. Leaves id now cut (left_by (is_last now) now)) waits.1
+    (leaves_by id now (is_last now) refl (ltb-true (length now.given) (due now) waits.0)))
+
+-- if no cut waits, no segment is left, and all due chunks were given
+idle : (id : ℕ) (cutter : Cutter) (now : Cutting) → IsCutterAt cutter now → next_cut now ≡ None
+    → (segments_left id now ≡ []) × (without_chunk now ≡ all_given now)
+idle id cutter now at is =
+    let below = ltb-false (length now.given) (due now) (sym (next_cut-is now) ∙ ap is_some is) in
+    let few = at.few in
+    let all : length now.given ≡ due now = omega arith in
+    let goes_on = false_from_ne_true now.whole (λ whole. absurd (omega (arith, at.left whole))) in
+    let given = at.given ∙ ap (λ count. first_chunks now.segment count now.bundle) all in (
+      left_none id (sending_of now) (length now.given) (due now) all,
+      ap (λ (given : List (List ℕ)). record now { given = given; chunk = None }) given
+          ∙ sym (cond-false now.whole _ _ goes_on),
+    )
+
+-- ---- one chunk that is cut where it lies, with no other ready
+
+pub one_sent : {W E : Type 0} (out_look : W → Output) (report_look : E → Output) (id : ℕ)
+    (now : Cutting) (cut : Cut) (chunk : List ℕ) (after : Cutter) (old new : Writers W E)
+    (result : Result (Unit {0}) IoFault) → next_cut now ≡ Some cut → next_chunk now ≡ chunk
+    → IsCutterAt after (without_chunk (after_cut now)) → cut_waits after ≡ false
+    → AfterWrite out_look report_look old new (on_output (segment_bytes id cut chunk)) result
+    → Sends out_look report_look id now old new after result
+unfolding due
+one_sent out_look report_look id now cut chunk after old new result is same at quiet wrote =
+    let rest = idle id after (without_chunk (after_cut now)) at
+    (sym (next_cut-none after (without_chunk (after_cut now)) at quiet)) in
+    let leaves = cut_leaves id now cut is in
+    let all : segment_bytes id cut chunk ≡ segments_left id now = sym (leaves.left
+    ∙ ap₂ (λ (chunk more : List ℕ). segment_bytes id cut chunk ++ more) same rest.0
+    ∙ append-nil (segment_bytes id cut chunk)) in
+    record {
+      wrote = subst (λ (bytes : List ℕ).
+          AfterWrite out_look report_look old new (on_output bytes) result) all wrote;
+      after = holds_if result (subst (IsCutterAt after) (rest.1 ∙ leaves.ends) at);
+    }
+
+-- the cutter took a whole run
+pub run_pushed : (cutter : Cutter) (so_far : Cutting) (run : List ℕ) (count : ℕ) (last : Bool)
+    → count ≡ length run
+    → IsCutterAt cutter (with_bytes (take count run) (last && count == length run) so_far)
+    → IsCutterAt cutter (with_bytes run last so_far)
+run_pushed cutter so_far run count last counted pushed =
+    let all : take count run ≡ run = ap (λ n. take n run) counted ∙ take-length run in
+    subst (λ ends. IsCutterAt cutter (with_bytes run ends so_far)) (ends last)
+    (subst (λ bytes. IsCutterAt cutter (with_bytes bytes (last && count == length run) so_far)) all
+    pushed)
+  where
+    ends : (last : Bool) → (last && count == length run) ≡ last
+    ends true = eq-eqb count (length run) counted
+    ends false = refl
+
+-- ---- the cuts of a cutter, one after another
+
+module _ {W E : Type 0} (out_look : W → Output) (report_look : E → Output) where
+  -- some segments were written; once the others are, all that were left at the start are
+  pub record Sent (id : ℕ) (start : Cutting) (old new : Writers W E)
+      (cutter : Cutter) : Type 0 where
+    pub now : Cutting
+    pub at : IsCutterAt cutter now
+    pub then_all : (last : Writers W E) (result : Result (Unit {0}) IoFault)
+        → AfterWrite out_look report_look new last (on_output (segments_left id now)) result
+        → AfterWrite out_look report_look old last (on_output (segments_left id start)) result
+    pub ends : all_given now ≡ all_given start
+
+  module _ {id : ℕ} {start : Cutting} {old mid : Writers W E} {before : Cutter}
+      (some : Sent id start old mid before) where
+    -- the next cut waits
+    module _ (cut : Cut) (chunk : List ℕ) (new : Writers W E) (after : Cutter)
+        (is : next_cut some.now ≡ Some cut) (same : chunk ≡ shown (after_cut some.now)) where
+      left : segment_bytes id cut chunk ++ segments_left id (after_cut some.now)
+          ≡ segments_left id some.now
+      left =
+          let leaves = cut_leaves id some.now cut is in
+          ap (λ chunk. segment_bytes id cut chunk ++ segments_left id (after_cut some.now))
+          (same ∙ leaves.shows) ∙ sym leaves.left
+
+      abbrev Sends_of : Writers W E → Result (Unit {0}) IoFault → List ℕ → Type 0
+      Sends_of last result bytes = AfterWrite out_look report_look mid last (on_output bytes) result
+
+      pub sent_more : IsCutterAt after (after_cut some.now)
+          → Writes out_look report_look mid new (on_output (segment_bytes id cut chunk))
+          → Sent id start old new after
+      sent_more at writes = record {
+        now = after_cut some.now;
+        at = at;
+        then_all = λ last result wrote. some.then_all last result
+            (subst (Sends_of last result) left
+            (after_output out_look report_look mid new last (segment_bytes id cut chunk)
+            (on_output (segments_left id (after_cut some.now))) result writes wrote));
+        ends = (cut_leaves id some.now cut is).ends ∙ some.ends;
+      }
+
+      -- a writer failed in a segment
+      pub sent_part : (fault : IoFault)
+          → WritesPart out_look report_look mid new (on_output (segment_bytes id cut chunk)) fault
+          → Sends out_look report_look id start old new after (Err fault)
+      sent_part fault part = record {
+        wrote = some.then_all new (Err fault) (subst (Sends_of new (Err fault)) left
+            (part_more out_look report_look mid new (segment_bytes id cut chunk)
+            (segments_left id (after_cut some.now)) fault part));
+        after = tt;
+      }
+
+    -- all segments that were left are written
+    pub sent_all : (after : Cutter) → next_cut some.now ≡ None
+        → IsCutterAt after (after_cut some.now)
+        → Sends out_look report_look id start old mid after (Ok tt)
+    unfolding after_cut
+    sent_all after is at =
+        let rest = idle id before some.now some.at is in
+        record {
+          wrote = some.then_all mid (Ok tt) (rw rest.0 (writes_none out_look report_look mid));
+          after = rw (sym (rest.1 ∙ some.ends)) (rw is at at);
+        }

@@ -1,16 +1,19 @@
 -- What `pack` says of the bundles so far.
-use Rattle.std.specs.Prelude.{◌≡◌, ℕ, Bool, true, false, List, [], ◌++◌, length, Result, Err}
+use Rattle.std.specs.Prelude.{◌≡◌, ℕ, true, false, List, [], ◌++◌, length, OnOk, Result, Err}
+use Rattle.link_wire.specs.Device.{Output}
 use Rattle.link_wire.specs.declared.IoFault.{IoFault}
 use Rattle.link_wire.specs.declared.IoFault.TheVariants as io
-use Rattle.link_transfer.specs.Cutting.{with_bytes}
+use Rattle.link_transfer.specs.Cutter.{IsCutterAt}
+use Rattle.link_transfer.specs.Cutting.{Cutting}
+use Rattle.link_transfer.specs.declared.cutter.Cutter.{Cutter}
 use Rattle.link_run.specs.Run.{Texts, ◌then◌, Devices}
-use Rattle.link_run.specs.Writers.{on_output}
+use Rattle.link_run.specs.Writers.{on_output, AfterWrite}
 use Rattle.link_run.specs.declared.run.Status.{Status}
+use Rattle.link_run.specs.declared.writers.Writers.{Writers}
 use Rattle.link_bundle_walk.specs.Bundles.{Packed}
 use Rattle.link_bundle_walk.specs.Telling.{BundleTelling}
-use Rattle.link_pack.specs.Segments.{segments_of, segments_left}
+use Rattle.link_pack.specs.Segments.{segments_of, segments_left, all_given}
 use Rattle.link_pack.specs.Packing.{prelude_bytes, sending, transfer_bytes, end_bytes, report_lines}
-use Rattle.link_pack.specs.Packer.{cutting}
 use Rattle.link_pack.specs.declared.options.PackOptions.{PackOptions}
 
 -- the texts for these bundles, and for the bytes `begun` of the next one
@@ -30,11 +33,13 @@ pack_telling options = record {
   good = λ bundles. true;
 }
 
--- the segments that are due once the bytes `run` have come
-abbrev pub run_segments : PackOptions → (number : ℕ) → (begun run : List ℕ)
-    → (whole : Bool) → List ℕ
-run_segments options number begun run whole =
-    segments_left number (with_bytes run whole (cutting options begun))
+-- The segments that are due and were not given were written, and the cutter has given all of them;
+-- or a writer failed.
+pub record Sends {W E : Type 0} (out_look : W → Output) (report_look : E → Output) (id : ℕ)
+    (so_far : Cutting) (old new : Writers W E) (cutter : Cutter)
+    (result : Result (Unit {0}) IoFault) : Type 0 where
+  pub wrote : AfterWrite out_look report_look old new (on_output (segments_left id so_far)) result
+  pub after : OnOk result (IsCutterAt cutter (all_given so_far))
 
 -- the request for memory was refused, and nothing was read or written
 pub record LacksMemory {R W E : Type 0} (start now : Devices R W E)

@@ -11,10 +11,8 @@
 
 mod options;
 mod packer;
-mod packing;
 mod segment_text;
 mod segments;
 
 pub use options::PackOptions;
-pub use packer::{Packer, cutter_for};
-pub use packing::{PackRun, pack, pack_run};
+pub use packer::{PackRun, Packer, cutter_for, pack, pack_run};

@@ -1,20 +1,22 @@
 //! What `pack` makes of the bundles that it reads: segments, and a line for each.
 
-ghost use Rattle.std.specs.Prelude.{◌≡◌, ◌<◌, IfOk, [], length};
+ghost use Rattle.std.specs.Prelude.{◌≡◌, ◌<◌, IfErr, IfOk, false, [], length};
 ghost use Rattle.link_bundle_types.specs.BundleView.{viewed_info};
 ghost use Rattle.link_bundle_types.specs.ShortNames.{HasShortNames};
+ghost use Rattle.link_run.specs.Run.{AfterRun, Devices, devices_at, looks};
 ghost use Rattle.link_run.specs.Writers.{AfterWrite, on_output, on_report};
 ghost use Rattle.link_bundle_walk.specs.Bundles.{Packed};
 ghost use Rattle.link_pack.specs.Packer.{IsCutterFor};
-ghost use Rattle.link_pack.specs.Packing.{prelude_bytes, end_bytes, report_line, segment_size};
+ghost use Rattle.link_pack.specs.Packing.{pack_tool, prelude_bytes, end_bytes, report_line, segment_size};
+ghost use Rattle.link_pack.specs.PackRun.{LacksMemory};
 
 use crate::options::PackOptions;
 use crate::segments::write_run;
-use link_bundle_walk::{BundleConsumer, WholeView};
+use link_bundle_walk::{BundleConsumer, BundleWalkRun, WholeView, bundle_walk_run};
 use link_report::{PackedText, PackedView};
-use link_run::Writers;
+use link_run::{Run, RunEnd, Writers};
 use link_transfer::Cutter;
-use link_wire::{HeadBuf, IoFault, OutDevice, put_contact, put_sess_init, put_sess_term};
+use link_wire::{HeadBuf, InDevice, IoFault, OutDevice, put_contact, put_sess_init, put_sess_term};
 use std::alloc::{AllocError, Global};
 
 /// The most bytes of data in a segment, whatever the peer takes.
@@ -92,12 +94,15 @@ impl BundleConsumer for Packer {
     }
 
     /// Writes the contact header and SESS_INIT.
+    #[inline(never)]
     fn begin<W: OutDevice, E: OutDevice>(
         &mut self,
         options: &PackOptions,
         writers: &mut Writers<W, E>,
     ) -> Result<(), IoFault> {
-        write_prelude(writers, options, &mut self.head)
+        self.head.clear();
+        put_prelude(&mut self.head, options);
+        writers.write_output(self.head.as_slice())
     }
 
     /// Writes the segments that the bytes make due, and then the line of a whole bundle.
@@ -152,21 +157,6 @@ fn put_prelude(head: &mut HeadBuf, options: &PackOptions)
     );
 }
 
-/// Writes the contact header and SESS_INIT.
-#[inline(never)]
-fn write_prelude<W: OutDevice, E: OutDevice>(
-    writers: &mut Writers<W, E>,
-    options: &PackOptions,
-    head: &mut HeadBuf,
-) -> Result<(), IoFault>
-    ensures { AfterWrite W.state E.state writers.old writers.new
-        (on_output (prelude_bytes options.now)) result }
-{
-    head.clear();
-    put_prelude(head, options);
-    writers.write_output(head.as_slice())
-}
-
 /// Writes the line of a whole bundle to the report.
 #[inline(always)]
 fn write_line<W: OutDevice, E: OutDevice>(
@@ -207,4 +197,67 @@ fn write_end<W: OutDevice, E: OutDevice>(
     head.clear();
     put_sess_term(head, 0, 0);
     writers.write_output(head.as_slice())
+}
+
+/// A run of `pack`, step by step.
+pub type PackRun<R, W, E> = BundleWalkRun<R, W, E, Packer>;
+
+/// Makes a run of `pack` that has read and written nothing.
+///
+/// The cutter has to be new, as [`cutter_for`](crate::cutter_for) makes it for these options.
+pub fn pack_run<R: InDevice, W: OutDevice, E: OutDevice>(
+    cutter: Cutter,
+    options: PackOptions,
+    reader: R,
+    output: W,
+    report: E,
+) -> PackRun<R, W, E>
+    requires cutter { IsCutterFor options cutter }
+    requires reader { (R.state reader).failed ≡ false }
+    requires output { (W.state output).failed ≡ false }
+    requires report { (E.state report).failed ≡ false }
+    ensures stands { ⟦<PackRun<R, W, E> as Run<R, W, E>>⟧.stands result
+        (record { reader = reader; output = output; report = report }) [] }
+    ensures tool { ⟦<PackRun<R, W, E> as Run<R, W, E>>⟧.tool result ≡ pack_tool options }
+    ensures devices { devices_at (⟦<PackRun<R, W, E> as Run<R, W, E>>⟧.place result)
+        ≡ record { reader = reader; output = output; report = report } }
+    ensures waits { ⟦<PackRun<R, W, E> as Run<R, W, E>>⟧.waits result ≡ [] }
+{
+    bundle_walk_run(options, Packer::new(cutter), reader, output, report)
+}
+
+/// Packs the bundles of an input into the stream of a sender (RFC 9174), to the end of the run.
+///
+/// The stream goes to the output, and a line for each bundle to the report. The run stops at the
+/// first byte that shows a fault of a bundle, or that a bundle is longer than the peer takes. Then
+/// the report ends with the line of that fault, and the status is 3. Otherwise the status is 0.
+///
+/// The answer is an error if a device failed, or the input has more than 2^63 - 1 bytes. `memory`
+/// is the result of [`cutter_for`](crate::cutter_for). If it is a refusal, the answer is
+/// [`IoFault::Memory`], and the devices are returned as they were.
+pub fn pack<R: InDevice, W: OutDevice, E: OutDevice>(
+    memory: Result<Cutter, AllocError>,
+    options: PackOptions,
+    reader: R,
+    output: W,
+    report: E,
+) -> RunEnd<R, W, E>
+    requires cutter { IfOk memory (IsCutterFor options) }
+    requires reader { (R.state reader).failed ≡ false }
+    requires output { (W.state output).failed ≡ false }
+    requires report { (E.state report).failed ≡ false }
+    ensures ran { IfOk memory (λ _. AfterRun (looks R.state W.state E.state)
+        (pack_tool options)
+        (record { reader = reader; output = output; report = report })
+        (record { reader = result.reader; output = result.output; report = result.report })
+        result.waits.items result.answer) }
+    ensures lacked { IfErr memory
+        (λ _. LacksMemory (record { reader = reader; output = output; report = report })
+        (record { reader = result.reader; output = result.output; report = result.report })
+        result.answer) }
+{
+    match memory {
+        Ok(cutter) => pack_run(cutter, options, reader, output, report).run(),
+        Err(_) => RunEnd::unbegun(reader, output, report, IoFault::Memory),
+    }
 }

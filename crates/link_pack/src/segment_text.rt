@@ -30,12 +30,11 @@ pub struct SegmentText<'a> {
 
 /// The head of a chunk's segment.
 #[derive(Drop)]
-pub struct HeadText {
+pub struct HeadText<'a> {
     /// The ID of the transfer.
     pub id: u64,
     pub cut: Cut,
-    /// The number of bytes of the chunk.
-    pub size: u64,
+    pub chunk: &'a [u8],
 }
 
 impl<'a> Text for SegmentText<'a> {
@@ -50,17 +49,18 @@ impl<'a> Text for SegmentText<'a> {
     }
 }
 
-impl Text for HeadText {
+impl<'a> Text for HeadText<'a> {
+    ghost use Rattle.std.specs.Prelude.{length};
     ghost use Rattle.link_wire.specs.Spelling.{segment_head_bytes};
     ghost use Rattle.link_pack.specs.Segments.{flags_of};
 
     ghost text = { λ head.
-        segment_head_bytes (flags_of head.cut.first head.cut.last) head.id head.size
-        head.cut.announce };
+        segment_head_bytes (flags_of head.cut.first head.cut.last) head.id
+        (length head.chunk.now) head.cut.announce };
 
     #[inline(always)]
     fn put(&self, page: &mut [u8], at: usize) -> usize {
-        put_head(page, at, self.id, self.cut, self.size)
+        put_head(page, at, self.id, self.cut, self.chunk.len() as u64)
     }
 }
 

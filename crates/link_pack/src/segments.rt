@@ -1,10 +1,11 @@
 //! The segments of a bundle, written as its chunks are cut.
 
-ghost use Rattle.std.specs.Prelude.{◌≡◌, ◌≤◌, Bool, false, List, ℕ, length, OnOk};
+ghost use Rattle.std.specs.Prelude.{◌≡◌, ◌≤◌, false, length, OnOk};
 ghost use Rattle.link_run.specs.Writers.{AfterWrite, on_output};
 ghost use Rattle.link_transfer.specs.Cutting.{Cutting, with_bytes};
 ghost use Rattle.link_transfer.specs.Cutter.{IsCutterAt, cut_waits, wanted_by};
-ghost use Rattle.link_pack.specs.Segments.{segment_bytes, segments_left, all_given};
+ghost use Rattle.link_pack.specs.PackRun.{Sends};
+ghost use Rattle.link_pack.specs.Segments.{segment_bytes};
 
 use crate::segment_text::{CHUNK_MAX, HeadText, SegmentText};
 use link_run::Writers;
@@ -25,25 +26,22 @@ fn write_segment<W: OutDevice, E: OutDevice>(
         (on_output (segment_bytes id cut chunk.now)) result }
 {
     if chunk.len() > CHUNK_MAX {
-        let size = chunk.len() as u64;
-        return write_long(&HeadText { id, cut, size }, chunk, writers);
+        return write_long(&HeadText { id, cut, chunk }, writers);
     }
     writers.write_text(&SegmentText { id, cut, chunk })
 }
 
-/// Writes a chunk with this head: the head, and then the chunk.
+/// Writes a head, and then its chunk.
 #[inline(never)]
 fn write_long<W: OutDevice, E: OutDevice>(
-    head: &HeadText,
-    chunk: &[u8],
+    head: &HeadText<'_>,
     writers: &mut Writers<W, E>,
 ) -> Result<(), IoFault>
-    requires size { head.now.size ≡ length chunk.now }
     ensures gives { AfterWrite W.state E.state writers.old writers.new
-        (on_output (segment_bytes head.now.id head.now.cut chunk.now)) result }
+        (on_output (segment_bytes head.now.id head.now.cut head.now.chunk.now)) result }
 {
     writers.write_text(head)?;
-    writers.write_output(chunk)
+    writers.write_output(head.chunk)
 }
 
 /// Writes each waiting chunk as a segment of the transfer with this ID.
@@ -54,10 +52,7 @@ fn write_segments<W: OutDevice, E: OutDevice>(
     writers: &mut Writers<W, E>,
 ) -> Result<(), IoFault>
     ensures gives { (so_far : Cutting) → IsCutterAt cutter.old so_far
-        → AfterWrite W.state E.state writers.old writers.new (on_output (segments_left id so_far))
-        result }
-    ensures after { (so_far : Cutting) → IsCutterAt cutter.old so_far
-        → OnOk result (IsCutterAt cutter.new (all_given so_far)) }
+        → Sends W.state E.state id so_far writers.old writers.new cutter.new result }
     ensures quiet { OnOk result (cut_waits cutter.new ≡ false) }
 {
     while let Some(cut) = cutter.cut() {
@@ -81,11 +76,8 @@ pub fn write_run<W: OutDevice, E: OutDevice>(
     requires quiet { cut_waits cutter.old ≡ false }
     ensures gives { (so_far : Cutting) → IsCutterAt cutter.old so_far
         → length run.now ≤ wanted_by cutter.old
-        → AfterWrite W.state E.state writers.old writers.new
-        (on_output (segments_left id (with_bytes run.now last so_far))) result }
-    ensures after { (so_far : Cutting) → IsCutterAt cutter.old so_far
-        → length run.now ≤ wanted_by cutter.old
-        → OnOk result (IsCutterAt cutter.new (all_given (with_bytes run.now last so_far))) }
+        → Sends W.state E.state id (with_bytes run.now last so_far) writers.old writers.new
+        cutter.new result }
     ensures quiet { OnOk result (cut_waits cutter.new ≡ false) }
 {
     match cutter.cut_slice(run, last) {

@@ -1,21 +1,31 @@
-use Rattle.std.proofs.Common.{subst}
-use Rattle.link_bundle_walk.proofs.Tellings.{between_is, ended_well, ended_lost}
+use Rattle.std.proofs.Common.{ap, ◌∙◌, if◌then◌else◌, subst}
+use Rattle.link_report.specs.Fault.{fault_text}
+use Rattle.link_run.specs.Writers.{on_report}
+use Rattle.link_run.proofs.Sessions.{then_fault}
+use Rattle.link_bundle_walk.proofs.Founds.{between_is, ended}
 use Rattle.link_bundle_walk.proofs.walk.finish.Goals as goal
 
-pub returns-in-Ok : goal.returns-in-Ok
-returns-in-Ok g c = λ now holds.
-    let none = c.in_default.ensures now.begun holds.reading.scanned holds.reading.opened.goes in
-    let known = subst (g.C.BundleConsumer.knows c.args.options.now c.args.walker.now.consumer) (between_is now none) holds.known in
-    ended_well g.W.OutDevice.state g.E.OutDevice.state
-    (g.C.BundleConsumer.telling c.args.options.now) c.args.walker.now.current.number now none
-    c.args.writers.now c.end.new.writers _ (c.in-Ok.ensures now.bundles known)
-    c.is_good.result (c.is_good.ensures now.bundles known) c.status-status.result
-    c.status-status.ensures
+pub returns-in-Some : goal.returns-in-Some
+returns-in-Some g c = λ now holds.
+    let telling = g.C.BundleConsumer.telling c.args.options.now in
+    let open_now = holds.reading.opened in
+    rw (c.in-Some.ensures telling.limit now.begun holds.reading.scanned open_now) (record {
+      texts = on_report (fault_text c.in-Some.fault);
+      said = then_fault c.in-Some.fault (telling.texts now);
+      gives = c.report_fault.ensures.gives;
+    })
 
-pub returns-in-Err : goal.returns-in-Err
-returns-in-Err g c = λ now holds.
-    let none = c.in_default.ensures now.begun holds.reading.scanned holds.reading.opened.goes in
-    let known = subst (g.C.BundleConsumer.knows c.args.options.now c.args.walker.now.consumer) (between_is now none) holds.known in
-    ended_lost g.W.OutDevice.state g.E.OutDevice.state
-    (g.C.BundleConsumer.telling c.args.options.now) c.args.walker.now.current.number now none
-    c.args.writers.now c.end.new.writers c.in-Err.fault (c.in-Err.ensures now.bundles known)
+pub returns : goal.returns
+returns g c = λ now holds.
+    let options = c.args.options.now in
+    let walker = c.args.walker.now in
+    let telling = g.C.BundleConsumer.telling options in
+    let reading = holds.reading in
+    let none = c.in_default.ensures telling.limit now.begun reading.scanned reading.opened in
+    let knows = g.C.BundleConsumer.knows options walker.consumer in
+    let known = subst knows (between_is now none) holds.known in
+    rw c.and.ensures (ended g.W.OutDevice.state g.E.OutDevice.state telling now none
+    walker.current.number c.args.writers.now c.end.new.writers c.status-status.result
+    (c.status-status.ensures
+    ∙ ap (λ good. if good then 0 else 1) (c.is_good.ensures now.bundles known))
+    c.end.result (c.end.ensures now.bundles known))

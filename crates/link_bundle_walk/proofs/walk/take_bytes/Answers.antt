@@ -1,15 +1,15 @@
-use Rattle.std.proofs.Common.{◌+◌, ◌<◌, ℕ, List, [], length, take, length-take, length-append, ⊎_elim, append-nil, ap, sym, ◌∙◌, refl, subst, arith}
+use Rattle.std.proofs.Common.{◌≡◌, ◌+◌, ◌<◌, ◌≤◌, ℕ, List, [], length, take, length-take, length-append, ⊎_elim, append-nil, ap, sym, ◌∙◌, refl, subst, arith}
 use Rattle.std.proofs.lemmas.Bool.Decides.{nat_tests}
+use Rattle.std.proofs.lemmas.List.{take-take}
 use Rattle.link_wire.specs.Source.{front_of, Takes}
-use Rattle.link_io.proofs.Sources.{Readies-takes, Readies-over}
+use Rattle.link_io.proofs.Sources.{Readies-takes, Readies-over, front_room}
 use Rattle.link_run.specs.Made.{shows_fault}
 use Rattle.link_run.specs.Reading.{inner_of}
-use Rattle.link_run.specs.Writers.{place_of}
-use Rattle.link_run.proofs.Stands.{settled, not_handed_on, read_fails, last_step}
+use Rattle.link_run.proofs.Stands.{settled, not_handed_on, read_fails}
 use Rattle.link_run.proofs.Waiting.{waits_then}
 use Rattle.link_bundle_walk.specs.BundleRun.{IsReading, MakesOf}
 use Rattle.link_bundle_walk.specs.Telling.{told_of}
-use Rattle.link_bundle_walk.proofs.Founds.{came, finished, front_bound, front_run}
+use Rattle.link_bundle_walk.proofs.Founds.{came, finished}
 use Rattle.link_bundle_walk.proofs.walk.take_bytes.Goals as goal
 
 pub returns-in-Ok-eq0-clause-gives : goal.returns-in-Ok-eq0-clause-gives
@@ -20,13 +20,15 @@ returns-in-Ok-eq0-clause-gives g c = λ start history stood at.
     let writers = c.ready_bytes.new.writers in
     let walker = c.args.walker.now in
     let telling = g.C.BundleConsumer.telling c.args.options.now in
-    let knows = g.C.BundleConsumer.knows c.args.options.now walker.consumer in
+    let knows = g.C.BundleConsumer.knows c.args.options.now in
     let read = c.in-Ok-eq0.ensures.gives at.live in
     let over = read.1.over (grind (arith, nat_tests)) in
     rw c.ended.ensures
-    (last_step (told_of telling) (place_of old before) (place_of new c.finish.new.writers) _ c.finish.result
-    (finished telling knows knows c.args.most old writers c.finish.new.writers walker.current (settled old before writers stood read.0) at new (Readies-over g.R.InDevice.state old new read.1.readies over) over c.finish.result
-    (c.finish.ensures at.so_far at.holds)))
+    (finished telling (knows walker.consumer) (knows c.finish.new.walker.consumer) c.args.most old
+    new writers c.finish.new.writers walker.current c.finish.new.walker.current
+    (settled old before writers stood read.0) at
+    (Readies-over g.R.InDevice.state old new read.1.readies over) over c.finish.result
+    (c.finish.ensures at.so_far at.holds))
 
 pub returns-in-Err-clause-gives : goal.returns-in-Err-clause-gives
 returns-in-Err-clause-gives g c = λ start history stood at.
@@ -56,34 +58,42 @@ returns-clause-gives g c = λ start history stood at.
     let shown = c.front.result.now in
     let ready = c.min-ready.result in
     let run = take count (take ready shown) in
-    let bound = front_bound current old mid at read.1.readies shown ready c.front.ensures.front in
+    let sizes = length-take ready shown in
+    let run_size = length-take count (take ready shown) in
+    let bound : length at.so_far.bundles + (length at.so_far.begun + length (take ready shown))
+    < 9223372036854775808 = omega (
+      arith,
+      ap length c.front.ensures.front,
+      sizes,
+      at.few,
+      front_room look mid,
+      read.1.readies.count,
+      at.source_at.given,
+    ) in
     let short : length at.so_far.begun + length (take ready shown) < 9223372036854775808 = omega (arith, bound) in
     let P : ℕ → Type 0 = λ limit. IsReading limit current at.so_far.begun in
     let reading = subst P (sym c.limit.ensures) at.holds.reading in
-    let taken = front_run c.args.most (front_of look mid) shown ready count c.front.ensures.front
-    (omega (arith, c.min-ready.ensures)) c.judge-count.ensures.within
-    (c.judge-count.ensures.some at.so_far.begun reading short) in
+    let counted = c.judge-count.ensures.some at.so_far.begun reading short in
+    let some : 0 < length run = omega (arith, counted, sizes, run_size) in
+    let size : length run ≤ c.args.most = omega (arith, c.min-ready.ensures, sizes, run_size) in
+    let same : take count (front_of look mid) ≡ run =
+    sym (take-take count ready shown (omega (arith, sizes))
+    ∙ ap (take count) c.front.ensures.front) in
     let Q : ℕ → Type 0 = λ limit. MakesOf limit c.judge-count.new.self at.so_far.begun run c.judge-count.result.1 in
     let took = subst Q c.limit.ensures (c.judge-count.ensures.took at.so_far.begun reading short) in
     came telling (g.C.BundleConsumer.knows c.args.options.now c.args.walker.now.consumer)
     (g.C.BundleConsumer.knows c.args.options.now c.go_on-progress.new.consumer)
-    c.args.most old writers c.go_on-progress.new.writers current
-    (settled old c.args.writers.now writers stood read.0) at new run
+    c.args.most old new writers c.go_on-progress.new.writers current c.go_on-progress.new.current
+    (settled old c.args.writers.now writers stood read.0) at run
     (Readies-takes look old mid new run read.1.readies
-    (subst (λ (bytes : List ℕ). Takes look mid new bytes) taken.same c.give.ensures.takes) taken.some)
-    (c.give.ensures.live read.1.live) taken.some taken.size
-    c.judge-count.new.self c.go_on-progress.new.current c.judge-count.ensures.number
-    c.go_on-progress.result c.judge-count.result.1 took
+    (subst (λ (bytes : List ℕ). Takes look mid new bytes) same c.give.ensures.takes) some)
+    (c.give.ensures.live read.1.live) some size c.go_on-progress.result
+    c.judge-count.new.self c.judge-count.ensures.number c.judge-count.result.1 took
     (c.go_on-progress.ensures.gives at.so_far at.holds.known (record {
       numbered = c.judge-count.ensures.number ∙ at.holds.number;
       opened = at.holds.reading.opened;
-      some = taken.some;
-      few = omega (
-        arith,
-        bound,
-        length-append at.so_far.begun run,
-        length-take count (take ready shown),
-      );
+      some = some;
+      few = omega (arith, bound, length-append at.so_far.begun run, run_size);
     }) took)
 
 pub returns-clause-waits : goal.returns-clause-waits

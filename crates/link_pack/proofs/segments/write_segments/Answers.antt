@@ -1,14 +1,15 @@
 use Rattle.std.proofs.Common.{sym}
 use Rattle.std.proofs.lemmas.Result.{err_from_is_err_and}
-use Rattle.link_pack.proofs.Writing.{sent_more, sent_part, sent_all, sent_ends}
+use Rattle.link_pack.proofs.Sending.{sent_more, sent_part, sent_all}
 use Rattle.link_pack.proofs.segments.write_segments.Goals as goal
 
 pub loop-cut-preserved : goal.loop-cut-preserved
 loop-cut-preserved g c = λ so_far at.
     let some = c.loop-cut.invariant so_far at in
     let next = c.in-Some.ensures.after some.now some.at in
-    sent_more g.W.OutDevice.state g.E.OutDevice.state c.args.id so_far c.args.writers.now c.loop-cut.writers c.write_segment.new.writers c.loop-cut.cutter c.cut.new.self c.in-Some.cut c.bytes.result.now
-    some (sym (c.in-Some.ensures.cut some.now some.at)) next (c.bytes.ensures _ next) c.in_ok-write_segment.ensures.gives
+    sent_more g.W.OutDevice.state g.E.OutDevice.state some c.in-Some.cut c.bytes.result.now
+    c.write_segment.new.writers c.cut.new.self (sym (c.in-Some.ensures.cut some.now some.at))
+    (c.bytes.ensures _ next) next c.in_ok-write_segment.ensures.gives
 
 pub returns-in_err-write_segment-clause-gives : goal.returns-in_err-write_segment-clause-gives
 returns-in_err-write_segment-clause-gives g c = λ so_far at.
@@ -16,17 +17,12 @@ returns-in_err-write_segment-clause-gives g c = λ so_far at.
     let next = c.in-Some.ensures.after some.now some.at in
     let exit = err_from_is_err_and c.from_residual.result c.from_residual.ensures.1 in
     rw (exit.1, exit.2)
-    (sent_part g.W.OutDevice.state g.E.OutDevice.state c.args.id so_far c.args.writers.now c.loop-cut.writers c.write_segment.new.writers c.loop-cut.cutter c.in-Some.cut c.bytes.result.now _
-    some (sym (c.in-Some.ensures.cut some.now some.at)) (c.bytes.ensures _ next) c.in_err-write_segment.ensures.gives)
+    (sent_part g.W.OutDevice.state g.E.OutDevice.state some c.in-Some.cut c.bytes.result.now
+    c.write_segment.new.writers _ (sym (c.in-Some.ensures.cut some.now some.at))
+    (c.bytes.ensures _ next) _ c.in_err-write_segment.ensures.gives)
 
 pub returns-clause-gives : goal.returns-clause-gives
 returns-clause-gives g c = λ so_far at.
     let all = c.loop-cut.invariant so_far at in
-    sent_all g.W.OutDevice.state g.E.OutDevice.state c.args.id so_far c.args.writers.now c.loop-cut.writers c.loop-cut.cutter
-    all (sym (c.in_default.ensures.cut all.now all.at))
-
-pub returns-clause-after : goal.returns-clause-after
-returns-clause-after g c = λ so_far at.
-    let all = c.loop-cut.invariant so_far at in
-    sent_ends g.W.OutDevice.state g.E.OutDevice.state c.args.id so_far c.args.writers.now c.loop-cut.writers c.loop-cut.cutter c.cut.new.self
-    all (sym (c.in_default.ensures.cut all.now all.at)) (c.in_default.ensures.after all.now all.at)
+    sent_all g.W.OutDevice.state g.E.OutDevice.state all c.cut.new.self
+    (sym (c.in_default.ensures.cut all.now all.at)) (c.in_default.ensures.after all.now all.at)

@@ -1,6 +1,6 @@
 use Rattle.link_transfer.specs.Cutting.{Cutting}
 use Rattle.link_transfer.specs.Cutter.{IsCutterAt, held_size}
-use Rattle.link_pack.proofs.Writing.{Sent}
+use Rattle.link_pack.proofs.Sending.{Sent}
 use Rattle.link_pack.proofs.segments.write_segments.Given as goal
 
 -- some of the segments that were left are written, and the others are still left

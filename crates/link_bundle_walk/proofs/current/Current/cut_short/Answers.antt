@@ -1,12 +1,15 @@
-use Rattle.std.proofs.Common.{sym, refl, ap, ◌∙◌, arith}
+use Rattle.std.proofs.Common.{sym, ap, ◌∙◌, arith}
 use Rattle.link_bundle_types.specs.BundleView.{viewed_verdict}
-use Rattle.link_bundle_walk.proofs.Dividing.{open_mends}
+use Rattle.link_bundle_walk.specs.Bundles.{Divided}
+use Rattle.link_bundle_walk.specs.BundleRun.{fault_of}
+use Rattle.link_bundle_walk.specs.Telling.{stop_by}
+use Rattle.link_bundle_walk.proofs.Dividing.{divided_open}
 use Rattle.link_bundle_walk.proofs.current.Current.cut_short.Goals as goal
 
 pub returns-in-Err : goal.returns-in-Err
-returns-in-Err c = λ begun scanned goes.
-    let outcome = sym (c.view.ensures.seen begun scanned) ∙ ap viewed_verdict c.in-Err.is in
-    let mends = open_mends begun c.in-Err.fault c.in-Err.offset outcome goes in (
-      omega (arith, c.count.ensures.seen begun scanned, c.if-count-eq0.false),
-      (record { fault = c.in-Err.fault; offset = c.in-Err.offset; is = outcome; mends = mends }, refl),
-    )
+returns-in-Err c = λ limit begun scanned opened.
+    let said = sym (c.view.ensures.seen begun scanned) ∙ ap viewed_verdict c.in-Err.is in
+    let some = c.if-count-eq0.false in
+    let parts = divided_open limit begun c.in-Err.fault c.in-Err.offset opened
+    (omega (arith, c.count.ensures.seen begun scanned, some)) said in
+    ap (λ (input : Divided). fault_of (stop_by c.args.self.now.number input.rest)) parts.1

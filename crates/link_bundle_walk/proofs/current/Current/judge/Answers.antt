@@ -1,6 +1,6 @@
 use Rattle.std.proofs.Common.{take, arith}
 use Rattle.std.proofs.lemmas.List.{length-take}
-use Rattle.link_bundle_walk.proofs.Taking.{too_long, taken_some, judged}
+use Rattle.link_bundle_walk.proofs.Dividing.{too_long, taken_some, judged}
 use Rattle.link_bundle_walk.proofs.current.Current.judge.Goals as goal
 
 pub returns-then-room-eq0-clause-took : goal.returns-then-room-eq0-clause-took

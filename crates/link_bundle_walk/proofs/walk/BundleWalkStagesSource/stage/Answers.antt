@@ -1,14 +1,34 @@
+use Rattle.std.proofs.Common.{◌≡◌, ℕ, List, [], ◌++◌, length, refl, ap, sym, ◌∙◌, subst, append-nil, arith}
+use Rattle.std.proofs.lemmas.Bool.{false≢true}
+use Rattle.link_io.proofs.Sources.{Takes-none}
+use Rattle.link_run.specs.Made.{Made, shows_fault}
 use Rattle.link_run.specs.Reading.{inner_of}
-use Rattle.link_bundle_walk.proofs.Founds.{begun}
+use Rattle.link_bundle_walk.specs.BundleRun.{Walks}
+use Rattle.link_bundle_walk.specs.Telling.{none_yet, told_of}
+use Rattle.link_bundle_walk.proofs.Founds.{stepped}
+use Rattle.link_bundle_walk.proofs.Outcomes.{told_none}
 use Rattle.link_bundle_walk.proofs.walk.BundleWalkStagesSource.stage.Goals as goal
 
 pub returns-in-Begin-clause-gives : goal.returns-in-Begin-clause-gives
 returns-in-Begin-clause-gives g c = λ start history. rw c.in-Begin.is (λ stood at.
-    let options = c.args.self.now.options in
-    let walker = c.args.self.now.walker in
-    rw c.after.ensures
-    (begun (g.C.BundleConsumer.telling options)
-    (g.C.BundleConsumer.knows options walker.consumer)
-    (g.C.BundleConsumer.knows options c.begin.new.self) (inner_of c.args.input.now)
-    c.args.writers.now c.begin.new.writers walker.current stood at c.begin.result
-    (c.begin.ensures.gives at.holds.known)))
+    let telling = g.C.BundleConsumer.telling c.args.self.now.options in
+    let source = inner_of c.args.input.now in
+    let none : history ++ [] ≡ [] = append-nil history ∙ at.nothing in
+    let made = ap (told_of telling) none ∙ told_none telling in
+    let unread = ap length at.unread in
+    let Stays : List ℕ → Type 0 = Walks g.R.InDevice.state telling
+    (g.C.BundleConsumer.knows c.args.self.now.options c.begin.new.self)
+    c.args.self.now.walker.current source in
+    rw c.after.ensures (stepped 0 source source c.args.writers.now c.begin.new.writers stood
+    (Takes-none g.R.InDevice.state source) (omega arith) (omega (arith, unread)) Stays
+    c.begin.result
+    (c.begin.ensures.gives at.holds.known) refl (sym (ap (λ (m : Made). m.texts) made))
+    (ap (λ (m : Made). shows_fault m.stop) made)
+    (λ known. subst Stays (sym none) (record {
+      source_at = at.source_at;
+      live = at.live;
+      so_far = none_yet;
+      holds = record { number = at.holds.number; reading = at.holds.reading; known = known };
+      divides = λ more. refl;
+      few = omega arith;
+    })) (λ is. absurd (false≢true is)) (λ some. absurd (omega (arith, some)))))

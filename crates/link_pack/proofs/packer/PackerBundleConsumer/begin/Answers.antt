@@ -1,15 +1,14 @@
-use Rattle.std.proofs.Common.{sym, [], OnOk}
+use Rattle.std.proofs.Common.{sym, rules}
 use Rattle.link_run.specs.Writers.{on_output}
-use Rattle.link_pack.specs.Packer.{Keeps}
 use Rattle.link_pack.specs.Packing.{prelude_bytes}
 use Rattle.link_pack.proofs.Outcomes.{prelude_texts}
-use Rattle.link_pack.proofs.Telling.{holds_if}
+use Rattle.link_pack.proofs.Sending.{holds_if}
 use Rattle.link_pack.proofs.packer.PackerBundleConsumer.begin.Goals as goal
 
 pub returns-clause-gives : goal.returns-clause-gives
 returns-clause-gives g c = λ keeps. record {
   texts = on_output (prelude_bytes c.args.options.now);
   said = sym (prelude_texts c.args.options.now);
-  wrote = c.write_prelude.ensures;
-  known = holds_if c.write_prelude.result keeps;
+  wrote = search rules;
+  known = holds_if c.write_output.result keeps;
 }

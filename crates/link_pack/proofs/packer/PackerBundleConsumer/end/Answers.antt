@@ -1,7 +1,7 @@
 use Rattle.std.proofs.Common.{refl}
 use Rattle.link_run.specs.Writers.{on_output}
 use Rattle.link_pack.specs.Packing.{end_bytes}
-use Rattle.link_pack.proofs.Telling.{holds_if}
+use Rattle.link_pack.proofs.Sending.{holds_if}
 use Rattle.link_pack.proofs.packer.PackerBundleConsumer.end.Goals as goal
 
 pub returns : goal.returns

@@ -1,17 +1,14 @@
 use Rattle.std.proofs.Common.{◌++◌, refl}
 use Rattle.link_bundle_types.specs.BundleView.{viewed_info}
 use Rattle.link_bundle_walk.specs.Bundles.{Packed}
-use Rattle.link_pack.specs.Packer.{cutting}
-use Rattle.link_pack.proofs.Telling.{went_on, lost, with_line}
+use Rattle.link_pack.proofs.Outcomes.{went_on, lost, with_line}
 use Rattle.link_pack.proofs.packer.PackerBundleConsumer.run.Goals as goal
 
 pub returns-in_default-clause-gives : goal.returns-in_default-clause-gives
 returns-in_default-clause-gives g c = λ before keeps. rw c.in_default.is (λ comes.
-    let so_far = cutting c.args.options.now before.begun in
     went_on g.W.OutDevice.state g.E.OutDevice.state c.args.options.now before c.args.bytes.now
     c.args.number comes.numbered c.write_run.new.cutter c.args.writers.now c.write_run.new.writers
-    c.write_run.result (c.write_run.ensures.gives so_far keeps.cut c.requires.few)
-    (c.write_run.ensures.after so_far keeps.cut c.requires.few))
+    c.write_run.result (c.write_run.ensures.gives _ keeps.cut c.requires.few))
 
 pub returns-in-Err-clause-gives : goal.returns-in-Err-clause-gives
 returns-in-Err-clause-gives g c = λ before keeps. rw c.in-Some.is (λ comes.
@@ -19,15 +16,14 @@ returns-in-Err-clause-gives g c = λ before keeps. rw c.in-Some.is (λ comes.
     lost g.W.OutDevice.state g.E.OutDevice.state c.args.options.now before c.args.bytes.now
     c.args.number comes.numbered c.write_run-2.new.cutter bundle refl comes.accepted.0
     c.args.writers.now c.write_run-2.new.writers c.in-Err.fault
-    (c.in-Err.ensures.gives (cutting c.args.options.now before.begun) keeps.cut c.requires.few))
+    (c.in-Err.ensures.gives _ keeps.cut c.requires.few))
 
 pub returns-in-Ok-clause-gives : goal.returns-in-Ok-clause-gives
 returns-in-Ok-clause-gives g c = λ before keeps. rw c.in-Some.is (λ comes.
-    let so_far = cutting c.args.options.now before.begun in
     let bundle : Packed = record { bytes = before.begun ++ c.args.bytes.now; info = viewed_info c.in-Some.whole.info } in
     with_line g.W.OutDevice.state g.E.OutDevice.state c.args.options.now before c.args.bytes.now
     c.args.number comes.numbered c.write_run-2.new.cutter bundle refl comes.accepted.0
-    c.args.writers.now c.write_run-2.new.writers
-    (c.in-Ok.ensures.gives so_far keeps.cut c.requires.few)
-    (c.in-Ok.ensures.after so_far keeps.cut c.requires.few) c.write_line.new.writers
-    c.write_line.result (c.write_line.ensures bundle refl comes.accepted.1.1))
+    c.args.writers.now c.write_run-2.new.writers _
+    (c.in-Ok.ensures.gives _ keeps.cut c.requires.few)
+    c.write_line.new.writers c.write_line.result
+    (c.write_line.ensures bundle refl comes.accepted.1.1))
