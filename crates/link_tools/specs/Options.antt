@@ -1,7 +1,7 @@
 -- The tools by their options: when a tool is ready to run, and what a whole run does.
-use Rattle.std.specs.Prelude.{List, Result, Ok, Err, IfOk, ⊤}
+use Rattle.std.specs.Prelude.{List, Option, Some, None, Result, Ok, Err, IfOk, ⊤}
 use Rattle.link_wire.specs.declared.IoFault.{IoFault}
-use Rattle.link_run.specs.Run.{Looks, Devices, Wait, AfterRun}
+use Rattle.link_run.specs.Run.{Tool, Looks, Devices, Wait, AfterRun}
 use Rattle.link_run.specs.declared.run.Status.{Status}
 use Rattle.link_list.specs.Listing.{list_tool}
 use Rattle.link_unpack.specs.Unpacking.{unpack_tool}
@@ -26,16 +26,22 @@ IsReady job.List = ⊤
 IsReady (job.Unpack wanted) = ⊤
 IsReady (job.Pack options memory) = IfOk memory (IsCutterFor options)
 
+-- The tool of a job that has the memory that it needs. Only the request of `pack` may be refused.
+abbrev pub job_tool : Job → Option Tool
+job_tool job.List = Some list_tool
+job_tool (job.Unpack wanted) = Some (unpack_tool wanted)
+job_tool (job.Pack options (Ok cutter)) = Some (pack_tool options)
+job_tool (job.Pack options (Err refused)) = None
+
+-- what a whole run of the tool did, or of a tool that was refused its memory
+abbrev pub AfterTool : {R W E : Type 0} → Looks R W E → Option Tool → (start now : Devices R W E)
+    → List (Wait W E) → Result Status IoFault → Type 0
+AfterTool look (Some tool) start now waits answer = AfterRun look tool start now waits answer
+AfterTool look None start now waits answer = LacksMemory start now answer
+
 -- A whole run of the tool took the devices from `start` to `now`, with these waits, and returned
 -- this answer (`AfterRun`). If the memory of `pack` was refused, nothing was read or written, and
 -- the answer is that fault.
 abbrev pub AfterJob : {R W E : Type 0} → Looks R W E → Job → (start now : Devices R W E)
     → List (Wait W E) → Result Status IoFault → Type 0
-AfterJob look job.List start now waits answer =
-    AfterRun look list_tool start now waits answer
-AfterJob look (job.Unpack wanted) start now waits answer =
-    AfterRun look (unpack_tool wanted) start now waits answer
-AfterJob look (job.Pack options (Ok cutter)) start now waits answer =
-    AfterRun look (pack_tool options) start now waits answer
-AfterJob look (job.Pack options (Err refused)) start now waits answer =
-    LacksMemory start now answer
+AfterJob look job start now waits answer = AfterTool look (job_tool job) start now waits answer

@@ -1,26 +1,22 @@
 -- A run over slices: it never fails, and what it has written is in its slices.
-use Rattle.std.proofs.Common.{◌≡◌, ◌≤◌, ◌⊎◌, ℕ, ◌+◌, ◌-◌, ◌^◌, min, nat_le, Bool, true, false, List, [], ◌++◌, length, Some, None, Result, Ok, Err, refl, sym, ap, ◌∙◌, subst, inl, inr, ⊎_elim, append-nil, append_assoc, arith}
+use Rattle.std.proofs.Common.{◌≡◌, ◌≤◌, ◌⊎◌, ℕ, ◌+◌, ◌-◌, ◌^◌, min, nat_le, Bool, true, false, List, [], ◌++◌, length, Option, Some, None, Result, Ok, Err, refl, sym, ap, ◌∙◌, subst, inl, inr, ⊎_elim, append-nil, append_assoc, arith}
 use Rattle.std.specs.Prelude.{if◌then◌else◌}
 use Rattle.std.specs.declared.alloc.AllocError.{AllocError}
 use Rattle.std.proofs.lemmas.List.{length-append}
-use Rattle.link_list.specs.Listing.{list_tool}
 use Rattle.link_pack.specs.Packing.{pack_tool}
-use Rattle.link_pack.specs.PackRun.{LacksMemory}
 use Rattle.link_pack.specs.declared.options.PackOptions.{PackOptions}
-use Rattle.link_run.specs.Run.{Tool, Outcome, Texts, Looks, Devices, HandedBack, FinishedRun, EndedRun, Wait, AfterRun}
+use Rattle.link_run.specs.Run.{Tool, Outcome, Texts, Looks, Devices, HandedBack, FinishedRun, EndedRun, Wait}
 use Rattle.link_run.specs.declared.run.Status.{Status}
-use Rattle.link_tools.specs.Options.{AfterJob}
-use Rattle.link_tools.specs.declared.options.Job.{Job}
+use Rattle.link_tools.specs.Options.{AfterTool}
 use Rattle.link_tools.specs.declared.options.Job.TheVariants as job
 use Rattle.link_transfer.specs.declared.cutter.Cutter.{Cutter}
-use Rattle.link_unpack.specs.Unpacking.{unpack_tool}
 use Rattle.link_unpack.specs.declared.wanted.Wanted.{Wanted}
 use Rattle.link_wire.specs.Limits.{longest_input}
 use Rattle.link_wire.specs.declared.IoFault.{IoFault}
 use Rattle.link_wire.specs.declared.IoFault.TheVariants.{Read, InputTooLong, Write, Memory}
 use Rattle.tcpclkit_c.specs.Slice.{HoldsFront, KeepsRest, overlaid}
 use Rattle.tcpclkit_c.specs.Tool.{Slices, texts_status, ReturnsTexts, ReturnsNothing}
-use Rattle.tcpclkit_c.specs.Run.{WroteAll, WroteNothing, WroteWhole, HasWritten, Leaves, ReturnsJob}
+use Rattle.tcpclkit_c.specs.Run.{HasWritten, Leaves, ReturnsTool, ReturnsJob}
 use Rattle.tcpclkit_c.specs.declared.running.Run.{Run}
 use Rattle.tcpclkit_c.specs.declared.running.Wants.{Wants}
 use Rattle.tcpclkit_c.specs.declared.running.Written.{Written}
@@ -28,14 +24,15 @@ use Rattle.tcpclkit_c.proofs.Overlays.{holds_front, keeps_rest, overlaid_nothing
 
 -- ---- runs
 
--- what was written since: texts, and how the run of the job over these bytes went
-pub record Ran (ready : Job) (bytes output_start output_end report_start report_end : List ℕ)
+-- what was written since: texts, and how the run of the tool over these bytes went
+pub record Ran (tool : Option Tool)
+    (bytes output_start output_end report_start report_end : List ℕ)
     (answer : Result Status IoFault) : Type 0 where
   pub output : List ℕ
   pub report : List ℕ
   pub output_is : output_end ≡ output_start ++ output
   pub report_is : report_end ≡ report_start ++ report
-  pub wrote : HasWritten ready bytes output report answer
+  pub wrote : HasWritten tool bytes output report answer
 
 module _ {R W E : Type 0} (look : Looks R W E)
     (start now : Devices R W E)
@@ -50,16 +47,6 @@ module _ {R W E : Type 0} (look : Looks R W E)
     (sound_output : (look.output now.output).failed ≡ false)
     (sound_report : (look.report now.report).failed ≡ false)
     (short : length bytes ≤ longest_input) where
-  -- the run has ended, and these texts were written since
-  record Wrote (whole : Outcome) (status : Status) : Type 0 where
-    pub output_is : output_end ≡ output_start ++ whole.texts.output
-    pub report_is : report_end ≡ report_start ++ whole.texts.report
-    pub ends : status.0 ≡ whole.status
-
-  abbrev Went : Outcome → Result Status IoFault → Type 0
-  Went whole (Ok status) = Wrote whole status
-  Went whole (Err fault) = ⊥
-
   not_both : (b : Bool) → b ≡ false → b ≡ true → ⊥
   not_both b is_false is_true = let never : false ≡ true = sym is_false ∙ is_true in cc
 
@@ -69,7 +56,7 @@ module _ {R W E : Type 0} (look : Looks R W E)
     bytes_are given texts back = rw (full, rest) at back.takes
 
     finished : (given : List ℕ) (status : Status) → FinishedRun look tool start now given status
-        → Wrote (tool.whole bytes) status
+        → Ran (Some tool) bytes output_start output_end report_start report_end (Ok status)
     finished given status run =
         let parts = bytes_are (given ++ run.unread) (tool.whole given).texts run.written in
         let same : tool.whole given ≡ tool.whole bytes = sym (⊎_elim
@@ -86,17 +73,23 @@ module _ {R W E : Type 0} (look : Looks R W E)
         let report : report_end ≡ report_start ++ (tool.whole given).texts.report =
         rw (had_report, has_report) at run.written.reports in
         record {
-          output_is = output ∙ ap (λ (outcome : Outcome). output_start ++ outcome.texts.output) same;
-          report_is = report ∙ ap (λ (outcome : Outcome). report_start ++ outcome.texts.report) same;
-          ends = run.ends ∙ ap (λ (outcome : Outcome). outcome.status) same;
+          output = (tool.whole bytes).texts.output;
+          report = (tool.whole bytes).texts.report;
+          output_is = output
+              ∙ ap (λ (outcome : Outcome). output_start ++ outcome.texts.output) same;
+          report_is = report
+              ∙ ap (λ (outcome : Outcome). report_start ++ outcome.texts.report) same;
+          wrote = record {
+            output_is = refl;
+            report_is = refl;
+            ends = run.ends ∙ ap (λ (outcome : Outcome). outcome.status) same;
+          };
         }
 
-    ended : (answer : Result Status IoFault) (given : List ℕ)
-        → EndedRun look tool start now given answer
-        → Went (tool.whole bytes) answer
-    ended (Ok status) given run = finished given status run
-    ended (Err Read) given run = not_both (look.input now.reader).failed sound_reader run.failed
-    ended (Err InputTooLong) given run =
+    no_fault : (fault : IoFault) (given : List ℕ)
+        → EndedRun look tool start now given (Err fault) → ⊥
+    no_fault Read given run = not_both (look.input now.reader).failed sound_reader run.failed
+    no_fault InputTooLong given run =
         let parts : bytes ≡ (given ++ run.past) ++ left =
         bytes_are (given ++ run.past) (tool.so_far given) run.written in
         let size : length bytes ≡ length (given ++ run.past) + length left =
@@ -104,34 +97,20 @@ module _ {R W E : Type 0} (look : Looks R W E)
         let taken : length (given ++ run.past) ≡ length given + length run.past =
         length-append given run.past in
         absurd (omega (arith, size, taken, short, run.limit))
-    ended (Err Write) given run = ⊎_elim
+    no_fault Write given run = ⊎_elim
         (λ lost. not_both (look.output now.output).failed sound_output lost.0)
         (λ lost. not_both (look.report now.report).failed sound_report lost.0)
         run.failed
-    ended (Err Memory) given run = absurd run
+    no_fault Memory given run = absurd run
 
-  whole_ran : (tool : Tool) (ready : Job) (answer : Result Status IoFault)
-      → ((output report : List ℕ) → WroteWhole (tool.whole bytes) output report answer
-      → HasWritten ready bytes output report answer)
-      → {waits : List (Wait W E)} → AfterRun look tool start now waits answer
-      → Ran ready bytes output_start output_end report_start report_end answer
-  whole_ran tool ready (Ok status) is run =
-      let wrote = ended tool (Ok status) run.given run.gave in
-      record {
-        output = (tool.whole bytes).texts.output;
-        report = (tool.whole bytes).texts.report;
-        output_is = wrote.output_is;
-        report_is = wrote.report_is;
-        wrote = is _ _ (record { output_is = refl; report_is = refl; ends = wrote.ends });
-      }
-  whole_ran tool ready (Err fault) is run =
-      absurd (ended tool (Err fault) run.given run.gave)
-
-  lacking : (ready : Job) (answer : Result Status IoFault) (fault : IoFault) → answer ≡ Err fault
-      → (WroteNothing [] [] fault → HasWritten ready bytes [] [] answer)
-      → LacksMemory start now answer
-      → Ran ready bytes output_start output_end report_start report_end answer
-  lacking ready answer fault is wrote run =
+  -- a run of the tool, or of one that was refused its memory
+  pub tool_ran : (tool : Option Tool) (answer : Result Status IoFault) (waits : List (Wait W E))
+      → AfterTool look tool start now waits answer
+      → Ran tool bytes output_start output_end report_start report_end answer
+  tool_ran (Some tool) (Ok status) waits run = finished tool run.given status run.gave
+  tool_ran (Some tool) (Err fault) waits run = absurd (no_fault tool fault run.given run.gave)
+  tool_ran None (Ok status) waits run = let never : Ok status ≡ Err Memory = run.is in cc
+  tool_ran None (Err fault) waits run =
       let output : output_end ≡ output_start =
       let same : Some output_end ≡ Some output_start =
       sym has_output
@@ -142,28 +121,14 @@ module _ {R W E : Type 0} (look : Looks R W E)
       sym has_report
       ∙ ap (λ (devices : Devices R W E). (look.report devices.report).written) run.unchanged
       ∙ had_report in cc in
-      let memory : fault ≡ Memory = let both : Err fault ≡ Err Memory = sym is ∙ run.is in cc in
+      let memory : fault ≡ Memory = let both : Err fault ≡ Err Memory = run.is in cc in
       record {
         output = [];
         report = [];
         output_is = output ∙ sym (append-nil output_start);
         report_is = report ∙ sym (append-nil report_start);
-        wrote = wrote (record { no_output = refl; no_report = refl; lacks = memory });
+        wrote = record { no_output = refl; no_report = refl; lacks = memory };
       }
-
-  -- a run of the tool that is ready
-  pub job_ran : (ready : Job) (answer : Result Status IoFault) (waits : List (Wait W E))
-      → AfterJob look ready start now waits answer
-      → Ran ready bytes output_start output_end report_start report_end answer
-  job_ran job.List answer waits run = whole_ran list_tool job.List answer (λ output report wrote. wrote) run
-  job_ran (job.Unpack wanted) answer waits run =
-      whole_ran (unpack_tool wanted) (job.Unpack wanted) answer (λ output report wrote. wrote) run
-  job_ran (job.Pack options (Ok cutter)) answer waits run =
-      whole_ran (pack_tool options) (job.Pack options (Ok cutter)) answer (λ output report wrote. wrote) run
-  job_ran (job.Pack options (Err refused)) (Ok status) waits run =
-      let never : Ok status ≡ Err Memory = run.is in cc
-  job_ran (job.Pack options (Err refused)) (Err fault) waits run =
-      lacking (job.Pack options (Err refused)) (Err fault) fault refl (λ wrote. wrote) run
 
 -- ---- what is returned of a run
 
@@ -185,9 +150,12 @@ module _ (wants : Wants) (old new : Slices) (output_text report_text : List ℕ)
         report_length = report.count;
       })
       (gives : code ≡ texts_status wants output.fits report.fits) where
-    texts_returned : (whole : Outcome) → WroteAll whole output_text report_text status
-        → ReturnsTexts whole wants old new run code
-    texts_returned whole wrote =
+    pub ok_returned : (tool : Option Tool) (bytes : List ℕ)
+        → HasWritten tool bytes output_text report_text (Ok status)
+        → ReturnsTool tool bytes wants old new run code
+    ok_returned None bytes wrote = absurd wrote
+    ok_returned (Some tool) bytes wrote =
+        let whole = tool.whole bytes in
         let output_is = wrote.output_is in
         let report_is = wrote.report_is in
         let output_fits : output.fits ≡ nat_le (length whole.texts.output) (length new.output) =
@@ -219,21 +187,14 @@ module _ (wants : Wants) (old new : Slices) (output_text report_text : List ℕ)
               (nat_le (length whole.texts.output) (length new.output)) fits) report_fits;
         }
 
-    pub ok_returned : (ready : Job) (bytes : List ℕ)
-        → HasWritten ready bytes output_text report_text (Ok status)
-        → ReturnsJob ready bytes wants old new run code
-    ok_returned job.List bytes wrote = texts_returned (list_tool.whole bytes) wrote
-    ok_returned (job.Unpack wanted) bytes wrote =
-        texts_returned ((unpack_tool wanted).whole bytes) wrote
-    ok_returned (job.Pack options (Ok cutter)) bytes wrote =
-        texts_returned ((pack_tool options).whole bytes) wrote
-    ok_returned (job.Pack options (Err refused)) bytes wrote = absurd wrote
-
   module _ (fault : IoFault)
       (numbers : run ≡ record { exit_status = 0; output_length = 0; report_length = 0 })
       (gives : code ≡ 8) where
-    nothing_returned : WroteNothing output_text report_text fault → ReturnsNothing old new run code
-    nothing_returned wrote = record {
+    pub err_returned : (tool : Option Tool) (bytes : List ℕ)
+        → HasWritten tool bytes output_text report_text (Err fault)
+        → ReturnsTool tool bytes wants old new run code
+    err_returned (Some tool) bytes wrote = absurd wrote
+    err_returned None bytes wrote = record {
       no_output = left_output.slice_is
           ∙ ap (λ (text : List ℕ). overlaid old.output text) wrote.no_output
           ∙ overlaid_nothing old.output;
@@ -243,14 +204,6 @@ module _ (wants : Wants) (old new : Slices) (output_text report_text : List ℕ)
       numbers = numbers;
       gives = gives;
     }
-
-    pub err_returned : (ready : Job) (bytes : List ℕ)
-        → HasWritten ready bytes output_text report_text (Err fault)
-        → ReturnsJob ready bytes wants old new run code
-    err_returned job.List bytes wrote = absurd wrote
-    err_returned (job.Unpack wanted) bytes wrote = absurd wrote
-    err_returned (job.Pack options (Ok cutter)) bytes wrote = absurd wrote
-    err_returned (job.Pack options (Err refused)) bytes wrote = nothing_returned wrote
 
 -- ---- what the exports say of it
 

@@ -1,12 +1,9 @@
 -- A run of a whole tool over a slice, into two slices: what it has written, and what is returned.
-use Rattle.std.specs.Prelude.{◌≡◌, ℕ, ◌^◌, ◌-◌, nat_le, min, List, [], length, Result, Ok, Err}
-use Rattle.link_list.specs.Listing.{list_tool}
-use Rattle.link_pack.specs.Packing.{pack_tool}
-use Rattle.link_run.specs.Run.{Outcome}
+use Rattle.std.specs.Prelude.{◌≡◌, ℕ, ◌^◌, ◌-◌, nat_le, min, List, [], length, Option, Some, None, Result, Ok, Err}
+use Rattle.link_run.specs.Run.{Tool, Outcome}
 use Rattle.link_run.specs.declared.run.Status.{Status}
+use Rattle.link_tools.specs.Options.{job_tool}
 use Rattle.link_tools.specs.declared.options.Job.{Job}
-use Rattle.link_tools.specs.declared.options.Job.TheVariants as job
-use Rattle.link_unpack.specs.Unpacking.{unpack_tool}
 use Rattle.link_wire.specs.declared.IoFault.{IoFault}
 use Rattle.link_wire.specs.declared.IoFault.TheVariants as io
 use Rattle.tcpclkit_c.specs.Slice.{overlaid}
@@ -40,20 +37,16 @@ WroteNone output report (Ok status) = ⊥
 WroteNone output report (Err fault) = WroteNothing output report fault
 
 -- the texts that a run of the tool over these bytes has written, by whether it had its memory
-abbrev pub HasWritten : Job → (bytes output report : List ℕ) → Result Status IoFault → Type 0
-HasWritten job.List bytes output report answer =
-    WroteWhole (list_tool.whole bytes) output report answer
-HasWritten (job.Unpack wanted) bytes output report answer =
-    WroteWhole ((unpack_tool wanted).whole bytes) output report answer
-HasWritten (job.Pack options (Ok cutter)) bytes output report answer =
-    WroteWhole ((pack_tool options).whole bytes) output report answer
-HasWritten (job.Pack options (Err refused)) bytes output report answer =
-    WroteNone output report answer
+abbrev pub HasWritten : Option Tool → (bytes output report : List ℕ) → Result Status IoFault
+    → Type 0
+HasWritten (Some tool) bytes output report answer =
+    WroteWhole (tool.whole bytes) output report answer
+HasWritten None bytes output report answer = WroteNone output report answer
 
--- the same as a record
-pub record HasRun (tool : Job) (bytes output report : List ℕ)
+-- the same of a job, as a record
+pub record HasRun (job : Job) (bytes output report : List ℕ)
     (answer : Result Status IoFault) : Type 0 where
-  pub wrote : HasWritten tool bytes output report answer
+  pub wrote : HasWritten (job_tool job) bytes output report answer
 
 -- the text was written to the slice as far as it fits, and this is its length
 pub record Leaves (text before slice : List ℕ) (written : Written) : Type 0 where
@@ -61,23 +54,23 @@ pub record Leaves (text before slice : List ℕ) (written : Written) : Type 0 wh
   pub count : written.count ≡ min (length text) (2 ^ 64 - 1)
   pub fits : written.fits ≡ nat_le (length text) (length slice)
 
--- the slices have the texts that a run of the tool has written
-pub record RanWhole (tool : Job) (bytes : List ℕ) (old new : Slices) (ended : Ended) : Type 0 where
+-- the slices have the texts that a run of the job has written
+pub record RanWhole (job : Job) (bytes : List ℕ) (old new : Slices) (ended : Ended) : Type 0 where
   pub output_text : List ℕ
   pub report_text : List ℕ
-  pub wrote : HasWritten tool bytes output_text report_text ended.answer
+  pub wrote : HasWritten (job_tool job) bytes output_text report_text ended.answer
   pub output : Leaves output_text old.output new.output ended.output
   pub report : Leaves report_text old.report new.report ended.report
 
 -- ---- what a call returns
 
 -- what a run of the tool has returned, by whether it had its memory
+abbrev pub ReturnsTool : Option Tool → List ℕ → Wants → (old new : Slices) → Run → ℕ → Type 0
+ReturnsTool (Some tool) bytes wants old new run status =
+    ReturnsTexts (tool.whole bytes) wants old new run status
+ReturnsTool None bytes wants old new run status = ReturnsNothing old new run status
+
+-- the same of a job
 abbrev pub ReturnsJob : Job → List ℕ → Wants → (old new : Slices) → Run → ℕ → Type 0
-ReturnsJob job.List bytes wants old new run status =
-    ReturnsTexts (list_tool.whole bytes) wants old new run status
-ReturnsJob (job.Unpack wanted) bytes wants old new run status =
-    ReturnsTexts ((unpack_tool wanted).whole bytes) wants old new run status
-ReturnsJob (job.Pack options (Ok cutter)) bytes wants old new run status =
-    ReturnsTexts ((pack_tool options).whole bytes) wants old new run status
-ReturnsJob (job.Pack options (Err refused)) bytes wants old new run status =
-    ReturnsNothing old new run status
+ReturnsJob job bytes wants old new run status =
+    ReturnsTool (job_tool job) bytes wants old new run status

@@ -1,12 +1,13 @@
 use Rattle.std.proofs.Common.{◌≡◌, ℕ, List, ◌++◌, Some, false, refl, sym, ap, ◌∙◌, subst, arith}
 use Rattle.link_run.specs.Run.{looks, Devices}
+use Rattle.link_tools.specs.Options.{job_tool}
 use Rattle.link_wire.specs.Device.{Input, Output}
 use Rattle.tcpclkit_c.specs.Run.{HasRun}
 use Rattle.tcpclkit_c.specs.Slice.{labelled}
 use Rattle.tcpclkit_c.specs.declared.device.SliceReader.{SliceReader}
 use Rattle.tcpclkit_c.specs.declared.device.SliceWriter.{SliceWriter}
 use Rattle.tcpclkit_c.proofs.Overlays.{labels_are}
-use Rattle.tcpclkit_c.proofs.Runs.{Ran, job_ran}
+use Rattle.tcpclkit_c.proofs.Runs.{Ran, tool_ran}
 use Rattle.tcpclkit_c.proofs.running.run_between.Goals as goal
 
 abbrev reader_look : SliceReader → Input
@@ -20,7 +21,7 @@ writer_look writer =
     record { written = Some (text_of writer); failed = false; handed = Some (text_of writer) }
 
 abbrev after : (c : goal.After-run_tool) → Type 0
-after c = Ran c.args.job c.args.bytes.now
+after c = Ran (job_tool c.args.job) c.args.bytes.now
     (text_of c.args.output) (text_of c.run_tool.result.output)
     (text_of c.args.report) (text_of c.run_tool.result.report) c.run_tool.result.answer
 
@@ -31,11 +32,12 @@ ran c =
     record { reader = c.new.result; output = c.args.output; report = c.args.report } in
     let now : Devices SliceReader SliceWriter SliceWriter =
     record { reader = end.reader; output = end.output; report = end.report } in
-    job_ran (looks reader_look writer_look writer_look) start now c.args.bytes.now end.reader.left.now
+    tool_ran (looks reader_look writer_look writer_look) start now
+    c.args.bytes.now end.reader.left.now
     (text_of c.args.output) (text_of end.output) (text_of c.args.report) (text_of end.report)
     (ap (λ (state : Input). state.left) c.new.ensures) refl refl refl refl refl refl refl refl
     (omega arith)
-    c.args.job end.answer end.waits.items c.run_tool.ensures
+    (job_tool c.args.job) end.answer end.waits.items c.run_tool.ensures
 
 pub returns-clause-output : goal.returns-clause-output
 returns-clause-output c = (labels_are _ _ _ _ _ _ _ (ran c).output_is).0

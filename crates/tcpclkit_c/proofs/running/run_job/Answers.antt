@@ -1,5 +1,6 @@
 use Rattle.std.proofs.Common.{ℕ, Result, refl, ap, subst}
 use Rattle.link_run.specs.declared.run.Status.{Status}
+use Rattle.link_tools.specs.Options.{job_tool}
 use Rattle.link_wire.specs.declared.IoFault.{IoFault}
 use Rattle.tcpclkit_c.specs.Run.{HasWritten}
 use Rattle.tcpclkit_c.proofs.Runs.{ok_returned, err_returned}
@@ -14,16 +15,16 @@ returns-in-Ok c =
       output_length = c.run_whole-ended.result.output.count;
       report_length = c.run_whole-ended.result.report.count;
     }) c.from.ensures)
-    c.texts_status.ensures c.args.job c.args.bytes.now
+    c.texts_status.ensures (job_tool c.args.job) c.args.bytes.now
     (subst (λ (answer : Result Status IoFault).
-    HasWritten c.args.job c.args.bytes.now it.output_text it.report_text answer)
+    HasWritten (job_tool c.args.job) c.args.bytes.now it.output_text it.report_text answer)
     c.in-Ok.is it.wrote)
 
 pub returns-in-Err : goal.returns-in-Err
 returns-in-Err c =
     let it = c.run_whole-ended.ensures in
     err_returned _ _ _ it.output_text it.report_text _ _ _ _ it.output it.report c.in-Err.field-0
-    refl refl c.args.job c.args.bytes.now
+    refl refl (job_tool c.args.job) c.args.bytes.now
     (subst (λ (answer : Result Status IoFault).
-    HasWritten c.args.job c.args.bytes.now it.output_text it.report_text answer)
+    HasWritten (job_tool c.args.job) c.args.bytes.now it.output_text it.report_text answer)
     c.in-Err.is it.wrote)
