@@ -111,7 +111,7 @@ fn expect_wrong(
     row: &Row,
     at: usize,
 ) -> Result<(), AllocError> {
-    for wrong in DUE_NOWHERE {
+    for &wrong in &DUE_NOWHERE {
         let changed = replaced(rt, row.bytes, at, wrong)?;
         expect(rt, scan, row.kind, &changed, Err(at as u64));
         let longer = replaced(rt, &changed, changed.len(), b"\x01\x82\x00")?;
@@ -160,7 +160,7 @@ fn good_data_and_data_changed_at_each_head(rt: HostRuntime) -> Result<(), Fail> 
 #[test]
 fn malformed_data(rt: HostRuntime) {
     let mut scan = DataScan::new(DataKind::BundleAge);
-    for (kind, bytes, offset) in MALFORMED {
+    for &(kind, bytes, offset) in &MALFORMED {
         expect(&rt, &mut scan, kind, bytes, Err(offset));
     }
 }

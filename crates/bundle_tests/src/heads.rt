@@ -80,7 +80,7 @@ fn takes_one_head(rt: HostRuntime) {
 /// Each row has the bytes, the major type and the value.
 ///
 /// The number 2 is encoded in one, two, four and eight bytes for each major type.
-const HEADS: [(&[u8], u8, Option<u64>); 86] = [
+static HEADS: [(&[u8], u8, Option<u64>); 86] = [
     (b"\x00", 0, Some(0)),
     (b"\x01", 0, Some(1)),
     (b"\x0a", 0, Some(10)),
@@ -198,7 +198,7 @@ const HEADS: [(&[u8], u8, Option<u64>); 86] = [
 ];
 
 /// Bytes whose additional information no head has.
-const ILL_FORMED: [&[u8]; 27] = [
+static ILL_FORMED: [&[u8]; 27] = [
     b"\x1c", b"\x1d", b"\x1e", b"\x3c", b"\x3d", b"\x3e", b"\x5c", b"\x5d", b"\x5e", b"\x7c",
     b"\x7d", b"\x7e", b"\x9c", b"\x9d", b"\x9e", b"\xbc", b"\xbd", b"\xbe", b"\xdc", b"\xdd",
     b"\xde", b"\xfc", b"\xfd", b"\xfe", b"\x1f", b"\x3f", b"\xdf",
@@ -206,7 +206,7 @@ const ILL_FORMED: [&[u8]; 27] = [
 
 #[test]
 fn reads_single_heads(rt: HostRuntime) {
-    for (bytes, major, value) in HEADS {
+    for &(bytes, major, value) in &HEADS {
         let head = Head { major, value };
         compare(&rt, bytes, bytes.len(), HeadStep::Done(head));
     }
@@ -214,7 +214,7 @@ fn reads_single_heads(rt: HostRuntime) {
 
 #[test]
 fn reads_ill_formed_heads(rt: HostRuntime) {
-    for bytes in ILL_FORMED {
+    for &bytes in &ILL_FORMED {
         compare(&rt, bytes, bytes.len(), BAD);
     }
 }

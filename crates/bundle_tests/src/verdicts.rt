@@ -21,7 +21,7 @@ const PLAIN: &[u8] =
     b"\x9f\x88\x07\x00\x00\x82\x02\x82\x02\x01\x82\x02\x82\x01\x01\x82\x01\x00\x82\x00\x00\x00\x85\x01\x01\x00\x00\x45\x68\x65\x6c\x6c\x6f\xff";
 
 /// Bytes with a fault, and the offset of the fault.
-const FAULTS: [(&[u8], BundleFault, u64); 31] = [
+static FAULTS: [(&[u8], BundleFault, u64); 31] = [
     // a byte changed that the check covers
     (
         b"\x9f\x88\x07\x00\x00\x82\x02\x82\x02\x01\x82\x02\x82\x01\x01\x82\x01\x00\x82\x00\x00\x00\x86\x01\x01\x00\x01\x45\x69\x65\x6c\x6c\x6f\x42\x4b\xf3\xff",
@@ -207,7 +207,7 @@ const FAULTS: [(&[u8], BundleFault, u64); 31] = [
 ];
 
 /// Whole bundles, and their fields.
-const WHOLE: [Expected; 8] = [
+static WHOLE: [Expected; 8] = [
     // the plain bundle
     Expected {
         bytes: PLAIN,
@@ -275,7 +275,7 @@ const WHOLE: [Expected; 8] = [
 ];
 
 /// The offset of the payload, and the number of its bytes that are there.
-const PAYLOADS: [(&[u8], Option<(u64, u64)>); 9] = [
+static PAYLOADS: [(&[u8], Option<(u64, u64)>); 9] = [
     // nothing of the payload block
     (
         b"\x9f\x88\x07\x00\x00\x82\x02\x82\x02\x01\x82\x02\x82\x01\x01\x82\x01\x00\x82\x00\x00\x00",
@@ -321,7 +321,6 @@ const PAYLOADS: [(&[u8], Option<(u64, u64)>); 9] = [
 ];
 
 /// A bundle, and the fields that a scan of it has to report.
-#[derive(Clone, Copy)]
 struct Expected {
     bytes: &'static [u8],
     destination: EidView<'static>,
@@ -378,7 +377,7 @@ fn expect_fault(rt: &impl Abort, bytes: &[u8], fault: Fault) {
 
 #[test]
 fn faults(rt: HostRuntime) {
-    for (bytes, fault, place) in FAULTS {
+    for &(bytes, fault, place) in &FAULTS {
         expect_fault(&rt, bytes, Some((fault, place)));
     }
 }
@@ -393,7 +392,7 @@ fn expect_payload(rt: &impl Abort, bytes: &[u8], payload: Option<(u64, u64)>) {
 
 #[test]
 fn payloads(rt: HostRuntime) {
-    for (bytes, payload) in PAYLOADS {
+    for &(bytes, payload) in &PAYLOADS {
         expect_payload(&rt, bytes, payload);
     }
 }
@@ -500,7 +499,7 @@ fn expect_new(rt: &impl Abort, scan: &BundleScan) {
 #[test]
 fn faults_do_not_outlast_a_restart(rt: HostRuntime) {
     let mut scan = BundleScan::new();
-    for (bytes, _, _) in FAULTS {
+    for &(bytes, _, _) in &FAULTS {
         scan.restart();
         expect_new(&rt, &scan);
         assert!(rt; bytes.len() < 1_000);

@@ -310,7 +310,7 @@ fn files(rt: HostRuntime) -> Result<(), Fail> {
         (&["unpack", "--payload", "--", "--payload"], "--payload"),
         (&["list", "list"], "list"),
     ];
-    for (line, file) in lines {
+    for &(line, file) in &lines {
         let invocation = taken(rt.alloc(), line)?;
         assert!(rt; invocation.file.as_deref() == Some(file), "{line:?}");
     }
@@ -403,7 +403,7 @@ fn has_parts(rt: &impl Abort, alloc: Global, line: &[&str], parts: &[&str]) -> R
 /// Each help text has the usage, the options with ranges and defaults, the statuses and an example.
 #[test]
 fn texts_of_help(rt: HostRuntime) -> Result<(), Fail> {
-    for (line, parts) in HELP_TEXTS {
+    for &(line, parts) in &HELP_TEXTS {
         has_parts(&rt, rt.alloc(), line, parts)?;
     }
     Ok(())
@@ -418,7 +418,7 @@ fn texts_of_the_command_help(rt: HostRuntime) -> Result<(), Fail> {
         (&["help", "unpack"], &["unpack", "--help"]),
         (&["help", "pack"], &["pack", "--help"]),
     ];
-    for (line, same) in lines {
+    for &(line, same) in &lines {
         let text = text_of(rt.alloc(), line)?;
         let expected = text_of(rt.alloc(), same)?;
         assert!(rt; text == expected, "{line:?}: {text}{expected}");
@@ -443,7 +443,7 @@ fn texts_of_wrong_words(rt: HostRuntime) -> Result<(), Fail> {
             "Usage: tcpclkit list",
         ),
     ];
-    for (line, wrong, usage) in lines {
+    for &(line, wrong, usage) in &lines {
         let text = text_of(rt.alloc(), line)?;
         assert!(rt;
             text.as_str().contains(wrong) && text.as_str().contains(usage),

@@ -2,7 +2,7 @@
 use super::Expected;
 use link_bundle::EidView;
 
-pub const BUNDLES: [Expected; 13] = [
+pub static BUNDLES: [Expected; 13] = [
     // ipn endpoints, no checks
     Expected {
         bytes: b"\x9f\x88\x07\x00\x00\x82\x02\x82\x02\x01\x82\x02\x82\x01\x01\x82\x01\x00\x82\x00\x00\x00\x85\x01\x01\x00\x00\x45\x68\x65\x6c\x6c\x6f\xff",
