@@ -23,7 +23,10 @@ NOT_READ = re.compile(
 )
 # Words of a note that refuses a function; other notes are advice.
 NOT_PROVED = re.compile(r"it is not proved that|found no proof")
-NAMES_ONLY = re.compile(r"has no field|is not in scope|has no `|was not admitted")
+# A line that only repeats another refusal adds nothing to it.
+NAMES_ONLY = re.compile(
+    r"has no field|is not in scope|has no `|was not admitted|depends? on `[^`]*`, which was rejected"
+)
 LIMIT = re.compile(
     r"antt ran out of (?:stack|the (?:steps|memory) that the check of one declaration may)"
     r"|(?:outgrew the memory limit|stopped at the step limit) \(|rattle: no verdict"
