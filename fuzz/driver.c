@@ -21,7 +21,7 @@
 #include <tcpclkit.h>
 
 /* The slices that are lent at the same time, and the most bytes of each. */
-enum { INPUT, FIRST, SECOND, MEMORY, SLICES };
+enum { INPUT, FIRST, SECOND, THIRD, MEMORY, SLICES };
 #define MOST ((size_t)1 << 20)
 /* The greatest length of an extension list. */
 #define LIST_MOST 65536
@@ -132,10 +132,13 @@ static void ask_prefix(const uint8_t *bytes, size_t length, size_t cut, uint32_t
           prefix.payload_seen <= whole->payload_seen);
 }
 
+/* Rooms in which each name is whole. */
+#define WHOLE_NAMES {TCPCLKIT_EID_LIMIT, TCPCLKIT_EID_LIMIT, TCPCLKIT_EID_LIMIT}
+
 struct names {
   struct tcpclkit_bundle bundle;
-  size_t rooms[2];
-  uint8_t bytes[2][TCPCLKIT_EID_LIMIT];
+  size_t rooms[3];
+  uint8_t bytes[3][TCPCLKIT_EID_LIMIT];
 };
 
 /* The fields of the primary block that come after those that were accepted are 0. */
@@ -145,6 +148,7 @@ static void check_fields(uint32_t status, const struct tcpclkit_bundle *it) {
   CHECK(fields >= 2 || it->flags == 0);
   CHECK((fields >= 4) == (it->destination.kind != 0));
   CHECK((fields >= 5) == (it->source.kind != 0));
+  CHECK((fields >= 6) == (it->report_to.kind != 0));
   CHECK(fields >= 7 || (it->time == 0 && it->sequence == 0));
   CHECK(fields >= 8 || it->lifetime == 0);
   CHECK(fields >= 9 || it->fragment_offset == 0);
@@ -161,32 +165,38 @@ static void check_fields(uint32_t status, const struct tcpclkit_bundle *it) {
 static uint32_t ask_info(const uint8_t *bytes, size_t length, int fill, struct names *it) {
   uint8_t *destination = lend(FIRST, it->rooms[0], fill);
   uint8_t *source = lend(SECOND, it->rooms[1], fill);
+  uint8_t *report_to = lend(THIRD, it->rooms[2], fill);
   uint32_t status;
   memset(&it->bundle, fill, sizeof it->bundle);
   status = tcpclkit_describe_bundle(bytes, length, destination, it->rooms[0], source, it->rooms[1],
-                                &it->bundle);
+                                    report_to, it->rooms[2], &it->bundle);
   give_back(FIRST, it->rooms[0]);
   give_back(SECOND, it->rooms[1]);
+  give_back(THIRD, it->rooms[2]);
   keeps_rest(destination, it->rooms[0], it->bundle.destination.name_length, fill);
   keeps_rest(source, it->rooms[1], it->bundle.source.name_length, fill);
+  keeps_rest(report_to, it->rooms[2], it->bundle.report_to.name_length, fill);
   check_fields(status, &it->bundle);
   memcpy(it->bytes[0], destination, it->rooms[0]);
   memcpy(it->bytes[1], source, it->rooms[1]);
+  memcpy(it->bytes[2], report_to, it->rooms[2]);
   return status;
 }
 
 /* With less room each name is cut, and nothing else changes but the status of a good bundle. */
 static void ask_cut_names(const uint8_t *bytes, size_t length, const struct names *whole,
                           uint32_t wanted, size_t room) {
-  const struct tcpclkit_eid *eids[2] = {&whole->bundle.destination, &whole->bundle.source};
+  const struct tcpclkit_eid *eids[3] = {&whole->bundle.destination, &whole->bundle.source,
+                                        &whole->bundle.report_to};
   struct names cut;
   uint32_t status;
   int which;
   cut.rooms[0] = room % (TCPCLKIT_EID_LIMIT + 1);
   cut.rooms[1] = room / 7 % (TCPCLKIT_EID_LIMIT + 1);
+  cut.rooms[2] = room / 11 % (TCPCLKIT_EID_LIMIT + 1);
   status = ask_info(bytes, length, 0x33, &cut);
   SAME(cut.bundle, whole->bundle);
-  for (which = 0; which < 2; which++) {
+  for (which = 0; which < 3; which++) {
     size_t name = eids[which]->name_length;
     CHECK(memcmp(cut.bytes[which], whole->bytes[which], least(name, cut.rooms[which])) == 0);
     if (name > cut.rooms[which] && wanted == TCPCLKIT_OK)
@@ -200,7 +210,7 @@ static void ask_texts_of_eid(const struct tcpclkit_eid *eid, const uint8_t *name
 static void ask_texts_of_fault(uint64_t code, uint64_t number, size_t room);
 
 static void ask_bundle(const uint8_t *bytes, size_t length, size_t cut, size_t room) {
-  struct names it = {.rooms = {TCPCLKIT_EID_LIMIT, TCPCLKIT_EID_LIMIT}}, again = it;
+  struct names it = {.rooms = WHOLE_NAMES}, again = it;
   struct tcpclkit_verdict verdict;
   uint32_t status = ask_verdict(bytes, length, &verdict);
   CHECK(ask_info(bytes, length, 0x11, &it) == status);
@@ -215,6 +225,7 @@ static void ask_bundle(const uint8_t *bytes, size_t length, size_t cut, size_t r
   ask_cut_names(bytes, length, &it, status, room);
   ask_texts_of_eid(&it.bundle.destination, it.bytes[0], it.bundle.destination.name_length, room);
   ask_texts_of_eid(&it.bundle.source, it.bytes[1], it.bundle.source.name_length, room);
+  ask_texts_of_eid(&it.bundle.report_to, it.bytes[2], it.bundle.report_to.name_length, room);
   count(2, it.bundle.source.kind, it.bundle.is_fragment, it.bundle.blocks);
   count(3, it.bundle.destination.kind, it.bundle.flags & 255, it.bundle.payload_length);
 }
@@ -223,17 +234,20 @@ static void ask_bundle(const uint8_t *bytes, size_t length, size_t cut, size_t r
 
 /* What a scan has found is what the bytes that it took are. */
 static void compare_scan(uint64_t *scan, const uint8_t *bytes, size_t length, uint32_t status) {
-  struct names it = {.rooms = {TCPCLKIT_EID_LIMIT, TCPCLKIT_EID_LIMIT}}, same = it;
+  struct names it = {.rooms = WHOLE_NAMES}, same = it;
   struct tcpclkit_verdict verdict;
   uint8_t *destination = lend(FIRST, it.rooms[0], 0x11), *source = lend(SECOND, it.rooms[1], 0x11);
+  uint8_t *report_to = lend(THIRD, it.rooms[2], 0x11);
   memset(&it.bundle, 0x11, sizeof it.bundle);
   CHECK(tcpclkit_raw_judge_scan(scan, &verdict) == status);
-  CHECK(tcpclkit_raw_describe_scan(scan, destination, it.rooms[0], source, it.rooms[1],
-                                   &it.bundle) == status);
+  CHECK(tcpclkit_raw_describe_scan(scan, destination, it.rooms[0], source, it.rooms[1], report_to,
+                                   it.rooms[2], &it.bundle) == status);
   give_back(FIRST, it.rooms[0]);
   give_back(SECOND, it.rooms[1]);
+  give_back(THIRD, it.rooms[2]);
   memcpy(it.bytes[0], destination, it.rooms[0]);
   memcpy(it.bytes[1], source, it.rooms[1]);
+  memcpy(it.bytes[2], report_to, it.rooms[2]);
   CHECK(ask_info(bytes, length, 0x11, &same) == status);
   SAME(verdict, same.bundle.verdict);
   SAME(it.bundle, same.bundle);
@@ -250,8 +264,8 @@ static void ask_no_scan(const uint8_t *bytes, size_t length) {
   memcpy(before, other, sizeof other);
   CHECK(tcpclkit_raw_feed_scan(other, bytes, length, &taken) == TCPCLKIT_RANGE && taken == 0);
   CHECK(tcpclkit_raw_judge_scan(other, &verdict) == TCPCLKIT_RANGE);
-  CHECK(tcpclkit_raw_describe_scan(other, ends[FIRST], 0, ends[SECOND], 0, &info) ==
-        TCPCLKIT_RANGE);
+  CHECK(tcpclkit_raw_describe_scan(other, ends[FIRST], 0, ends[SECOND], 0, ends[THIRD], 0,
+                                   &info) == TCPCLKIT_RANGE);
   SAME(other, before);
 }
 

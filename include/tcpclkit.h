@@ -185,6 +185,18 @@ static inline uint32_t tcpclkit_slices_status(const void *bytes, size_t length,
                             tcpclkit_apart_status(bytes, length, second, second_room)));
 }
 
+/* The same for three slices that are written. */
+static inline uint32_t tcpclkit_names_status(const void *bytes, size_t length,
+                                             const void *first, size_t first_room,
+                                             const void *second, size_t second_room,
+                                             const void *third, size_t third_room) {
+  return tcpclkit_first_status(
+      tcpclkit_slices_status(bytes, length, first, first_room, second, second_room),
+      tcpclkit_first_status(
+          tcpclkit_slices_status(third, third_room, first, first_room, second, second_room),
+          tcpclkit_apart_status(bytes, length, third, third_room)));
+}
+
 /* -- bundles ----------------------------------------------------------------------------------- */
 
 /* The verdict on bytes as one bundle, and where its payload is. */
@@ -216,9 +228,9 @@ struct tcpclkit_eid {
 
 /*
  * The fields of a bundle. Those of the primary block are numbered in their order (RFC 9171 section
- * 4.3.1): 1 is the version, 3 the type of the check value, and 6 the report-to endpoint. Those up
- * to the number `primary_fields` were accepted. They come before the first fault, and each field
- * after them is 0. The check value has no number. It may be wrong where all fields were accepted.
+ * 4.3.1): 1 is the version, and 3 the type of the check value. Those up to the number
+ * `primary_fields` were accepted. They come before the first fault, and each field after them is 0.
+ * The check value has no number. It may be wrong where all fields were accepted.
  */
 struct tcpclkit_bundle {
   struct tcpclkit_verdict verdict;
@@ -227,6 +239,7 @@ struct tcpclkit_bundle {
   uint64_t flags;           /* field 2 */
   struct tcpclkit_eid destination; /* field 4 */
   struct tcpclkit_eid source;      /* field 5 */
+  struct tcpclkit_eid report_to;   /* field 6: where status reports go */
   uint64_t time;            /* field 7: milliseconds since 2000-01-01 UTC */
   uint64_t sequence;        /* field 7 */
   uint64_t lifetime;        /* field 8: milliseconds after `time` */
@@ -272,19 +285,22 @@ static inline uint32_t tcpclkit_judge_bundle(const uint8_t *bytes, size_t length
 uint32_t tcpclkit_raw_describe_bundle(const uint8_t *bytes, size_t length,
                                       uint8_t *destination_name, size_t destination_room,
                                       uint8_t *source_name, size_t source_room,
+                                      uint8_t *report_to_name, size_t report_to_room,
                                       struct tcpclkit_bundle *bundle);
 static inline uint32_t tcpclkit_describe_bundle(const uint8_t *bytes, size_t length,
                                                 uint8_t *destination_name, size_t destination_room,
                                                 uint8_t *source_name, size_t source_room,
+                                                uint8_t *report_to_name, size_t report_to_room,
                                                 struct tcpclkit_bundle *bundle) {
-  uint32_t status = tcpclkit_slices_status(bytes, length, destination_name, destination_room,
-                                           source_name, source_room);
+  uint32_t status = tcpclkit_names_status(bytes, length, destination_name, destination_room,
+                                          source_name, source_room, report_to_name, report_to_room);
   status = tcpclkit_struct_status(status, bundle, bundle);
   if (status != TCPCLKIT_OK) return status;
   return tcpclkit_raw_describe_bundle(
       tcpclkit_start(bytes), length,
       tcpclkit_start(destination_name), destination_room,
-      tcpclkit_start(source_name), source_room, bundle);
+      tcpclkit_start(source_name), source_room,
+      tcpclkit_start(report_to_name), report_to_room, bundle);
 }
 
 /* -- a bundle in pieces ------------------------------------------------------------------------ */
@@ -381,20 +397,24 @@ static inline uint32_t tcpclkit_judge_scan(const struct tcpclkit_scan *scan,
  * Proved of tcpclkit_raw_describe_scan: the answer is that of tcpclkit_describe_bundle of the bytes
  * that the scan has seen, and the scan has seen the same bytes afterwards.
  */
-uint32_t tcpclkit_raw_describe_scan(const uint64_t *memory, uint8_t *destination_name,
-                                    size_t destination_room, uint8_t *source_name,
-                                    size_t source_room, struct tcpclkit_bundle *bundle);
+uint32_t tcpclkit_raw_describe_scan(const uint64_t *memory,
+                                    uint8_t *destination_name, size_t destination_room,
+                                    uint8_t *source_name, size_t source_room,
+                                    uint8_t *report_to_name, size_t report_to_room,
+                                    struct tcpclkit_bundle *bundle);
 static inline uint32_t tcpclkit_describe_scan(const struct tcpclkit_scan *scan,
                                               uint8_t *destination_name, size_t destination_room,
                                               uint8_t *source_name, size_t source_room,
+                                              uint8_t *report_to_name, size_t report_to_room,
                                               struct tcpclkit_bundle *bundle) {
-  uint32_t status =
-      tcpclkit_slices_status(NULL, 0, destination_name, destination_room, source_name, source_room);
+  uint32_t status = tcpclkit_names_status(NULL, 0, destination_name, destination_room,
+                                          source_name, source_room, report_to_name, report_to_room);
   status = tcpclkit_struct_status(status, scan, bundle);
   if (status != TCPCLKIT_OK) return status;
   return tcpclkit_raw_describe_scan(
       scan->memory, tcpclkit_start(destination_name), destination_room,
-      tcpclkit_start(source_name), source_room, bundle);
+      tcpclkit_start(source_name), source_room,
+      tcpclkit_start(report_to_name), report_to_room, bundle);
 }
 
 /* -- recordings -------------------------------------------------------------------------------- */

@@ -40,28 +40,38 @@ static void verdicts(void) {
 
 static void infos(void) {
   struct tcpclkit_bundle info;
-  uint8_t to[TCPCLKIT_EID_LIMIT], from[TCPCLKIT_EID_LIMIT];
-  CHECK(tcpclkit_describe_bundle(bundle, BUNDLE_LENGTH, NULL, 0, NULL, 0, &info) == TCPCLKIT_OK);
+  uint8_t to[TCPCLKIT_EID_LIMIT], from[TCPCLKIT_EID_LIMIT], reports[TCPCLKIT_EID_LIMIT];
+  CHECK(describe(bundle, BUNDLE_LENGTH, &info) == TCPCLKIT_OK);
   CHECK(info.verdict.payload_offset == 28 && info.payload_length == 5 && info.blocks == 1);
   CHECK(info.destination.kind == TCPCLKIT_EID_IPN && info.destination.node == 2);
   CHECK(info.source.kind == TCPCLKIT_EID_IPN && info.source.node == 1 && info.source.service == 1);
+  CHECK(info.report_to.kind == TCPCLKIT_EID_DTN_NONE);
   CHECK(info.flags == 0 && info.is_fragment == 0 && info.lifetime == 0);
-  CHECK(tcpclkit_describe_bundle(named, sizeof named, to, sizeof to, from, sizeof from, &info) ==
-        TCPCLKIT_OK);
+  CHECK(tcpclkit_describe_bundle(reported, sizeof reported, to, sizeof to, from, sizeof from,
+                                 reports, sizeof reports, &info) == TCPCLKIT_OK);
   CHECK(info.destination.kind == TCPCLKIT_EID_DTN && info.destination.name_length == 4);
   CHECK(begins(to, "//bc") && info.source.name_length == 3 && begins(from, "//a"));
+  CHECK(info.report_to.kind == TCPCLKIT_EID_DTN && info.report_to.name_length == 5);
+  CHECK(begins(reports, "//def"));
   CHECK(info.time == 5 && info.sequence == 6 && info.lifetime == 7 && info.payload_length == 0);
-  CHECK(tcpclkit_describe_bundle(fragment, sizeof fragment, NULL, 0, NULL, 0, &info) ==
-        TCPCLKIT_OK);
+  CHECK(describe(fragment, sizeof fragment, &info) == TCPCLKIT_OK);
   CHECK(info.flags == 1 && info.source.kind == TCPCLKIT_EID_DTN_NONE && info.is_fragment == 1);
   CHECK(info.fragment_offset == 2 && info.fragment_total == 9 && info.payload_length == 3);
-  to[2] = from[2] = 'x';
-  CHECK(tcpclkit_describe_bundle(named, sizeof named, to, 2, from, 3, &info) == TCPCLKIT_TOO_SMALL);
+  to[2] = from[2] = reports[4] = 'x';
+  CHECK(tcpclkit_describe_bundle(reported, sizeof reported, to, 2, from, 3, reports, 5, &info) ==
+        TCPCLKIT_TOO_SMALL);
   CHECK(info.destination.name_length == 4 && begins(to, "//x") && begins(from, "//a"));
-  CHECK(tcpclkit_describe_bundle(named, sizeof named, to, 4, from, 0, &info) == TCPCLKIT_TOO_SMALL);
-  CHECK(tcpclkit_describe_bundle(named, 9, to, 4, from, 3, &info) == TCPCLKIT_TRUNCATED);
+  CHECK(tcpclkit_describe_bundle(reported, sizeof reported, to, 4, from, 0, reports, 5, &info) ==
+        TCPCLKIT_TOO_SMALL);
+  CHECK(begins(reports, "//def"));
+  reports[4] = 'x';
+  CHECK(tcpclkit_describe_bundle(reported, sizeof reported, to, 4, from, 3, reports, 4, &info) ==
+        TCPCLKIT_TOO_SMALL);
+  CHECK(info.report_to.name_length == 5 && begins(reports, "//dex"));
+  CHECK(tcpclkit_describe_bundle(named, 9, to, 4, from, 3, NULL, 0, &info) == TCPCLKIT_TRUNCATED);
   CHECK(info.verdict.fault.code == TCPCLKIT_BUNDLE_CUT && info.verdict.fault.offset == 9);
-  CHECK(tcpclkit_describe_bundle(named, sizeof named, NULL, 4, from, 3, &info) == TCPCLKIT_NULL);
+  CHECK(tcpclkit_describe_bundle(named, sizeof named, NULL, 4, from, 3, NULL, 0, &info) ==
+        TCPCLKIT_NULL);
 }
 
 /* How far the fields of a bad bundle go: `whole` is whether its primary block is whole. */
@@ -73,26 +83,28 @@ static int goes(const struct tcpclkit_bundle *info, uint64_t fields, uint64_t wh
 /* The fields of a bundle whose bytes end after this many. */
 static struct tcpclkit_bundle cut(const uint8_t *bytes, size_t length) {
   struct tcpclkit_bundle info;
-  uint8_t to[4], from[3];
-  CHECK(tcpclkit_describe_bundle(bytes, length, to, sizeof to, from, sizeof from, &info) ==
-        TCPCLKIT_TRUNCATED);
+  uint8_t to[4], from[3], reports[5];
+  CHECK(tcpclkit_describe_bundle(bytes, length, to, sizeof to, from, sizeof from, reports,
+                                 sizeof reports, &info) == TCPCLKIT_TRUNCATED);
   return info;
 }
 
 /* A cut bundle has the fields of its primary block that are whole (RFC 9171 section 4.3.1). */
 static void fields_of_cut_bundles(void) {
-  static const uint64_t ends[] = {3, 4, 5, 12, 18, 21, 24, 25};
+  static const uint64_t ends[] = {3, 4, 5, 12, 18, 26, 29, 30};
   struct tcpclkit_bundle info, none;
   size_t length, fields = 0;
   memset(&none, 0, sizeof none);
-  for (length = 0; length < sizeof named; length++) {
+  for (length = 0; length < sizeof reported; length++) {
     while (fields < 8 && ends[fields] <= length)
       fields++;
-    info = cut(named, length);
+    info = cut(reported, length);
     CHECK(goes(&info, fields, fields == 8));
     CHECK(info.destination.kind == (fields < 4 ? 0 : TCPCLKIT_EID_DTN));
     CHECK(info.destination.name_length == (fields < 4 ? 0 : 4));
     CHECK(info.source.name_length == (fields < 5 ? 0 : 3));
+    CHECK(info.report_to.kind == (fields < 6 ? 0 : TCPCLKIT_EID_DTN));
+    CHECK(info.report_to.name_length == (fields < 6 ? 0 : 5));
     CHECK(info.time == (fields < 7 ? 0 : 5) && info.sequence == (fields < 7 ? 0 : 6));
     CHECK(info.lifetime == (fields < 8 ? 0 : 7) && info.is_fragment == 0);
   }
@@ -115,37 +127,40 @@ static void fields_of_bad_bundles(void) {
   struct tcpclkit_bundle info;
   memcpy(bad, bundle, sizeof bundle);
   bad[2] = 6;
-  CHECK(tcpclkit_describe_bundle(bad, BUNDLE_LENGTH, NULL, 0, NULL, 0, &info) == TCPCLKIT_FAULT);
+  CHECK(describe(bad, BUNDLE_LENGTH, &info) == TCPCLKIT_FAULT);
   CHECK(info.verdict.fault.code == TCPCLKIT_BUNDLE_BAD_VERSION && goes(&info, 0, 0));
   bad[2] = 7;
   bad[11] = 3; /* the scheme of the source */
-  CHECK(tcpclkit_describe_bundle(bad, BUNDLE_LENGTH, NULL, 0, NULL, 0, &info) == TCPCLKIT_FAULT);
+  CHECK(describe(bad, BUNDLE_LENGTH, &info) == TCPCLKIT_FAULT);
   CHECK(info.verdict.fault.code == TCPCLKIT_BUNDLE_BAD_SCHEME && goes(&info, 4, 0));
   CHECK(info.destination.kind == TCPCLKIT_EID_IPN && info.destination.node == 2);
   CHECK(info.source.kind == 0 && info.source.node == 0);
   bad[11] = 2;
   bad[24] = 2; /* the number of the payload block */
-  CHECK(tcpclkit_describe_bundle(bad, BUNDLE_LENGTH, NULL, 0, NULL, 0, &info) == TCPCLKIT_FAULT);
+  CHECK(describe(bad, BUNDLE_LENGTH, &info) == TCPCLKIT_FAULT);
   CHECK(info.verdict.fault.code == TCPCLKIT_BUNDLE_BAD_BLOCK_NUMBER && goes(&info, 8, 1));
   CHECK(info.source.kind == TCPCLKIT_EID_IPN && info.source.node == 1);
-  CHECK(tcpclkit_describe_bundle(bundle, sizeof bundle, NULL, 0, NULL, 0, &info) == TCPCLKIT_FAULT);
+  CHECK(describe(bundle, sizeof bundle, &info) == TCPCLKIT_FAULT);
   CHECK(info.verdict.fault.code == TCPCLKIT_BUNDLE_TRAILING && goes(&info, 8, 1));
   /* a primary block with a check value, which is right and then wrong */
-  CHECK(tcpclkit_describe_bundle(checked, sizeof checked, to, 4, from, 4, &info) == TCPCLKIT_OK);
+  CHECK(tcpclkit_describe_bundle(checked, sizeof checked, to, 4, from, 4, NULL, 0, &info) ==
+        TCPCLKIT_OK);
   CHECK(info.primary_fields == 10 && info.primary_whole == 1 && info.payload_length == 6);
   memcpy(bad, checked, sizeof bad);
   bad[37] ^= 1;
-  CHECK(tcpclkit_describe_bundle(bad, sizeof bad, to, 4, from, 2, &info) == TCPCLKIT_FAULT);
+  CHECK(tcpclkit_describe_bundle(bad, sizeof bad, to, 4, from, 2, NULL, 0, &info) ==
+        TCPCLKIT_FAULT);
   CHECK(info.verdict.fault.code == TCPCLKIT_BUNDLE_CHECK_DIFFERS && goes(&info, 10, 0));
   CHECK(info.sequence == 9 && info.fragment_offset == 70000 && info.fragment_total == 140000);
   CHECK(info.source.name_length == 3 && begins(from, "//") && info.destination.node == 2);
+  CHECK(info.report_to.kind == TCPCLKIT_EID_DTN_NONE);
 }
 
 /* Feeds the bytes in pieces of this size, and checks what `verdict` and `info` then say of them. */
 static void scanned(struct tcpclkit_scan *scan, const uint8_t *bytes, size_t length, size_t size) {
   struct tcpclkit_verdict verdict, whole;
   struct tcpclkit_bundle info, whole_info;
-  uint8_t to[2][8] = {{0}}, from[2][8] = {{0}};
+  uint8_t to[2][8] = {{0}}, from[2][8] = {{0}}, reports[2][8] = {{0}};
   uint64_t taken;
   size_t at = 0, piece;
   uint32_t status;
@@ -161,10 +176,12 @@ static void scanned(struct tcpclkit_scan *scan, const uint8_t *bytes, size_t len
   CHECK(tcpclkit_judge_bundle(bytes, at, &whole) == status);
   CHECK(tcpclkit_judge_scan(scan, &verdict) == status);
   CHECK(memcmp(&verdict, &whole, sizeof verdict) == 0);
-  CHECK(tcpclkit_describe_scan(scan, to[0], 4, from[0], 3, &info) == status);
-  CHECK(tcpclkit_describe_bundle(bytes, at, to[1], 4, from[1], 3, &whole_info) == status);
+  CHECK(tcpclkit_describe_scan(scan, to[0], 4, from[0], 3, reports[0], 5, &info) == status);
+  CHECK(tcpclkit_describe_bundle(bytes, at, to[1], 4, from[1], 3, reports[1], 5, &whole_info) ==
+        status);
   CHECK(memcmp(&info, &whole_info, sizeof info) == 0);
   CHECK(memcmp(to[0], to[1], 8) == 0 && memcmp(from[0], from[1], 8) == 0);
+  CHECK(memcmp(reports[0], reports[1], 8) == 0);
   /* After the end and after a fault nothing is taken. */
   if (status != TCPCLKIT_TRUNCATED) {
     CHECK(tcpclkit_feed_scan(scan, bytes, length, &taken) == status && taken == 0);
@@ -177,7 +194,7 @@ static void scans(void) {
   struct tcpclkit_scan scan;
   struct tcpclkit_verdict verdict;
   struct tcpclkit_bundle info;
-  uint8_t bad[BUNDLE_LENGTH], to[TCPCLKIT_EID_LIMIT], from[TCPCLKIT_EID_LIMIT];
+  uint8_t bad[BUNDLE_LENGTH], to[TCPCLKIT_EID_LIMIT], from[TCPCLKIT_EID_LIMIT], reports[5];
   uint64_t taken = 7;
   size_t size, at;
   CHECK(tcpclkit_raw_scan_size() <= sizeof scan && tcpclkit_raw_scan_size() > 2048);
@@ -186,6 +203,7 @@ static void scans(void) {
   for (size = 1; size <= sizeof bundle; size++) {
     scanned(&scan, bundle, sizeof bundle, size);
     scanned(&scan, named, sizeof named, size);
+    scanned(&scan, reported, sizeof reported, size);
     if (size <= sizeof named)
       scanned(&scan, named, size - 1, size);
     scanned(&scan, checked, sizeof checked - size, size);
@@ -209,17 +227,19 @@ static void scans(void) {
   CHECK(tcpclkit_feed_scan(&scan, bundle + 30, 5, &taken) == TCPCLKIT_OK && taken == 4);
   CHECK(tcpclkit_judge_scan(&scan, &verdict) == TCPCLKIT_OK);
   CHECK(verdict.fault.code == TCPCLKIT_NO_FAULT && verdict.payload_seen == 5);
-  CHECK(tcpclkit_describe_scan(&scan, NULL, 0, NULL, 0, &info) == TCPCLKIT_OK);
+  CHECK(tcpclkit_describe_scan(&scan, NULL, 0, NULL, 0, NULL, 0, &info) == TCPCLKIT_OK);
   CHECK(info.destination.node == 2 && info.source.node == 1 && info.payload_length == 5);
   /* a fault, and the names of the bundle that comes after it */
   CHECK(tcpclkit_start_scan(&scan) == TCPCLKIT_OK);
   CHECK(tcpclkit_feed_scan(&scan, bundle + 1, 8, &taken) == TCPCLKIT_FAULT && taken == 1);
-  CHECK(tcpclkit_describe_scan(&scan, to, 1, from, 1, &info) == TCPCLKIT_FAULT);
+  CHECK(tcpclkit_describe_scan(&scan, to, 1, from, 1, NULL, 0, &info) == TCPCLKIT_FAULT);
   CHECK(info.verdict.fault.code == TCPCLKIT_BUNDLE_NOT_A_BUNDLE);
   CHECK(tcpclkit_start_scan(&scan) == TCPCLKIT_OK);
-  CHECK(tcpclkit_feed_scan(&scan, named, sizeof named, &taken) == TCPCLKIT_OK);
-  CHECK(tcpclkit_describe_scan(&scan, to, 3, from, sizeof from, &info) == TCPCLKIT_TOO_SMALL);
+  CHECK(tcpclkit_feed_scan(&scan, reported, sizeof reported, &taken) == TCPCLKIT_OK);
+  CHECK(tcpclkit_describe_scan(&scan, to, 3, from, sizeof from, reports, 5, &info) ==
+        TCPCLKIT_TOO_SMALL);
   CHECK(info.destination.name_length == 4 && begins(to, "//b") && begins(from, "//a"));
+  CHECK(info.report_to.name_length == 5 && begins(reports, "//def"));
   /* what a caller may get wrong */
   CHECK(tcpclkit_start_scan(NULL) == TCPCLKIT_NULL);
   CHECK(tcpclkit_feed_scan(NULL, bundle, 1, &taken) == TCPCLKIT_NULL);
@@ -228,10 +248,12 @@ static void scans(void) {
   CHECK(tcpclkit_feed_scan(&scan, bundle, SIZE_MAX, &taken) == TCPCLKIT_RANGE);
   CHECK(tcpclkit_judge_scan(NULL, &verdict) == TCPCLKIT_NULL);
   CHECK(tcpclkit_judge_scan(&scan, NULL) == TCPCLKIT_NULL);
-  CHECK(tcpclkit_describe_scan(NULL, NULL, 0, NULL, 0, &info) == TCPCLKIT_NULL);
-  CHECK(tcpclkit_describe_scan(&scan, NULL, 1, NULL, 0, &info) == TCPCLKIT_NULL);
-  CHECK(tcpclkit_describe_scan(&scan, to, SIZE_MAX, NULL, 0, &info) == TCPCLKIT_RANGE);
-  CHECK(tcpclkit_describe_scan(&scan, NULL, 0, NULL, 0, NULL) == TCPCLKIT_NULL);
+  CHECK(tcpclkit_describe_scan(NULL, NULL, 0, NULL, 0, NULL, 0, &info) == TCPCLKIT_NULL);
+  CHECK(tcpclkit_describe_scan(&scan, NULL, 1, NULL, 0, NULL, 0, &info) == TCPCLKIT_NULL);
+  CHECK(tcpclkit_describe_scan(&scan, NULL, 0, NULL, 0, NULL, 1, &info) == TCPCLKIT_NULL);
+  CHECK(tcpclkit_describe_scan(&scan, to, SIZE_MAX, NULL, 0, NULL, 0, &info) == TCPCLKIT_RANGE);
+  CHECK(tcpclkit_describe_scan(&scan, NULL, 0, NULL, 0, to, SIZE_MAX, &info) == TCPCLKIT_RANGE);
+  CHECK(tcpclkit_describe_scan(&scan, NULL, 0, NULL, 0, NULL, 0, NULL) == TCPCLKIT_NULL);
 }
 
 static void messages(void) {
@@ -534,32 +556,40 @@ static void longest_texts(void) {
 /* The bytes of a slice after what was written stay as they were. */
 static void rests(void) {
   const struct tcpclkit_eid eid = {TCPCLKIT_EID_IPN, 0, 2, 1, 0};
-  struct tcpclkit_bundle info;
-  uint8_t to[100], from[100];
+  uint8_t text[100];
   uint64_t written;
-  memset(to, MARK, sizeof to);
-  memset(from, MARK, sizeof from);
-  CHECK(tcpclkit_write_fault_text(113, 0, to, sizeof to, &written) == TCPCLKIT_OK);
-  CHECK(written == 17 && is_marked(to + 17, sizeof to - 17));
-  CHECK(tcpclkit_write_eid_text(&eid, NULL, 0, from, sizeof from, &written) == TCPCLKIT_OK);
-  CHECK(written == 7 && is_marked(from + 7, sizeof from - 7));
-  memset(to, MARK, sizeof to);
-  memset(from, MARK, sizeof from);
-  CHECK(tcpclkit_describe_bundle(named, 20, to, sizeof to, from, sizeof from, &info) ==
-        TCPCLKIT_TRUNCATED);
-  CHECK(begins(to, "//bc") && is_marked(to + 4, sizeof to - 4));
-  CHECK(begins(from, "//a") && is_marked(from + 3, sizeof from - 3));
-  memset(to, MARK, sizeof to);
-  memset(from, MARK, sizeof from);
-  CHECK(tcpclkit_describe_bundle(named, 11, to, sizeof to, from, sizeof from, &info) ==
-        TCPCLKIT_TRUNCATED);
-  CHECK(IS_MARKED(to) && IS_MARKED(from));
-  CHECK(tcpclkit_describe_bundle(bundle, BUNDLE_LENGTH, to, sizeof to, from, sizeof from, &info) ==
-        TCPCLKIT_OK);
-  CHECK(IS_MARKED(to) && IS_MARKED(from));
-  CHECK(tcpclkit_describe_bundle(named, sizeof named, to, sizeof to, from, sizeof from, &info) ==
-        TCPCLKIT_OK);
-  CHECK(is_marked(to + 4, sizeof to - 4) && is_marked(from + 3, sizeof from - 3));
+  memset(text, MARK, sizeof text);
+  CHECK(tcpclkit_write_fault_text(113, 0, text, sizeof text, &written) == TCPCLKIT_OK);
+  CHECK(written == 17 && is_marked(text + 17, sizeof text - 17));
+  memset(text, MARK, sizeof text);
+  CHECK(tcpclkit_write_eid_text(&eid, NULL, 0, text, sizeof text, &written) == TCPCLKIT_OK);
+  CHECK(written == 7 && is_marked(text + 7, sizeof text - 7));
+}
+
+/* Checks the slices for the names: each has its text, and the bytes after it as they were. */
+static void names_have(const uint8_t *bytes, size_t length, uint32_t status, const char *to_text,
+                       const char *from_text, const char *reports_text) {
+  const char *texts[] = {to_text, from_text, reports_text};
+  struct tcpclkit_bundle info;
+  uint8_t names[3][100];
+  size_t at, size;
+  memset(names, MARK, sizeof names);
+  CHECK(tcpclkit_describe_bundle(bytes, length, names[0], 100, names[1], 100, names[2], 100,
+                                 &info) == status);
+  for (at = 0; at < 3; at++) {
+    size = strlen(texts[at]);
+    CHECK(begins(names[at], texts[at]) && is_marked(names[at] + size, 100 - size));
+  }
+}
+
+static void rests_of_names(void) {
+  names_have(reported, 11, TCPCLKIT_TRUNCATED, "", "", "");
+  names_have(reported, 12, TCPCLKIT_TRUNCATED, "//bc", "", "");
+  names_have(reported, 20, TCPCLKIT_TRUNCATED, "//bc", "//a", "");
+  names_have(reported, 26, TCPCLKIT_TRUNCATED, "//bc", "//a", "//def");
+  names_have(reported, sizeof reported, TCPCLKIT_OK, "//bc", "//a", "//def");
+  names_have(named, sizeof named, TCPCLKIT_OK, "//bc", "//a", "");
+  names_have(bundle, BUNDLE_LENGTH, TCPCLKIT_OK, "", "", "");
 }
 
 /* With an argument, stacks are not measured: valgrind refuses to read one after its thread. */
@@ -581,6 +611,7 @@ int main(int argc, char **argv) {
   names_of_codes();
   longest_texts();
   rests();
+  rests_of_names();
   test_tools(argc == 1);
   test_mistakes();
   printf("%u passed, %u failed\n", passed, failed);

@@ -50,6 +50,12 @@ static const uint8_t named[] = {
     '/',  '/',  'a',  0x82, 0x01, 0x00, 0x82, 0x05, 0x06, 0x07, 0x85, 0x01, 0x01, 0x00, 0x00,
     0x40, 0xff};
 
+/* The same, with reports to dtn://def. */
+static const uint8_t reported[] = {
+    0x9f, 0x88, 0x07, 0x00, 0x00, 0x82, 0x01, 0x64, '/',  '/',  'b',  'c',  0x82, 0x01, 0x63,
+    '/',  '/',  'a',  0x82, 0x01, 0x65, '/',  '/',  'd',  'e',  'f',  0x82, 0x05, 0x06, 0x07,
+    0x85, 0x01, 0x01, 0x00, 0x00, 0x40, 0xff};
+
 /* The first 3 of 9 payload bytes of a bundle from dtn:none to ipn:2.1, as a fragment. */
 static const uint8_t fragment[] = {
     0x9f, 0x8a, 0x07, 0x01, 0x00, 0x82, 0x02, 0x82, 0x02, 0x01, 0x82, 0x01, 0x00, 0x82, 0x01,
@@ -76,6 +82,11 @@ static const uint8_t recording[] = {
 static const uint8_t announcing[] = {0x01, 0x02, 0, 0, 0, 0, 0, 0, 0, 5, 0, 0, 0, 0x0d,
                                      0x01, 0, 1, 0, 8, 0, 0, 0, 0, 0, 0, 1, 0,
                                      0, 0, 0, 0, 0, 0, 0, 3};
+
+/* tcpclkit_describe_bundle without slices for the names. */
+static inline uint32_t describe(const uint8_t *bytes, size_t length, struct tcpclkit_bundle *info) {
+  return tcpclkit_describe_bundle(bytes, length, NULL, 0, NULL, 0, NULL, 0, info);
+}
 
 #define LEAVES(call, status, it) \
   do {                           \

@@ -23,9 +23,13 @@ static void unwritten_answers(void) {
   LEAVES(tcpclkit_judge_bundle(bundle, SIZE_MAX, &verdict), TCPCLKIT_RANGE, verdict);
   LEAVES(tcpclkit_judge_bundle(bundle, (size_t)PTRDIFF_MAX + 1, &verdict), TCPCLKIT_RANGE,
          verdict);
-  LEAVES(tcpclkit_describe_bundle(NULL, 1, NULL, 0, NULL, 0, &info), TCPCLKIT_NULL, info);
-  LEAVES(tcpclkit_describe_bundle(bundle, 9, NULL, 1, NULL, 0, &info), TCPCLKIT_NULL, info);
-  LEAVES(tcpclkit_describe_bundle(bundle, 9, NULL, 0, NULL, 1, &info), TCPCLKIT_NULL, info);
+  LEAVES(describe(NULL, 1, &info), TCPCLKIT_NULL, info);
+  LEAVES(tcpclkit_describe_bundle(bundle, 9, NULL, 1, NULL, 0, NULL, 0, &info), TCPCLKIT_NULL,
+         info);
+  LEAVES(tcpclkit_describe_bundle(bundle, 9, NULL, 0, NULL, 1, NULL, 0, &info), TCPCLKIT_NULL,
+         info);
+  LEAVES(tcpclkit_describe_bundle(bundle, 9, NULL, 0, NULL, 0, NULL, 1, &info), TCPCLKIT_NULL,
+         info);
   LEAVES(tcpclkit_read_contact(NULL, 1, &contact), TCPCLKIT_NULL, contact);
   LEAVES(tcpclkit_read_message(NULL, 1, 0, &message), TCPCLKIT_NULL, message);
   LEAVES(tcpclkit_read_message(recording, size, size + 1, &message), TCPCLKIT_RANGE, message);
@@ -35,7 +39,7 @@ static void unwritten_answers(void) {
   LEAVES(tcpclkit_read_item(recording, size, 0, size + 1, &item), TCPCLKIT_RANGE, item);
   LEAVES(tcpclkit_read_item(recording, size, size + 1, size + 1, &item), TCPCLKIT_RANGE, item);
   LEAVES(tcpclkit_read_item(recording, size, size, size, &item), TCPCLKIT_END, item);
-  CHECK(tcpclkit_describe_bundle(bundle, 9, NULL, 0, NULL, 0, NULL) == TCPCLKIT_NULL);
+  CHECK(tcpclkit_describe_bundle(bundle, 9, NULL, 0, NULL, 0, NULL, 0, NULL) == TCPCLKIT_NULL);
   CHECK(tcpclkit_read_contact(recording, size, NULL) == TCPCLKIT_NULL);
   CHECK(tcpclkit_read_message(recording, size, 6, NULL) == TCPCLKIT_NULL);
   CHECK(tcpclkit_read_item(recording, size, 0, 9, NULL) == TCPCLKIT_NULL);
@@ -73,7 +77,7 @@ static void cut_names(void) {
   for (room = 1; room < 4; room++) {
     uint8_t *to = (uint8_t *)malloc(room);
     CHECK(to != NULL);
-    CHECK(tcpclkit_describe_bundle(named, sizeof named, to, room, NULL, 0, &info) ==
+    CHECK(tcpclkit_describe_bundle(named, sizeof named, to, room, NULL, 0, NULL, 0, &info) ==
           TCPCLKIT_TOO_SMALL);
     memset(text, MARK, sizeof text);
     LEAVES(tcpclkit_write_eid_text(&info.destination, to, room, text, sizeof text, &written),
@@ -92,14 +96,16 @@ static void names_after_a_fault(void) {
   uint8_t text[100];
   uint64_t written;
   size_t length;
-  for (length = 0; length < sizeof named; length++) {
+  for (length = 0; length < sizeof reported; length++) {
     memset(&info, MARK, sizeof info);
-    CHECK(tcpclkit_describe_bundle(named, length, NULL, 0, NULL, 0, &info) == TCPCLKIT_TRUNCATED);
+    CHECK(describe(reported, length, &info) == TCPCLKIT_TRUNCATED);
     CHECK(info.verdict.fault.offset == length);
     CHECK(length >= 12 || memcmp(&info.destination, zeros, sizeof info - before) == 0);
     CHECK(tcpclkit_write_eid_text(&info.destination, NULL, 0, text, sizeof text, &written) ==
           TCPCLKIT_RANGE);
     CHECK(tcpclkit_write_eid_text(&info.source, NULL, 0, text, sizeof text, &written) ==
+          TCPCLKIT_RANGE);
+    CHECK(tcpclkit_write_eid_text(&info.report_to, NULL, 0, text, sizeof text, &written) ==
           TCPCLKIT_RANGE);
   }
 }
@@ -136,16 +142,17 @@ static void refuse_scan(const struct tcpclkit_scan *memory) {
   struct tcpclkit_scan scan = *memory;
   struct tcpclkit_verdict verdict;
   struct tcpclkit_bundle info;
-  uint8_t to[9], from[9];
+  uint8_t to[9], from[9], reports[9];
   uint64_t taken = 7;
   memset(&verdict, MARK, sizeof verdict);
   memset(&info, MARK, sizeof info);
   memset(to, MARK, sizeof to);
   memset(from, MARK, sizeof from);
+  memset(reports, MARK, sizeof reports);
   CHECK(tcpclkit_feed_scan(&scan, bundle, BUNDLE_LENGTH, &taken) == TCPCLKIT_RANGE && taken == 0);
   LEAVES(tcpclkit_judge_scan(&scan, &verdict), TCPCLKIT_RANGE, verdict);
-  LEAVES(tcpclkit_describe_scan(&scan, to, 9, from, 9, &info), TCPCLKIT_RANGE, info);
-  CHECK(IS_MARKED(to) && IS_MARKED(from));
+  LEAVES(tcpclkit_describe_scan(&scan, to, 9, from, 9, reports, 9, &info), TCPCLKIT_RANGE, info);
+  CHECK(IS_MARKED(to) && IS_MARKED(from) && IS_MARKED(reports));
   CHECK(memcmp(&scan, memory, sizeof scan) == 0);
 }
 
@@ -200,16 +207,40 @@ static void copies_of_scans(void) {
 
 /* -- slices that overlap */
 
+/* Two slices for names overlap, whichever two they are, or one overlaps the bytes of the bundle. */
+static void refuse_names(const struct tcpclkit_scan *scan, uint8_t *one, uint8_t *other) {
+  struct tcpclkit_bundle info;
+  uint8_t *names[3];
+  size_t apart;
+  memset(&info, MARK, sizeof info);
+  for (apart = 0; apart < 3; apart++) {
+    names[apart] = NULL;
+    names[(apart + 1) % 3] = one;
+    names[(apart + 2) % 3] = other;
+    LEAVES(tcpclkit_describe_bundle(named, sizeof named, names[0], names[0] ? 100 : 0, names[1],
+                                    names[1] ? 100 : 0, names[2], names[2] ? 100 : 0, &info),
+           TCPCLKIT_RANGE, info);
+    LEAVES(tcpclkit_describe_scan(scan, names[0], names[0] ? 100 : 0, names[1],
+                                  names[1] ? 100 : 0, names[2], names[2] ? 100 : 0, &info),
+           TCPCLKIT_RANGE, info);
+  }
+  LEAVES(tcpclkit_describe_bundle(one, 100, other, 100, NULL, 0, NULL, 0, &info), TCPCLKIT_RANGE,
+         info);
+  LEAVES(tcpclkit_describe_bundle(one, 100, NULL, 0, other, 100, NULL, 0, &info), TCPCLKIT_RANGE,
+         info);
+  LEAVES(tcpclkit_describe_bundle(one, 100, NULL, 0, NULL, 0, other, 100, &info), TCPCLKIT_RANGE,
+         info);
+}
+
 static void one_slice_for_both(void) {
   struct tcpclkit_scan scan;
   struct tcpclkit_bundle info;
   struct tcpclkit_unpack_options options;
   struct tcpclkit_pack_options pack;
   struct tcpclkit_run run;
-  uint8_t slice[200];
+  uint8_t slice[300];
   uint64_t written;
   size_t at;
-  memset(&info, MARK, sizeof info);
   memset(&run, MARK, sizeof run);
   memset(slice, MARK, sizeof slice);
   tcpclkit_unpack_defaults(&options);
@@ -218,11 +249,8 @@ static void one_slice_for_both(void) {
   tcpclkit_feed_scan(&scan, named, sizeof named, &written);
   for (at = 0; at < 100; at++) {
     uint8_t *other = slice + at;
-    LEAVES(tcpclkit_describe_bundle(named, sizeof named, slice, 100, other, 100, &info),
-           TCPCLKIT_RANGE, info);
-    LEAVES(tcpclkit_describe_bundle(named, sizeof named, other, 100, slice, 100, &info),
-           TCPCLKIT_RANGE, info);
-    LEAVES(tcpclkit_describe_scan(&scan, slice, 100, other, 100, &info), TCPCLKIT_RANGE, info);
+    refuse_names(&scan, slice, other);
+    refuse_names(&scan, other, slice);
     LEAVES(tcpclkit_list(recording, sizeof recording, slice, 100, other, 100, &run),
            TCPCLKIT_RANGE, run);
     LEAVES(tcpclkit_list(slice, 100, other, 100, NULL, 0, &run), TCPCLKIT_RANGE, run);
@@ -233,10 +261,10 @@ static void one_slice_for_both(void) {
   }
   CHECK(IS_MARKED(slice));
   /* One slice after the other is fine, and so is one without bytes in the other. */
-  CHECK(tcpclkit_describe_bundle(named, sizeof named, slice, 100, slice + 100, 100, &info) ==
-        TCPCLKIT_OK);
-  CHECK(begins(slice, "//bc") && begins(slice + 100, "//a"));
-  CHECK(tcpclkit_describe_bundle(named, sizeof named, slice, 100, slice + 9, 0, &info) ==
+  CHECK(tcpclkit_describe_bundle(reported, sizeof reported, slice, 100, slice + 100, 100,
+                                 slice + 200, 100, &info) == TCPCLKIT_OK);
+  CHECK(begins(slice, "//bc") && begins(slice + 100, "//a") && begins(slice + 200, "//def"));
+  CHECK(tcpclkit_describe_bundle(named, sizeof named, slice, 100, slice + 9, 0, NULL, 0, &info) ==
         TCPCLKIT_TOO_SMALL);
 }
 

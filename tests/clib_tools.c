@@ -264,10 +264,11 @@ static void small_calls(void) {
   static struct tcpclkit_turn turn;
   static struct tcpclkit_scan scan;
   static const struct tcpclkit_eid eid = {TCPCLKIT_EID_DTN, 0, 0, 0, TCPCLKIT_EID_LIMIT};
-  static uint8_t name[TCPCLKIT_EID_LIMIT], text[4100];
+  static uint8_t name[TCPCLKIT_EID_LIMIT], reports[TCPCLKIT_EID_LIMIT], text[4100];
   static uint64_t written;
   tcpclkit_judge_bundle(bundle, sizeof bundle, &info.verdict);
-  tcpclkit_describe_bundle(named, sizeof named, text, sizeof text, name, sizeof name, &info);
+  tcpclkit_describe_bundle(reported, sizeof reported, text, sizeof text, name, sizeof name,
+                           reports, sizeof reports, &info);
   tcpclkit_read_contact(recording, sizeof recording, &contact);
   tcpclkit_read_message(recording, sizeof recording, 6, &message);
   tcpclkit_read_message(announcing, sizeof announcing, 0, &message);
@@ -275,9 +276,10 @@ static void small_calls(void) {
   tcpclkit_judge_order(&order, TCPCLKIT_SESS_INIT, 0, 0, &turn);
   tcpclkit_take_message(&order, TCPCLKIT_XFER_SEGMENT, 0, 7, &turn);
   tcpclkit_start_scan(&scan);
-  tcpclkit_feed_scan(&scan, named, sizeof named, &written);
+  tcpclkit_feed_scan(&scan, reported, sizeof reported, &written);
   tcpclkit_judge_scan(&scan, &info.verdict);
-  tcpclkit_describe_scan(&scan, text, sizeof text, name, sizeof name, &info);
+  tcpclkit_describe_scan(&scan, text, sizeof text, name, sizeof name, reports, sizeof reports,
+                         &info);
   tcpclkit_write_fault_text(TCPCLKIT_BUNDLE_CUT, 0, text, sizeof text, &written);
   tcpclkit_write_eid_text(&eid, name, sizeof name, text, sizeof text, &written);
 }

@@ -33,9 +33,11 @@ static void show_eid(const struct tcpclkit_eid *eid, const uint8_t *name) {
 /* Writes the endpoint IDs and the length of the payload. Returns whether the bundle is good. */
 static int show_bundle(const uint8_t *bytes, size_t length) {
   uint8_t destination[TCPCLKIT_EID_LIMIT], source[TCPCLKIT_EID_LIMIT];
+  uint8_t report_to[TCPCLKIT_EID_LIMIT];
   struct tcpclkit_bundle bundle;
   if (tcpclkit_describe_bundle(bytes, length, destination, sizeof destination, source,
-                               sizeof source, &bundle) != TCPCLKIT_OK) {
+                               sizeof source, report_to, sizeof report_to,
+                               &bundle) != TCPCLKIT_OK) {
     show_fault(&bundle.verdict.fault);
     return 0;
   }

@@ -97,8 +97,9 @@ _Verdict = _struct("_Verdict", "fault:_Fault has_payload payload_offset payload_
 _Eid = _struct("_Eid", "kind allocator node service name_length")
 _Bundle = _struct(
     "_Bundle",
-    "verdict:_Verdict primary_fields primary_whole flags destination:_Eid source:_Eid time "
-    "sequence lifetime is_fragment fragment_offset fragment_total blocks payload_length",
+    "verdict:_Verdict primary_fields primary_whole flags destination:_Eid source:_Eid "
+    "report_to:_Eid time sequence lifetime is_fragment fragment_offset fragment_total blocks "
+    "payload_length",
 )
 _Contact = _struct("_Contact", "fault:_Fault flags")
 _Message = _struct(
@@ -114,15 +115,16 @@ _Turn = _struct("_Turn", "fault turn last abandons abandoned")
 _Run = _struct("_Run", "exit_status output_length report_length")
 
 _SLICE = [c_void_p, c_size_t]
+_NAMES = [*_SLICE, *_SLICE, *_SLICE]  # for the names of destination, source and report-to endpoint
 _TEXT = [c_uint64, *_SLICE]  # whether it is wanted, and the slice for it
 _SCAN = c_uint64 * SCAN_WORDS
 _PARAMETERS = {
     "judge_bundle": [*_SLICE, POINTER(_Verdict)],
-    "describe_bundle": [*_SLICE, *_SLICE, *_SLICE, POINTER(_Bundle)],
+    "describe_bundle": [*_SLICE, *_NAMES, POINTER(_Bundle)],
     "start_scan": [_SCAN],
     "feed_scan": [_SCAN, *_SLICE, POINTER(c_uint64)],
     "judge_scan": [_SCAN, POINTER(_Verdict)],
-    "describe_scan": [_SCAN, *_SLICE, *_SLICE, POINTER(_Bundle)],
+    "describe_scan": [_SCAN, *_NAMES, POINTER(_Bundle)],
     "read_contact": [*_SLICE, POINTER(_Contact)],
     "read_message": [*_SLICE, c_uint64, POINTER(_Message)],
     "read_item": [*_SLICE, c_uint64, c_uint64, POINTER(_Item)],
@@ -292,12 +294,13 @@ class Verdict(NamedTuple):
 class Bundle(NamedTuple):
     """A good bundle. Times are in milliseconds, and `time` counts from 2000-01-01 UTC.
 
-    `fragment` is the offset of a fragment and the total length, or None. `payload` has the bytes,
-    or, of a Scan, their place in the bundle.
+    `report_to` is where status reports go. `fragment` is the offset of a fragment and the total
+    length, or None. `payload` has the bytes, or, of a Scan, their place in the bundle.
     """
     flags: int
     destination: EndpointId
     source: EndpointId
+    report_to: EndpointId
     time: int
     sequence: int
     lifetime: int
@@ -310,14 +313,15 @@ class Primary(NamedTuple):
     """The fields of a bundle's primary block that come before its first fault; the others are None.
 
     They are numbered in their order (RFC 9171 section 4.3.1), and `accepted` is the number of the
-    last one, or 0. Field 1 is the version, 3 the type of the check value, and 6 the report-to
-    endpoint. `is_whole` is whether the whole block was accepted, its check value too.
+    last one, or 0. Field 1 is the version, and 3 the type of the check value. `is_whole` is whether
+    the whole block was accepted, its check value too.
     """
     accepted: int
     is_whole: bool
     flags: Optional[int]
     destination: Optional[EndpointId]
     source: Optional[EndpointId]
+    report_to: Optional[EndpointId]
     creation: Optional[Tuple[int, int]]  # the time, in milliseconds, and the sequence number
     lifetime: Optional[int]
     fragment: Optional[Tuple[int, int]]  # the offset and the total length
@@ -350,24 +354,25 @@ def primary(content):
 
 def _described(call, name, *arguments):
     """Returns the status of a call, and what it wrote of a bundle: the fields and the names."""
-    it, names = _Bundle(), (_room(EID_LIMIT), _room(EID_LIMIT))
-    status = call(name, *arguments, names[0], EID_LIMIT, names[1], EID_LIMIT, byref(it))
-    return status, it, *names
+    it, names = _Bundle(), [_room(EID_LIMIT) for _ in range(3)]
+    slices = [value for room in names for value in (room, EID_LIMIT)]
+    return call(name, *arguments, *slices, byref(it)), it, *names
 
 
-def _bundle(status, it, destination, source):
+def _bundle(status, it, destination, source, report_to):
     """Returns the bundle that the library wrote, with the payload's place, or raises its fault."""
     judged = _verdict(status, it.verdict)
     if judged.fault is not None:
         raise judged.fault
     return Bundle(
-        it.flags, _eid(it.destination, destination), _eid(it.source, source), it.time, it.sequence,
-        it.lifetime, (it.fragment_offset, it.fragment_total) if it.is_fragment else None,
+        it.flags, _eid(it.destination, destination), _eid(it.source, source),
+        _eid(it.report_to, report_to), it.time, it.sequence, it.lifetime,
+        (it.fragment_offset, it.fragment_total) if it.is_fragment else None,
         it.blocks, judged.payload,
     )
 
 
-def _primary(_status, it, destination, source):
+def _primary(_status, it, destination, source, report_to):
     """Returns the fields of the primary block that the library wrote."""
     count = it.primary_fields
     return Primary(
@@ -375,6 +380,7 @@ def _primary(_status, it, destination, source):
         it.flags if count >= 2 else None,
         _eid(it.destination, destination) if count >= 4 else None,
         _eid(it.source, source) if count >= 5 else None,
+        _eid(it.report_to, report_to) if count >= 6 else None,
         (it.time, it.sequence) if count >= 7 else None,
         it.lifetime if count >= 8 else None,
         (it.fragment_offset, it.fragment_total) if count >= 10 else None,

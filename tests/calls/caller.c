@@ -120,8 +120,9 @@ static void put_identity(struct text *text, const struct tcpclkit_bundle *it,
 static int put_judgement(struct text *text, const uint8_t *bytes, size_t length,
                          struct tcpclkit_bundle *it) {
   uint8_t destination[TCPCLKIT_EID_LIMIT], source[TCPCLKIT_EID_LIMIT];
+  uint8_t report_to[TCPCLKIT_EID_LIMIT];
   uint32_t status = tcpclkit_describe_bundle(bytes, length, destination, sizeof destination, source,
-                                         sizeof source, it);
+                                             sizeof source, report_to, sizeof report_to, it);
   if (status == TCPCLKIT_OK)
     put_identity(text, it, destination, source);
   else if (status == TCPCLKIT_FAULT || status == TCPCLKIT_TRUNCATED)
@@ -134,9 +135,10 @@ static int put_judgement(struct text *text, const uint8_t *bytes, size_t length,
 /* Appends a line with the fields of the primary block that come before its first fault. */
 static void put_primary(struct text *text, const struct job *job) {
   uint8_t destination[TCPCLKIT_EID_LIMIT], source[TCPCLKIT_EID_LIMIT];
+  uint8_t report_to[TCPCLKIT_EID_LIMIT];
   struct tcpclkit_bundle it;
   tcpclkit_describe_bundle(job->bytes, job->length, destination, sizeof destination, source,
-                           sizeof source, &it);
+                           sizeof source, report_to, sizeof report_to, &it);
   put(text, "primary accepted=%" PRIu64 " whole=%" PRIu64, it.primary_fields, it.primary_whole);
   if (it.primary_fields >= 2)
     put(text, " flags=%" PRIu64, it.flags);
@@ -147,6 +149,10 @@ static void put_primary(struct text *text, const struct job *job) {
   if (it.primary_fields >= 5) {
     put(text, " source=");
     put_eid(text, &it.source, source);
+  }
+  if (it.primary_fields >= 6) {
+    put(text, " report-to=");
+    put_eid(text, &it.report_to, report_to);
   }
   if (it.primary_fields >= 7)
     put(text, " creation=%" PRIu64 "/%" PRIu64, it.time, it.sequence);
@@ -159,7 +165,8 @@ static void put_primary(struct text *text, const struct job *job) {
 
 /* Feeds the bytes to a scan in pieces. What it has found is what the bytes that it took are. */
 static void compare_scan(const struct job *job) {
-  uint8_t names[4][TCPCLKIT_EID_LIMIT] = {{0}};
+  enum { LIMIT = TCPCLKIT_EID_LIMIT };
+  uint8_t names[6][LIMIT] = {{0}};
   struct tcpclkit_bundle it, same;
   struct tcpclkit_scan scan;
   size_t at = 0, size = 1 + job->length % 13;
@@ -173,11 +180,11 @@ static void compare_scan(const struct job *job) {
     status = tcpclkit_feed_scan(&scan, job->bytes + at, piece, &taken);
     at += (size_t)taken;
   } while (status == TCPCLKIT_TRUNCATED && at < job->length);
-  if (tcpclkit_describe_scan(&scan, names[0], sizeof names[0], names[1], sizeof names[1], &it) !=
+  if (tcpclkit_describe_scan(&scan, names[0], LIMIT, names[1], LIMIT, names[2], LIMIT, &it) !=
           status ||
-      tcpclkit_describe_bundle(job->bytes, at, names[2], sizeof names[2], names[3], sizeof names[3],
-                           &same) != status ||
-      memcmp(&it, &same, sizeof it) != 0 || memcmp(names[0], names[2], 2 * sizeof names[0]) != 0)
+      tcpclkit_describe_bundle(job->bytes, at, names[3], LIMIT, names[4], LIMIT, names[5], LIMIT,
+                               &same) != status ||
+      memcmp(&it, &same, sizeof it) != 0 || memcmp(names[0], names[3], 3 * LIMIT) != 0)
     die("the bytes in pieces are another bundle");
 }
 

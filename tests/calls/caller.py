@@ -37,9 +37,9 @@ def judgement(content):
 def primary_line(it):
     """Returns the line of the fields of a primary block that come before its first fault."""
     line = f"primary accepted={it.accepted} whole={int(it.is_whole)}"
-    for name in ("flags", "destination", "source"):
+    for name in ("flags", "destination", "source", "report_to"):
         value = getattr(it, name)
-        line += f" {name}={value}" if value is not None else ""
+        line += f" {name.replace('_', '-')}={value}" if value is not None else ""
     line += f" creation={it.creation[0]}/{it.creation[1]}" if it.creation else ""
     line += f" lifetime={it.lifetime}" if it.lifetime is not None else ""
     return line + (f" fragment={it.fragment[0]}/{it.fragment[1]}" if it.fragment else "")

@@ -65,6 +65,7 @@ fn primary_line(it: &Primary) -> String {
     put("flags", it.flags.map(|flags| flags.to_string()));
     put("destination", it.destination.as_ref().map(|eid| eid.to_string()));
     put("source", it.source.as_ref().map(|eid| eid.to_string()));
+    put("report-to", it.report_to.as_ref().map(|eid| eid.to_string()));
     let of = |(one, other): (u64, u64)| format!("{one}/{other}");
     put("creation", it.creation.map(of));
     put("lifetime", it.lifetime.map(|lifetime| lifetime.to_string()));
@@ -88,8 +89,13 @@ fn compare_scan(bytes: &[u8]) {
     assert_eq!(scan.primary(), primary(&bytes[..at]));
     match (scan.bundle(), bundle(&bytes[..at])) {
         (Ok(found), Ok(same)) => assert_eq!(
-            (found.source, found.destination, part(found.payload)),
-            (same.source, same.destination, same.payload)
+            (
+                found.source,
+                found.destination,
+                found.report_to,
+                part(found.payload)
+            ),
+            (same.source, same.destination, same.report_to, same.payload)
         ),
         (found, same) => assert_eq!(found.err(), same.err()),
     }

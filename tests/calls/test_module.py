@@ -39,6 +39,7 @@ class Bundles(unittest.TestCase):
     def test_a_good_bundle(self):
         it = tcpclkit.bundle(HELLO)
         self.assertEqual((it.source, it.destination), (Ipn(None, 1, 1), Ipn(None, 2, 1)))
+        self.assertEqual(it.report_to, Dtn(None))
         self.assertEqual((it.flags, it.time, it.sequence, it.lifetime), (0, 0, 0, 0))
         self.assertEqual((it.fragment, it.blocks, it.payload), (None, 1, b"hello"))
         self.assertEqual(tcpclkit.verdict(HELLO), (None, slice(28, 33)))
@@ -47,6 +48,13 @@ class Bundles(unittest.TestCase):
         it = tcpclkit.bundle(FRAGMENT)
         self.assertEqual((it.source, it.fragment), (Dtn(b"//x"), (70000, 140000)))
         self.assertEqual((it.sequence, it.payload), (9, b"middle"))
+
+    def test_where_reports_go(self):
+        reported = HELLO[:15] + bytes.fromhex("8201652f2f646566") + HELLO[18:]
+        self.assertEqual(tcpclkit.bundle(reported).report_to, Dtn(b"//def"))
+        for length in range(len(reported) + 1):
+            found = tcpclkit.primary(reported[:length]).report_to
+            self.assertEqual(found, Dtn(b"//def") if length >= 23 else None)
 
     def test_prefixes(self):
         for length in range(len(HELLO)):
@@ -62,7 +70,7 @@ class Bundles(unittest.TestCase):
             self.assertEqual(it.accepted, sum(end <= length for end in ends))
             self.assertEqual((it.is_whole, it.lifetime is None), (length >= 38, length < 23))
         wrong = FRAGMENT[:37] + b"\0" + FRAGMENT[38:]
-        fields = Ipn(None, 2, 1), Dtn(b"//x"), (0, 9), 0, (70000, 140000)
+        fields = Ipn(None, 2, 1), Dtn(b"//x"), Dtn(None), (0, 9), 0, (70000, 140000)
         self.assertEqual(tcpclkit.primary(wrong), (10, False, 1, *fields))
         with self.assertRaises(Fault) as raised:
             tcpclkit.bundle(wrong)

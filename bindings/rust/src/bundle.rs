@@ -62,6 +62,8 @@ pub struct Bundle<P> {
     pub destination: EndpointId,
     /// The source node.
     pub source: EndpointId,
+    /// Where status reports go.
+    pub report_to: EndpointId,
     /// The creation time, in milliseconds since 2000-01-01 UTC.
     pub time: u64,
     /// The sequence number of the creation timestamp.
@@ -78,8 +80,8 @@ pub struct Bundle<P> {
 
 /// The fields of a bundle's primary block that come before its first fault.
 ///
-/// They are numbered in their order (RFC 9171 section 4.3.1). Field 1 is the version, 3 the type of
-/// the check value, and 6 the report-to endpoint.
+/// They are numbered in their order (RFC 9171 section 4.3.1). Field 1 is the version, and 3 the
+/// type of the check value.
 #[derive(Clone, Debug, PartialEq, Eq)]
 pub struct Primary {
     /// The number of the last field that was accepted, or 0.
@@ -92,6 +94,8 @@ pub struct Primary {
     pub destination: Option<EndpointId>,
     /// Field 5: the source node.
     pub source: Option<EndpointId>,
+    /// Field 6: where status reports go.
+    pub report_to: Option<EndpointId>,
     /// Field 7: the creation time, in milliseconds since 2000-01-01 UTC, and the sequence number.
     pub creation: Option<(u64, u64)>,
     /// Field 8: the lifetime, in milliseconds after the creation time.
@@ -125,7 +129,7 @@ pub fn primary(bytes: &[u8]) -> Primary {
 }
 
 fn described(bytes: &[u8]) -> Described {
-    Described::by(|[destination, source], bundle| {
+    Described::by(|[destination, source, report_to], bundle| {
         // SAFETY: the slices and the struct are valid, and do not overlap.
         unsafe {
             raw::tcpclkit_raw_describe_bundle(
@@ -135,6 +139,8 @@ fn described(bytes: &[u8]) -> Described {
                 destination.len(),
                 source.as_mut_ptr(),
                 source.len(),
+                report_to.as_mut_ptr(),
+                report_to.len(),
                 bundle,
             )
         }
@@ -150,16 +156,17 @@ fn part(bytes: &[u8], place: Range<u64>) -> &[u8] {
 pub(crate) struct Described {
     status: u32,
     it: raw::Bundle,
-    /// The destination and the source begin with their names, if they have some.
+    /// The slices for destination, source and report-to endpoint. Each begins with the name, if
+    /// there is one.
     names: Names,
 }
 
-type Names = [[u8; raw::EID_LIMIT]; 2];
+type Names = [[u8; raw::EID_LIMIT]; 3];
 
 impl Described {
     /// What a call of the library writes.
     pub(crate) fn by(call: impl FnOnce(&mut Names, &mut raw::Bundle) -> u32) -> Described {
-        let mut names = [[0; raw::EID_LIMIT]; 2];
+        let mut names = [[0; raw::EID_LIMIT]; 3];
         let (status, it) = raw::answer(|bundle| call(&mut names, bundle));
         Described { status, it, names }
     }
@@ -177,6 +184,7 @@ impl Described {
                 flags: it.flags,
                 destination: EndpointId::of(&it.destination, &self.names[0]),
                 source: EndpointId::of(&it.source, &self.names[1]),
+                report_to: EndpointId::of(&it.report_to, &self.names[2]),
                 time: it.time,
                 sequence: it.sequence,
                 lifetime: it.lifetime,
@@ -197,6 +205,7 @@ impl Described {
             flags: has(2).then_some(it.flags),
             destination: has(4).then(|| EndpointId::of(&it.destination, &self.names[0])),
             source: has(5).then(|| EndpointId::of(&it.source, &self.names[1])),
+            report_to: has(6).then(|| EndpointId::of(&it.report_to, &self.names[2])),
             creation: has(7).then_some((it.time, it.sequence)),
             lifetime: has(8).then_some(it.lifetime),
             fragment: has(10).then(|| self.fragment()),

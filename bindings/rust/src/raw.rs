@@ -53,7 +53,7 @@ structs! {
     Eid { kind: u64, allocator: u64, node: u64, service: u64, name_length: u64 }
     Bundle {
         verdict: Verdict, primary_fields: u64, primary_whole: u64, flags: u64, destination: Eid,
-        source: Eid, time: u64, sequence: u64, lifetime: u64, is_fragment: u64,
+        source: Eid, report_to: Eid, time: u64, sequence: u64, lifetime: u64, is_fragment: u64,
         fragment_offset: u64, fragment_total: u64, blocks: u64, payload_length: u64,
     }
     Contact { fault: Fault, flags: u64 }
@@ -83,6 +83,8 @@ extern "C" {
         destination_room: usize,
         source_name: *mut u8,
         source_room: usize,
+        report_to_name: *mut u8,
+        report_to_room: usize,
         bundle: *mut Bundle,
     ) -> u32;
     pub fn tcpclkit_raw_start_scan(memory: *mut u64) -> u32;
@@ -99,6 +101,8 @@ extern "C" {
         destination_room: usize,
         source_name: *mut u8,
         source_room: usize,
+        report_to_name: *mut u8,
+        report_to_room: usize,
         bundle: *mut Bundle,
     ) -> u32;
     pub fn tcpclkit_raw_scan_size() -> usize;

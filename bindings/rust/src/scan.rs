@@ -96,7 +96,7 @@ impl Scan {
     }
 
     fn described(&self) -> Described {
-        Described::by(|[destination, source], bundle| {
+        Described::by(|[destination, source, report_to], bundle| {
             // SAFETY: the memory has a scan, the slices and the struct are valid, and nothing
             // overlaps.
             unsafe {
@@ -106,6 +106,8 @@ impl Scan {
                     destination.len(),
                     source.as_mut_ptr(),
                     source.len(),
+                    report_to.as_mut_ptr(),
+                    report_to.len(),
                     bundle,
                 )
             }

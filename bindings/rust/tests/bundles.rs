@@ -84,6 +84,7 @@ fn a_bad_bundle_has_the_fields_before_its_fault() {
             service: 1,
         }),
         source: Some(EndpointId::Dtn(b"//x"[..].into())),
+        report_to: Some(EndpointId::DtnNone),
         creation: Some((0, 9)),
         lifetime: Some(0),
         fragment: Some(Fragment {
@@ -103,9 +104,21 @@ fn a_cut_bundle_has_the_fields_that_came() {
         let accepted = ends.iter().filter(|end| **end <= length).count() as u64;
         assert_eq!((found.accepted, found.is_whole), (accepted, length >= 38));
         assert_eq!(found.source.is_some(), length >= 16);
+        assert_eq!(found.report_to.is_some(), length >= 19);
         assert_eq!(found.creation.is_some(), length >= 22);
         assert_eq!(found.fragment.is_some(), length >= 33);
     }
+}
+
+#[test]
+fn a_bundle_says_where_reports_go() {
+    assert_eq!(bundle(&hello()).unwrap().report_to, EndpointId::DtnNone);
+    let mut bytes = hello();
+    bytes.splice(15..18, hex("8201652f2f646566"));
+    let name = EndpointId::Dtn(b"//def"[..].into());
+    assert_eq!(bundle(&bytes).unwrap().report_to, name);
+    assert_eq!(primary(&bytes[..22]).report_to, None);
+    assert_eq!(primary(&bytes[..23]).report_to, Some(name));
 }
 
 #[test]

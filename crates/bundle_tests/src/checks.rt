@@ -22,45 +22,53 @@ fn in_slices(kind: CheckKind, slices: &[&[u8]]) -> Check {
     check
 }
 
+/// Checks that this is the value of a check of the bytes.
+fn is_value(rt: &impl Abort, check: &Check, kind: CheckKind, bytes: &[u8], value: u32) {
+    assert_eq!(rt; check.value(), value, "{kind:?} of {bytes:?}");
+}
+
 /// Checks the value of the bytes, pushed at once and one by one.
 fn expect_value(rt: &impl Abort, kind: CheckKind, bytes: &[u8], value: u32) {
-    assert_eq!(rt;
-        in_slices(kind, &[bytes]).value(),
-        value,
-        "{kind:?} of {bytes:?}"
-    );
-    assert_eq!(rt;
-        bytewise(kind, bytes).value(),
-        value,
-        "{kind:?} of {bytes:?}"
-    );
+    is_value(rt, &in_slices(kind, &[bytes]), kind, bytes, value);
+    is_value(rt, &bytewise(kind, bytes), kind, bytes, value);
 }
+
+/// Bytes, and their values under both kinds of check.
+static VALUES: [(&[u8], u32, u32); 8] = [
+    (b"", 0x0000, 0x0000_0000),
+    (b"\x00", 0xf078, 0x527d_5351),
+    (b"\xff", 0xff00, 0xff00_0000),
+    (b"123456789", 0x906e, 0xe306_9283),
+    (
+        b"\x86\x01\x01\x00\x01\x45\x68\x65\x6c\x6c\x6f\x42\x00\x00",
+        0x4bf3,
+        0xb4ec_ae35,
+    ),
+    (&[0x00; 32], 0xcd70, 0x8a91_36aa),
+    (&[0xff; 32], 0xe051, 0x62a8_ab43),
+    (
+        b"A block of sixteen bytes, and another of as many.",
+        0xb3a6,
+        0xe1a2_35a9,
+    ),
+];
 
 /// The expected values are those of the Debian package python3-crcmod 1.7 (`x-25` and `crc-32c`).
 #[test]
 fn equals_outside_values(rt: HostRuntime) {
-    for (bytes, crc16, crc32) in [
-        (b"".as_slice(), 0x0000, 0x0000_0000),
-        (b"\x00", 0xf078, 0x527d_5351),
-        (b"\xff", 0xff00, 0xff00_0000),
-        (b"123456789", 0x906e, 0xe306_9283),
-        (
-            b"\x86\x01\x01\x00\x01\x45\x68\x65\x6c\x6c\x6f\x42\x00\x00",
-            0x4bf3,
-            0xb4ec_ae35,
-        ),
-        (&[0x00; 32], 0xcd70, 0x8a91_36aa),
-        (&[0xff; 32], 0xe051, 0x62a8_ab43),
-        (
-            b"A block of sixteen bytes, and another of as many.",
-            0xb3a6,
-            0xe1a2_35a9,
-        ),
-    ] {
+    for &(bytes, crc16, crc32) in &VALUES {
         expect_value(&rt, CheckKind::Crc16, bytes, crc16);
         expect_value(&rt, CheckKind::Crc32, bytes, crc32);
     }
 }
+
+/// Bytes, and the registers after them from a register of zero.
+static REGISTERS: [(CheckKind, u8, u32); 4] = [
+    (CheckKind::Crc16, 0x01, 0x1189),
+    (CheckKind::Crc16, 0x80, 0x8408),
+    (CheckKind::Crc32, 0x01, 0xf26b_8303),
+    (CheckKind::Crc32, 0x80, 0x82f6_3b78),
+];
 
 /// Single bytes, by the registers after bytes from a register of zero.
 ///
@@ -69,12 +77,7 @@ fn equals_outside_values(rt: HostRuntime) {
 /// has all bits of the register turned.
 #[test]
 fn single_bytes(rt: HostRuntime) {
-    for (kind, byte, register) in [
-        (CheckKind::Crc16, 0x01, 0x1189),
-        (CheckKind::Crc16, 0x80, 0x8408),
-        (CheckKind::Crc32, 0x01, 0xf26b_8303),
-        (CheckKind::Crc32, 0x80, 0x82f6_3b78),
-    ] {
+    for &(kind, byte, register) in &REGISTERS {
         let shifted = match kind {
             CheckKind::Crc16 => 0xff00,
             CheckKind::Crc32 => 0xff00_0000,
@@ -83,21 +86,21 @@ fn single_bytes(rt: HostRuntime) {
     }
 }
 
+/// Checks that a check of slices is the one of their bytes one by one.
+fn is_check(rt: &impl Abort, kind: CheckKind, slices: &[&[u8]], expected: &Check) {
+    assert_eq!(rt;
+        &in_slices(kind, slices),
+        expected,
+        "{kind:?} of {slices:?}"
+    );
+}
+
 /// Compares the bytes pushed at once, and cut in two at every position, with the bytes one by one.
 fn expect_slices(rt: &impl Abort, kind: CheckKind, bytes: &[u8]) {
     let expected = bytewise(kind, bytes);
-    assert_eq!(rt;
-        in_slices(kind, &[bytes]),
-        expected,
-        "{kind:?} of {bytes:?}"
-    );
+    is_check(rt, kind, &[bytes], &expected);
     for cut in 0..=bytes.len() {
-        let pieces = [&bytes[..cut], &bytes[cut..]];
-        assert_eq!(rt;
-            in_slices(kind, &pieces),
-            expected,
-            "{kind:?} of {bytes:?} cut at {cut}"
-        );
+        is_check(rt, kind, &[&bytes[..cut], &bytes[cut..]], &expected);
     }
 }
 

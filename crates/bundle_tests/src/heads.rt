@@ -7,70 +7,166 @@ const MORE: HeadStep = HeadStep::More;
 
 const BAD: HeadStep = HeadStep::Bad;
 
-fn done(major: u8, value: u64) -> HeadStep {
-    HeadStep::Done(Head {
-        major,
-        value: Some(value),
-    })
+/// Compares the outcome of a scan with the expected one.
+fn comes_to(rt: &impl Abort, scan: &HeadScan, bytes: &[u8], outcome: HeadStep) {
+    assert_eq!(rt; scan.outcome(), outcome, "{bytes:?}");
 }
 
-fn without_value(major: u8) -> HeadStep {
-    HeadStep::Done(Head { major, value: None })
+/// Checks how many of the bytes a scan consumes, and its outcome.
+fn feeds(rt: &impl Abort, scan: &mut HeadScan, bytes: &[u8], taken: usize, outcome: HeadStep) {
+    assert!(rt; scan.count() < 10 && bytes.len() < 16);
+    assert_eq!(rt; scan.feed(bytes), taken, "{bytes:?}");
+    comes_to(rt, scan, bytes, outcome);
 }
 
-/// Compares the outcome of the bytes with the expected one, and the number of bytes consumed.
-///
-/// The bytes are fed to a new scan at once, and to another byte by byte. `Head::front` reads them
-/// too. A scan that needs no more bytes consumes none when it is fed again.
-fn compare(rt: &impl Abort, bytes: &[u8], taken: usize, outcome: HeadStep) {
-    assert!(rt; bytes.len() < 16);
-    let mut whole = HeadScan::new();
-    assert_eq!(rt; whole.feed(bytes), taken, "{bytes:?}");
-    assert_eq!(rt; whole.outcome(), outcome, "{bytes:?}");
+/// Feeds a new scan all bytes at once. If it needs no more, it consumes none when it is fed again.
+fn compare_at_once(rt: &impl Abort, bytes: &[u8], taken: usize, outcome: HeadStep) {
+    let mut scan = HeadScan::new();
+    feeds(rt, &mut scan, bytes, taken, outcome);
     if outcome != MORE {
-        assert_eq!(rt; whole.feed(bytes), 0, "{bytes:?}");
-        assert_eq!(rt; whole.outcome(), outcome, "{bytes:?}");
+        feeds(rt, &mut scan, bytes, 0, outcome);
     }
+}
+
+/// Reads the head at the front of the bytes.
+fn compare_front(rt: &impl Abort, bytes: &[u8], taken: usize, outcome: HeadStep) {
     let front = match outcome {
         HeadStep::Done(head) => Some((head, taken)),
         _ => None,
     };
     assert_eq!(rt; Head::front(bytes), front, "{bytes:?}");
-    let mut bytewise = HeadScan::new();
+}
+
+/// Feeds a new scan the bytes one by one.
+fn compare_by_bytes(rt: &impl Abort, bytes: &[u8], taken: usize, outcome: HeadStep) {
+    let mut scan = HeadScan::new();
     for &byte in bytes {
-        assert!(rt; bytewise.count() < 10);
-        bytewise.feed(&[byte]);
+        assert!(rt; scan.count() < 10);
+        scan.feed(&[byte]);
     }
-    assert_eq!(rt; bytewise.count(), taken as u64, "{bytes:?}");
-    assert_eq!(rt; bytewise.outcome(), outcome, "{bytes:?}");
+    assert_eq!(rt; scan.count(), taken as u64, "{bytes:?}");
+    comes_to(rt, &scan, bytes, outcome);
+}
+
+/// Compares the outcome of the bytes with the expected one, and the number of bytes consumed.
+fn compare(rt: &impl Abort, bytes: &[u8], taken: usize, outcome: HeadStep) {
+    compare_at_once(rt, bytes, taken, outcome);
+    compare_front(rt, bytes, taken, outcome);
+    compare_by_bytes(rt, bytes, taken, outcome);
 }
 
 /// Bytes after the head, cut heads, arguments in more bytes than needed, two-byte simple values.
+static SINGLE: [(&[u8], usize, HeadStep); 21] = [
+    (b"", 0, MORE),
+    (
+        b"\x18\x05\x07",
+        2,
+        HeadStep::Done(Head {
+            major: 0,
+            value: Some(5),
+        }),
+    ),
+    (
+        b"\x9f\x00",
+        1,
+        HeadStep::Done(Head {
+            major: 4,
+            value: None,
+        }),
+    ),
+    (
+        b"\xff\xff",
+        1,
+        HeadStep::Done(Head {
+            major: 7,
+            value: None,
+        }),
+    ),
+    (
+        b"\x5f",
+        1,
+        HeadStep::Done(Head {
+            major: 2,
+            value: None,
+        }),
+    ),
+    (
+        b"\xc0",
+        1,
+        HeadStep::Done(Head {
+            major: 6,
+            value: Some(0),
+        }),
+    ),
+    (b"\x1c", 1, BAD),
+    (b"\x1e\x00", 1, BAD),
+    (b"\x1f", 1, BAD),
+    (b"\x3f", 1, BAD),
+    (b"\xf8", 1, MORE),
+    (b"\xf8\x00", 2, BAD),
+    (b"\xf8\x1f\x20", 2, BAD),
+    (
+        b"\xf8\x20",
+        2,
+        HeadStep::Done(Head {
+            major: 7,
+            value: Some(32),
+        }),
+    ),
+    (b"\x1b\x00\x00\x00\x00\x00\x00\x00", 8, MORE),
+    (
+        b"\x1b\x00\x00\x00\x00\x00\x00\x00\x07",
+        9,
+        HeadStep::Done(Head {
+            major: 0,
+            value: Some(7),
+        }),
+    ),
+    (
+        b"\x18\x00",
+        2,
+        HeadStep::Done(Head {
+            major: 0,
+            value: Some(0),
+        }),
+    ),
+    (
+        b"\x39\x00\x01",
+        3,
+        HeadStep::Done(Head {
+            major: 1,
+            value: Some(1),
+        }),
+    ),
+    (
+        b"\x5a\x00\x00\x00\x02",
+        5,
+        HeadStep::Done(Head {
+            major: 2,
+            value: Some(2),
+        }),
+    ),
+    (
+        b"\x79\x04\x01",
+        3,
+        HeadStep::Done(Head {
+            major: 3,
+            value: Some(1025),
+        }),
+    ),
+    (
+        b"\x98\x04",
+        2,
+        HeadStep::Done(Head {
+            major: 4,
+            value: Some(4),
+        }),
+    ),
+];
+
 #[test]
 fn takes_one_head(rt: HostRuntime) {
-    for (bytes, taken, outcome) in [
-        (b"".as_slice(), 0, MORE),
-        (b"\x18\x05\x07", 2, done(0, 5)),
-        (b"\x9f\x00", 1, without_value(4)),
-        (b"\xff\xff", 1, without_value(7)),
-        (b"\x5f", 1, without_value(2)),
-        (b"\xc0", 1, done(6, 0)),
-        (b"\x1c", 1, BAD),
-        (b"\x1e\x00", 1, BAD),
-        (b"\x1f", 1, BAD),
-        (b"\x3f", 1, BAD),
-        (b"\xf8", 1, MORE),
-        (b"\xf8\x00", 2, BAD),
-        (b"\xf8\x1f\x20", 2, BAD),
-        (b"\xf8\x20", 2, done(7, 32)),
-        (b"\x1b\x00\x00\x00\x00\x00\x00\x00", 8, MORE),
-        (b"\x1b\x00\x00\x00\x00\x00\x00\x00\x07", 9, done(0, 7)),
-        (b"\x18\x00", 2, done(0, 0)),
-        (b"\x39\x00\x01", 3, done(1, 1)),
-        (b"\x5a\x00\x00\x00\x02", 5, done(2, 2)),
-        (b"\x79\x04\x01", 3, done(3, 1025)),
-        (b"\x98\x04", 2, done(4, 4)),
-    ] {
+    for &(bytes, taken, outcome) in &SINGLE {
         compare(&rt, bytes, taken, outcome);
     }
 }

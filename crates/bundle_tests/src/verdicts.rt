@@ -207,12 +207,13 @@ static FAULTS: [(&[u8], BundleFault, u64); 31] = [
 ];
 
 /// Whole bundles, and their fields.
-static WHOLE: [Expected; 8] = [
+static WHOLE: [Expected; 10] = [
     // the plain bundle
     Expected {
         bytes: PLAIN,
         destination: EidView::Ipn(2, 1),
         source: EidView::Ipn(1, 1),
+        report_to: EidView::DtnNone,
         numbers: [0, 0, 0, 0, 1, 5],
         fragment: None,
     },
@@ -221,6 +222,7 @@ static WHOLE: [Expected; 8] = [
         bytes: b"\x9f\x88\x07\x00\x00\x82\x02\x82\x02\x01\x82\x02\x82\x01\x01\x82\x01\x00\x82\x00\x00\x00\x86\x01\x01\x00\x01\x45\x68\x65\x6c\x6c\x6f\x42\x4b\xf3\xff",
         destination: EidView::Ipn(2, 1),
         source: EidView::Ipn(1, 1),
+        report_to: EidView::DtnNone,
         numbers: [0, 0, 0, 0, 1, 5],
         fragment: None,
     },
@@ -229,6 +231,7 @@ static WHOLE: [Expected; 8] = [
         bytes: b"\x9f\x88\x1a\x00\x00\x00\x07\x00\x00\x82\x02\x82\x02\x01\x82\x02\x82\x01\x01\x82\x01\x00\x82\x00\x00\x00\x85\x01\x01\x00\x00\x45\x68\x65\x6c\x6c\x6f\xff",
         destination: EidView::Ipn(2, 1),
         source: EidView::Ipn(1, 1),
+        report_to: EidView::DtnNone,
         numbers: [0, 0, 0, 0, 1, 5],
         fragment: None,
     },
@@ -237,6 +240,7 @@ static WHOLE: [Expected; 8] = [
         bytes: b"\x9f\x8a\x07\x01\x00\x82\x02\x82\x02\x01\x82\x02\x82\x01\x01\x82\x01\x00\x82\x00\x00\x00\x05\x0a\x85\x01\x01\x00\x00\x45\x68\x65\x6c\x6c\x6f\xff",
         destination: EidView::Ipn(2, 1),
         source: EidView::Ipn(1, 1),
+        report_to: EidView::DtnNone,
         numbers: [1, 0, 0, 0, 1, 5],
         fragment: Some((5, 10)),
     },
@@ -245,6 +249,7 @@ static WHOLE: [Expected; 8] = [
         bytes: b"\x9f\x88\x07\x00\x00\x82\x01\x68\x2f\x2f\x6e\x6f\x64\x65\x2f\x61\x82\x02\x82\x01\x01\x82\x01\x00\x82\x00\x00\x00\x85\x01\x01\x00\x00\x45\x68\x65\x6c\x6c\x6f\xff",
         destination: EidView::Dtn(b"//node/a"),
         source: EidView::Ipn(1, 1),
+        report_to: EidView::DtnNone,
         numbers: [0, 0, 0, 0, 1, 5],
         fragment: None,
     },
@@ -253,6 +258,7 @@ static WHOLE: [Expected; 8] = [
         bytes: b"\x9f\x88\x07\x00\x00\x82\x02\x82\x02\x01\x82\x02\x82\x01\x01\x82\x01\x00\x82\x00\x00\x00\x85\x0a\x02\x00\x00\x40\x85\x0a\x1b\x00\x00\x00\x01\x00\x00\x00\x02\x00\x00\x40\x85\x01\x01\x00\x00\x45\x68\x65\x6c\x6c\x6f\xff",
         destination: EidView::Ipn(2, 1),
         source: EidView::Ipn(1, 1),
+        report_to: EidView::DtnNone,
         numbers: [0, 0, 0, 0, 3, 5],
         fragment: None,
     },
@@ -261,6 +267,7 @@ static WHOLE: [Expected; 8] = [
         bytes: b"\x9f\x88\x07\x00\x00\x82\x02\x83\x00\x02\x01\x82\x02\x82\x01\x01\x82\x01\x00\x82\x00\x00\x00\x85\x01\x01\x00\x00\x45\x68\x65\x6c\x6c\x6f\xff",
         destination: EidView::Ipn3(0, 2, 1),
         source: EidView::Ipn(1, 1),
+        report_to: EidView::DtnNone,
         numbers: [0, 0, 0, 0, 1, 5],
         fragment: None,
     },
@@ -269,6 +276,25 @@ static WHOLE: [Expected; 8] = [
         bytes: b"\x9f\x88\x07\x00\x00\x82\x02\x82\x02\x01\x82\x02\x83\x19\x03\xe8\x01\x01\x82\x01\x00\x82\x00\x00\x00\x85\x01\x01\x00\x00\x45\x68\x65\x6c\x6c\x6f\xff",
         destination: EidView::Ipn(2, 1),
         source: EidView::Ipn3(1000, 1, 1),
+        report_to: EidView::DtnNone,
+        numbers: [0, 0, 0, 0, 1, 5],
+        fragment: None,
+    },
+    // three dtn names
+    Expected {
+        bytes: b"\x9f\x88\x07\x00\x00\x82\x01\x68\x2f\x2f\x6e\x6f\x64\x65\x2f\x61\x82\x01\x63\x2f\x2f\x62\x82\x01\x65\x2f\x2f\x63\x63\x63\x82\x00\x00\x00\x85\x01\x01\x00\x00\x45\x68\x65\x6c\x6c\x6f\xff",
+        destination: EidView::Dtn(b"//node/a"),
+        source: EidView::Dtn(b"//b"),
+        report_to: EidView::Dtn(b"//ccc"),
+        numbers: [0, 0, 0, 0, 1, 5],
+        fragment: None,
+    },
+    // three ipn numbers as report-to endpoint
+    Expected {
+        bytes: b"\x9f\x88\x07\x00\x00\x82\x02\x82\x02\x01\x82\x02\x82\x01\x01\x82\x02\x83\x07\x08\x09\x82\x00\x00\x00\x85\x01\x01\x00\x00\x45\x68\x65\x6c\x6c\x6f\xff",
+        destination: EidView::Ipn(2, 1),
+        source: EidView::Ipn(1, 1),
+        report_to: EidView::Ipn3(7, 8, 9),
         numbers: [0, 0, 0, 0, 1, 5],
         fragment: None,
     },
@@ -325,6 +351,7 @@ struct Expected {
     bytes: &'static [u8],
     destination: EidView<'static>,
     source: EidView<'static>,
+    report_to: EidView<'static>,
     /// Flags, time, sequence number, lifetime, blocks and payload length.
     numbers: [u64; 6],
     fragment: Option<(u64, u64)>,
@@ -421,6 +448,7 @@ fn steps_past_the_end(rt: HostRuntime) {
 fn expect_info(rt: &impl Abort, info: &BundleView, expected: &Expected) {
     assert_eq!(rt; info.destination, expected.destination);
     assert_eq!(rt; info.source, expected.source);
+    assert_eq!(rt; info.report_to, expected.report_to);
     let numbers = [
         info.flags,
         info.time,
@@ -479,13 +507,22 @@ fn expect_pieces(rt: &impl Abort, scan: &mut BundleScan, expected: &Expected) {
     }
 }
 
-/// One scan is fed all bundles in pieces.
-#[test]
-fn bundles_in_pieces(rt: HostRuntime) {
+/// Feeds one scan all bundles in pieces.
+fn expect_all_pieces(rt: &impl Abort, bundles: &[Expected]) {
     let mut scan = BundleScan::new();
-    for expected in &BUNDLES {
-        expect_pieces(&rt, &mut scan, expected);
+    for expected in bundles {
+        expect_pieces(rt, &mut scan, expected);
     }
+}
+
+#[test]
+fn whole_bundles_in_pieces(rt: HostRuntime) {
+    expect_all_pieces(&rt, &WHOLE);
+}
+
+#[test]
+fn bundles_of_another_encoder_in_pieces(rt: HostRuntime) {
+    expect_all_pieces(&rt, &BUNDLES);
 }
 
 /// Compares a scan with one that was fed nothing.

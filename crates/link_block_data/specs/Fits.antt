@@ -1,6 +1,6 @@
 -- The bounds of a scan at each stage.
 
-use Rattle.std.specs.Prelude.{Bool, true, ◌&&◌, nat_lt}
+use Rattle.std.specs.Prelude.{ℕ, Bool, true, ◌&&◌, nat_lt, nat_le}
 use Rattle.link_cbor.specs.declared.head_scan.HeadScan.{HeadScan}
 use Rattle.link_cbor.specs.HeadScan.{may_scan_head}
 use Rattle.link_bundle_types.specs.KeptEid.{name_fits}
@@ -24,3 +24,10 @@ head_fits (Failed offset) head = true
 
 abbrev pub scan_fits : Stage → HeadScan → Draft → Bool
 scan_fits stage head draft = head_fits stage head && stage_fits stage draft
+
+-- data is malformed at an offset up to the end of the bytes seen
+abbrev pub failed_within : Stage → ℕ → Bool
+failed_within (Head which) count = true
+failed_within (Name owner left) count = true
+failed_within (Read found) count = true
+failed_within (Failed offset) count = nat_le offset count

@@ -2,7 +2,7 @@
 ghost use Rattle.std.specs.Prelude.{◌≡◌, ℕ, ◌+◌, ◌-◌, ◌^◌, ◌<◌, ◌≤◌, Err, IfErr, IfOk, IsTrue, List, ◌∷◌, [], ◌++◌, length, take, drop, min};
 ghost use Rattle.link_cbor.specs.Head.{Whole, head_front};
 ghost use Rattle.link_cbor.specs.HeadScan.{HasScannedHead};
-ghost use Rattle.link_block_data.specs.Fits.{scan_fits};
+ghost use Rattle.link_block_data.specs.Fits.{scan_fits, failed_within};
 
 use crate::draft::Draft;
 use crate::due::{Due, Found, Owner, Stage};
@@ -24,6 +24,8 @@ pub struct DataScan {
     head: HeadScan,
     draft: Draft,
     ghost fits: { IsTrue (scan_fits stage head draft) },
+    ghost begun: { offset ≤ count },
+    ghost failed: { IsTrue (failed_within stage count) },
 }
 
 /// The first bytes of a piece, at most `left` of them.
@@ -78,6 +80,7 @@ impl DataScan {
         ensures lasts { IfErr result (λ offset. offset < scan_size self.now →
             (kind : DataKind) (seen : List ℕ) → HasScanned kind self.now seen →
             (more : List ℕ) → data_of kind (seen ++ more) ≡ Err offset) }
+        ensures within { IfErr result (λ offset. offset ≤ scan_size self.now) }
         // This holds whatever was scanned, since there is no room for longer names.
         ensures short { IfOk result (λ view. HasShortName (viewed_data view)) }
     {

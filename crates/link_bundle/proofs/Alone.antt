@@ -1,6 +1,7 @@
 -- Bytes that begin with a bundle, and a scan that takes a whole bundle at once.
 
-use Rattle.std.proofs.Common.{◌≡◌, ℕ, zero, suc, ◌+◌, ◌<◌, ◌≤◌, true, List, [], ◌++◌, length, take, drop, Result, Ok, Err, refl, sym, ap, subst, ◌∙◌, length-append, arith}
+use Rattle.std.proofs.Common.{◌≡◌, ℕ, zero, suc, ◌+◌, ◌<◌, ◌≤◌, Bool, true, false, List, [], ◌++◌, length, take, drop, Result, Ok, Err, refl, sym, ap, subst, ◌∙◌, length-append, append-nil, arith}
+use Rattle.std.specs.Prelude.{◌==◌, if◌then◌else◌}
 use Rattle.std.proofs.lemmas.List.{length-take-le, take-append-drop}
 use Rattle.std.proofs.lemmas.List.Elements.{All-take}
 use Rattle.link_cbor.specs.Head.{AreBytes}
@@ -12,7 +13,8 @@ use Rattle.link_bundle.specs.declared.stage.CheckType.TheVariants.{Unread, Is}
 use Rattle.link_bundle.specs.declared.stage.Stage.TheVariants.{Start, Ended}
 use Rattle.link_bundle.specs.CheckKinds.{is_unread}
 use Rattle.link_bundle.specs.Covers.{Covers}
-use Rattle.link_bundle.specs.Bundle.{Bundle, opening_at, bundle_at, bundle_goes, if_alone, judged_bundle}
+use Rattle.link_bundle.specs.Bundle.{Bundle, with_blocks, opening_at, bundle_at, bundle_goes, if_alone, judged_bundle}
+use Rattle.link_bundle.specs.Blocks.{Block}
 use Rattle.link_bundle.specs.Left.{bundle_of, stage_left}
 use Rattle.link_bundle.specs.Scan.{HasSeen}
 use Rattle.link_bundle.proofs.Steady.{EndsCut}
@@ -77,12 +79,21 @@ begins_with bundle bytes is =
 
 -- ---- a scan that takes a whole bundle at once
 
-pub whole_come : (old new : Cursor) (draft after : Draft) (seen bytes : List ℕ) (size : ℕ)
-    → HasSeen Start old draft seen → AreBytes bytes → BeginsWith (bundle_of after size) bytes
+alone_after : (test : Bool) (bundle : Bundle) (stop : Stop) (blocks : List Block)
+    → bundle.blocks ≡ [] → stop.blocks ≡ []
+    → (if test then Ok (record bundle { blocks = blocks }) else Err (record stop { blocks = blocks }))
+    ≡ with_blocks blocks (if test then Ok bundle else Err stop)
+alone_after true bundle stop blocks none also_none = rw (none, append-nil blocks) refl
+alone_after false bundle stop blocks none also_none = rw (also_none, append-nil blocks) refl
+
+pub whole_come : (old new : Cursor) (draft after : Draft) (before blocks : List Block)
+    (seen bytes : List ℕ) (size : ℕ)
+    → HasSeen Start old draft before seen → AreBytes bytes
+    → BeginsWith (record (bundle_of after size) { blocks = blocks }) bytes
     → new.count ≡ old.count + size → new.offset ≡ new.count
-    → HasSeen Ended new after (seen ++ take size bytes)
+    → HasSeen Ended new after blocks (seen ++ take size bytes)
 unfolding judged_bundle stage_left
-whole_come old new draft after seen bytes size come all begins counts stays =
+whole_come old new draft after before blocks seen bytes size come all begins counts stays =
     let run = take size bytes in
     let none : length seen ≡ 0 = ap length come.stands.nothing in
     let long : length (seen ++ run) ≡ size =
@@ -92,35 +103,35 @@ whole_come old new draft after seen bytes size come all begins counts stays =
       all_bytes =
           all_grown seen run come.all_bytes (All-take (λ (byte : ℕ). byte < 256) size bytes all);
       count = omega (arith, come.count);
-      start = 0;
       reads = λ more.
           subst (λ (seen : List ℕ). judged_bundle ((seen ++ run) ++ more)
-          ≡ if_alone ((seen ++ run) ++ more) (bundle_of after new.offset)) (sym come.stands.nothing)
-          (rw (begins.reads more, end) refl);
+          ≡ with_blocks blocks (if_alone ((seen ++ run) ++ more) (bundle_of after new.offset)))
+          (sym come.stands.nothing)
+          (rw (begins.reads more, end)
+          (alone_after (size == length (run ++ more)) (bundle_of after size) _ blocks refl refl));
       stands = omega arith;
     }
 
-pub goes_in_whole : (old : Cursor) (draft : Draft) (bundle : Bundle)
+pub goes_in_whole : (old : Cursor) (draft : Draft) (before : List Block) (bundle : Bundle)
     (seen bytes : List ℕ) (count : ℕ)
-    → HasSeen Start old draft seen → BeginsWith bundle bytes → count < bundle.length
+    → HasSeen Start old draft before seen → BeginsWith bundle bytes → count < bundle.length
     → bundle_goes (seen ++ take count bytes) ≡ true
-goes_in_whole old draft bundle seen bytes count come begins before =
+goes_in_whole old draft before bundle seen bytes count come begins sooner =
     ap (λ (seen : List ℕ). bundle_goes (seen ++ take count bytes)) come.stands.nothing
-    ∙ begins.goes count before
+    ∙ begins.goes count sooner
 
 unread_of : (check : CheckType) → is_unread check ≡ true → check ≡ Unread
 unread_of Unread is = refl
 unread_of (Is kind) is = cc
 
 -- a scan that has seen nothing may have a new draft
-pub restarted : (cursor : Cursor) (draft after : Draft) (seen : List ℕ)
-    → HasSeen Start cursor draft seen → is_unread draft.check ≡ true → after.check ≡ Unread
-    → HasSeen Start cursor after seen
+pub restarted : (cursor : Cursor) (draft after : Draft) (before : List Block) (seen : List ℕ)
+    → HasSeen Start cursor draft before seen → is_unread draft.check ≡ true
+    → after.check ≡ Unread → HasSeen Start cursor after before seen
 unfolding stage_left
-restarted cursor draft after seen come unread fresh = record {
+restarted cursor draft after before seen come unread fresh = record {
   all_bytes = come.all_bytes;
   count = come.count;
-  start = come.start;
   reads = come.reads;
   stands = record {
     nothing = come.stands.nothing;

@@ -24,18 +24,22 @@ use Rattle.link_bundle_heads.specs.Rows.{◌>>=◌}
 use Rattle.link_bundle.specs.Reading.{Stop, stopped, ReadAt, bytes_at}
 use Rattle.link_bundle.specs.CheckField.{field_at}
 use Rattle.link_bundle.specs.Canonical.{content_at}
-use Rattle.link_bundle.specs.Bundle.{Bundle, if_alone, judged_bundle}
-use Rattle.link_bundle.specs.Left.{span_of, bundle_of, read_alone, with_known_payload, after_field, zeroed_check, stored_left, stage_left, BlockEnds, FieldsEnd, NameGoesOn}
+use Rattle.link_bundle.specs.declared.stage.BlockKind.{BlockKind}
+use Rattle.link_bundle.specs.declared.stage.BlockKind.TheVariants.{Primary, Canonical}
+use Rattle.link_bundle.specs.Blocks.{Block}
+use Rattle.link_bundle.specs.Bundle.{Bundle, with_blocks, if_alone, judged_bundle}
+use Rattle.link_bundle.specs.Left.{primary_of, block_of, block_end, span_of, bundle_of, read_alone, with_known_payload, after_field, zeroed_check, stored_left, stage_left, BlockEnds, FieldsEnd, NameGoesOn}
 use Rattle.link_bundle.specs.Scan.{HasSeen, IsInside, IsInStored}
 use Rattle.link_bundle.proofs.Fields.{stored_left-step, stored_left-last}
-use Rattle.link_bundle.proofs.Heads.{no_content, read_alone-stopped}
+use Rattle.link_bundle.proofs.Heads.{no_content, refused_in}
 use Rattle.link_bundle.proofs.Runs.{with_run, bytes_at-run, run_within}
 use Rattle.link_bundle.proofs.Steps.{entered, regrown, all_grown, byte_grown, count_more, failed, next_run}
 
 -- the bundle, by the check field of its current block
-abbrev by_field : Draft → List ℕ → ReadAt Bool → Result Bundle Stop
-by_field draft bytes field =
-    read_alone bytes (with_known_payload draft.payload_span (after_field draft bytes field))
+abbrev by_field : BlockKind → Draft → Option CheckKind → List ℕ → ReadAt Bool → Result Bundle Stop
+by_field block draft check bytes field =
+    read_alone bytes
+    (with_known_payload draft.payload_span (after_field block draft check bytes field))
 
 -- the result of a check field whose head is at `field` and whose content ends before `offset`
 abbrev check_result : Bool → ℕ → ℕ → ReadAt Bool
@@ -92,90 +96,99 @@ count_grown check old new seen run counted takes =
     takes.count ∙ ap (λ (count : ℕ). count + length run) counted ∙ sym (length-append seen run)
 
 -- incomplete data
-pub grown_content : (left rest : ℕ) (old new : Cursor) (draft : Draft) (seen run : List ℕ)
-    → HasSeen (Content left) old draft seen → length run ≤ left → rest ≡ left - length run
+pub grown_content : (left rest : ℕ) (old new : Cursor) (draft : Draft) (before : List Block)
+    (seen run : List ℕ)
+    → HasSeen (Content left) old draft before seen → length run ≤ left → rest ≡ left - length run
     → AreBytes run → TakesRun draft.check old new run
-    → HasSeen (Content rest) new draft (seen ++ run)
+    → HasSeen (Content rest) new draft before (seen ++ run)
 unfolding stage_left
-grown_content left rest old new draft seen run come fits is_rest are takes = record {
+grown_content left rest old new draft before seen run come fits is_rest are takes = record {
   all_bytes = all_grown seen run come.all_bytes are;
   count = count_grown draft.check old new seen run come.count takes;
-  start = come.start;
   reads = λ more.
       let bytes = (seen ++ run) ++ more in
-      regrown (λ (all : List ℕ). stage_left (Content left) draft come.start old.offset all
-      (length seen)) seen run come.reads more
-      ∙ ap (λ (field : ReadAt Bool). by_field draft bytes field)
-      (content_at-run left (kind_of draft.check) come.start bytes more run (length seen)
+      let check = kind_of draft.check in
+      let start = draft.block.start in
+      regrown (λ (all : List ℕ). with_blocks before
+      (stage_left (Content left) draft old.offset all (length seen))) seen run come.reads more
+      ∙ ap (λ (field : ReadAt Bool). with_blocks before (by_field Canonical draft check bytes field))
+      (content_at-run left check start bytes more run (length seen)
       (next_run seen more run) fits
-      ∙ ap (λ (rest : ℕ). content_at rest (kind_of draft.check) come.start bytes
-      (length seen + length run)) (sym is_rest)
-      ∙ ap (λ (offset : ℕ). content_at rest (kind_of draft.check) come.start bytes offset)
+      ∙ ap (λ (rest : ℕ). content_at rest check start bytes (length seen + length run))
+      (sym is_rest)
+      ∙ ap (λ (offset : ℕ). content_at rest check start bytes offset)
       (sym (length-append seen run)));
-  stands = inside_grown draft old new come.start seen run come.stands takes;
+  stands = inside_grown draft old new draft.block.start seen run come.stands takes;
 }
 
 -- a stage that is entered after the last bytes of a name or of data
-ran_out : (old grown_cursor new : Cursor) (draft after : Draft) (stage : Stage) (start : ℕ)
-    (seen run : List ℕ)
-    → AreBytes seen → old.count ≡ length seen → IsInside old draft.check start seen
+ran_out : (old grown_cursor new : Cursor) (draft after : Draft) (stage : Stage)
+    (before : List Block) (seen run : List ℕ)
+    → AreBytes seen → old.count ≡ length seen → IsInside old draft.check draft.block.start seen
     → AreBytes run → TakesRun draft.check old grown_cursor run
+    → after.block.start ≡ draft.block.start
     → KeepsCheck draft.check stage after.check → Enters stage grown_cursor new
     → ((more : List ℕ) → judged_bundle ((seen ++ run) ++ more)
-    ≡ stage_left stage after start (length (seen ++ run)) ((seen ++ run) ++ more)
-    (length (seen ++ run)))
-    → HasSeen stage new after (seen ++ run)
-ran_out old grown_cursor new draft after stage start seen run all counted at are takes keeps
+    ≡ with_blocks before (stage_left stage after (length (seen ++ run)) ((seen ++ run) ++ more)
+    (length (seen ++ run))))
+    → HasSeen stage new after before (seen ++ run)
+ran_out old grown_cursor new draft after stage before seen run all counted at are takes starts keeps
     enters reads =
-    let inside = inside_grown draft old grown_cursor start seen run at takes in
-    entered stage grown_cursor new draft.check after start (seen ++ run)
+    let inside = inside_grown draft old grown_cursor draft.block.start seen run at takes in
+    entered stage grown_cursor new draft.check after draft.block.start before (seen ++ run)
     (all_grown seen run all are)
     (count_grown draft.check old grown_cursor seen run counted takes) inside.in_block inside.checks
-    keeps enters reads
+    starts keeps enters reads
 
 -- the last bytes of data
 pub ended_content : (left : ℕ) (old grown_cursor new : Cursor) (draft after : Draft)
-    (stage : Stage) (seen run : List ℕ)
-    → HasSeen (Content left) old draft seen → 0 < left → left ≡ length run
+    (stage : Stage) (before : List Block) (seen run : List ℕ)
+    → HasSeen (Content left) old draft before seen → 0 < left → left ≡ length run
     → AreBytes run → TakesRun draft.check old grown_cursor run
-    → FieldsEnd draft stage after → KeepsCheck draft.check stage after.check
+    → FieldsEnd Canonical draft stage after → after.block.start ≡ draft.block.start
+    → KeepsCheck draft.check stage after.check
     → Enters stage grown_cursor new
-    → HasSeen stage new after (seen ++ run)
+    → HasSeen stage new after before (seen ++ run)
 unfolding stage_left
-ended_content left old grown_cursor new draft after stage seen run come some all are takes ends
-    keeps enters =
-    ran_out old grown_cursor new draft after stage come.start seen run come.all_bytes come.count
-    come.stands are takes keeps enters
+ended_content left old grown_cursor new draft after stage before seen run come some all are takes
+    ends starts keeps enters =
+    ran_out old grown_cursor new draft after stage before seen run come.all_bytes come.count
+    come.stands are takes starts keeps enters
     (λ more.
     let bytes = (seen ++ run) ++ more in
-    regrown (λ (all : List ℕ). stage_left (Content left) draft come.start old.offset all
-    (length seen)) seen run come.reads more
-    ∙ ap (λ (field : ReadAt Bool). by_field draft bytes field)
-    (content_at-ends left (kind_of draft.check) come.start bytes more run (length seen)
+    let check = kind_of draft.check in
+    let start = draft.block.start in
+    regrown (λ (all : List ℕ). with_blocks before
+    (stage_left (Content left) draft old.offset all (length seen))) seen run come.reads more
+    ∙ ap (λ (field : ReadAt Bool). with_blocks before (by_field Canonical draft check bytes field))
+    (content_at-ends left check start bytes more run (length seen)
     (next_run seen more run) some all
-    ∙ ap (λ (offset : ℕ). field_at (kind_of draft.check) come.start bytes offset)
+    ∙ ap (λ (offset : ℕ). field_at check start bytes offset)
     (sym (length-append seen run)))
-    ∙ ends bytes come.start (length (seen ++ run)))
+    ∙ ap (λ (reading : Result Bundle Stop). with_blocks before reading)
+    (ends bytes (length (seen ++ run))))
 
 -- bytes of a name
 pub grown_name : (role : Role) (left : ℕ) (old grown_cursor new : Cursor) (draft after : Draft)
-    (stage : Stage) (seen run : List ℕ)
-    → HasSeen (Name role left) old draft seen → AreBytes run
+    (stage : Stage) (before : List Block) (seen run : List ℕ)
+    → HasSeen (Name role left) old draft before seen → AreBytes run
     → TakesRun draft.check old grown_cursor run
-    → NameGoesOn role left run draft stage after → KeepsCheck draft.check stage after.check
+    → NameGoesOn role left run draft stage after → after.block.start ≡ draft.block.start
+    → KeepsCheck draft.check stage after.check
     → Enters stage grown_cursor new
-    → HasSeen stage new after (seen ++ run)
-grown_name role left old grown_cursor new draft after stage seen run come are takes goes keeps
-    enters =
-    ran_out old grown_cursor new draft after stage come.start seen run come.all_bytes come.count
-    come.stands are takes keeps enters
+    → HasSeen stage new after before (seen ++ run)
+grown_name role left old grown_cursor new draft after stage before seen run come are takes goes
+    starts keeps enters =
+    ran_out old grown_cursor new draft after stage before seen run come.all_bytes come.count
+    come.stands are takes starts keeps enters
     (λ more.
     let bytes = (seen ++ run) ++ more in
-    regrown (λ (all : List ℕ). stage_left (Name role left) draft come.start old.offset all
-    (length seen)) seen run come.reads more
-    ∙ goes bytes more come.start old.offset (length seen) (next_run seen more run)
-    ∙ ap (λ (offset : ℕ). stage_left stage after come.start offset bytes offset)
-    (sym (length-append seen run)))
+    regrown (λ (all : List ℕ). with_blocks before
+    (stage_left (Name role left) draft old.offset all (length seen))) seen run come.reads more
+    ∙ ap (λ (reading : Result Bundle Stop). with_blocks before reading)
+    (goes bytes more old.offset (length seen) (next_run seen more run)
+    ∙ ap (λ (offset : ℕ). stage_left stage after offset bytes offset)
+    (sym (length-append seen run))))
 
 -- the part of a block that was seen does not change
 slice_kept : (seen more : List ℕ) (start offset : ℕ) → start ≤ length seen → offset ≤ length seen
@@ -207,31 +220,33 @@ stored_grown check old new start seen byte at takes =
     }
 
 -- incomplete content of a check field
-pub grown_stored : (field left stored : ℕ) (kind : CheckKind) (old new : Cursor) (draft : Draft)
-    (seen : List ℕ) (byte : ℕ)
-    → HasSeen (Stored field left stored kind) old draft seen → byte < 256 → 0 < left
+pub grown_stored : (field left stored : ℕ) (block : BlockKind) (kind : CheckKind)
+    (old new : Cursor) (draft : Draft) (before : List Block) (seen : List ℕ) (byte : ℕ)
+    → HasSeen (Stored field left stored block kind) old draft before seen → byte < 256 → 0 < left
     → TakesRun draft.check old new (0 ∷ [])
-    → HasSeen (Stored field (left - 1) (stored * 256 + byte) kind) new draft (seen ++ byte ∷ [])
+    → HasSeen (Stored field (left - 1) (stored * 256 + byte) block kind) new draft before
+    (seen ++ byte ∷ [])
 unfolding stage_left
-grown_stored field left stored kind old new draft seen byte come small some takes =
+grown_stored field left stored block kind old new draft before seen byte come small some takes =
     let longer = length-append seen (byte ∷ []) in
     let zeros : length (seen ++ byte ∷ []) + (left - 1) - old.offset
     ≡ length seen + left - old.offset = omega (arith, longer, some) in
     record {
       all_bytes = byte_grown seen byte come.all_bytes small;
       count = count_more old.count new.count seen byte takes.count come.count;
-      start = come.start;
       reads = λ more.
           let bytes = (seen ++ byte ∷ []) ++ more in
           let check =
-          zeroed_check kind come.start old.offset (length seen + left - old.offset) bytes in
-          regrown (λ (all : List ℕ). stage_left (Stored field left stored kind) draft come.start
-          old.offset all (length seen)) seen (byte ∷ []) come.reads more
-          ∙ ap (λ (reading : ReadAt Bool). by_field draft bytes reading)
+          zeroed_check kind draft.block.start old.offset (length seen + left - old.offset) bytes in
+          regrown (λ (all : List ℕ). with_blocks before
+          (stage_left (Stored field left stored block kind) draft old.offset all (length seen))) seen
+          (byte ∷ []) come.reads more
+          ∙ ap (λ (reading : ReadAt Bool). with_blocks before
+          (by_field block draft (Some kind) bytes reading))
           (stored_left-step left stored check field bytes more byte (length seen)
           (next_run seen more (byte ∷ [])) some
           ∙ rw (takes.offset, zeros, longer) refl);
-      stands = stored_grown draft.check old new come.start seen byte come.stands takes;
+      stands = stored_grown draft.check old new draft.block.start seen byte come.stands takes;
     }
 
 -- the expected check value is that of the block, with zeros for the content of its check field
@@ -253,101 +268,126 @@ checked kind check cursor expected start seen more at checks =
     checks.is at.checks)))
 
 -- the reading after the last byte of a check field's content
-last_stored : (field left stored expected : ℕ) (kind : CheckKind) (old new : Cursor) (draft : Draft)
-    (seen more : List ℕ) (byte : ℕ)
-    → (come : HasSeen (Stored field left stored kind) old draft seen) → left ≡ 1
+last_stored : (field left stored expected : ℕ) (block : BlockKind) (kind : CheckKind)
+    (old new : Cursor) (draft : Draft) (before : List Block) (seen more : List ℕ) (byte : ℕ)
+    → (come : HasSeen (Stored field left stored block kind) old draft before seen) → left ≡ 1
     → TakesRun draft.check old new (0 ∷ []) → Checks kind draft.check new expected
     → judged_bundle ((seen ++ byte ∷ []) ++ more)
-    ≡ by_field draft ((seen ++ byte ∷ []) ++ more)
-    (check_result (stored * 256 + byte == expected) (length (seen ++ byte ∷ [])) field)
+    ≡ with_blocks before (by_field block draft (Some kind) ((seen ++ byte ∷ []) ++ more)
+    (check_result (stored * 256 + byte == expected) (length (seen ++ byte ∷ [])) field))
 unfolding stage_left
-last_stored field left stored expected kind old new draft seen more byte come one takes checks =
+last_stored field left stored expected block kind old new draft before seen more byte come one takes
+    checks =
     let bytes = (seen ++ byte ∷ []) ++ more in
     let longer = length-append seen (byte ∷ []) in
     let zeros : length seen + left - old.offset ≡ length (seen ++ byte ∷ []) - new.offset =
     omega (arith, longer, one, takes.offset) in
-    let check : zeroed_check kind come.start old.offset (length seen + left - old.offset) bytes
+    let start = draft.block.start in
+    let check : zeroed_check kind start old.offset (length seen + left - old.offset) bytes
     ≡ expected =
     rw (zeros, sym takes.offset)
-    (checked kind draft.check new expected come.start (seen ++ byte ∷ []) more
-    (stored_grown draft.check old new come.start seen byte come.stands takes) checks) in
-    regrown (λ (all : List ℕ). stage_left (Stored field left stored kind) draft come.start old.offset
-    all (length seen)) seen (byte ∷ []) come.reads more
-    ∙ ap (λ (reading : ReadAt Bool). by_field draft bytes reading)
+    (checked kind draft.check new expected start (seen ++ byte ∷ []) more
+    (stored_grown draft.check old new start seen byte come.stands takes) checks) in
+    regrown (λ (all : List ℕ). with_blocks before
+    (stage_left (Stored field left stored block kind) draft old.offset all (length seen))) seen
+    (byte ∷ []) come.reads more
+    ∙ ap (λ (reading : ReadAt Bool). with_blocks before
+    (by_field block draft (Some kind) bytes reading))
     (ap (λ (check : ℕ). stored_left left stored check field bytes (length seen)) check
     ∙ stored_left-last left stored expected field bytes more byte (length seen)
     (next_run seen more (byte ∷ [])) one
     ∙ ap (λ (offset : ℕ). check_result (stored * 256 + byte == expected) offset field) (sym longer))
 
 -- the check is equal, and no more of the block is checked
-pub equal_stored : (field left stored expected : ℕ) (kind : CheckKind)
-    (old grown_cursor new : Cursor) (draft after : Draft) (stage : Stage) (seen : List ℕ) (byte : ℕ)
-    → HasSeen (Stored field left stored kind) old draft seen → byte < 256 → left ≡ 1
+pub equal_stored : (field left stored expected : ℕ) (block : BlockKind) (kind : CheckKind)
+    (old grown_cursor new : Cursor) (draft after : Draft) (stage : Stage) (before : List Block)
+    (seen : List ℕ) (byte : ℕ)
+    → HasSeen (Stored field left stored block kind) old draft before seen → byte < 256 → left ≡ 1
     → (stored * 256 + byte == expected) ≡ true
     → TakesRun draft.check old grown_cursor (0 ∷ []) → Checks kind draft.check grown_cursor expected
-    → BlockEnds (record draft { check = Is None }) stage after
+    → BlockEnds block (Some kind) (record draft { check = Is None }) stage after
+    → after.block.start ≡ draft.block.start
     → KeepsCheck (Is None) stage after.check → Enters stage grown_cursor new
-    → HasSeen stage new after (seen ++ byte ∷ [])
-equal_stored field left stored expected kind old grown_cursor new draft after stage seen byte come
-    small one same takes checks ends keeps enters =
-    entered stage grown_cursor new (Is None) after 0 (seen ++ byte ∷ [])
+    → HasSeen stage new after before (seen ++ byte ∷ [])
+equal_stored field left stored expected block kind old grown_cursor new draft after stage before
+    seen byte come small one same takes checks ends starts keeps enters =
+    entered stage grown_cursor new (Is None) after draft.block.start before (seen ++ byte ∷ [])
     (byte_grown seen byte come.all_bytes small)
     (count_more old.count grown_cursor.count seen byte takes.count come.count)
-    (omega arith) tt keeps enters
+    (omega (arith, length-append seen (byte ∷ []), come.stands.in_block)) tt starts keeps enters
     (λ more.
     let bytes = (seen ++ byte ∷ []) ++ more in
-    last_stored field left stored expected kind old grown_cursor draft seen more byte come one takes
-    checks
-    ∙ ap (λ (is : Bool). by_field draft bytes (check_result is (length (seen ++ byte ∷ [])) field))
-    same
-    ∙ ends bytes 0 (length (seen ++ byte ∷ [])))
+    let next = length (seen ++ byte ∷ []) in
+    last_stored field left stored expected block kind old grown_cursor draft before seen more byte
+    come one takes checks
+    ∙ ap (λ (is : Bool). with_blocks before
+    (by_field block draft (Some kind) bytes (check_result is next field))) same
+    ∙ ap (λ (reading : Result Bundle Stop). with_blocks before reading)
+    (block_ended block draft kind bytes next ∙ ends bytes next))
+  where
+    block_ended : (block : BlockKind) (draft : Draft) (kind : CheckKind) (bytes : List ℕ) (next : ℕ)
+        → by_field block draft (Some kind) bytes (Ok (true, next))
+        ≡ read_alone bytes (with_known_payload draft.payload_span
+        (with_blocks (block_of block (record draft { check = Is None }) (Some kind) next ∷ [])
+        (block_end draft.payload_span draft.numbers (primary_of draft) bytes next)))
+    block_ended Primary draft kind bytes next = refl
+    block_ended Canonical draft kind bytes next = refl
 
 -- the check differs
-pub other_stored : (field left stored expected : ℕ) (kind : CheckKind) (old new : Cursor)
-    (draft : Draft) (seen : List ℕ) (byte : ℕ)
-    → HasSeen (Stored field left stored kind) old draft seen → byte < 256 → left ≡ 1
+pub other_stored : (field left stored expected : ℕ) (block : BlockKind) (kind : CheckKind)
+    (old new : Cursor) (draft : Draft) (before : List Block) (seen : List ℕ) (byte : ℕ)
+    → HasSeen (Stored field left stored block kind) old draft before seen → byte < 256 → left ≡ 1
     → (stored * 256 + byte == expected) ≡ false
     → TakesRun draft.check old new (0 ∷ []) → Checks kind draft.check new expected
-    → HasSeen (Failed CheckDiffers field) new draft (seen ++ byte ∷ [])
-other_stored field left stored expected kind old new draft seen byte come small one differs takes
-    checks =
-    failed CheckDiffers field new draft (seen ++ byte ∷ [])
+    → HasSeen (Failed CheckDiffers field) new draft before (seen ++ byte ∷ [])
+other_stored field left stored expected block kind old new draft before seen byte come small one
+    differs takes checks =
+    failed CheckDiffers field new draft before (seen ++ byte ∷ [])
     (byte_grown seen byte come.all_bytes small)
     (count_more old.count new.count seen byte takes.count come.count)
     (λ more.
     let bytes = (seen ++ byte ∷ []) ++ more in
-    last_stored field left stored expected kind old new draft seen more byte come one takes checks
-    ∙ ap (λ (is : Bool). by_field draft bytes (check_result is (length (seen ++ byte ∷ [])) field))
+    last_stored field left stored expected block kind old new draft before seen more byte come one
+    takes checks
+    ∙ ap (λ (is : Bool). with_blocks before
+    (by_field block draft (Some kind) bytes (check_result is (length (seen ++ byte ∷ [])) field)))
     differs
-    ∙ read_alone-stopped draft.payload_span bytes (stopped CheckDiffers field))
+    ∙ ap (λ (reading : Result Bundle Stop). with_blocks before reading)
+    (refused_in block draft kind CheckDiffers bytes field refl))
 
 -- bytes after the bundle
 alone-trailing : (payload : Option (ℕ × ℕ)) (info : BundleInfo) (offset : ℕ) (bytes : List ℕ)
     → is_some payload ≡ true → offset < length bytes
-    → if_alone bytes (record { info = info; length = offset; payload_span = span_of payload })
+    → if_alone bytes (record {
+      info = info;
+      length = offset;
+      payload_span = span_of payload;
+      blocks = [];
+    })
     ≡ with_known_payload payload (Err (stopped Trailing offset))
 alone-trailing None info offset bytes outcome short = cc
 alone-trailing (Some payload) info offset bytes outcome short =
     let other : (offset == length bytes)
     ≡ false = ne_eqb offset (length bytes) (λ same. omega arith) in rw other refl
 
-pub trailing : (old new : Cursor) (draft : Draft) (seen : List ℕ) (byte : ℕ)
-    → HasSeen Ended old draft seen → byte < 256 → is_some draft.payload_span ≡ true
+pub trailing : (old new : Cursor) (draft : Draft) (before : List Block) (seen : List ℕ) (byte : ℕ)
+    → HasSeen Ended old draft before seen → byte < 256 → is_some draft.payload_span ≡ true
     → new.count ≡ old.count + 1
-    → HasSeen (Failed Trailing old.offset) new draft (seen ++ byte ∷ [])
+    → HasSeen (Failed Trailing old.offset) new draft before (seen ++ byte ∷ [])
 unfolding stage_left
-trailing old new draft seen byte come small outcome counts =
-    failed Trailing old.offset new draft (seen ++ byte ∷ [])
+trailing old new draft before seen byte come small outcome counts =
+    failed Trailing old.offset new draft before (seen ++ byte ∷ [])
     (byte_grown seen byte come.all_bytes small)
     (count_more old.count new.count seen byte counts come.count)
     (λ more.
     let bytes = (seen ++ byte ∷ []) ++ more in
-    regrown (λ (all : List ℕ). stage_left Ended draft come.start old.offset all (length seen)) seen
-    (byte ∷ []) come.reads more
-    ∙ alone-trailing draft.payload_span (bundle_of draft old.offset).info old.offset bytes outcome
+    regrown (λ (all : List ℕ). with_blocks before
+    (stage_left Ended draft old.offset all (length seen))) seen (byte ∷ []) come.reads more
+    ∙ ap (λ (reading : Result Bundle Stop). with_blocks before reading)
+    (alone-trailing draft.payload_span (bundle_of draft old.offset).info old.offset bytes outcome
     (omega (
       arith,
       length-append (seen ++ byte ∷ []) more,
       length-append seen (byte ∷ []),
       come.stands,
-    )))
+    ))))

@@ -15,16 +15,19 @@ use Rattle.link_bundle.specs.declared.stage.Field.{Field}
 use Rattle.link_bundle.specs.declared.stage.Role.{Role}
 use Rattle.link_bundle.specs.declared.stage.Stage.TheVariants.{Head, Name, Content}
 use Rattle.link_bundle.specs.Reading.{Stop, stopped}
-use Rattle.link_bundle.specs.Canonical.{content_at}
-use Rattle.link_bundle.specs.Bundle.{Bundle, judged_bundle, verdict_by, verdict, state_of, is_going, bundle_goes}
-use Rattle.link_bundle.specs.Left.{block_start, read_alone, with_known_payload, name_left, stage_left}
+use Rattle.link_bundle_types.specs.declared.fault.BundleFault.{BundleFault}
+use Rattle.link_bundle_types.specs.declared.info.BundleInfo.{BundleInfo}
+use Rattle.link_bundle.specs.CheckKinds.{kind_of}
+use Rattle.link_bundle.specs.Blocks.{Block}
+use Rattle.link_bundle.specs.Bundle.{Bundle, with_blocks, judged_bundle, verdict_by, verdict, state_of, is_going, bundle_goes}
+use Rattle.link_bundle.specs.Left.{last_block, with_known_payload, stage_left}
+use Rattle.link_bundle.proofs.Blocks.{verdict_by-blocks}
 use Rattle.link_bundle.specs.Scan.{HasSeen, HasScanned, Advances, scan_size}
 use Rattle.link_bundle.specs.declared.scan.BundleScan.{BundleScan}
 use Rattle.link_bundle.proofs.Heads.{read_alone-stopped}
-use Rattle.link_bundle.proofs.Runs.{bytes_at-cut}
-use Rattle.link_bundle.proofs.Steps.{after_seen}
-use Rattle.link_bundle.proofs.Stops.{field_left-stopped}
-use Rattle.link_bundle.proofs.Verdicts.{head_at-cut}
+use Rattle.link_bundle.proofs.Steps.{at_head, after_seen}
+use Rattle.link_bundle.proofs.Stops.{stop_at, stop_at-cut, field_left-stopped}
+use Rattle.link_bundle.proofs.Verdicts.{head_at-cut, cut_at, cut_name, cut_content}
 
 -- the promise of a run that was taken, from its parts
 pub as_taken : {old new : BundleScan} {piece : List ℕ} {count : ℕ}
@@ -143,37 +146,51 @@ taken_all seen bytes count all before =
     ∙ append-nil (take count bytes))
 
 -- more bytes are needed if the bytes end inside a bundle
-verdict_by-cut : (payload : Option (ℕ × ℕ)) (offset : ℕ)
-    → is_going (state_of (verdict_by (with_known_payload payload (Err (stopped Cut offset))))) ≡ true
-verdict_by-cut None offset = refl
-verdict_by-cut (Some payload) offset = refl
+verdict_by-cut : (payload : Option (ℕ × ℕ)) (stop : Stop) → stop.fault ≡ Cut
+    → is_going (state_of (verdict_by (with_known_payload payload (Err stop)))) ≡ true
+verdict_by-cut None stop cut = rw cut refl
+verdict_by-cut (Some payload) stop cut = rw cut refl
 
-pub goes-cut : (payload : Option (ℕ × ℕ)) (bytes : List ℕ) (offset : ℕ)
-    → judged_bundle bytes ≡ with_known_payload payload (Err (stopped Cut offset))
+pub goes-cut : (payload : Option (ℕ × ℕ)) (bytes : List ℕ) (before : List Block) (stop : Stop)
+    → stop.fault ≡ Cut
+    → judged_bundle bytes ≡ with_blocks before (with_known_payload payload (Err stop))
     → bundle_goes bytes ≡ true
 unfolding verdict
-goes-cut payload bytes offset is = rw is (verdict_by-cut payload offset)
+goes-cut payload bytes before stop cut is =
+    ap (λ (reading : Result Bundle Stop). is_going (state_of (verdict_by reading))) is
+    ∙ ap (λ (verdict : Result BundleInfo (BundleFault × ℕ)). is_going (state_of verdict))
+    (verdict_by-blocks before (with_known_payload payload (Err stop)))
+    ∙ verdict_by-cut payload stop cut
 
 -- more bytes are needed inside a name and inside data
-pub goes_in_content : (left : ℕ) (cursor : Cursor) (draft : Draft) (seen run : List ℕ)
-    → HasSeen (Content left) cursor draft seen
+pub goes_in_content : (left : ℕ) (cursor : Cursor) (draft : Draft) (before : List Block)
+    (seen run : List ℕ)
+    → HasSeen (Content left) cursor draft before seen
     → length run < left → bundle_goes (seen ++ run) ≡ true
-unfolding stage_left content_at
-goes_in_content left cursor draft seen run come inside =
-    goes-cut draft.payload_span (seen ++ run) (length (seen ++ run))
+unfolding stage_left
+goes_in_content left cursor draft before seen run come inside =
+    let bytes = seen ++ run in
+    let stop = cut_at (Content left) draft (length bytes) in
+    goes-cut draft.payload_span bytes before stop refl
     (come.reads run
-    ∙ rw (bytes_at-cut left (seen ++ run) (length seen) (omega (arith, length-append seen run)))
-    (read_alone-stopped draft.payload_span (seen ++ run) (stopped Cut (length (seen ++ run)))))
+    ∙ rw (cut_content left (kind_of draft.check) draft.block.start bytes (length seen)
+    (omega (arith, length-append seen run)))
+    (ap (λ (reading : Result Bundle Stop). with_blocks before reading)
+    (read_alone-stopped draft.payload_span bytes stop)))
 
-pub goes_in_name : (role : Role) (left : ℕ) (cursor : Cursor) (draft : Draft) (seen run : List ℕ)
-    → HasSeen (Name role left) cursor draft seen
+pub goes_in_name : (role : Role) (left : ℕ) (cursor : Cursor) (draft : Draft)
+    (before : List Block) (seen run : List ℕ)
+    → HasSeen (Name role left) cursor draft before seen
     → length run < left → bundle_goes (seen ++ run) ≡ true
-unfolding stage_left name_left
-goes_in_name role left cursor draft seen run come inside =
-    goes-cut draft.payload_span (seen ++ run) (length (seen ++ run))
+unfolding stage_left
+goes_in_name role left cursor draft before seen run come inside =
+    let bytes = seen ++ run in
+    let stop = stopped Cut (length bytes) in
+    goes-cut draft.payload_span bytes before stop refl
     (come.reads run
-    ∙ rw (bytes_at-cut left (seen ++ run) (length seen) (omega (arith, length-append seen run)))
-    (read_alone-stopped draft.payload_span (seen ++ run) (stopped Cut (length (seen ++ run)))))
+    ∙ rw (cut_name left role draft bytes (length seen) (omega (arith, length-append seen run)))
+    (ap (λ (reading : Result Bundle Stop). with_blocks before reading)
+    (read_alone-stopped draft.payload_span bytes stop)))
 
 -- a head is cut before its last byte
 cut_by : (run : List ℕ) (head : HeadItem) (count : ℕ) (front : HeadFront)
@@ -191,35 +208,38 @@ cut_by run head count (Whole other size) whole before is =
     let sizes : length run ≡ size = cc in
     absurd (omega (arith, whole-within (take count run) other size is, length-take count run))
 
-pub goes_in_head : (which : Field) (cursor : Cursor) (draft : Draft) (seen run : List ℕ)
-    (head : HeadItem) (count : ℕ)
-    → HasSeen (Head which) cursor draft seen → cursor.offset ≡ cursor.count
+pub goes_in_head : (which : Field) (cursor : Cursor) (draft : Draft) (before : List Block)
+    (seen run : List ℕ) (head : HeadItem) (count : ℕ)
+    → HasSeen (Head which) cursor draft before seen → cursor.offset ≡ cursor.count
     → head_front run ≡ Whole head (length run) → count < length run
     → bundle_goes (seen ++ take count run) ≡ true
 unfolding stage_left
-goes_in_head which cursor draft seen run head count come begins whole before =
+goes_in_head which cursor draft before seen run head count come begins whole sooner =
     let bytes = seen ++ take count run in
+    let stop = stop_at which draft (stopped Cut (length bytes)) in
+    let all = before ++ last_block which draft cursor.offset in
     let cut : head_front (drop cursor.offset bytes) ≡ CutHead =
     ap head_front (after_seen cursor.offset seen (take count run) (begins ∙ come.count))
-    ∙ cut_by run head count (head_front (take count run)) whole before refl in
-    goes-cut draft.payload_span bytes (length bytes)
+    ∙ cut_by run head count (head_front (take count run)) whole sooner refl in
+    goes-cut draft.payload_span bytes all stop
+    (ap (λ (stop : Stop). stop.fault) (stop_at-cut which draft (length bytes)))
     (come.reads (take count run)
-    ∙ ap (λ (reading : Result Bundle Stop). read_alone bytes
-    (with_known_payload draft.payload_span reading))
-    (field_left-stopped which draft (block_start which come.start cursor.offset) bytes cursor.offset
-    (stopped Cut (length bytes))
+    ∙ at_head which draft cursor.offset before bytes (Err stop)
+    (field_left-stopped which draft bytes cursor.offset (stopped Cut (length bytes))
     (head_at-cut bytes cursor.offset cut))
-    ∙ read_alone-stopped draft.payload_span bytes (stopped Cut (length bytes)))
+    ∙ ap (λ (reading : Result Bundle Stop). with_blocks all reading)
+    (read_alone-stopped draft.payload_span bytes stop))
 
 -- inside data, a piece that is shorter than what is left of it is taken whole
-pub content_taken : (left : ℕ) (cursor : Cursor) (draft : Draft) (seen run : List ℕ)
-    → HasSeen (Content left) cursor draft seen → length run < left
+pub content_taken : (left : ℕ) (cursor : Cursor) (draft : Draft) (before : List Block)
+    (seen run : List ℕ)
+    → HasSeen (Content left) cursor draft before seen → length run < left
     → TakenInAll seen run (length run)
-content_taken left cursor draft seen run come inside =
+content_taken left cursor draft before seen run come inside =
     let none : 0 + length run ≡ length run = omega arith in
     taken_all seen run (length run) refl
     (subst (λ (count : ℕ). TakenSoFar seen run count) none
     (taken_more seen run 0 (length run) (omega arith)
     (λ size below. ap (λ (front : List ℕ). bundle_goes (front ++ take size run)) (append-nil seen)
-    ∙ goes_in_content left cursor draft seen (take size run) come (omega (arith, length-take size run)))
+    ∙ goes_in_content left cursor draft before seen (take size run) come (omega (arith, length-take size run)))
     (none_taken seen run)))

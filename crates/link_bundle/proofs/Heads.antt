@@ -1,6 +1,6 @@
 -- A whole head that is judged by its row, and the stage after a block.
 
-use Rattle.std.proofs.Common.{◌≡◌, ℕ, ◌-◌, ◌≤◌, Bool, true, false, List, length, Option, None, Some, Result, Ok, Err, refl, is_some}
+use Rattle.std.proofs.Common.{◌≡◌, ℕ, ◌+◌, ◌-◌, ◌≤◌, Bool, true, false, List, [], ◌∷◌, ◌++◌, length, length-append, arith, Option, None, Some, Result, Ok, Err, refl, is_some}
 use Rattle.std.specs.Prelude.{is_none, if◌then◌else◌}
 use Rattle.std.specs.Bool.{then_some}
 use Rattle.link_bundle.proofs.Runs.{bytes_at-none}
@@ -10,10 +10,15 @@ use Rattle.link_bundle_types.specs.declared.fault.BundleFault.{BundleFault}
 use Rattle.link_bundle_heads.specs.Rows.{◌>>=◌, closing}
 use Rattle.link_bundle.specs.Reading.{Stop, stopped, head_at, row_at}
 use Rattle.link_bundle.specs.CheckField.{field_at}
-use Rattle.link_bundle.specs.Primary.{Primary}
+use Rattle.link_bundle.specs.declared.block.CanonicalBlock.{CanonicalBlock}
+use Rattle.link_bundle.specs.Blocks.{Primary, CanonicalOf, ended}
 use Rattle.link_bundle.specs.Canonical.{content_at}
-use Rattle.link_bundle.specs.Bundle.{info_of, payload_at, blocks_at}
-use Rattle.link_bundle.specs.Left.{read_alone, with_known_payload, block_end, span_of}
+use Rattle.link_bundle.specs.Bundle.{info_of, with_blocks, rest_of, payload_at, blocks_at}
+use Rattle.link_bundle_types.specs.Faults.{lasts}
+use Rattle.link_bundle.specs.declared.draft.Draft.{Draft}
+use Rattle.link_bundle.specs.declared.stage.BlockKind.{BlockKind}
+use Rattle.link_bundle.specs.declared.stage.BlockKind.TheVariants.{Primary as PrimaryKind, Canonical}
+use Rattle.link_bundle.specs.Left.{read_alone, with_known_payload, after_field, block_end, span_of}
 
 pub row_at-accepted : {A : Type 0} (row : Head → Result A BundleFault) (bytes : List ℕ)
     (offset next : ℕ) (head : Head) (value : A)
@@ -39,6 +44,7 @@ pub closes : (payload : Option (ℕ × ℕ)) (numbers : List ℕ) (primary : Pri
       info = info_of primary (length numbers) (span_of payload).1;
       length = x.1;
       payload_span = span_of payload;
+      blocks = [];
     }))
 closes None numbers primary bytes offset outcome = cc
 closes (Some payload) numbers primary bytes offset outcome = refl
@@ -52,18 +58,23 @@ goes_to_block (Some payload) numbers primary bytes offset outcome = cc
 
 -- the data of the payload block, and of another block
 pub data_read : (payload new : Option (ℕ × ℕ)) (is_payload : Bool) (numbers : List ℕ)
-    (primary : Primary) (check : Option CheckKind) (size start next : ℕ) (bytes : List ℕ)
-    → is_none payload ≡ true → new ≡ then_some is_payload (next, size)
+    (primary : Primary) (block : CanonicalBlock) (bytes : List ℕ)
+    → is_none payload ≡ true → new ≡ then_some is_payload (block.data_start, block.data_length)
     → with_known_payload payload (if is_payload
-    then payload_at primary (length numbers) size check start bytes next
-    else (content_at size check start bytes next >>= λ x. blocks_at
-    (64 - length numbers) numbers primary bytes x.1))
-    ≡ with_known_payload new (content_at size check start bytes next >>= λ x. block_end new numbers
-    primary bytes x.1)
+    then payload_at primary (length numbers + 1) block bytes
+    else (rest_of block bytes >>= λ x. with_blocks (CanonicalOf (ended block x.1) ∷ [])
+    (blocks_at (63 - length numbers) (numbers ++ block.number ∷ []) primary bytes x.1)))
+    ≡ with_known_payload new (rest_of block bytes >>= λ x.
+    with_blocks (CanonicalOf (ended block x.1) ∷ [])
+    (block_end new (numbers ++ block.number ∷ []) primary bytes x.1))
 unfolding payload_at
-data_read None new true numbers primary check size start next bytes outcome is = rw is refl
-data_read None new false numbers primary check size start next bytes outcome is = rw is refl
-data_read (Some payload) new is_payload numbers primary check size start next bytes outcome is = cc
+data_read None new true numbers primary block bytes outcome is =
+    rw (is, length-append numbers (block.number ∷ [])) refl
+data_read None new false numbers primary block bytes outcome is =
+    let left : 64 - length (numbers ++ block.number ∷ []) ≡ 63 - length numbers =
+    omega (arith, length-append numbers (block.number ∷ [])) in
+    rw (is, left) refl
+data_read (Some payload) new is_payload numbers primary block bytes outcome is = cc
 
 pub no_content : (check : Option CheckKind) (start : ℕ) (bytes : List ℕ)
     (offset : ℕ) → offset ≤ length bytes
@@ -77,3 +88,14 @@ pub read_alone-stopped : (payload : Option (ℕ × ℕ)) (bytes : List ℕ) (sto
     ≡ with_known_payload payload (Err stop)
 read_alone-stopped None bytes stop = refl
 read_alone-stopped (Some payload) bytes stop = refl
+
+-- a fault in the check field of a block
+pub refused_in : (block : BlockKind) (draft : Draft) (kind : CheckKind) (fault : BundleFault)
+    (bytes : List ℕ) (offset : ℕ) → lasts fault ≡ true
+    → read_alone bytes (with_known_payload draft.payload_span
+    (after_field block draft (Some kind) bytes (Err (stopped fault offset))))
+    ≡ with_known_payload draft.payload_span (Err (stopped fault offset))
+refused_in PrimaryKind draft kind fault bytes offset lasting =
+    read_alone-stopped draft.payload_span bytes (stopped fault offset)
+refused_in Canonical draft kind fault bytes offset lasting =
+    rw lasting (read_alone-stopped draft.payload_span bytes (stopped fault offset))

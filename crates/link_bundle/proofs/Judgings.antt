@@ -1,4 +1,4 @@
--- The promise of a judged head, from its three parts.
+-- The promise of a judged head, from its four parts.
 
 use Rattle.std.specs.Prelude.{Result, IfOk}
 use Rattle.link_bundle_types.specs.declared.fault.BundleFault.{BundleFault}
@@ -7,7 +7,9 @@ use Rattle.link_bundle.specs.declared.stage.Stage.{Stage}
 use Rattle.link_bundle.specs.Fits.{Follows, KeepsCheck}
 use Rattle.link_bundle.specs.Judged.{IsJudged}
 
-pub as_judged : {reading : Type 0} {old : Draft} {result : Result Stage BundleFault} {new : Draft}
-    → Follows result new → IfOk result (λ stage. KeepsCheck old.check stage new.check) → reading
-    → IsJudged reading old result new
-as_judged follows keeps judges = record { judges = judges; follows = follows; keeps = keeps }
+pub as_judged : {reading place : Type 0} {old : Draft} {result : Result Stage BundleFault}
+    {new : Draft}
+    → Follows result new → IfOk result (λ stage. KeepsCheck old.check stage new.check) → place
+    → reading → IsJudged reading place old result new
+as_judged follows keeps begins judges =
+    record { judges = judges; begins = begins; follows = follows; keeps = keeps }

@@ -1,20 +1,20 @@
 -- A bundle that is read from some bytes, and from those bytes with more after them.
 
-use Rattle.std.proofs.Common.{◌≡◌, ℕ, zero, suc, ◌+◌, ◌<◌, ◌≤◌, Bool, true, false, List, [], ◌∷◌, ◌++◌, length, Option, None, Some, Result, Ok, Err, refl, sym, ap, ◌∙◌, ⊎_elim, arith, ltb}
+use Rattle.std.proofs.Common.{◌≡◌, ℕ, zero, suc, ◌+◌, ◌<◌, ◌≤◌, ◌⊎◌, inl, inr, Bool, true, false, List, [], ◌∷◌, ◌++◌, length, Option, None, Some, Result, Ok, Err, refl, sym, ap, subst, ◌∙◌, ⊎_elim, arith, ltb}
 use Rattle.std.specs.Prelude.{◌==◌, if◌then◌else◌}
 use Rattle.std.proofs.lemmas.Bool.{cases_lt, lt-ltb}
-use Rattle.link_cbor.specs.declared.check.CheckKind.{CheckKind}
-use Rattle.link_cbor.specs.declared.head.Head.{Head}
-use Rattle.link_bundle_types.specs.declared.fault.BundleFault.{BundleFault}
 use Rattle.link_bundle_types.specs.declared.fault.BundleFault.TheVariants.{Cut}
 use Rattle.link_bundle_types.specs.declared.info.BundleInfo.{BundleInfo}
-use Rattle.link_bundle_heads.specs.Rows.{◌>>=◌, unsigned, byte_string, block, block_too_many, block_number, block_check_type, closing}
+use Rattle.link_bundle_heads.specs.Rows.{◌>>=◌, unsigned, byte_string, block as block_head, block_too_many, block_number, block_check_type, closing}
+use Rattle.link_bundle.specs.declared.block.CanonicalBlock.{CanonicalBlock}
+use Rattle.link_bundle.specs.Blocks.{Primary, Block, PrimaryOf, CanonicalOf, ended}
 use Rattle.link_bundle.specs.Reading.{Stop, ReadAt, stopped, cut_short, row_at, bytes_at}
 use Rattle.link_bundle.specs.CheckField.{field_at}
-use Rattle.link_bundle.specs.Primary.{Primary, primary_at}
-use Rattle.link_bundle.specs.Canonical.{content_at}
-use Rattle.link_bundle.specs.Bundle.{Bundle, with_payload, info_of, payload_at, blocks_at, opening_at, bundle_at, payload_of}
-use Rattle.link_bundle.proofs.Steady.{Onward, Past, Within, EndsCut, IsCut, Reads, short, whole, onward_of, reads-then, row_at-reads, field_at-reads, content_at-reads, primary_at-reads, opening_at-reads}
+use Rattle.link_bundle.specs.Primary.{primary_at}
+use Rattle.link_bundle.specs.Canonical.{heads_at, content_at}
+use Rattle.link_bundle.specs.Bundle.{Bundle, with_payload, with_blocks, cut_in, inside as inside_block, info_of, rest_of, payload_at, blocks_at, opening_at, bundle_at, payload_of}
+use Rattle.link_bundle.proofs.Blocks.{payload_of-blocks}
+use Rattle.link_bundle.proofs.Steady.{Onward, Past, Within, EndsCut, Reads, short, whole, row_at-reads, field_at-reads, content_at-reads, heads_at-reads, primary_at-reads, opening_at-reads}
 
 -- ---- the offsets of the payload and of the bundle's end
 
@@ -48,11 +48,16 @@ pub record BundleWithin (bytes : List ℕ) (reading : Result Bundle Stop) : Type
 
 -- ---- two readings
 
+-- the bytes end inside the bundle, and the payload is not known
+abbrev pub EndsBefore : Result Bundle Stop → Type 0
+EndsBefore (Ok bundle) = ⊥
+EndsBefore (Err stop) = (stop.fault ≡ Cut) × (stop.payload_span ≡ None)
+
 -- Where the first bytes end: before the payload is known, inside the bundle after that, or not
 -- inside it.
 pub data Ends : List ℕ → Result Bundle Stop → Result Bundle Stop → Type 0 where
   before : {bytes : List ℕ} {now later : Result Bundle Stop}
-      → IsCut bytes now → BundleFrom (suc (length bytes)) later → Ends bytes now later
+      → EndsBefore now → BundleFrom (suc (length bytes)) later → Ends bytes now later
   inside : {bytes : List ℕ} {now later : Result Bundle Stop}
       → EndsCut now → payload_of later ≡ payload_of now → EndFrom (suc (length bytes)) later
       → Ends bytes now later
@@ -88,42 +93,115 @@ sooner offset start reading lower from = record {
 nowhere : (offset : ℕ) (stop : Stop) → stop.payload_span ≡ None → BundleFrom offset (Err stop)
 nowhere offset stop plain = record { payload = rw plain tt; end = tt }
 
-keeps-then : {A : Type 0} (bytes : List ℕ) (offset : ℕ) (now later : ReadAt A)
+-- a part that stops as `change` says, and what follows it
+abbrev bound : {A : Type 0} → (Stop → Stop) → ReadAt A → (A × ℕ → Result Bundle Stop)
+    → Result Bundle Stop
+bound change (Ok value) next = next value
+bound change (Err stop) next = Err (change stop)
+
+-- a change of stops that keeps their fault and their payload
+record Harmless (change : Stop → Stop) : Type 0 where
+  fault : (stop : Stop) → (change stop).fault ≡ stop.fault
+  payload : (stop : Stop) → (change stop).payload_span ≡ stop.payload_span
+
+no_payload : (change : Stop → Stop) → Harmless change → (stop : Stop)
+    → stop ≡ stopped stop.fault stop.offset → (change stop).payload_span ≡ None
+no_payload change harmless stop plain =
+    harmless.payload stop ∙ ap (λ (stop : Stop). stop.payload_span) plain
+
+cut_before : (change : Stop → Stop) → Harmless change → (bytes : List ℕ) (stop : Stop)
+    → stop ≡ stopped Cut (length bytes) → EndsBefore (Err (change stop))
+cut_before change harmless bytes stop cut = (
+  harmless.fault stop ∙ ap (λ (stop : Stop). stop.fault) cut,
+  harmless.payload stop ∙ ap (λ (stop : Stop). stop.payload_span) cut,
+)
+
+keeps-bound : {A : Type 0} (change : Stop → Stop) → Harmless change
+    → (bytes : List ℕ) (offset : ℕ) (now later : ReadAt A)
     (next next_later : A × ℕ → Result Bundle Stop) → Reads bytes offset now later
-    → ((value : A × ℕ) → Keeps bytes value.1 (next value) (next_later value))
-    → Keeps bytes offset (now >>= next) (later >>= next_later)
-keeps-then bytes offset (Ok value) later next next_later (short cut onward past) each = absurd cut
-keeps-then bytes offset (Err stop) (Err other) next next_later (short cut onward past) each =
+    → ((value : A × ℕ) → (now ≡ Ok value) ⊎ (later ≡ Ok value)
+    → Keeps bytes value.1 (next value) (next_later value))
+    → Keeps bytes offset (bound change now next) (bound change later next_later)
+keeps-bound change harmless bytes offset (Ok value) later next next_later (short cut onward past)
+    each = absurd cut
+keeps-bound change harmless bytes offset (Err stop) (Err other) next next_later
+    (short cut onward past) each =
+    let none = no_payload change harmless other onward in
     record {
-      from = nowhere offset other onward;
-      ends = before cut (nowhere (suc (length bytes)) other onward);
+      from = nowhere offset (change other) none;
+      ends = before (cut_before change harmless bytes stop cut)
+          (nowhere (suc (length bytes)) (change other) none);
     }
-keeps-then bytes offset (Err stop) (Ok (value, end)) next next_later (short cut onward past) each =
+keeps-bound change harmless bytes offset (Err stop) (Ok (value, end)) next next_later
+    (short cut onward past) each =
     let rest = next_later (value, end) in
-    let from = (each (value, end)).from in
+    let from = (each (value, end) (inr refl)).from in
     record {
       from = sooner offset end rest onward from;
-      ends = before cut (sooner (suc (length bytes)) end rest (omega arith) from);
+      ends = before (cut_before change harmless bytes stop cut)
+          (sooner (suc (length bytes)) end rest (omega arith) from);
     }
-keeps-then bytes offset (Ok (value, end)) later next next_later (whole is onward within) each =
-    let rest = each (value, end) in
+keeps-bound change harmless bytes offset (Ok (value, end)) later next next_later
+    (whole is onward within) each =
+    let rest = each (value, end) (inl refl) in
     rw is (record {
       from = sooner offset end (next_later (value, end)) onward rest.from;
       ends = rest.ends;
     })
-keeps-then bytes offset (Err stop) later next next_later (whole is onward within) each =
-    let within_now : BundleWithin bytes (Err stop) = record { payload = rw onward tt; end = tt } in
-    rw is (record { from = nowhere offset stop onward; ends = after refl within_now })
+keeps-bound change harmless bytes offset (Err stop) later next next_later
+    (whole is onward within) each =
+    let none = no_payload change harmless stop onward in
+    let within_now : BundleWithin bytes (Err (change stop)) =
+    record { payload = rw none tt; end = tt } in
+    rw is (record { from = nowhere offset (change stop) none; ends = after refl within_now })
 
-row-keeps : {A : Type 0} (row : Head → Result A BundleFault) (bytes more : List ℕ) (offset : ℕ)
-    (next next_later : A × ℕ → Result Bundle Stop)
+unchanged : Harmless (λ stop. stop)
+unchanged = record { fault = λ stop. refl; payload = λ stop. refl }
+
+bound_plain : {A : Type 0} (reading : ReadAt A) (next : A × ℕ → Result Bundle Stop)
+    → bound (λ stop. stop) reading next ≡ (reading >>= next)
+bound_plain (Ok value) next = refl
+bound_plain (Err stop) next = refl
+
+keeps-then-of : {A : Type 0} (bytes : List ℕ) (offset : ℕ) (now later : ReadAt A)
+    (next next_later : A × ℕ → Result Bundle Stop) → Reads bytes offset now later
+    → ((value : A × ℕ) → (now ≡ Ok value) ⊎ (later ≡ Ok value)
+    → Keeps bytes value.1 (next value) (next_later value))
+    → Keeps bytes offset (now >>= next) (later >>= next_later)
+keeps-then-of bytes offset now later next next_later reads each =
+    rw (sym (bound_plain now next), sym (bound_plain later next_later))
+    (keeps-bound (λ stop. stop) unchanged bytes offset now later next next_later reads each)
+
+keeps-then : {A : Type 0} (bytes : List ℕ) (offset : ℕ) (now later : ReadAt A)
+    (next next_later : A × ℕ → Result Bundle Stop) → Reads bytes offset now later
     → ((value : A × ℕ) → Keeps bytes value.1 (next value) (next_later value))
-    → Keeps bytes offset (row_at row bytes offset >>= next)
-    (row_at row (bytes ++ more) offset >>= next_later)
-row-keeps row bytes more offset next next_later each =
-    keeps-then bytes offset (row_at row bytes offset)
-    (row_at row (bytes ++ more) offset) next next_later
-    (row_at-reads row bytes more offset) each
+    → Keeps bytes offset (now >>= next) (later >>= next_later)
+keeps-then bytes offset now later next next_later reads each =
+    keeps-then-of bytes offset now later next next_later reads (λ value read. each value)
+
+-- a stop inside a block
+in_this : CanonicalBlock → Stop → Stop
+in_this block stop = record stop { cut_block = cut_in stop.fault block }
+
+in_this-harmless : (block : CanonicalBlock) → Harmless (in_this block)
+unfolding in_this
+in_this-harmless block = record { fault = λ stop. refl; payload = λ stop. refl }
+
+bound_inside : (block : CanonicalBlock) (reading : ReadAt Bool)
+    (next : Bool × ℕ → Result Bundle Stop)
+    → bound (in_this block) reading next ≡ (inside_block block reading >>= next)
+unfolding in_this
+bound_inside block (Ok value) next = refl
+bound_inside block (Err stop) next = refl
+
+keeps-inside : (block : CanonicalBlock) (bytes : List ℕ) (offset : ℕ) (now later : ReadAt Bool)
+    (next next_later : Bool × ℕ → Result Bundle Stop) → Reads bytes offset now later
+    → ((value : Bool × ℕ) → Keeps bytes value.1 (next value) (next_later value))
+    → Keeps bytes offset (inside_block block now >>= next) (inside_block block later >>= next_later)
+keeps-inside block bytes offset now later next next_later reads each =
+    rw (sym (bound_inside block now next), sym (bound_inside block later next_later))
+    (keeps-bound (in_this block) (in_this-harmless block) bytes offset now later next next_later
+    reads (λ value read. each value))
 
 keeps-if : (test : Bool) (bytes : List ℕ) (offset : ℕ)
     (now later other other_later : Result Bundle Stop)
@@ -132,159 +210,331 @@ keeps-if : (test : Bool) (bytes : List ℕ) (offset : ℕ)
 keeps-if true bytes offset now later other other_later taken passed = taken
 keeps-if false bytes offset now later other other_later taken passed = passed
 
+-- the blocks before a reading do not change where it ends
+from-blocks : (blocks : List Block) (offset : ℕ) (reading : Result Bundle Stop)
+    → BundleFrom offset reading → BundleFrom offset (with_blocks blocks reading)
+from-blocks blocks offset (Ok bundle) from = record { payload = from.payload; end = from.end }
+from-blocks blocks offset (Err stop) from = record { payload = from.payload; end = from.end }
+
+within-blocks : (blocks : List Block) (bytes : List ℕ) (reading : Result Bundle Stop)
+    → BundleWithin bytes reading → BundleWithin bytes (with_blocks blocks reading)
+within-blocks blocks bytes (Ok bundle) within =
+    record { payload = within.payload; end = within.end }
+within-blocks blocks bytes (Err stop) within =
+    record { payload = within.payload; end = within.end }
+
+end-blocks : (blocks : List Block) (offset : ℕ) (reading : Result Bundle Stop)
+    → EndFrom offset reading → EndFrom offset (with_blocks blocks reading)
+end-blocks blocks offset (Ok bundle) from = from
+end-blocks blocks offset (Err stop) from = from
+
+ends-blocks : (blocks : List Block) (bytes : List ℕ) (now later : Result Bundle Stop)
+    → Ends bytes now later → Ends bytes (with_blocks blocks now) (with_blocks blocks later)
+ends-blocks blocks bytes (Ok bundle) later (before cut from) = absurd cut
+ends-blocks blocks bytes (Err stop) later (before cut from) =
+    before cut (from-blocks blocks (suc (length bytes)) later from)
+ends-blocks blocks bytes (Ok bundle) later (inside cut is past) = absurd cut
+ends-blocks blocks bytes (Err stop) later (inside cut is past) =
+    inside cut (payload_of-blocks blocks later ∙ is)
+    (end-blocks blocks (suc (length bytes)) later past)
+ends-blocks blocks bytes now later (after is within) =
+    after (ap (λ (reading : Result Bundle Stop). with_blocks blocks reading) is)
+    (within-blocks blocks bytes now within)
+
+keeps-blocks : (blocks : List Block) (bytes : List ℕ) (offset : ℕ)
+    (now later : Result Bundle Stop) → Keeps bytes offset now later
+    → Keeps bytes offset (with_blocks blocks now) (with_blocks blocks later)
+keeps-blocks blocks bytes offset now later keeps = record {
+  from = from-blocks blocks offset later keeps.from;
+  ends = ends-blocks blocks bytes now later keeps.ends;
+}
+
 keeps-cut : (bytes more : List ℕ) (offset : ℕ)
     → Keeps bytes offset (cut_short bytes) (cut_short (bytes ++ more))
 keeps-cut bytes more offset =
     let stop = stopped Cut (length (bytes ++ more)) in
     record {
       from = nowhere offset stop refl;
-      ends = before refl
+      ends = before (refl, refl)
           (nowhere (suc (length bytes)) stop refl);
     }
 
 -- ---- the payload block
 
--- the data of the payload block, its check field, and the break after the block
-rest_at : ℕ → Option CheckKind → ℕ → List ℕ → ℕ → ReadAt Bool
-rest_at size check start bytes offset =
-    content_at size check start bytes offset >>= λ (_, end). row_at closing bytes end
+-- What is read from the payload on, of some bytes and of those bytes with more after them: the
+-- first bytes end inside it, or it is the same.
+data Tail : List ℕ → ℕ → Result Bundle Stop → Result Bundle Stop → Type 0 where
+  tail_cut : {bytes : List ℕ} {offset : ℕ} {now later : Result Bundle Stop}
+      → EndsCut now → EndFrom (suc (length bytes)) later → Tail bytes offset now later
+  tail_same : {bytes : List ℕ} {offset : ℕ} {now later : Result Bundle Stop}
+      → later ≡ now → (offset ≤ length bytes → EndWithin bytes now) → Tail bytes offset now later
 
-rest_at-reads : (size : ℕ) (check : Option CheckKind) (start : ℕ) (bytes more : List ℕ) (offset : ℕ)
-    → Reads bytes offset (rest_at size check start bytes offset)
-    (rest_at size check start (bytes ++ more) offset)
-unfolding rest_at
-rest_at-reads size check start bytes more offset =
-    reads-then bytes offset (content_at size check start bytes offset)
-    (content_at size check start (bytes ++ more) offset) _ _
-    (content_at-reads size check start bytes more offset)
-    (λ (_, end). row_at-reads closing bytes more end)
+record HasTail (bytes : List ℕ) (offset : ℕ) (now later : Result Bundle Stop) : Type 0 where
+  from : EndFrom offset later
+  tail : Tail bytes offset now later
+
+tail-reach : (bytes : List ℕ) (offset start : ℕ) (now later : Result Bundle Stop)
+    → (offset ≤ length bytes → start ≤ length bytes) → Tail bytes start now later
+    → Tail bytes offset now later
+tail-reach bytes offset start now later reach (tail_cut cut past) = tail_cut cut past
+tail-reach bytes offset start now later reach (tail_same is within) =
+    tail_same is (λ here. within (reach here))
+
+tail-bound : (change : Stop → Stop) → Harmless change
+    → (bytes : List ℕ) (offset : ℕ) (now later : ReadAt Bool)
+    (next next_later : Bool × ℕ → Result Bundle Stop) → Reads bytes offset now later
+    → ((value : Bool × ℕ) → HasTail bytes value.1 (next value) (next_later value))
+    → HasTail bytes offset (bound change now next) (bound change later next_later)
+tail-bound change harmless bytes offset (Ok value) later next next_later (short cut onward past)
+    each = absurd cut
+tail-bound change harmless bytes offset (Err stop) (Err other) next next_later
+    (short cut onward past) each =
+    record { from = tt; tail = tail_cut (cut_before change harmless bytes stop cut).0 tt }
+tail-bound change harmless bytes offset (Err stop) (Ok (value, end)) next next_later
+    (short cut onward past) each =
+    let rest = next_later (value, end) in
+    let from = (each (value, end)).from in
+    record {
+      from = end-sooner offset end rest onward from;
+      tail = tail_cut (cut_before change harmless bytes stop cut).0
+          (end-sooner (suc (length bytes)) end rest (omega arith) from);
+    }
+tail-bound change harmless bytes offset (Ok (value, end)) later next next_later
+    (whole is onward within) each =
+    let rest = each (value, end) in
+    rw is (record {
+      from = end-sooner offset end (next_later (value, end)) onward rest.from;
+      tail = tail-reach bytes offset end (next (value, end)) (next_later (value, end)) within
+          rest.tail;
+    })
+tail-bound change harmless bytes offset (Err stop) later next next_later
+    (whole is onward within) each =
+    rw is (record { from = tt; tail = tail_same refl (λ here. tt) })
+
+tail-blocks : (blocks : List Block) (bytes : List ℕ) (offset : ℕ)
+    (now later : Result Bundle Stop) → Tail bytes offset now later
+    → Tail bytes offset (with_blocks blocks now) (with_blocks blocks later)
+tail-blocks blocks bytes offset (Ok bundle) later (tail_cut cut past) = absurd cut
+tail-blocks blocks bytes offset (Err stop) later (tail_cut cut past) =
+    tail_cut cut (end-blocks blocks (suc (length bytes)) later past)
+tail-blocks blocks bytes offset (Ok bundle) later (tail_same is within) =
+    tail_same (ap (λ (reading : Result Bundle Stop). with_blocks blocks reading) is) within
+tail-blocks blocks bytes offset (Err stop) later (tail_same is within) =
+    tail_same (ap (λ (reading : Result Bundle Stop). with_blocks blocks reading) is) within
+
+-- the break after the payload block
+closed : BundleInfo → ℕ × ℕ → ℕ → Bundle
+closed info payload end =
+    record { info = info; length = end; payload_span = payload; blocks = [] }
+
+closed_at : BundleInfo → ℕ × ℕ → Bool × ℕ → Result Bundle Stop
+closed_at info payload (_, end) = Ok (closed info payload end)
+
+closing-tail : (info : BundleInfo) (payload : ℕ × ℕ) (bytes : List ℕ) (offset : ℕ)
+    (now later : ReadAt Bool) → Reads bytes offset now later
+    → HasTail bytes offset (now >>= closed_at info payload) (later >>= closed_at info payload)
+unfolding closed closed_at
+closing-tail info payload bytes offset now later reads =
+    rw (sym (bound_plain now (closed_at info payload)), sym (bound_plain later (closed_at info payload)))
+    (tail-bound (λ stop. stop) unchanged bytes offset now later (closed_at info payload)
+    (closed_at info payload) reads
+    (λ (_, end). record { from = omega arith; tail = tail_same refl (λ here. here) }))
+
+-- a bundle has this payload
+abbrev HasPayload : ℕ × ℕ → Result Bundle Stop → Type 0
+HasPayload payload (Ok bundle) = bundle.payload_span ≡ payload
+HasPayload payload (Err stop) = Unit {0}
+
+has-then : (payload : ℕ × ℕ) (reading : ReadAt Bool) (next : Bool × ℕ → Result Bundle Stop)
+    → ((value : Bool × ℕ) → HasPayload payload (next value)) → HasPayload payload (reading >>= next)
+has-then payload (Ok value) next each = each value
+has-then payload (Err stop) next each = tt
+
+has-blocks : (payload : ℕ × ℕ) (blocks : List Block) (reading : Result Bundle Stop)
+    → HasPayload payload reading → HasPayload payload (with_blocks blocks reading)
+has-blocks payload blocks (Ok bundle) has = has
+has-blocks payload blocks (Err stop) has = tt
+
+-- the rest of a bundle from its payload on, without the payload
+after_data : Primary → ℕ → CanonicalBlock → List ℕ → Bool × ℕ → Result Bundle Stop
+after_data primary blocks block bytes (_, end) =
+    with_blocks (CanonicalOf (ended block end) ∷ []) (row_at closing bytes end
+    >>= closed_at (info_of primary blocks block.data_length) (block.data_start, block.data_length))
+
+rest_at : Primary → ℕ → CanonicalBlock → List ℕ → Result Bundle Stop
+rest_at primary blocks block bytes = rest_of block bytes >>= after_data primary blocks block bytes
+
+rest_at-has : (primary : Primary) (blocks : ℕ) (block : CanonicalBlock) (bytes : List ℕ)
+    → HasPayload (block.data_start, block.data_length) (rest_at primary blocks block bytes)
+unfolding rest_at after_data closed_at closed
+rest_at-has primary blocks block bytes =
+    let payload : ℕ × ℕ = (block.data_start, block.data_length) in
+    let info = info_of primary blocks block.data_length in
+    has-then payload (rest_of block bytes) (after_data primary blocks block bytes)
+    (λ (_, end). has-blocks payload (CanonicalOf (ended block end) ∷ [])
+    (row_at closing bytes end >>= closed_at info payload)
+    (has-then payload (row_at closing bytes end) (closed_at info payload) (λ value. refl)))
+
+rest_at-tail : (primary : Primary) (blocks : ℕ) (block : CanonicalBlock) (bytes more : List ℕ)
+    → HasTail bytes block.data_start (rest_at primary blocks block bytes)
+    (rest_at primary blocks block (bytes ++ more))
+unfolding rest_at after_data
+rest_at-tail primary blocks block bytes more =
+    let at = block.data_start in
+    let content = content_at block.data_length block.check block.start bytes at in
+    let content_later = content_at block.data_length block.check block.start (bytes ++ more) at in
+    let after = after_data primary blocks block in
+    rw (
+      sym (bound_inside block content (after bytes)),
+      sym (bound_inside block content_later (after (bytes ++ more))),
+    )
+    (tail-bound (in_this block) (in_this-harmless block) bytes at content content_later
+    (after bytes) (after (bytes ++ more))
+    (content_at-reads block.data_length block.check block.start bytes more at)
+    (λ (_, end).
+    let last = CanonicalOf (ended block end) ∷ [] in
+    let info = info_of primary blocks block.data_length in
+    let payload : ℕ × ℕ = (at, block.data_length) in
+    let now = row_at closing bytes end in
+    let later = row_at closing (bytes ++ more) end in
+    let rest = closing-tail info payload bytes end now later (row_at-reads closing bytes more end) in
+    record {
+      from = end-blocks last end (later >>= closed_at info payload) rest.from;
+      tail = tail-blocks last bytes end (now >>= closed_at info payload)
+          (later >>= closed_at info payload) rest.tail;
+    }))
 
 -- bytes that end before the end of the payload end inside the bundle
-rest_at-cut : (size : ℕ) (check : Option CheckKind) (start : ℕ) (bytes : List ℕ) (offset : ℕ)
-    → length bytes < offset + size → IsCut bytes (rest_at size check start bytes offset)
+rest_at-cut : (primary : Primary) (blocks : ℕ) (block : CanonicalBlock) (bytes : List ℕ)
+    → length bytes < block.data_start + block.data_length
+    → EndsCut (rest_at primary blocks block bytes)
 unfolding rest_at content_at bytes_at
-rest_at-cut size check start bytes offset missing =
-    let short_now : ltb (length bytes) (offset + size) ≡ true =
-    lt-ltb (length bytes) (offset + size) missing in
+rest_at-cut primary blocks block bytes missing =
+    let short_now : ltb (length bytes) (block.data_start + block.data_length) ≡ true =
+    lt-ltb (length bytes) (block.data_start + block.data_length) missing in
     rw short_now refl
 
--- the bundle that ends after this part, or the stop in it, with the payload
-abbrev closed : BundleInfo → ℕ × ℕ → ReadAt Bool → Result Bundle Stop
-closed info payload (Ok (last, end)) = Ok (record { info = info; length = end; payload_span = payload })
-closed info payload (Err stop) = Err (record stop { payload_span = Some payload })
+known_payload : (payload : ℕ × ℕ) (reading : Result Bundle Stop) → HasPayload payload reading
+    → payload_of (with_payload payload reading) ≡ Some payload
+known_payload payload (Ok bundle) has = ap Some has
+known_payload payload (Err stop) has = refl
 
-closed-last : (info : BundleInfo) (payload : ℕ × ℕ) (reading : ReadAt Bool)
-    → with_payload payload (reading >>= λ (_, end). Ok
-    (record { info = info; length = end; payload_span = payload }))
-    ≡ closed info payload reading
-closed-last info payload (Ok (last, end)) = refl
-closed-last info payload (Err stop) = refl
+end-payload : (payload : ℕ × ℕ) (offset : ℕ) (reading : Result Bundle Stop)
+    → EndFrom offset reading → EndFrom offset (with_payload payload reading)
+end-payload payload offset (Ok bundle) from = from
+end-payload payload offset (Err stop) from = tt
 
-closed-then : (info : BundleInfo) (payload : ℕ × ℕ) (reading : ReadAt Bool)
-    (next : Bool × ℕ → ReadAt Bool)
-    → with_payload payload (reading >>= λ value. next value
-    >>= λ (_, end). Ok (record { info = info; length = end; payload_span = payload }))
-    ≡ closed info payload (reading >>= next)
-closed-then info payload (Ok value) next = closed-last info payload (next value)
-closed-then info payload (Err stop) next = refl
+within-payload : (payload : ℕ × ℕ) (bytes : List ℕ) (reading : Result Bundle Stop)
+    → EndWithin bytes reading → EndWithin bytes (with_payload payload reading)
+within-payload payload bytes (Ok bundle) within = within
+within-payload payload bytes (Err stop) within = tt
 
-payload_at-closed : (primary : Primary) (blocks size : ℕ) (check : Option CheckKind) (start : ℕ)
-    (bytes : List ℕ) (offset : ℕ)
-    → payload_at primary blocks size check start bytes offset
-    ≡ closed (info_of primary blocks size) (offset, size) (rest_at size check start bytes offset)
-unfolding payload_at rest_at
-payload_at-closed primary blocks size check start bytes offset =
-    closed-then (info_of primary blocks size) (offset, size)
-    (content_at size check start bytes offset)
-    (λ (_, end). row_at closing bytes end)
+cut-payload : (payload : ℕ × ℕ) (reading : Result Bundle Stop) → EndsCut reading
+    → EndsCut (with_payload payload reading)
+cut-payload payload (Ok bundle) cut = absurd cut
+cut-payload payload (Err stop) cut = cut
 
-closed-payload : (info : BundleInfo) (payload : ℕ × ℕ) (reading : ReadAt Bool)
-    → payload_of (closed info payload reading) ≡ Some payload
-closed-payload info payload (Ok (last, end)) = refl
-closed-payload info payload (Err stop) = refl
+cut-nowhere : (offset : ℕ) (reading : Result Bundle Stop) → EndsCut reading
+    → EndFrom offset reading
+cut-nowhere offset (Ok bundle) cut = absurd cut
+cut-nowhere offset (Err stop) cut = tt
 
-closed-end : (info : BundleInfo) (payload : ℕ × ℕ) (offset : ℕ) (reading : ReadAt Bool)
-    → Onward offset reading
-    → EndFrom offset (closed info payload reading)
-closed-end info payload offset (Ok (last, end)) onward = onward
-closed-end info payload offset (Err stop) onward = tt
+payload-inside : (payload : ℕ × ℕ) (bytes : List ℕ) (now later : Result Bundle Stop)
+    → HasPayload payload now → HasPayload payload later → EndsCut now
+    → EndFrom (suc (length bytes)) later
+    → Ends bytes (with_payload payload now) (with_payload payload later)
+payload-inside payload bytes now later has has_later cut past =
+    inside (cut-payload payload now cut)
+    (known_payload payload later has_later ∙ sym (known_payload payload now has))
+    (end-payload payload (suc (length bytes)) later past)
 
-closed-past : (info : BundleInfo) (payload : ℕ × ℕ) (limit : ℕ) (reading : ReadAt Bool)
-    → Past limit reading
-    → EndFrom (suc limit) (closed info payload reading)
-closed-past info payload limit (Ok (last, end)) past = omega arith
-closed-past info payload limit (Err stop) past = tt
+payload-ends : (at size : ℕ) (bytes : List ℕ) (now later : Result Bundle Stop)
+    → HasPayload (at, size) now → HasPayload (at, size) later → Tail bytes at now later
+    → (length bytes < at + size → EndsCut now)
+    → Ends bytes (with_payload (at, size) now) (with_payload (at, size) later)
+payload-ends at size bytes now later has has_later (tail_cut cut past) lacks =
+    payload-inside (at, size) bytes now later has has_later cut past
+payload-ends at size bytes now later has has_later (tail_same is within) lacks =
+    ⊎_elim
+    (λ missing. payload-inside (at, size) bytes now later has has_later (lacks missing)
+    (rw is (cut-nowhere (suc (length bytes)) now (lacks missing))))
+    (λ there. after (ap (λ (reading : Result Bundle Stop). with_payload (at, size) reading) is)
+    (record {
+      payload = rw (known_payload (at, size) now has) there;
+      end = within-payload (at, size) bytes now (within (omega arith));
+    }))
+    (cases_lt (length bytes) (at + size))
 
-closed-within : (info : BundleInfo) (payload : ℕ × ℕ) (bytes : List ℕ) (offset : ℕ)
-    (reading : ReadAt Bool) → offset ≤ length bytes → Within bytes offset reading
-    → EndWithin bytes (closed info payload reading)
-closed-within info payload bytes offset (Ok (last, end)) here within = within here
-closed-within info payload bytes offset (Err stop) here within = tt
-
-closed-cut : (info : BundleInfo) (payload : ℕ × ℕ) (bytes : List ℕ) (reading : ReadAt Bool)
-    → IsCut bytes reading
-    → EndsCut (closed info payload reading)
-closed-cut info payload bytes (Ok value) cut = absurd cut
-closed-cut info payload bytes (Err stop) cut = ap (λ (stop : Stop). stop.fault) cut
-
-past-cut : (bytes : List ℕ) (limit : ℕ) (reading : ReadAt Bool) → IsCut bytes reading
-    → Past limit reading
-past-cut bytes limit (Ok value) cut = absurd cut
-past-cut bytes limit (Err stop) cut = tt
-
-closed-inside : (info : BundleInfo) (payload : ℕ × ℕ) (bytes : List ℕ) (now later : ReadAt Bool)
-    → IsCut bytes now → Past (length bytes) later
-    → Ends bytes (closed info payload now) (closed info payload later)
-closed-inside info payload bytes now later cut past =
-    inside (closed-cut info payload bytes now cut)
-    (closed-payload info payload later ∙ sym (closed-payload info payload now))
-    (closed-past info payload (length bytes) later past)
-
-closed-ends : (info : BundleInfo) (bytes : List ℕ) (offset size : ℕ) (now later : ReadAt Bool)
-    → Reads bytes offset now later → (length bytes < offset + size → IsCut bytes now)
-    → Ends bytes (closed info (offset, size) now) (closed info (offset, size) later)
-closed-ends info bytes offset size now later (short cut onward past) lacks =
-    closed-inside info (offset, size) bytes now later cut past
-closed-ends info bytes offset size now later (whole is onward within) lacks =
-    rw is
-    (⊎_elim
-    (λ missing. closed-inside info (offset, size) bytes now now (lacks missing)
-    (past-cut bytes (length bytes) now (lacks missing)))
-    (λ there.
-    let all : BundleWithin bytes (closed info (offset, size) now) =
+payload_at-keeps : (primary : Primary) (blocks : ℕ) (block : CanonicalBlock)
+    (bytes more : List ℕ)
+    → Keeps bytes block.data_start (payload_at primary blocks block bytes)
+    (payload_at primary blocks block (bytes ++ more))
+unfolding payload_at rest_at after_data closed_at closed
+payload_at-keeps primary blocks block bytes more =
+    let at = block.data_start in
+    let size = block.data_length in
+    let now = rest_at primary blocks block bytes in
+    let later = rest_at primary blocks block (bytes ++ more) in
+    let has = rest_at-has primary blocks block bytes in
+    let has_later = rest_at-has primary blocks block (bytes ++ more) in
+    let tail = rest_at-tail primary blocks block bytes more in
     record {
-      payload = rw (closed-payload info (offset, size) now) there;
-      end = closed-within info (offset, size) bytes offset now (omega arith) within;
-    } in
-    after refl all)
-    (cases_lt (length bytes) (offset + size)))
-
-closed-keeps : (info : BundleInfo) (bytes : List ℕ) (offset size : ℕ) (now later : ReadAt Bool)
-    → Reads bytes offset now later → (length bytes < offset + size → IsCut bytes now)
-    → Keeps bytes offset (closed info (offset, size) now) (closed info (offset, size) later)
-closed-keeps info bytes offset size now later reads lacks = record {
-  from = record {
-    payload = rw (closed-payload info (offset, size) later) (omega arith);
-    end = closed-end info (offset, size) offset later (onward_of bytes offset now later reads);
-  };
-  ends = closed-ends info bytes offset size now later reads lacks;
-}
-
-payload_at-keeps : (primary : Primary) (blocks size : ℕ) (check : Option CheckKind) (start : ℕ)
-    (bytes more : List ℕ) (offset : ℕ)
-    → Keeps bytes offset (payload_at primary blocks size check start bytes offset)
-    (payload_at primary blocks size check start (bytes ++ more) offset)
-payload_at-keeps primary blocks size check start bytes more offset =
-    rw (
-      payload_at-closed primary blocks size check start bytes offset,
-      payload_at-closed primary blocks size check start (bytes ++ more) offset,
-    )
-    (closed-keeps (info_of primary blocks size) bytes offset size
-    (rest_at size check start bytes offset)
-    (rest_at size check start (bytes ++ more) offset)
-    (rest_at-reads size check start bytes more offset) (rest_at-cut size check start bytes offset))
+      from = record {
+        payload = rw (known_payload (at, size) later has_later) (omega arith);
+        end = end-payload (at, size) at later tail.from;
+      };
+      ends = payload-ends at size bytes now later has has_later tail.tail
+          (rest_at-cut primary blocks block bytes);
+    }
 
 -- ---- the blocks before it
+
+-- what is known of the heads of a block
+pub record IsBegun (block : CanonicalBlock) (next : ℕ) : Type 0 where
+  pub place : next ≡ block.data_start
+  pub end : block.end ≡ None
+
+then_gives : {A B : Type 0} (P : B × ℕ → Type 0) (reading : ReadAt A) (next : A × ℕ → ReadAt B)
+    → ((value : A × ℕ) (result : B × ℕ) → next value ≡ Ok result → P result)
+    → (result : B × ℕ) → (reading >>= next) ≡ Ok result → P result
+then_gives P (Ok value) next each result is = each value result is
+then_gives P (Err stop) next each result is = cc
+
+abbrev begun_of : CanonicalBlock × ℕ → Type 0
+begun_of result = IsBegun result.0 result.1
+
+begun_in : ReadAt CanonicalBlock → Type 0
+begun_in (Ok result) = begun_of result
+begun_in (Err stop) = Unit {0}
+
+begun_from : (block : CanonicalBlock) (offset : ℕ) (result : CanonicalBlock × ℕ)
+    → offset ≡ block.data_start → block.end ≡ None
+    → (reading : ReadAt CanonicalBlock) → reading ≡ Ok (block, offset) → reading ≡ Ok result
+    → begun_of result
+unfolding begun_in
+begun_from block offset result place end reading read is =
+    subst begun_in (sym read ∙ is) (record { place = place; end = end })
+
+pub heads_at-begun : (numbers bytes : List ℕ) (start : ℕ) (block : CanonicalBlock) (next : ℕ)
+    → heads_at numbers bytes start ≡ Ok (block, next) → IsBegun block next
+unfolding heads_at
+heads_at-begun numbers bytes start block next is =
+    then_gives begun_of (row_at block_head bytes start) _
+    (λ (count, offset). then_gives begun_of (row_at unsigned bytes offset) _
+    (λ (type, offset). then_gives begun_of (row_at (block_number type numbers) bytes offset) _
+    (λ (number, offset). then_gives begun_of (row_at unsigned bytes offset) _
+    (λ (flags, offset). then_gives begun_of (row_at (block_check_type count) bytes offset) _
+    (λ (check, offset). then_gives begun_of (row_at byte_string bytes offset) _
+    (λ (size, offset) result last. begun_from _ offset result refl refl _ refl last))))))
+    (block, next) is
+
+pub begun-of-either : (numbers bytes more : List ℕ) (start : ℕ) (block : CanonicalBlock) (next : ℕ)
+    → (heads_at numbers bytes start ≡ Ok (block, next))
+    ⊎ (heads_at numbers (bytes ++ more) start ≡ Ok (block, next))
+    → IsBegun block next
+begun-of-either numbers bytes more start block next either =
+    ⊎_elim (heads_at-begun numbers bytes start block next)
+    (heads_at-begun numbers (bytes ++ more) start block next) either
 
 blocks_at-keeps : (left : ℕ) (numbers : List ℕ) (primary : Primary)
     (bytes more : List ℕ) (start : ℕ)
@@ -292,26 +542,24 @@ blocks_at-keeps : (left : ℕ) (numbers : List ℕ) (primary : Primary)
     (blocks_at left numbers primary (bytes ++ more) start)
 unfolding blocks_at
 blocks_at-keeps zero numbers primary bytes more start =
-    row-keeps block_too_many bytes more start _ _ (λ (none, offset). keeps-cut bytes more offset)
+    keeps-then bytes start (row_at block_too_many bytes start)
+    (row_at block_too_many (bytes ++ more) start) _ _
+    (row_at-reads block_too_many bytes more start)
+    (λ (_, offset). keeps-cut bytes more offset)
 blocks_at-keeps (suc left) numbers primary bytes more start =
-    row-keeps block bytes more start _ _
-    (λ (count, offset). row-keeps unsigned bytes more offset _ _
-    (λ (type, offset). row-keeps (block_number type numbers) bytes more offset _ _
-    (λ (number, offset). row-keeps unsigned bytes more offset _ _
-    (λ (flags, offset). row-keeps (block_check_type count) bytes more offset _ _
-    (λ (check, offset). row-keeps byte_string bytes more offset _ _
-    (λ (size, offset). keeps-if (type == 1) bytes offset
-    (payload_at primary (length numbers + 1) size check start bytes offset)
-    (payload_at primary (length numbers + 1) size check start (bytes ++ more) offset)
-    (content_at size check start bytes offset >>= λ x. blocks_at left
-    (numbers ++ number ∷ []) primary bytes x.1)
-    (content_at size check start (bytes ++ more) offset >>= λ x.
-    blocks_at left (numbers ++ number ∷ []) primary (bytes ++ more) x.1)
-    (payload_at-keeps primary (length numbers + 1) size check start bytes more offset)
-    (keeps-then bytes offset (content_at size check start bytes offset)
-    (content_at size check start (bytes ++ more) offset) _ _
-    (content_at-reads size check start bytes more offset)
-    (λ (_, offset). blocks_at-keeps left (numbers ++ number ∷ []) primary bytes more offset))))))))
+    keeps-then-of bytes start (heads_at numbers bytes start)
+    (heads_at numbers (bytes ++ more) start) _ _
+    (heads_at-reads numbers bytes more start)
+    (λ (block, next) read.
+    rw (begun-of-either numbers bytes more start block next read).place
+    (keeps-if (block.block_type == 1) bytes block.data_start _ _ _ _
+    (payload_at-keeps primary (length numbers + 1) block bytes more)
+    (keeps-inside block bytes block.data_start
+    (content_at block.data_length block.check block.start bytes block.data_start)
+    (content_at block.data_length block.check block.start (bytes ++ more) block.data_start) _ _
+    (content_at-reads block.data_length block.check block.start bytes more block.data_start)
+    (λ (_, end). keeps-blocks (CanonicalOf (ended block end) ∷ []) bytes end _ _
+    (blocks_at-keeps left (numbers ++ block.number ∷ []) primary bytes more end)))))
 
 bundle_at-keeps : (bytes more : List ℕ)
     → Keeps bytes 0 (bundle_at bytes) (bundle_at (bytes ++ more))
@@ -325,7 +573,8 @@ bundle_at-keeps bytes more =
     (λ ((primary, check), offset). keeps-then bytes offset (field_at check start bytes offset)
     (field_at check start (bytes ++ more) offset) _ _
     (field_at-reads check start bytes more offset)
-    (λ (_, offset). blocks_at-keeps 64 [] primary bytes more offset)))
+    (λ (_, end). keeps-blocks (PrimaryOf primary check end ∷ []) bytes end _ _
+    (blocks_at-keeps 64 [] primary bytes more end))))
 
 -- ---- what follows of a whole bundle
 
@@ -341,7 +590,7 @@ pub data Stays : Result Bundle Stop → Result Bundle Stop → Type 0 where
 stays_of : (bytes : List ℕ) (now later : Result Bundle Stop) → Ends bytes now later
     → Stays now later
 stays_of bytes (Ok bundle) later (before cut from) = absurd cut
-stays_of bytes (Err stop) later (before cut from) = cuts (ap (λ (stop : Stop). stop.fault) cut)
+stays_of bytes (Err stop) later (before cut from) = cuts cut.0
 stays_of bytes now later (inside cut is past) = cuts cut
 stays_of bytes now later (after is within) = same is
 

@@ -1,3 +1,4 @@
+pub mod Blocks
 pub mod Heads
 pub mod Runs
 pub mod Names
@@ -12,7 +13,10 @@ pub mod Steady
 pub mod Keeping
 pub mod Lengths
 pub mod Payloads
+pub mod Showing
+pub mod Lying
 pub mod Feeding
+pub mod Taking
 pub mod Alone
 pub mod Items
 pub mod Readings

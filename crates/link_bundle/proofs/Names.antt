@@ -15,33 +15,33 @@ use Rattle.link_bundle.specs.Stages.{stage_after}
 use Rattle.link_bundle.proofs.Runs.{with_run, bytes_at-none, bytes_at-run, run_within}
 
 -- the reading of the whole bundle, by the reading of an endpoint ID
-abbrev pub by_eid : Role → Draft → ℕ → List ℕ → ReadAt Eid → Result Bundle Stop
-by_eid role draft start bytes reading =
+abbrev pub by_eid : Role → Draft → List ℕ → ReadAt Eid → Result Bundle Stop
+by_eid role draft bytes reading =
     read_alone bytes (with_known_payload draft.payload_span
-    (after_primary draft start bytes (after_eid role draft bytes reading)))
+    (after_primary draft draft.block.start bytes (after_eid role draft bytes reading)))
 
 -- the numbers of an ipn endpoint ID that were read so far make no difference after it
-pub by_eid-numbered : (role : Role) (draft : Draft) (allocator : Option ℕ) (node start : ℕ)
+pub by_eid-numbered : (role : Role) (draft : Draft) (allocator : Option ℕ) (node : ℕ)
     (bytes : List ℕ) (reading : ReadAt Eid)
-    → by_eid role draft start bytes reading
-    ≡ by_eid role (record draft { allocator = allocator; node = node }) start bytes reading
+    → by_eid role draft bytes reading
+    ≡ by_eid role (record draft { allocator = allocator; node = node }) bytes reading
 unfolding source_left report_to_left timestamp_left time_left sequence_left lifetime_left
-by_eid-numbered Destination draft allocator node start bytes (Ok (eid, offset)) = refl
-by_eid-numbered Destination draft allocator node start bytes (Err stop) = refl
-by_eid-numbered Source draft allocator node start bytes (Ok (eid, offset)) = refl
-by_eid-numbered Source draft allocator node start bytes (Err stop) = refl
-by_eid-numbered ReportTo draft allocator node start bytes (Ok (eid, offset)) = refl
-by_eid-numbered ReportTo draft allocator node start bytes (Err stop) = refl
+by_eid-numbered Destination draft allocator node bytes (Ok (eid, offset)) = refl
+by_eid-numbered Destination draft allocator node bytes (Err stop) = refl
+by_eid-numbered Source draft allocator node bytes (Ok (eid, offset)) = refl
+by_eid-numbered Source draft allocator node bytes (Err stop) = refl
+by_eid-numbered ReportTo draft allocator node bytes (Ok (eid, offset)) = refl
+by_eid-numbered ReportTo draft allocator node bytes (Err stop) = refl
 
 -- an endpoint ID that was read is in its field
-pub eid_ends : (role : Role) (old new : Draft) (eid : Eid) (bytes : List ℕ) (start next : ℕ)
+pub eid_ends : (role : Role) (old new : Draft) (eid : Eid) (bytes : List ℕ) (next : ℕ)
     → new ≡ with_eid role old eid
-    → by_eid role old start bytes (Ok (eid, next))
-    ≡ stage_left (stage_after role) new start next bytes next
+    → by_eid role old bytes (Ok (eid, next))
+    ≡ stage_left (stage_after role) new next bytes next
 unfolding stage_left field_left source_left report_to_left
-eid_ends Destination old new eid bytes start next is = rw is refl
-eid_ends Source old new eid bytes start next is = rw is refl
-eid_ends ReportTo old new eid bytes start next is = rw is refl
+eid_ends Destination old new eid bytes next is = rw is refl
+eid_ends Source old new eid bytes next is = rw is refl
+eid_ends ReportTo old new eid bytes next is = rw is refl
 
 -- a name that begins with these bytes and ends with those that a reading returns
 abbrev name_then : List ℕ → ReadAt (List ℕ) → ReadAt Eid
@@ -65,73 +65,73 @@ name_left-run name run left bytes more offset here fits =
     (bytes_at-run left bytes more run offset here fits)
     ∙ name_then-with_run name run (bytes_at (left - length run) bytes (offset + length run))
 
--- the bytes so far of a name are in its field, and those of the report-to endpoint are not kept
-in_place : (role : Role) (draft : Draft) (name : List ℕ) (start : ℕ) (bytes : List ℕ)
+-- the bytes so far of a name are in its field
+in_place : (role : Role) (draft : Draft) (name bytes : List ℕ)
     (reading : ReadAt (List ℕ))
-    → by_eid role draft start bytes (name_then name reading)
-    ≡ by_eid role (with_eid role draft (Dtn (record { items = name }))) start bytes
+    → by_eid role draft bytes (name_then name reading)
+    ≡ by_eid role (with_eid role draft (Dtn (record { items = name }))) bytes
     (name_then (kept_name role (with_eid role draft (Dtn (record { items = name })))) reading)
-in_place Destination draft name start bytes (Ok (rest, offset)) = refl
-in_place Destination draft name start bytes (Err stop) = refl
-in_place Source draft name start bytes (Ok (rest, offset)) = refl
-in_place Source draft name start bytes (Err stop) = refl
-in_place ReportTo draft name start bytes (Ok (rest, offset)) = refl
-in_place ReportTo draft name start bytes (Err stop) = refl
+in_place Destination draft name bytes (Ok (rest, offset)) = refl
+in_place Destination draft name bytes (Err stop) = refl
+in_place Source draft name bytes (Ok (rest, offset)) = refl
+in_place Source draft name bytes (Err stop) = refl
+in_place ReportTo draft name bytes (Ok (rest, offset)) = refl
+in_place ReportTo draft name bytes (Err stop) = refl
 
 -- an incomplete name
 pub name_goes_on : (role : Role) (old new : Draft) (name : List ℕ) (left : ℕ)
-    (bytes : List ℕ) (start field offset : ℕ)
+    (bytes : List ℕ) (field offset : ℕ)
     → new ≡ with_eid role old (Dtn (record { items = name }))
-    → by_eid role old start bytes (name_left name left bytes offset)
-    ≡ stage_left (Name role left) new start field bytes offset
+    → by_eid role old bytes (name_left name left bytes offset)
+    ≡ stage_left (Name role left) new field bytes offset
 unfolding stage_left name_left
-name_goes_on role old new name left bytes start field offset is =
-    in_place role old name start bytes (bytes_at left bytes offset)
-    ∙ ap (λ (draft : Draft). by_eid role draft start bytes
+name_goes_on role old new name left bytes field offset is =
+    in_place role old name bytes (bytes_at left bytes offset)
+    ∙ ap (λ (draft : Draft). by_eid role draft bytes
     (name_then (kept_name role draft) (bytes_at left bytes offset))) (sym is)
 
 -- a complete name
 pub name_ends : (role : Role) (old new : Draft) (name bytes : List ℕ)
-    (start next : ℕ) → next ≤ length bytes
+    (next : ℕ) → next ≤ length bytes
     → new ≡ with_eid role old (Dtn (record { items = name }))
-    → by_eid role old start bytes (name_left name 0 bytes next)
-    ≡ stage_left (stage_after role) new start next bytes next
+    → by_eid role old bytes (name_left name 0 bytes next)
+    ≡ stage_left (stage_after role) new next bytes next
 unfolding name_left
-name_ends role old new name bytes start next within is =
-    ap (λ (reading : ReadAt (List ℕ)). by_eid role old start bytes (name_then name reading))
+name_ends role old new name bytes next within is =
+    ap (λ (reading : ReadAt (List ℕ)). by_eid role old bytes (name_then name reading))
     (bytes_at-none bytes next within)
-    ∙ ap (λ (items : List ℕ). by_eid role old start bytes
+    ∙ ap (λ (items : List ℕ). by_eid role old bytes
     (Ok (Dtn (record { items = items }), next))) (append-nil name)
-    ∙ eid_ends role old new (Dtn (record { items = name })) bytes start next is
+    ∙ eid_ends role old new (Dtn (record { items = name })) bytes next is
 
 -- an incomplete name, after more of its bytes
 pub name_run_goes_on : (role : Role) (old new : Draft) (run : List ℕ) (left rest : ℕ)
-    (bytes more : List ℕ) (start field offset : ℕ)
+    (bytes more : List ℕ) (field offset : ℕ)
     → drop offset bytes ≡ run ++ more → length run ≤ left → rest ≡ left - length run
     → new ≡ with_eid role old (Dtn (record { items = kept_name role old ++ run }))
-    → stage_left (Name role left) old start field bytes offset
-    ≡ stage_left (Name role rest) new start (offset + length run) bytes (offset + length run)
+    → stage_left (Name role left) old field bytes offset
+    ≡ stage_left (Name role rest) new (offset + length run) bytes (offset + length run)
 unfolding stage_left
-name_run_goes_on role old new run left rest bytes more start field offset here fits is_rest is =
-    ap (λ (reading : ReadAt Eid). by_eid role old start bytes reading)
+name_run_goes_on role old new run left rest bytes more field offset here fits is_rest is =
+    ap (λ (reading : ReadAt Eid). by_eid role old bytes reading)
     (name_left-run (kept_name role old) run left bytes more offset here fits)
-    ∙ ap (λ (rest : ℕ). by_eid role old start bytes
+    ∙ ap (λ (rest : ℕ). by_eid role old bytes
     (name_left (kept_name role old ++ run) rest bytes (offset + length run))) (sym is_rest)
-    ∙ name_goes_on role old new (kept_name role old ++ run) rest bytes start (offset + length run)
+    ∙ name_goes_on role old new (kept_name role old ++ run) rest bytes (offset + length run)
     (offset + length run) is
 
 pub name_run_ends : (role : Role) (old new : Draft) (run : List ℕ) (left : ℕ)
-    (bytes more : List ℕ) (start field offset : ℕ)
+    (bytes more : List ℕ) (field offset : ℕ)
     → drop offset bytes ≡ run ++ more → 0 < left → left ≡ length run
     → new ≡ with_eid role old (Dtn (record { items = kept_name role old ++ run }))
-    → stage_left (Name role left) old start field bytes offset
-    ≡ stage_left (stage_after role) new start (offset + length run) bytes (offset + length run)
+    → stage_left (Name role left) old field bytes offset
+    ≡ stage_left (stage_after role) new (offset + length run) bytes (offset + length run)
 unfolding stage_left
-name_run_ends role old new run left bytes more start field offset here some all is =
+name_run_ends role old new run left bytes more field offset here some all is =
     let none : left - length run ≡ 0 = omega arith in
-    ap (λ (reading : ReadAt Eid). by_eid role old start bytes reading)
+    ap (λ (reading : ReadAt Eid). by_eid role old bytes reading)
     (name_left-run (kept_name role old) run left bytes more offset here (omega arith))
-    ∙ ap (λ (rest : ℕ). by_eid role old start bytes
+    ∙ ap (λ (rest : ℕ). by_eid role old bytes
     (name_left (kept_name role old ++ run) rest bytes (offset + length run))) none
-    ∙ name_ends role old new (kept_name role old ++ run) bytes start (offset + length run)
+    ∙ name_ends role old new (kept_name role old ++ run) bytes (offset + length run)
     (run_within bytes more run offset here (omega arith)) is

@@ -1,10 +1,9 @@
 -- The first byte of a bundle.
 
-use Rattle.std.proofs.Common.{◌≡◌, ◌≢◌, ℕ, ◌+◌, ◌<◌, ◌&&◌, List, [], ◌∷◌, ◌++◌, length, Option, None, Some, Err, refl, sym, ap, subst, ◌∙◌, arith}
+use Rattle.std.proofs.Common.{◌≡◌, ◌≢◌, ℕ, ◌+◌, ◌<◌, ◌&&◌, List, [], ◌∷◌, ◌++◌, length, Option, None, Some, Result, Err, refl, sym, ap, append_assoc, ◌∙◌, arith}
 use Rattle.std.specs.Prelude.{IsTrue, is_none, ◌==◌}
 use Rattle.std.proofs.lemmas.Bool.{ne_eqb, false≢true}
 use Rattle.std.proofs.lemmas.Bool.Decides.{nat_tests}
-use Rattle.std.proofs.Math.Seq.{drop-length}
 use Rattle.link_bundle.specs.declared.cursor.Cursor.{Cursor}
 use Rattle.link_bundle.specs.declared.draft.Draft.{Draft}
 use Rattle.link_bundle_types.specs.declared.fault.BundleFault.TheVariants.{NotABundle}
@@ -13,14 +12,17 @@ use Rattle.link_bundle.specs.declared.stage.PrimaryField.TheVariants as primary
 use Rattle.link_bundle.specs.declared.stage.Stage.TheVariants.{Start, Head, Failed}
 use Rattle.link_bundle.specs.CheckKinds.{is_unread}
 use Rattle.link_bundle.specs.Fits.{stage_fits}
-use Rattle.link_bundle.specs.Moves.{Enters}
-use Rattle.link_bundle.specs.Reading.{stopped}
+use Rattle.link_bundle.specs.declared.stage.CheckType.TheVariants.{Unread}
+use Rattle.link_bundle.specs.Covers.{Covers}
+use Rattle.link_cbor.specs.HeadScan.{HasScannedHead}
+use Rattle.link_bundle.specs.Blocks.{Block}
+use Rattle.link_bundle.specs.Reading.{Stop, stopped}
 use Rattle.link_bundle.specs.Primary.{primary_at}
-use Rattle.link_bundle.specs.Bundle.{opening_at, bundle_at, judged_bundle}
+use Rattle.link_bundle.specs.Bundle.{Bundle, with_blocks, opening_at, bundle_at, judged_bundle}
 use Rattle.link_bundle.specs.Left.{field_left, stage_left, with_known_payload, primary_block_left, version_left, flags_left, check_type_left, destination_left, source_left, report_to_left, timestamp_left, time_left, sequence_left, lifetime_left}
 use Rattle.link_bundle.specs.Scan.{HasSeen}
 use Rattle.link_bundle.proofs.Fields.{before_and, after_and}
-use Rattle.link_bundle.proofs.Steps.{entered, byte_grown, count_more, failed}
+use Rattle.link_bundle.proofs.Steps.{nothing_yet, narrowed, begun, byte_grown, count_more, failed}
 
 -- a draft without a payload and without block numbers
 pub record IsBlank (draft : Draft) : Type 0 where
@@ -46,46 +48,72 @@ blank draft fits = record {
       fits));
 }
 
-open_reads : (draft : Draft) (more : List ℕ) (start : ℕ) → IsBlank draft
+open_reads : (draft : Draft) (more : List ℕ) → IsBlank draft
     → judged_bundle (0x9f ∷ more)
-    ≡ stage_left (Head (field.Primary primary.Block)) draft start 1 (0x9f ∷ more) 1
+    ≡ stage_left (Head (field.Primary primary.Block)) draft 1 (0x9f ∷ more) 1
 unfolding judged_bundle bundle_at opening_at stage_left field_left primary_at primary_block_left
     version_left flags_left check_type_left destination_left source_left report_to_left
     timestamp_left time_left sequence_left lifetime_left
-open_reads draft more start blank = rw (blank.payload, blank.numbers) refl
+open_reads draft more blank = rw (blank.payload, blank.numbers) refl
 
 other_reads : (draft : Draft) (byte : ℕ) (more : List ℕ) → IsBlank draft → byte ≢ 0x9f
     → judged_bundle (byte ∷ more) ≡ with_known_payload draft.payload_span (Err (stopped NotABundle 0))
 unfolding judged_bundle bundle_at opening_at
 other_reads draft byte more blank other = rw (ne_eqb byte 0x9f other, blank.payload) refl
 
-pub opened : (old grown_cursor new : Cursor) (draft : Draft) (seen : List ℕ) (byte : ℕ)
-    → HasSeen Start old draft seen → IsTrue (stage_fits Start draft) → byte ≡ 0x9f
-    → grown_cursor.count ≡ old.count + 1 → grown_cursor.checks ≡ old.checks
-    → Enters (Head (field.Primary primary.Block)) grown_cursor new
-    → HasSeen (Head (field.Primary primary.Block)) new draft (seen ++ byte ∷ [])
-opened old grown_cursor new draft seen byte come fits is counts same enters =
-    let now = seen ++ byte ∷ [] in
-    let first : now ≡ 0x9f ∷ [] =
-    ap (λ (seen : List ℕ). seen ++ byte ∷ []) come.stands.nothing
-    ∙ ap (λ (byte : ℕ). byte ∷ []) is in
-    entered (Head (field.Primary primary.Block)) grown_cursor new draft.check draft (length now) now
-    (byte_grown seen byte come.all_bytes (omega arith))
-    (count_more old.count grown_cursor.count seen byte counts come.count)
-    (omega arith)
-    (rw (same, drop-length now) come.stands.checks)
-    (refl, λ _ _ checks covered covers. covers) enters
-    (λ more. subst (λ (now : List ℕ). judged_bundle (now ++ more)
-    ≡ stage_left (Head (field.Primary primary.Block)) draft (length now) (length now) (now ++ more)
-    (length now)) (sym first)
-    (open_reads draft more 1 (blank draft fits)))
+-- the first byte, of whatever is read
+first_byte : (seen more : List ℕ) (byte : ℕ) → seen ≡ [] → (seen ++ byte ∷ []) ++ more ≡ byte ∷ more
+first_byte seen more byte nothing =
+    ap (λ (seen : List ℕ). (seen ++ byte ∷ []) ++ more) nothing
 
-pub not_opened : (old new : Cursor) (draft : Draft) (seen : List ℕ) (byte : ℕ)
-    → HasSeen Start old draft seen → byte < 256 → IsTrue (stage_fits Start draft) → byte ≢ 0x9f
-    → new.count ≡ old.count + 1
-    → HasSeen (Failed NotABundle 0) new draft (seen ++ byte ∷ [])
-not_opened old new draft seen byte come small fits other counts =
-    failed NotABundle 0 new draft (seen ++ byte ∷ []) (byte_grown seen byte come.all_bytes small)
+-- what follows the first byte is the rest after the blocks before, of which there are none
+after_first : (cursor : Cursor) (draft : Draft) (before : List Block) (seen more : List ℕ)
+    (byte : ℕ) (reading : Result Bundle Stop)
+    → HasSeen Start cursor draft before seen → judged_bundle (byte ∷ more) ≡ reading
+    → judged_bundle ((seen ++ byte ∷ []) ++ more) ≡ with_blocks before reading
+unfolding stage_left
+after_first cursor draft before seen more byte reading come is =
+    ap judged_bundle (append_assoc seen (byte ∷ []) more)
+    ∙ come.reads (byte ∷ more)
+    ∙ ap (λ (bytes : List ℕ). with_blocks before (judged_bundle bytes))
+    (sym (append_assoc seen (byte ∷ []) more) ∙ first_byte seen more byte come.stands.nothing)
+    ∙ ap (λ (reading : Result Bundle Stop). with_blocks before reading) is
+
+pub opened : (old new : Cursor) (draft : Draft) (before : List Block) (seen : List ℕ) (byte : ℕ)
+    → HasSeen Start old draft before seen → IsTrue (stage_fits Start draft) → byte ≡ 0x9f
+    → new.count ≡ old.count + 1 → new.offset ≡ old.count + 1
+    → HasScannedHead new.head [] → Covers Unread new.checks []
+    → HasSeen (Head (field.Primary primary.Block)) new draft before (seen ++ byte ∷ [])
+opened old new draft before seen byte come fits is counts begins head checks =
+    let now = seen ++ byte ∷ [] in
+    let size : length now ≡ 1 =
+    ap (λ (seen : List ℕ). length (seen ++ byte ∷ [])) come.stands.nothing in
+    let counted : new.count ≡ length now = count_more old.count new.count seen byte counts come.count in
+    let here : new.offset ≡ length now = begins ∙ sym counts ∙ counted in
+    let offset : new.offset ≡ 1 = here ∙ size in
+    record {
+      all_bytes = byte_grown seen byte come.all_bytes (omega arith);
+      count = counted;
+      reads = λ more.
+          after_first old draft before seen more byte
+          (stage_left (Head (field.Primary primary.Block)) draft 1 (0x9f ∷ more) 1) come
+          (ap (λ (byte : ℕ). judged_bundle (byte ∷ more)) is
+          ∙ open_reads draft more (blank draft fits))
+          ∙ rw (offset, size, first_byte seen more byte come.stands.nothing, is) refl;
+      stands = begun (field.Primary primary.Block) new draft.check draft.block.start now here head
+          (omega (arith, here))
+          (rw (nothing_yet new.offset now here) (narrowed draft.check new.checks [] checks));
+    }
+
+pub not_opened : (old new : Cursor) (draft : Draft) (before : List Block) (seen : List ℕ)
+    (byte : ℕ)
+    → HasSeen Start old draft before seen → byte < 256 → IsTrue (stage_fits Start draft)
+    → byte ≢ 0x9f → new.count ≡ old.count + 1
+    → HasSeen (Failed NotABundle 0) new draft before (seen ++ byte ∷ [])
+not_opened old new draft before seen byte come small fits other counts =
+    failed NotABundle 0 new draft before (seen ++ byte ∷ [])
+    (byte_grown seen byte come.all_bytes small)
     (count_more old.count new.count seen byte counts come.count)
-    (λ more. ap (λ (seen : List ℕ). judged_bundle ((seen ++ byte ∷ []) ++ more)) come.stands.nothing
-    ∙ other_reads draft byte more (blank draft fits) other)
+    (λ more. after_first old draft before seen more byte
+    (with_known_payload draft.payload_span (Err (stopped NotABundle 0))) come
+    (other_reads draft byte more (blank draft fits) other))

@@ -40,8 +40,7 @@ payload_of-lasts : (bytes : List ℕ) (now later : Result Bundle Stop) (payload 
     → payload_of now ≡ Some payload → payload_of later ≡ Some payload
 payload_of-lasts bytes (Ok bundle) later payload (before cut from) is = absurd cut
 payload_of-lasts bytes (Err stop) later payload (before cut from) is =
-    absurd (let none : None ≡ Some payload = ap (λ (stop : Stop). stop.payload_span) (sym cut) ∙ is in
-    cc)
+    absurd (let none : None ≡ Some payload = sym cut.1 ∙ is in cc)
 payload_of-lasts bytes now later payload (inside cut kept past) is = kept ∙ is
 payload_of-lasts bytes now later payload (after kept within) is = ap payload_of kept ∙ is
 
@@ -65,7 +64,7 @@ payload_of-places : (bytes : List ℕ) (now later : Result Bundle Stop) (offset 
     → bytes_of (payload_of now) bytes ≡ take size (drop offset bytes)
 payload_of-places bytes (Ok bundle) later offset size (before cut from) is = absurd cut
 payload_of-places bytes (Err stop) later offset size (before cut from) is =
-    let plain : stop.payload_span ≡ None = ap (λ (stop : Stop). stop.payload_span) cut in
+    let plain : stop.payload_span ≡ None = cut.1 in
     let past : PayloadFrom (suc (length bytes)) (Some (offset, size)) = rw is at from.payload in
     rw plain (nothing_from bytes offset size (omega arith))
 payload_of-places bytes now later offset size (inside cut kept past) is = rw (sym kept ∙ is) refl
@@ -111,7 +110,7 @@ payload_of-ends : (bytes more : List ℕ) (now later : Result Bundle Stop)
 payload_of-ends bytes more (Ok bundle) later (before cut from) stops = absurd cut
 payload_of-ends bytes more (Err stop) later (before cut from) stops =
     absurd (false≢true (sym stops
-    ∙ cut_goes bytes (Err stop) (ap (λ (stop : Stop). stop.fault) cut)))
+    ∙ cut_goes bytes (Err stop) cut.0))
 payload_of-ends bytes more now later (inside cut kept past) stops =
     absurd (false≢true (sym stops ∙ cut_goes bytes now cut))
 payload_of-ends bytes more now later (after kept within) stops =

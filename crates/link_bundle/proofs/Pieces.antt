@@ -12,6 +12,7 @@ use Rattle.link_bundle_types.specs.declared.fault.State.TheVariants as state
 use Rattle.link_bundle_types.specs.declared.info.BundleInfo.{BundleInfo}
 use Rattle.link_bundle_types.specs.Faults.{lasts}
 use Rattle.link_bundle.specs.Bundle.{Bundle, judged_bundle, verdict_by, verdict, payload_of, payload_in, spanned, payload_seen, state_of, is_going, bundle_goes}
+use Rattle.link_bundle.specs.Blocks.{Block}
 use Rattle.link_bundle.specs.Left.{stage_left}
 use Rattle.link_bundle.specs.Reading.{Stop}
 use Rattle.link_bundle.specs.Scan.{HasSeen, HasScanned, HasJudged, may_scan}
@@ -31,7 +32,8 @@ use Rattle.link_bundle.proofs.Verdicts.{state_of-seen}
 may_scan-seen : (scan : BundleScan) (seen : List ℕ) → HasScanned scan seen
     → may_scan scan ≡ takes_bytes (state_of (verdict seen))
 may_scan-seen scan seen come =
-    ap takes_bytes (state_of-seen scan.stage scan.cursor scan.draft seen come scan.fits)
+    ap takes_bytes
+    (state_of-seen scan.stage scan.cursor scan.draft come.before seen come.come scan.fits)
 
 stuck_idle : (now : State) → takes_bytes now ≡ false → is_going now ≡ false
 stuck_idle state.Going stuck = absurd (false≢true (sym stuck))
@@ -211,18 +213,22 @@ module _ (scan later : BundleScan) (content piece : List ℕ) (count : ℕ)
 -- ---- what is judged
 
 -- what it has seen determines the reading of all bytes
-stuck_reading : (stage : Stage) (cursor : Cursor) (draft : Draft) (seen more : List ℕ)
-    → HasSeen stage cursor draft seen → takes_bytes (stage_state stage) ≡ false
+stuck_reading : (stage : Stage) (cursor : Cursor) (draft : Draft) (before : List Block)
+    (seen more : List ℕ)
+    → HasSeen stage cursor draft before seen → takes_bytes (stage_state stage) ≡ false
     → judged_bundle (seen ++ more) ≡ judged_bundle seen
 unfolding stage_left
-stuck_reading Start cursor draft seen more come stuck = absurd (false≢true (sym stuck))
-stuck_reading (Head field) cursor draft seen more come stuck = absurd (false≢true (sym stuck))
-stuck_reading (Name role left) cursor draft seen more come stuck = absurd (false≢true (sym stuck))
-stuck_reading (Content left) cursor draft seen more come stuck = absurd (false≢true (sym stuck))
-stuck_reading (Stored offset left stored kind) cursor draft seen more come stuck =
+stuck_reading Start cursor draft before seen more come stuck = absurd (false≢true (sym stuck))
+stuck_reading (Head field) cursor draft before seen more come stuck =
     absurd (false≢true (sym stuck))
-stuck_reading Ended cursor draft seen more come stuck = absurd (false≢true (sym stuck))
-stuck_reading (Failed fault offset) cursor draft seen more come stuck =
+stuck_reading (Name role left) cursor draft before seen more come stuck =
+    absurd (false≢true (sym stuck))
+stuck_reading (Content left) cursor draft before seen more come stuck =
+    absurd (false≢true (sym stuck))
+stuck_reading (Stored offset left stored block kind) cursor draft before seen more come stuck =
+    absurd (false≢true (sym stuck))
+stuck_reading Ended cursor draft before seen more come stuck = absurd (false≢true (sym stuck))
+stuck_reading (Failed fault offset) cursor draft before seen more come stuck =
     come.reads more ∙ sym (come.reads []) ∙ ap judged_bundle (append-nil seen)
 
 pub all_judged : (scan : BundleScan) (seen : List ℕ) → HasScanned scan seen → HasJudged scan seen
@@ -243,8 +249,8 @@ module _ (scan : BundleScan) (content : List ℕ) (now : HasJudged scan content)
   reading_judged : judged_bundle now.seen ≡ judged_bundle content
   reading_judged = ⊎_elim
       (λ (all : now.rest ≡ []). ap judged_bundle (all_seen all))
-      (λ stuck. sym (stuck_reading scan.stage scan.cursor scan.draft now.seen now.rest now.scanned
-      stuck)
+      (λ stuck. sym (stuck_reading scan.stage scan.cursor scan.draft now.scanned.before now.seen now.rest
+      now.scanned.come stuck)
       ∙ ap judged_bundle now.parts)
       now.enough
 

@@ -14,20 +14,20 @@ use Rattle.link_bundle_types.specs.declared.fault.BundleFault.{BundleFault}
 use Rattle.link_bundle_types.specs.declared.fault.BundleFault.TheVariants.{Cut, NotABundle, CheckDiffers}
 use Rattle.link_bundle_heads.specs.declared.endpoint.Scheme.{Scheme}
 use Rattle.link_bundle_heads.specs.declared.endpoint.Scheme.TheVariants.{Dtn, Ipn}
-use Rattle.link_bundle_heads.specs.Rows.{◌>>=◌, unsigned, pair, scheme, dtn_part, ipn_part, version, is_fragment, primary_block, primary_check_type, check_width, check_field}
+use Rattle.link_bundle_heads.specs.Rows.{◌>>=◌, unsigned, byte_string, block, block_number, block_check_type, pair, scheme, dtn_part, ipn_part, version, is_fragment, primary_block, primary_check_type, check_width, check_field}
 use Rattle.link_bundle.specs.Reading.{Stop, ReadAt, stopped, cut_short, head_by, outcome_at, head_at, row_at, bytes_at}
 use Rattle.link_bundle.specs.EndpointId.{dtn_at, ipn_at, specific_at, eid_at}
 use Rattle.link_bundle.specs.CheckField.{number_from, check_of, field_at}
 use Rattle.link_bundle.specs.Primary.{fragment_at, primary_at}
-use Rattle.link_bundle.specs.Canonical.{content_at}
+use Rattle.link_bundle.specs.Canonical.{heads_at, content_at}
 use Rattle.link_bundle.specs.Bundle.{opening_at}
 
 -- ---- how far one reading goes
 
--- a part that is read at an offset ends there or after it, and a stop in it has no payload
+-- a part that is read at an offset ends there or after it, and a stop in it knows no more
 abbrev pub Onward : {A : Type 0} → ℕ → ReadAt A → Type 0
 Onward offset (Ok (value, next)) = offset ≤ next
-Onward offset (Err stop) = stop.payload_span ≡ None
+Onward offset (Err stop) = stop ≡ stopped stop.fault stop.offset
 
 -- a part that is read ends after this offset
 abbrev pub Past : {A : Type 0} → ℕ → ReadAt A → Type 0
@@ -374,6 +374,18 @@ content_at-reads size check start bytes more offset =
     reads-then bytes offset (bytes_at size bytes offset) (bytes_at size (bytes ++ more) offset) _ _
     (bytes_at-reads size bytes more offset)
     (λ (_, offset). field_at-reads check start bytes more offset)
+
+pub heads_at-reads : (numbers bytes more : List ℕ) (offset : ℕ)
+    → Reads bytes offset (heads_at numbers bytes offset) (heads_at numbers (bytes ++ more) offset)
+unfolding heads_at
+heads_at-reads numbers bytes more offset =
+    row-then block bytes more offset _ _
+    (λ (count, offset). row-then unsigned bytes more offset _ _
+    (λ (type, offset). row-then (block_number type numbers) bytes more offset _ _
+    (λ (number, offset). row-then unsigned bytes more offset _ _
+    (λ (flags, offset). row-then (block_check_type count) bytes more offset _ _
+    (λ (check, offset). row-then byte_string bytes more offset _ _
+    (λ (size, offset). ended bytes _ offset))))))
 
 pub primary_at-reads : (bytes more : List ℕ) (offset : ℕ)
     → Reads bytes offset (primary_at bytes offset) (primary_at (bytes ++ more) offset)

@@ -30,20 +30,24 @@ use Rattle.link_bundle.specs.CheckKinds.{is_unread}
 use Rattle.link_bundle.specs.Covers.{Covers}
 use Rattle.link_bundle.specs.Fits.{is_block, scan_fits, KeepsCheck}
 use Rattle.link_bundle.specs.Moves.{TakesRun, Enters}
-use Rattle.link_bundle.specs.Bundle.{Bundle, judged_bundle}
+use Rattle.link_bundle.specs.Blocks.{Block}
+use Rattle.link_bundle.specs.Bundle.{Bundle, with_blocks, judged_bundle}
 use Rattle.link_bundle.specs.Reading.{Stop, stopped, head_at}
-use Rattle.link_bundle.specs.Left.{block_start, field_left, read_alone, with_known_payload, stage_left, goes_on, AsReadFrom}
+use Rattle.link_bundle.specs.Left.{block_start, field_left, last_block, with_last, read_alone, with_known_payload, stage_left, goes_on, AsReadFrom}
+use Rattle.link_bundle.proofs.Blocks.{both_before, read_alone-blocks, with_last-is}
 use Rattle.link_bundle.proofs.Heads.{read_alone-stopped}
-use Rattle.link_bundle.proofs.Stops.{field_left-stopped}
+use Rattle.link_bundle.proofs.Stops.{stop_at-bad, field_left-stopped}
 use Rattle.link_bundle.specs.declared.scan.BundleScan.{BundleScan}
 use Rattle.link_bundle.specs.Scan.{HasSeen, HasScanned, HasSeenHead, IsAtStage, IsInHead, IsInside, IsInStored}
 
 -- ---- a scan whose stage is known
 
-pub at_stage : (scan : BundleScan) (stage : Stage) (seen : List ℕ) → scan.stage ≡ stage
-    → HasScanned scan seen → HasSeen stage scan.cursor scan.draft seen
-at_stage scan stage seen is come =
-    subst (λ (stage : Stage). HasSeen stage scan.cursor scan.draft seen) is come
+pub at_stage : (scan : BundleScan) (stage : Stage) (before : List Block) (seen : List ℕ)
+    → scan.stage ≡ stage
+    → HasSeen scan.stage scan.cursor scan.draft before seen
+    → HasSeen stage scan.cursor scan.draft before seen
+at_stage scan stage before seen is come =
+    subst (λ (stage : Stage). HasSeen stage scan.cursor scan.draft before seen) is come
 
 pub fits_at : (scan : BundleScan) (stage : Stage) → scan.stage ≡ stage
     → IsTrue (scan_fits stage scan.cursor scan.draft)
@@ -64,7 +68,7 @@ up_to_the_end seen start =
     ∙ take-length (drop start seen)
 
 -- the checks that are needed
-narrowed : (check : CheckType) (checks : BlockChecks) (covered : List ℕ)
+pub narrowed : (check : CheckType) (checks : BlockChecks) (covered : List ℕ)
     → Covers Unread checks covered → Covers check checks covered
 narrowed Unread checks covered both = both
 narrowed (Is None) checks covered both = tt
@@ -79,10 +83,10 @@ kept Unread new checks covered keeps covers = narrowed new checks covered covers
 kept (Is kind) new checks covered keeps covers = keeps refl checks covered covers
 
 -- at the end of the bytes, no byte of the next part was seen
-nothing_yet : (offset : ℕ) (seen : List ℕ) → offset ≡ length seen → drop offset seen ≡ []
+pub nothing_yet : (offset : ℕ) (seen : List ℕ) → offset ≡ length seen → drop offset seen ≡ []
 nothing_yet offset seen here = ap (λ (offset : ℕ). drop offset seen) here ∙ drop-length seen
 
-begun : (which : Field) (cursor : Cursor) (check : CheckType) (start : ℕ) (seen : List ℕ)
+pub begun : (which : Field) (cursor : Cursor) (check : CheckType) (start : ℕ) (seen : List ℕ)
     → cursor.offset ≡ length seen → HasScannedHead cursor.head []
     → block_start which start cursor.offset ≤ length seen
     → Covers check cursor.checks (drop (block_start which start cursor.offset) seen)
@@ -120,7 +124,7 @@ begins (field.Canonical canonical.Number) start offset = inr (refl, refl)
 begins (field.Canonical canonical.Flags) start offset = inr (refl, refl)
 begins (field.Canonical canonical.CheckType) start offset = inr (refl, refl)
 begins (field.Canonical canonical.Data) start offset = inr (refl, refl)
-begins (field.Check kind) start offset = inr (refl, refl)
+begins (field.Check block kind) start offset = inr (refl, refl)
 begins field.Closing start offset = inr (refl, refl)
 
 stands_head : (which : Field) (old new : Cursor) (check after : CheckType)
@@ -191,7 +195,7 @@ stands_entered (Name role left) old new check after start seen counted within co
     stands_inside old new check after start seen within covers (keeps.1 refl) enters.checks
 stands_entered (Content left) old new check after start seen counted within covers keeps enters =
     stands_inside old new check after start seen within covers (keeps.1 refl) enters.checks
-stands_entered (Stored offset left stored kind) old new check after start seen counted within covers
+stands_entered (Stored offset left stored block kind) old new check after start seen counted within covers
     keeps enters =
     stands_stored old new check after start seen counted within covers (keeps.1 refl)
     (enters.offset ∙ counted) enters.checks
@@ -202,23 +206,26 @@ stands_entered (Failed fault offset) old new check after start seen counted with
 
 -- a stage that is entered, with the rest from there on
 pub entered : (stage : Stage) (old new : Cursor) (check : CheckType) (draft : Draft)
-    (start : ℕ) (seen : List ℕ)
+    (start : ℕ) (before : List Block) (seen : List ℕ)
     → AreBytes seen → old.count ≡ length seen → start ≤ length seen
     → Covers check old.checks (drop start seen)
+    → draft.block.start ≡ start
     → KeepsCheck check stage draft.check → Enters stage old new
     → ((more : List ℕ) → judged_bundle (seen ++ more)
-    ≡ stage_left stage draft start (length seen) (seen ++ more) (length seen))
-    → HasSeen stage new draft seen
-entered stage old new check draft start seen all counted within covers keeps enters reads = record {
-  all_bytes = all;
-  count = enters.count ∙ counted;
-  start = start;
-  reads = λ more. reads more
-      ∙ ap (λ (offset : ℕ). stage_left stage draft start offset (seen ++ more) (length seen))
-      (sym (enters.offset ∙ counted));
-  stands = stands_entered stage old new check draft.check start seen counted within covers keeps
-      enters;
-}
+    ≡ with_blocks before (stage_left stage draft (length seen) (seen ++ more) (length seen)))
+    → HasSeen stage new draft before seen
+entered stage old new check draft start before seen all counted within covers starts keeps enters
+    reads = record {
+      all_bytes = all;
+      count = enters.count ∙ counted;
+      reads = λ more. reads more
+          ∙ ap (λ (offset : ℕ). with_blocks before
+          (stage_left stage draft offset (seen ++ more) (length seen)))
+          (sym (enters.offset ∙ counted));
+      stands = rw starts
+          (stands_entered stage old new check draft.check start seen counted within covers keeps
+          enters);
+    }
 
 -- the rest, after a run of more bytes
 pub regrown : (left : List ℕ → Result Bundle Stop) (seen run : List ℕ)
@@ -245,36 +252,36 @@ count_more old new seen byte grows counted =
     grows ∙ ap (λ (count : ℕ). count + 1) counted ∙ sym (length-append seen (byte ∷ []))
 
 -- a fault that the bytes seen show
-pub failed : (fault : BundleFault) (offset : ℕ) (cursor : Cursor) (draft : Draft) (seen : List ℕ)
+pub failed : (fault : BundleFault) (offset : ℕ) (cursor : Cursor) (draft : Draft)
+    (before : List Block) (seen : List ℕ)
     → AreBytes seen → cursor.count ≡ length seen
     → ((more : List ℕ) → judged_bundle (seen ++ more)
-    ≡ with_known_payload draft.payload_span (Err (stopped fault offset)))
-    → HasSeen (Failed fault offset) cursor draft seen
+    ≡ with_blocks before (with_known_payload draft.payload_span (Err (stopped fault offset))))
+    → HasSeen (Failed fault offset) cursor draft before seen
 unfolding stage_left
-failed fault offset cursor draft seen all counted reads = record {
+failed fault offset cursor draft before seen all counted reads = record {
   all_bytes = all;
   count = counted;
-  start = 0;
   reads = reads;
   stands = tt;
 }
 
 -- more bytes of a head
-pub grown_head : (which : Field) (old new : Cursor) (draft : Draft) (seen run : List ℕ)
-    → HasSeen (Head which) old draft seen → AreBytes run → TakesRun draft.check old new run
-    → HasSeenHead which new draft (seen ++ run)
+pub grown_head : (which : Field) (old new : Cursor) (draft : Draft) (before : List Block)
+    (seen run : List ℕ)
+    → HasSeen (Head which) old draft before seen → AreBytes run → TakesRun draft.check old new run
+    → HasSeenHead which new draft before (seen ++ run)
 unfolding stage_left
-grown_head which old new draft seen run come are takes =
+grown_head which old new draft before seen run come are takes =
     let at = come.stands.at in
-    let begins = block_start which come.start old.offset in
+    let begins = block_start which draft.block.start old.offset in
     let longer = length-append seen run in
     record {
       all_bytes = all_grown seen run come.all_bytes are;
       count = takes.count ∙ ap (λ (count : ℕ). count + length run) come.count ∙ sym longer;
-      start = come.start;
       reads = rw takes.offset
           (regrown (λ (bytes : List ℕ).
-          stage_left (Head which) draft come.start old.offset bytes (length seen)) seen run
+          with_blocks before (stage_left (Head which) draft old.offset bytes (length seen))) seen run
           come.reads);
       in_bytes = omega (arith, at.in_bytes, takes.offset);
       in_block = rw takes.offset (omega (arith, at.in_block));
@@ -283,11 +290,12 @@ grown_head which old new draft seen run come are takes =
     }
 
 -- the bytes seen of a head, with one more
-pub grown_bytes : (which : Field) (old new : Cursor) (draft : Draft) (seen : List ℕ) (byte : ℕ)
-    → HasSeen (Head which) old draft seen → new.offset ≡ old.offset
+pub grown_bytes : (which : Field) (old new : Cursor) (draft : Draft) (before : List Block)
+    (seen : List ℕ) (byte : ℕ)
+    → HasSeen (Head which) old draft before seen → new.offset ≡ old.offset
     → ((head : List ℕ) → HasScannedHead old.head head → HasScannedHead new.head (head ++ byte ∷ []))
     → HasScannedHead new.head (drop new.offset (seen ++ byte ∷ []))
-grown_bytes which old new draft seen byte come stays heads =
+grown_bytes which old new draft before seen byte come stays heads =
     let at = come.stands.at in
     rw (stays, drop-append-le old.offset seen (byte ∷ []) at.in_bytes)
     (heads (drop old.offset seen) at.head)
@@ -325,14 +333,15 @@ head_at-bad offset seen more within outcome =
     rw (front_stays offset seen more within, ill_formed_stays (drop offset seen) more outcome) refl
 
 -- a head that is not whole yet
-pub more_head : (which : Field) (cursor : Cursor) (draft : Draft) (seen : List ℕ)
-    → HasSeenHead which cursor draft seen
+pub more_head : (which : Field) (cursor : Cursor) (draft : Draft) (before : List Block)
+    (seen : List ℕ)
+    → HasSeenHead which cursor draft before seen
     → HasScannedHead cursor.head (drop cursor.offset seen)
-    → head_front (drop cursor.offset seen) ≡ CutHead → HasSeen (Head which) cursor draft seen
-more_head which cursor draft seen come head outcome = record {
+    → head_front (drop cursor.offset seen) ≡ CutHead
+    → HasSeen (Head which) cursor draft before seen
+more_head which cursor draft before seen come head outcome = record {
   all_bytes = come.all_bytes;
   count = come.count;
-  start = come.start;
   reads = come.reads;
   stands = record {
     at = record {
@@ -345,66 +354,90 @@ more_head which cursor draft seen come head outcome = record {
   };
 }
 
+-- the reading of the bundle at a head, by that of its field: the last block is before it
+pub at_head : (which : Field) (draft : Draft) (offset : ℕ) (before : List Block) (bytes : List ℕ)
+    → (reading : Result Bundle Stop) → field_left which draft bytes offset ≡ reading
+    → with_blocks before (read_alone bytes (with_known_payload draft.payload_span
+    (with_last which draft offset (field_left which draft bytes offset))))
+    ≡ with_blocks (before ++ last_block which draft offset)
+    (read_alone bytes (with_known_payload draft.payload_span reading))
+at_head which draft offset before bytes reading is =
+    let last = last_block which draft offset in
+    ap (λ (reading : Result Bundle Stop). with_blocks before (read_alone bytes
+    (with_known_payload draft.payload_span reading)))
+    (ap (λ (reading : Result Bundle Stop). with_last which draft offset reading) is
+    ∙ with_last-is which draft offset reading)
+    ∙ ap (λ (reading : Result Bundle Stop). with_blocks before reading)
+    (read_alone-blocks draft.payload_span bytes last reading)
+    ∙ both_before before last (read_alone bytes (with_known_payload draft.payload_span reading))
+
 -- an ill-formed head
-pub bad_head : (which : Field) (cursor : Cursor) (draft : Draft) (seen : List ℕ)
-    → HasSeenHead which cursor draft seen
+pub bad_head : (which : Field) (cursor : Cursor) (draft : Draft) (before : List Block)
+    (seen : List ℕ)
+    → HasSeenHead which cursor draft before seen
     → head_front (drop cursor.offset seen) ≡ IllFormed
-    → HasSeen (Failed BadHead cursor.offset) cursor draft seen
+    → HasSeen (Failed BadHead cursor.offset) cursor draft
+    (before ++ last_block which draft cursor.offset) seen
 unfolding stage_left
-bad_head which cursor draft seen come outcome =
-    failed BadHead cursor.offset cursor draft seen come.all_bytes come.count
+bad_head which cursor draft before seen come outcome =
+    let all = before ++ last_block which draft cursor.offset in
+    failed BadHead cursor.offset cursor draft all seen come.all_bytes come.count
     (λ more.
     let bytes = seen ++ more in
     let stop = stopped BadHead cursor.offset in
     come.reads more
-    ∙ ap (λ (reading : Result Bundle Stop). read_alone bytes
-    (with_known_payload draft.payload_span reading))
-    (field_left-stopped which draft (block_start which come.start cursor.offset) bytes cursor.offset
-    stop
-    (head_at-bad cursor.offset seen more come.in_bytes outcome))
-    ∙ read_alone-stopped draft.payload_span bytes stop)
+    ∙ at_head which draft cursor.offset before bytes (Err stop)
+    (field_left-stopped which draft bytes cursor.offset stop
+    (head_at-bad cursor.offset seen more come.in_bytes outcome)
+    ∙ ap Err (stop_at-bad which draft cursor.offset))
+    ∙ ap (λ (reading : Result Bundle Stop). with_blocks all reading)
+    (read_alone-stopped draft.payload_span bytes stop))
 
 -- a whole head that is judged
 judged_head : (which : Field) (cursor : Cursor) (draft new : Draft) (head : HeadItem)
-    (result : Result Stage BundleFault) (seen : List ℕ)
-    → (come : HasSeenHead which cursor draft seen)
+    (result : Result Stage BundleFault) (before : List Block) (seen : List ℕ)
+    → (come : HasSeenHead which cursor draft before seen)
     → head_front (drop cursor.offset seen) ≡ Whole head (length (drop cursor.offset seen))
     → AsReadFrom cursor.offset cursor.count which draft head result new
     → (more : List ℕ) → judged_bundle (seen ++ more)
-    ≡ goes_on result new (block_start which come.start cursor.offset) cursor.offset (length seen)
-    (seen ++ more)
+    ≡ with_blocks (before ++ last_block which draft cursor.offset)
+    (goes_on result new cursor.offset (length seen) (seen ++ more))
 unfolding stage_left
-judged_head which cursor draft new head result seen come outcome judges more =
+judged_head which cursor draft new head result before seen come outcome judges more =
     let whole = head_at-whole cursor.offset seen more head come.in_bytes outcome in
+    let bytes = seen ++ more in
     come.reads more
-    ∙ subst (λ (count : ℕ). read_alone (seen ++ more)
-    (with_known_payload draft.payload_span
-    (field_left which draft (block_start which come.start cursor.offset)
-    (seen ++ more) cursor.offset))
-    ≡ goes_on result new (block_start which come.start cursor.offset) cursor.offset count
-    (seen ++ more)) come.count
-    (judges (seen ++ more) come.start (rw come.count whole)
-    (omega (arith, length-append seen more, come.count)))
+    ∙ at_head which draft cursor.offset before bytes (field_left which draft bytes cursor.offset) refl
+    ∙ ap (λ (reading : Result Bundle Stop). with_blocks
+    (before ++ last_block which draft cursor.offset) reading)
+    (subst (λ (count : ℕ). read_alone bytes (with_known_payload draft.payload_span
+    (field_left which draft bytes cursor.offset))
+    ≡ goes_on result new cursor.offset count bytes) come.count
+    (judges bytes (rw come.count whole) (omega (arith, length-append seen more, come.count))))
 
 pub went_on : (which : Field) (old cursor : Cursor) (draft new : Draft) (head : HeadItem)
-    (stage : Stage) (seen : List ℕ)
-    → HasSeenHead which old draft seen
+    (stage : Stage) (before : List Block) (seen : List ℕ)
+    → HasSeenHead which old draft before seen
     → head_front (drop old.offset seen) ≡ Whole head (length (drop old.offset seen))
     → AsReadFrom old.offset old.count which draft head (Ok stage) new
+    → new.block.start ≡ block_start which draft.block.start old.offset
     → KeepsCheck draft.check stage new.check → Enters stage old cursor
-    → HasSeen stage cursor new seen
-went_on which old cursor draft new head stage seen come outcome judges keeps enters =
-    entered stage old cursor draft.check new (block_start which come.start old.offset) seen
+    → HasSeen stage cursor new (before ++ last_block which draft old.offset) seen
+went_on which old cursor draft new head stage before seen come outcome judges begins keeps enters =
+    entered stage old cursor draft.check new (block_start which draft.block.start old.offset)
+    (before ++ last_block which draft old.offset) seen
     come.all_bytes come.count
-    come.in_block come.checks keeps enters
-    (judged_head which old draft new head (Ok stage) seen come outcome judges)
+    come.in_block come.checks begins keeps enters
+    (judged_head which old draft new head (Ok stage) before seen come outcome judges)
 
 pub refused : (which : Field) (cursor : Cursor) (draft new : Draft) (head : HeadItem)
-    (fault : BundleFault) (seen : List ℕ)
-    → HasSeenHead which cursor draft seen
+    (fault : BundleFault) (before : List Block) (seen : List ℕ)
+    → HasSeenHead which cursor draft before seen
     → head_front (drop cursor.offset seen) ≡ Whole head (length (drop cursor.offset seen))
     → AsReadFrom cursor.offset cursor.count which draft head (Err fault) new
-    → HasSeen (Failed fault cursor.offset) cursor new seen
-refused which cursor draft new head fault seen come outcome judges =
-    failed fault cursor.offset cursor new seen come.all_bytes come.count
-    (judged_head which cursor draft new head (Err fault) seen come outcome judges)
+    → HasSeen (Failed fault cursor.offset) cursor new
+    (before ++ last_block which draft cursor.offset) seen
+refused which cursor draft new head fault before seen come outcome judges =
+    failed fault cursor.offset cursor new (before ++ last_block which draft cursor.offset) seen
+    come.all_bytes come.count
+    (judged_head which cursor draft new head (Err fault) before seen come outcome judges)

@@ -1,6 +1,6 @@
 -- The verdict on the bytes that a scan has seen.
 
-use Rattle.std.proofs.Common.{◌≡◌, ℕ, ◌-◌, true, min, List, [], length, drop, Option, None, Some, Result, Ok, Err, refl, sym, ap, subst, ◌∙◌, append-nil, length-drop, length-take, arith}
+use Rattle.std.proofs.Common.{◌≡◌, ℕ, ◌+◌, ◌-◌, ◌<◌, true, min, List, [], ◌++◌, length, drop, Option, None, Some, Result, Ok, Err, refl, sym, ap, subst, ◌∙◌, append-nil, length-drop, length-take, arith}
 use Rattle.std.specs.Prelude.{IsTrue, is_some}
 use Rattle.std.proofs.lemmas.Bool.{eq-eqb, ltb-true}
 use Rattle.link_cbor.specs.Head.{Cut as CutHead, head_front}
@@ -15,23 +15,33 @@ use Rattle.link_bundle.specs.CheckKinds.{kind_of, is_kind}
 use Rattle.link_bundle.specs.Fits.{rest_fits, scan_fits}
 use Rattle.link_bundle.specs.Reading.{Stop, stopped, cut_short, head_at}
 use Rattle.link_bundle.specs.Canonical.{content_at}
-use Rattle.link_bundle.specs.Bundle.{Bundle, opening_at, bundle_at, judged_bundle, verdict_by, verdict, payload_of, payload_in, payload_seen, state_of}
-use Rattle.link_bundle.specs.Left.{bundle_of, block_start, read_alone, with_known_payload, name_left, stored_left, stage_left}
+use Rattle.link_bundle.specs.declared.stage.BlockKind.{BlockKind}
+use Rattle.link_bundle.specs.declared.stage.BlockKind.TheVariants.{Primary, Canonical}
+use Rattle.link_bundle.specs.declared.stage.Role.{Role}
+use Rattle.link_cbor.specs.declared.check.CheckKind.{CheckKind}
+use Rattle.link_bundle_types.specs.declared.fault.State.{State}
+use Rattle.link_bundle_types.specs.declared.info.BundleInfo.{BundleInfo}
+use Rattle.link_bundle.specs.Blocks.{Block}
+use Rattle.link_bundle.specs.Bundle.{Bundle, with_blocks, opening_at, bundle_at, judged_bundle, verdict_by, verdict, payload_of, payload_in, payload_seen, state_of, blocks_of, blocks_in, cut_block_of, cut_block_in}
+use Rattle.link_bundle.specs.Left.{bundle_of, read_alone, with_known_payload, kept_name, name_left, zeroed_check, stored_left, after_field, kind_block, stage_block, last_block, stage_last, stage_left}
+use Rattle.link_bundle.proofs.Blocks.{verdict_by-blocks, payload_of-blocks, blocks_of-blocks, cut_block_of-blocks}
+use Rattle.link_bundle.proofs.Steps.{at_head}
 use Rattle.link_bundle.specs.Scan.{HasSeen}
 use Rattle.link_bundle.specs.Stages.{stage_state}
 use Rattle.link_bundle.proofs.Fields.{has_room, some_left}
 use Rattle.link_bundle.proofs.Heads.{read_alone-stopped}
 use Rattle.link_bundle.proofs.Opening.{blank}
 use Rattle.link_bundle.proofs.Runs.{bytes_at-cut}
-use Rattle.link_bundle.proofs.Stops.{field_left-stopped}
+use Rattle.link_bundle.proofs.Stops.{stop_at-cut, field_left-stopped}
 
 -- the reading of the bytes seen, if no more follow
-read_now : (stage : Stage) (cursor : Cursor) (draft : Draft) (seen : List ℕ)
-    → (come : HasSeen stage cursor draft seen)
-    → judged_bundle seen ≡ stage_left stage draft come.start cursor.offset seen (length seen)
-read_now stage cursor draft seen come =
+read_now : (stage : Stage) (cursor : Cursor) (draft : Draft) (before : List Block) (seen : List ℕ)
+    → (come : HasSeen stage cursor draft before seen)
+    → judged_bundle seen
+    ≡ with_blocks before (stage_left stage draft cursor.offset seen (length seen))
+read_now stage cursor draft before seen come =
     subst (λ (bytes : List ℕ). judged_bundle bytes
-    ≡ stage_left stage draft come.start cursor.offset bytes (length seen)) (append-nil seen)
+    ≡ with_blocks before (stage_left stage draft cursor.offset bytes (length seen))) (append-nil seen)
     (come.reads [])
 
 pub head_at-cut : (bytes : List ℕ) (offset : ℕ) → head_front (drop offset bytes) ≡ CutHead
@@ -39,128 +49,210 @@ pub head_at-cut : (bytes : List ℕ) (offset : ℕ) → head_front (drop offset 
 unfolding head_at
 head_at-cut bytes offset cut = rw cut refl
 
+-- the stop of bytes that end at a stage
+abbrev pub cut_at : Stage → Draft → ℕ → Stop
+cut_at stage draft offset =
+    record (stopped Cut offset) { cut_block = stage_block stage draft }
+
+pub cut_name : (left : ℕ) (role : Role) (draft : Draft) (bytes : List ℕ) (offset : ℕ)
+    → length bytes < offset + left
+    → name_left (kept_name role draft) left bytes offset ≡ cut_short bytes
+unfolding name_left
+cut_name left role draft bytes offset ends = rw (bytes_at-cut left bytes offset ends) refl
+
+pub cut_content : (left : ℕ) (check : Option CheckKind) (start : ℕ) (bytes : List ℕ) (offset : ℕ)
+    → length bytes < offset + left → content_at left check start bytes offset ≡ cut_short bytes
+unfolding content_at
+cut_content left check start bytes offset ends = rw (bytes_at-cut left bytes offset ends) refl
+
+cut_stored : (left stored expected head : ℕ) (seen : List ℕ) → 0 < left
+    → stored_left left stored expected head seen (length seen) ≡ cut_short seen
+unfolding stored_left
+cut_stored left stored expected head seen some =
+    rw (bytes_at-cut left seen (length seen) (omega arith)) refl
+
+-- a check field in which the bytes end
+cut_field : (block : BlockKind) (draft : Draft) (kind : CheckKind) (bytes : List ℕ)
+    → read_alone bytes (with_known_payload draft.payload_span
+    (after_field block draft (Some kind) bytes (cut_short bytes)))
+    ≡ with_known_payload draft.payload_span
+    (Err (record (stopped Cut (length bytes)) { cut_block = kind_block block draft kind }))
+cut_field Primary draft kind bytes = read_alone-stopped draft.payload_span bytes _
+cut_field Canonical draft kind bytes = read_alone-stopped draft.payload_span bytes _
+
 -- bytes that end inside a bundle
-going_cut : (stage : Stage) (cursor : Cursor) (draft : Draft) (seen : List ℕ)
-    → HasSeen stage cursor draft seen
+going_cut : (stage : Stage) (cursor : Cursor) (draft : Draft) (before : List Block) (seen : List ℕ)
+    → HasSeen stage cursor draft before seen
     → IsTrue (scan_fits stage cursor draft) → stage_state stage ≡ state.Going
-    → judged_bundle seen ≡ with_known_payload draft.payload_span (Err (stopped Cut (length seen)))
-unfolding stage_left judged_bundle bundle_at opening_at name_left stored_left content_at
-going_cut Start cursor draft seen come fits going =
-    rw (come.stands.nothing, (blank draft fits).payload) refl
-going_cut (Head which) cursor draft seen come fits going =
-    read_now (Head which) cursor draft seen come
-    ∙ ap (λ (reading : Result Bundle Stop). read_alone seen
-    (with_known_payload draft.payload_span reading))
-    (field_left-stopped which draft (block_start which come.start cursor.offset) seen cursor.offset
-    (stopped Cut (length seen))
-    (head_at-cut seen cursor.offset come.stands.cut))
-    ∙ read_alone-stopped draft.payload_span seen (stopped Cut (length seen))
-going_cut (Name role left) cursor draft seen come fits going =
-    read_now (Name role left) cursor draft seen come
-    ∙ rw (bytes_at-cut left seen (length seen)
-    (omega (arith, some_left left (rest_fits role draft left) fits)))
-    (read_alone-stopped draft.payload_span seen (stopped Cut (length seen)))
-going_cut (Content left) cursor draft seen come fits going =
-    read_now (Content left) cursor draft seen come
-    ∙ rw (bytes_at-cut left seen (length seen) (omega (arith, ltb-true 0 left fits)))
-    (read_alone-stopped draft.payload_span seen (stopped Cut (length seen)))
-going_cut (Stored field left stored kind) cursor draft seen come fits going =
-    read_now (Stored field left stored kind) cursor draft seen come
-    ∙ rw (bytes_at-cut left seen (length seen)
-    (omega (
-      arith,
-      (has_room (is_kind (kind_of draft.check) kind) left stored 0 fits
-          (omega arith)).wants,
-    )))
-    (read_alone-stopped draft.payload_span seen (stopped Cut (length seen)))
-going_cut Ended cursor draft seen come fits going = cc
-going_cut (Failed fault offset) cursor draft seen come fits going = cc
+    → judged_bundle seen
+    ≡ with_blocks (before ++ stage_last stage draft cursor.offset)
+    (with_known_payload draft.payload_span (Err (cut_at stage draft (length seen))))
+unfolding stage_left judged_bundle bundle_at opening_at
+going_cut Start cursor draft before seen come fits going =
+    read_now Start cursor draft before seen come
+    ∙ rw (come.stands.nothing, (blank draft fits).payload)
+    (ap (λ (blocks : List Block). with_blocks blocks (Err (stopped Cut 0))) (sym (append-nil before)))
+going_cut (Head which) cursor draft before seen come fits going =
+    read_now (Head which) cursor draft before seen come
+    ∙ at_head which draft cursor.offset before seen (Err (cut_at (Head which) draft (length seen)))
+    (field_left-stopped which draft seen cursor.offset (stopped Cut (length seen))
+    (head_at-cut seen cursor.offset come.stands.cut)
+    ∙ ap Err (stop_at-cut which draft (length seen)))
+    ∙ ap (λ (reading : Result Bundle Stop).
+    with_blocks (before ++ last_block which draft cursor.offset) reading)
+    (read_alone-stopped draft.payload_span seen (cut_at (Head which) draft (length seen)))
+going_cut (Name role left) cursor draft before seen come fits going =
+    read_now (Name role left) cursor draft before seen come
+    ∙ rw (
+      cut_name left role draft seen (length seen)
+          (omega (arith, some_left left (rest_fits role draft left) fits)),
+      append-nil before,
+    )
+    (ap (λ (reading : Result Bundle Stop). with_blocks before reading)
+    (read_alone-stopped draft.payload_span seen (stopped Cut (length seen))))
+going_cut (Content left) cursor draft before seen come fits going =
+    read_now (Content left) cursor draft before seen come
+    ∙ rw (
+      cut_content left (kind_of draft.check) draft.block.start seen (length seen)
+          (omega (arith, ltb-true 0 left fits)),
+      append-nil before,
+    )
+    (ap (λ (reading : Result Bundle Stop). with_blocks before reading)
+    (read_alone-stopped draft.payload_span seen (cut_at (Content left) draft (length seen))))
+going_cut (Stored field left stored block kind) cursor draft before seen come fits going =
+    let some = (has_room (is_kind (kind_of draft.check) kind) left stored 0 fits (omega arith)).wants in
+    read_now (Stored field left stored block kind) cursor draft before seen come
+    ∙ rw (
+      cut_stored left stored (zeroed_check kind draft.block.start cursor.offset
+          (length seen + left - cursor.offset) seen) field seen some,
+      append-nil before,
+    )
+    (ap (λ (reading : Result Bundle Stop). with_blocks before reading)
+    (cut_field block draft kind seen))
+going_cut Ended cursor draft before seen come fits going = cc
+going_cut (Failed fault offset) cursor draft before seen come fits going = cc
 
 -- bytes that are a bundle
-ended_whole : (cursor : Cursor) (draft : Draft) (seen : List ℕ) → HasSeen Ended cursor draft seen
-    → judged_bundle seen ≡ Ok (bundle_of draft cursor.offset)
+ended_whole : (cursor : Cursor) (draft : Draft) (before : List Block) (seen : List ℕ)
+    → HasSeen Ended cursor draft before seen
+    → judged_bundle seen ≡ with_blocks before (Ok (bundle_of draft cursor.offset))
 unfolding stage_left
-ended_whole cursor draft seen come =
-    read_now Ended cursor draft seen come ∙ rw (eq-eqb cursor.offset (length seen) come.stands) refl
+ended_whole cursor draft before seen come =
+    read_now Ended cursor draft before seen come
+    ∙ rw (eq-eqb cursor.offset (length seen) come.stands) refl
 
-failed_stop : (fault : BundleFault) (offset : ℕ) (cursor : Cursor) (draft : Draft) (seen : List ℕ)
-    → HasSeen (Failed fault offset) cursor draft seen
-    → judged_bundle seen ≡ with_known_payload draft.payload_span (Err (stopped fault offset))
+failed_stop : (fault : BundleFault) (offset : ℕ) (cursor : Cursor) (draft : Draft)
+    (before : List Block) (seen : List ℕ)
+    → HasSeen (Failed fault offset) cursor draft before seen
+    → judged_bundle seen
+    ≡ with_blocks before (with_known_payload draft.payload_span (Err (stopped fault offset)))
 unfolding stage_left
-failed_stop fault offset cursor draft seen come =
-    read_now (Failed fault offset) cursor draft seen come
+failed_stop fault offset cursor draft before seen come =
+    read_now (Failed fault offset) cursor draft before seen come
 
-verdict_by-stopped : (payload : Option (ℕ × ℕ)) (fault : BundleFault) (offset : ℕ)
-    → verdict_by (with_known_payload payload (Err (stopped fault offset))) ≡ Err (fault, offset)
-verdict_by-stopped None fault offset = refl
-verdict_by-stopped (Some payload) fault offset = refl
+-- ---- the reading of the bytes seen, at each stage
 
-pub verdict-going : (stage : Stage) (cursor : Cursor) (draft : Draft) (seen : List ℕ)
-    → HasSeen stage cursor draft seen
-    → IsTrue (scan_fits stage cursor draft) → stage_state stage ≡ state.Going
-    → verdict seen ≡ Err (Cut, cursor.count)
+-- the reading after the whole blocks
+abbrev pub seen_reading : Stage → ℕ → ℕ → Draft → Result Bundle Stop
+seen_reading Start offset count draft =
+    with_known_payload draft.payload_span (Err (cut_at Start draft count))
+seen_reading (Head which) offset count draft =
+    with_known_payload draft.payload_span (Err (cut_at (Head which) draft count))
+seen_reading (Name role left) offset count draft =
+    with_known_payload draft.payload_span (Err (cut_at (Name role left) draft count))
+seen_reading (Content left) offset count draft =
+    with_known_payload draft.payload_span (Err (cut_at (Content left) draft count))
+seen_reading (Stored field left stored block kind) offset count draft =
+    with_known_payload draft.payload_span
+    (Err (cut_at (Stored field left stored block kind) draft count))
+seen_reading Ended offset count draft = Ok (bundle_of draft offset)
+seen_reading (Failed fault at) offset count draft =
+    with_known_payload draft.payload_span (Err (stopped fault at))
+
+pub seen_is : (stage : Stage) (cursor : Cursor) (draft : Draft) (before : List Block)
+    (seen : List ℕ)
+    → HasSeen stage cursor draft before seen → IsTrue (scan_fits stage cursor draft)
+    → judged_bundle seen
+    ≡ with_blocks (before ++ stage_last stage draft cursor.offset)
+    (seen_reading stage cursor.offset cursor.count draft)
+seen_is Start cursor draft before seen come fits =
+    rw come.count (going_cut Start cursor draft before seen come fits refl)
+seen_is (Head which) cursor draft before seen come fits =
+    rw come.count (going_cut (Head which) cursor draft before seen come fits refl)
+seen_is (Name role left) cursor draft before seen come fits =
+    rw come.count (going_cut (Name role left) cursor draft before seen come fits refl)
+seen_is (Content left) cursor draft before seen come fits =
+    rw come.count (going_cut (Content left) cursor draft before seen come fits refl)
+seen_is (Stored field left stored block kind) cursor draft before seen come fits =
+    rw come.count
+    (going_cut (Stored field left stored block kind) cursor draft before seen come fits refl)
+seen_is Ended cursor draft before seen come fits =
+    rw (append-nil before) (ended_whole cursor draft before seen come)
+seen_is (Failed fault at) cursor draft before seen come fits =
+    rw (append-nil before) (failed_stop fault at cursor draft before seen come)
+
+-- ---- what follows from it
+
+stopped_verdict : (payload : Option (ℕ × ℕ)) (stop : Stop)
+    → verdict_by (with_known_payload payload (Err stop)) ≡ Err (stop.fault, stop.offset)
+stopped_verdict None stop = refl
+stopped_verdict (Some span) stop = refl
+
+-- the verdict at a stage
+abbrev pub stage_verdict : State → ℕ → ℕ → Draft → Result BundleInfo (BundleFault × ℕ)
+stage_verdict state.Going offset count draft = Err (Cut, count)
+stage_verdict state.Ended offset count draft = Ok (bundle_of draft offset).info
+stage_verdict (state.Failed fault at) offset count draft = Err (fault, at)
+
+reading_verdict : (stage : Stage) (offset count : ℕ) (draft : Draft)
+    → verdict_by (seen_reading stage offset count draft)
+    ≡ stage_verdict (stage_state stage) offset count draft
+reading_verdict Start offset count draft = stopped_verdict draft.payload_span _
+reading_verdict (Head which) offset count draft = stopped_verdict draft.payload_span _
+reading_verdict (Name role left) offset count draft = stopped_verdict draft.payload_span _
+reading_verdict (Content left) offset count draft = stopped_verdict draft.payload_span _
+reading_verdict (Stored field left stored block kind) offset count draft =
+    stopped_verdict draft.payload_span _
+reading_verdict Ended offset count draft = refl
+reading_verdict (Failed fault at) offset count draft = stopped_verdict draft.payload_span _
+
+pub verdict_of-seen : (stage : Stage) (cursor : Cursor) (draft : Draft) (before : List Block)
+    (seen : List ℕ)
+    → HasSeen stage cursor draft before seen → IsTrue (scan_fits stage cursor draft)
+    → verdict seen ≡ stage_verdict (stage_state stage) cursor.offset cursor.count draft
 unfolding verdict
-verdict-going stage cursor draft seen come fits going =
-    ap verdict_by (going_cut stage cursor draft seen come fits going)
-    ∙ verdict_by-stopped draft.payload_span Cut (length seen)
-    ∙ ap (λ (count : ℕ). Err (Cut, count)) (sym come.count)
-
-pub verdict-ended : (stage : Stage) (cursor : Cursor) (draft : Draft) (seen : List ℕ)
-    → HasSeen stage cursor draft seen
-    → stage_state stage ≡ state.Ended → verdict seen ≡ Ok (bundle_of draft cursor.offset).info
-unfolding verdict
-verdict-ended Start cursor draft seen come is = cc
-verdict-ended (Head which) cursor draft seen come is = cc
-verdict-ended (Name role left) cursor draft seen come is = cc
-verdict-ended (Content left) cursor draft seen come is = cc
-verdict-ended (Stored field left stored kind) cursor draft seen come is = cc
-verdict-ended Ended cursor draft seen come is = ap verdict_by (ended_whole cursor draft seen come)
-verdict-ended (Failed fault offset) cursor draft seen come is = cc
-
-pub verdict-failed : (stage : Stage) (cursor : Cursor) (draft : Draft) (seen : List ℕ)
-    (fault : BundleFault) (offset : ℕ) → HasSeen stage cursor draft seen
-    → stage_state stage ≡ state.Failed fault offset → verdict seen ≡ Err (fault, offset)
-unfolding verdict
-verdict-failed Start cursor draft seen fault offset come is = cc
-verdict-failed (Head which) cursor draft seen fault offset come is = cc
-verdict-failed (Name role left) cursor draft seen fault offset come is = cc
-verdict-failed (Content left) cursor draft seen fault offset come is = cc
-verdict-failed (Stored field left stored kind) cursor draft seen fault offset come is = cc
-verdict-failed Ended cursor draft seen fault offset come is = cc
-verdict-failed (Failed kept_fault at) cursor draft seen fault offset come is =
-    let same : kept_fault ≡ fault = cc in
-    let here : at ≡ offset = cc in
-    ap verdict_by (failed_stop kept_fault at cursor draft seen come)
-    ∙ verdict_by-stopped draft.payload_span kept_fault at
-    ∙ ap (λ (fault : BundleFault). Err (fault, at)) same
-    ∙ ap (λ (offset : ℕ). Err (fault, offset)) here
+verdict_of-seen stage cursor draft before seen come fits =
+    ap verdict_by (seen_is stage cursor draft before seen come fits)
+    ∙ verdict_by-blocks (before ++ stage_last stage draft cursor.offset)
+    (seen_reading stage cursor.offset cursor.count draft)
+    ∙ reading_verdict stage cursor.offset cursor.count draft
 
 -- the state that a caller sees
-pub state_of-seen : (stage : Stage) (cursor : Cursor) (draft : Draft) (seen : List ℕ)
-    → HasSeen stage cursor draft seen
-    → IsTrue (scan_fits stage cursor draft) → stage_state stage ≡ state_of (verdict seen)
-state_of-seen Start cursor draft seen come fits =
-    sym (ap state_of (verdict-going Start cursor draft seen come fits refl))
-state_of-seen (Head which) cursor draft seen come fits =
-    sym (ap state_of (verdict-going (Head which) cursor draft seen come fits refl))
-state_of-seen (Name role left) cursor draft seen come fits =
-    sym (ap state_of (verdict-going (Name role left) cursor draft seen come fits refl))
-state_of-seen (Content left) cursor draft seen come fits =
-    sym (ap state_of (verdict-going (Content left) cursor draft seen come fits refl))
-state_of-seen (Stored field left stored kind) cursor draft seen come fits =
-    sym (ap state_of (verdict-going (Stored field left stored kind) cursor draft seen come fits
-    refl))
-state_of-seen Ended cursor draft seen come fits =
-    sym (ap state_of (verdict-ended Ended cursor draft seen come refl))
-state_of-seen (Failed fault offset) cursor draft seen come fits =
-    sym (ap state_of (verdict-failed (Failed fault offset) cursor draft seen fault offset come refl)
-    ∙ rw fits refl)
+verdict_state : (stage : Stage) (cursor : Cursor) (draft : Draft)
+    → IsTrue (scan_fits stage cursor draft)
+    → stage_state stage
+    ≡ state_of (stage_verdict (stage_state stage) cursor.offset cursor.count draft)
+verdict_state Start cursor draft fits = refl
+verdict_state (Head which) cursor draft fits = refl
+verdict_state (Name role left) cursor draft fits = refl
+verdict_state (Content left) cursor draft fits = refl
+verdict_state (Stored field left stored block kind) cursor draft fits = refl
+verdict_state Ended cursor draft fits = refl
+verdict_state (Failed fault at) cursor draft fits = rw fits refl
+
+pub state_of-seen : (stage : Stage) (cursor : Cursor) (draft : Draft) (before : List Block)
+    (seen : List ℕ)
+    → HasSeen stage cursor draft before seen → IsTrue (scan_fits stage cursor draft)
+    → stage_state stage ≡ state_of (verdict seen)
+state_of-seen stage cursor draft before seen come fits =
+    verdict_state stage cursor draft fits
+    ∙ ap state_of (sym (verdict_of-seen stage cursor draft before seen come fits))
 
 -- the offset and the length of the payload
-payload_of-stopped : (payload : Option (ℕ × ℕ)) (stop_fault : BundleFault) (offset : ℕ)
-    → payload_of (with_known_payload payload (Err (stopped stop_fault offset))) ≡ payload
-payload_of-stopped None fault offset = refl
-payload_of-stopped (Some payload) fault offset = refl
+stopped_payload : (payload : Option (ℕ × ℕ)) (stop : Stop) → stop.payload_span ≡ None
+    → payload_of (with_known_payload payload (Err stop)) ≡ payload
+stopped_payload None stop none = none
+stopped_payload (Some span) stop none = refl
 
 span_back : (payload : Option (ℕ × ℕ)) (draft : Draft) (offset : ℕ)
     → draft.payload_span ≡ payload → is_some payload ≡ true
@@ -168,30 +260,85 @@ span_back : (payload : Option (ℕ × ℕ)) (draft : Draft) (offset : ℕ)
 span_back None draft offset is known = cc
 span_back (Some payload) draft offset is known = rw is refl
 
-pub payload_of-seen : (stage : Stage) (cursor : Cursor) (draft : Draft) (seen : List ℕ)
-    → HasSeen stage cursor draft seen
-    → IsTrue (scan_fits stage cursor draft) → payload_of (judged_bundle seen) ≡ draft.payload_span
-payload_of-seen Start cursor draft seen come fits =
-    ap payload_of (going_cut Start cursor draft seen come fits refl)
-    ∙ payload_of-stopped draft.payload_span Cut (length seen)
-payload_of-seen (Head which) cursor draft seen come fits =
-    ap payload_of (going_cut (Head which) cursor draft seen come fits refl)
-    ∙ payload_of-stopped draft.payload_span Cut (length seen)
-payload_of-seen (Name role left) cursor draft seen come fits =
-    ap payload_of (going_cut (Name role left) cursor draft seen come fits refl)
-    ∙ payload_of-stopped draft.payload_span Cut (length seen)
-payload_of-seen (Content left) cursor draft seen come fits =
-    ap payload_of (going_cut (Content left) cursor draft seen come fits refl)
-    ∙ payload_of-stopped draft.payload_span Cut (length seen)
-payload_of-seen (Stored field left stored kind) cursor draft seen come fits =
-    ap payload_of (going_cut (Stored field left stored kind) cursor draft seen come fits refl)
-    ∙ payload_of-stopped draft.payload_span Cut (length seen)
-payload_of-seen Ended cursor draft seen come fits =
-    ap payload_of (ended_whole cursor draft seen come)
-    ∙ span_back draft.payload_span draft cursor.offset refl fits
-payload_of-seen (Failed fault offset) cursor draft seen come fits =
-    ap payload_of (failed_stop fault offset cursor draft seen come)
-    ∙ payload_of-stopped draft.payload_span fault offset
+reading_payload : (stage : Stage) (cursor : Cursor) (draft : Draft)
+    → IsTrue (scan_fits stage cursor draft)
+    → payload_of (seen_reading stage cursor.offset cursor.count draft) ≡ draft.payload_span
+reading_payload Start cursor draft fits = stopped_payload draft.payload_span _ refl
+reading_payload (Head which) cursor draft fits = stopped_payload draft.payload_span _ refl
+reading_payload (Name role left) cursor draft fits = stopped_payload draft.payload_span _ refl
+reading_payload (Content left) cursor draft fits = stopped_payload draft.payload_span _ refl
+reading_payload (Stored field left stored block kind) cursor draft fits =
+    stopped_payload draft.payload_span _ refl
+reading_payload Ended cursor draft fits =
+    span_back draft.payload_span draft cursor.offset refl fits
+reading_payload (Failed fault at) cursor draft fits = stopped_payload draft.payload_span _ refl
+
+pub payload_of-seen : (stage : Stage) (cursor : Cursor) (draft : Draft) (before : List Block)
+    (seen : List ℕ)
+    → HasSeen stage cursor draft before seen → IsTrue (scan_fits stage cursor draft)
+    → payload_of (judged_bundle seen) ≡ draft.payload_span
+payload_of-seen stage cursor draft before seen come fits =
+    ap payload_of (seen_is stage cursor draft before seen come fits)
+    ∙ payload_of-blocks (before ++ stage_last stage draft cursor.offset)
+    (seen_reading stage cursor.offset cursor.count draft)
+    ∙ reading_payload stage cursor draft fits
+
+-- the blocks
+stopped_blocks : (payload : Option (ℕ × ℕ)) (stop : Stop)
+    → blocks_of (with_known_payload payload (Err stop)) ≡ stop.blocks
+stopped_blocks None stop = refl
+stopped_blocks (Some span) stop = refl
+
+stopped_in : (payload : Option (ℕ × ℕ)) (stop : Stop)
+    → cut_block_of (with_known_payload payload (Err stop)) ≡ stop.cut_block
+stopped_in None stop = refl
+stopped_in (Some span) stop = refl
+
+reading_blocks : (stage : Stage) (offset count : ℕ) (draft : Draft)
+    → blocks_of (seen_reading stage offset count draft) ≡ []
+reading_blocks Start offset count draft = stopped_blocks draft.payload_span _
+reading_blocks (Head which) offset count draft = stopped_blocks draft.payload_span _
+reading_blocks (Name role left) offset count draft = stopped_blocks draft.payload_span _
+reading_blocks (Content left) offset count draft = stopped_blocks draft.payload_span _
+reading_blocks (Stored field left stored block kind) offset count draft =
+    stopped_blocks draft.payload_span _
+reading_blocks Ended offset count draft = refl
+reading_blocks (Failed fault at) offset count draft = stopped_blocks draft.payload_span _
+
+reading_in : (stage : Stage) (offset count : ℕ) (draft : Draft)
+    → cut_block_of (seen_reading stage offset count draft) ≡ stage_block stage draft
+reading_in Start offset count draft = stopped_in draft.payload_span _
+reading_in (Head which) offset count draft = stopped_in draft.payload_span _
+reading_in (Name role left) offset count draft = stopped_in draft.payload_span _
+reading_in (Content left) offset count draft = stopped_in draft.payload_span _
+reading_in (Stored field left stored block kind) offset count draft =
+    stopped_in draft.payload_span _
+reading_in Ended offset count draft = refl
+reading_in (Failed fault at) offset count draft = stopped_in draft.payload_span _
+
+pub blocks_of-seen : (stage : Stage) (cursor : Cursor) (draft : Draft) (before : List Block)
+    (seen : List ℕ)
+    → HasSeen stage cursor draft before seen → IsTrue (scan_fits stage cursor draft)
+    → blocks_in seen ≡ before ++ stage_last stage draft cursor.offset
+unfolding blocks_in
+blocks_of-seen stage cursor draft before seen come fits =
+    let all = before ++ stage_last stage draft cursor.offset in
+    ap blocks_of (seen_is stage cursor draft before seen come fits)
+    ∙ blocks_of-blocks all (seen_reading stage cursor.offset cursor.count draft)
+    ∙ ap (λ (blocks : List Block). all ++ blocks)
+    (reading_blocks stage cursor.offset cursor.count draft)
+    ∙ append-nil all
+
+pub cut_block_of-seen : (stage : Stage) (cursor : Cursor) (draft : Draft) (before : List Block)
+    (seen : List ℕ)
+    → HasSeen stage cursor draft before seen → IsTrue (scan_fits stage cursor draft)
+    → cut_block_in seen ≡ stage_block stage draft
+unfolding cut_block_in
+cut_block_of-seen stage cursor draft before seen come fits =
+    ap cut_block_of (seen_is stage cursor draft before seen come fits)
+    ∙ cut_block_of-blocks (before ++ stage_last stage draft cursor.offset)
+    (seen_reading stage cursor.offset cursor.count draft)
+    ∙ reading_in stage cursor.offset cursor.count draft
 
 -- the number of payload bytes that are there
 pub seen_of-none : (seen : List ℕ) (payload : Option (ℕ × ℕ)) → payload_of (judged_bundle seen) ≡ payload

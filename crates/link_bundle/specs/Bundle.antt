@@ -8,11 +8,13 @@ use Rattle.link_bundle_types.specs.declared.fault.State.TheVariants as state
 use Rattle.link_bundle_types.specs.declared.info.BundleInfo.{BundleInfo}
 use Rattle.link_bundle_types.specs.Faults.{lasts}
 use Rattle.link_cbor.specs.declared.check.CheckKind.{CheckKind}
-use Rattle.link_bundle_heads.specs.Rows.{◌>>=◌, unsigned, byte_string, block, block_too_many, block_number, block_check_type, closing}
+use Rattle.link_bundle_heads.specs.Rows.{◌>>=◌, block_too_many, closing}
+use Rattle.link_bundle.specs.declared.block.CanonicalBlock.{CanonicalBlock}
 use Rattle.link_bundle.specs.Reading.{ReadAt, Stop, stopped, cut_short, row_at}
 use Rattle.link_bundle.specs.CheckField.{field_at}
-use Rattle.link_bundle.specs.Primary.{Primary, primary_at}
-use Rattle.link_bundle.specs.Canonical.{content_at}
+use Rattle.link_bundle.specs.Primary.{primary_at}
+use Rattle.link_bundle.specs.Blocks.{Primary, Block, PrimaryOf, CanonicalOf, ended}
+use Rattle.link_bundle.specs.Canonical.{heads_at, content_at}
 
 -- a whole bundle and its length
 pub record Bundle : Type 0 where
@@ -20,12 +22,27 @@ pub record Bundle : Type 0 where
   pub length : ℕ
   -- the offset and the length of the payload; `info` has the length alone
   pub payload_span : ℕ × ℕ
+  pub blocks : List Block
 
 -- a stop after the head of the payload's data, where the offset and the length of the payload are
 -- known
 abbrev pub with_payload : {A : Type 0} → ℕ × ℕ → Result A Stop → Result A Stop
 with_payload payload (Ok value) = Ok value
 with_payload payload (Err stop) = Err (record stop { payload_span = Some payload })
+
+-- what is read after these blocks
+abbrev pub with_blocks : List Block → Result Bundle Stop → Result Bundle Stop
+with_blocks blocks (Ok bundle) = Ok (record bundle { blocks = blocks ++ bundle.blocks })
+with_blocks blocks (Err stop) = Err (record stop { blocks = blocks ++ stop.blocks })
+
+-- the block in which a stop lies, if the bytes end there
+abbrev pub cut_in : BundleFault → CanonicalBlock → Option CanonicalBlock
+cut_in fault block = if lasts fault then None else Some block
+
+-- what is read inside the data or the check field of a block
+abbrev pub inside : CanonicalBlock → ReadAt Bool → ReadAt Bool
+inside block (Ok read) = Ok read
+inside block (Err stop) = Err (record stop { cut_block = cut_in stop.fault block })
 
 -- the fields of a bundle with that many canonical blocks and a payload of that many bytes
 abbrev pub info_of : Primary → ℕ → ℕ → BundleInfo
@@ -34,6 +51,7 @@ info_of primary blocks size =
       flags = primary.flags;
       destination = primary.destination;
       source = primary.source;
+      report_to = primary.report_to;
       time = primary.time;
       sequence = primary.sequence;
       lifetime = primary.lifetime;
@@ -42,33 +60,36 @@ info_of primary blocks size =
       payload = size;
     }
 
--- The data of the payload block that begins at `start`, its check field, and the break after the
--- block. The bundle has `blocks` canonical blocks, and its payload has `size` bytes. `check` is the
--- kind of the block's check value.
-unfoldable pub payload_at : Primary → ℕ → ℕ → Option CheckKind → ℕ → List ℕ → ℕ → Result Bundle Stop
-payload_at primary blocks size check start bytes offset = with_payload (offset, size) do
-  (_, end) ← content_at size check start bytes offset
-  (_, end) ← row_at closing bytes end
-  Ok (record { info = info_of primary blocks size; length = end; payload_span = (offset, size) })
+-- the data of a canonical block and its check field
+abbrev pub rest_of : CanonicalBlock → List ℕ → ReadAt Bool
+rest_of block bytes =
+    inside block (content_at block.data_length block.check block.start bytes block.data_start)
+
+-- the rest of the payload block, and the break after it; the bundle has `blocks` canonical blocks
+unfoldable pub payload_at : Primary → ℕ → CanonicalBlock → List ℕ → Result Bundle Stop
+payload_at primary blocks block bytes = with_payload (block.data_start, block.data_length) do
+  (_, end) ← rest_of block bytes
+  with_blocks (CanonicalOf (ended block end) ∷ []) do
+    (_, end) ← row_at closing bytes end
+    Ok (record {
+      info = info_of primary blocks block.data_length;
+      length = end;
+      payload_span = (block.data_start, block.data_length);
+      blocks = [];
+    })
 
 -- The canonical blocks up to the payload block, which has type 1 and is the last, and the break.
--- `left` more blocks may come, and `numbers` are the numbers of the blocks before. The array of a
--- block (section 4.3.2) has its type code, block number (section 4.1), block processing control
--- flags (section 4.2.4) and check type (section 4.2.1). Its data and its check field follow.
+-- `left` more blocks may come, and `numbers` are the numbers of the blocks before.
 unfoldable pub blocks_at : ℕ → List ℕ → Primary → List ℕ → ℕ → Result Bundle Stop
 blocks_at zero numbers primary bytes start = do
   (_, offset) ← row_at block_too_many bytes start
   cut_short bytes
 blocks_at (suc left) numbers primary bytes start = do
-  (count, offset) ← row_at block bytes start
-  (type, offset) ← row_at unsigned bytes offset
-  (number, offset) ← row_at (block_number type numbers) bytes offset
-  (flags, offset) ← row_at unsigned bytes offset
-  (check, offset) ← row_at (block_check_type count) bytes offset
-  (size, offset) ← row_at byte_string bytes offset
-  if type == 1 then payload_at primary (length numbers + 1) size check start bytes offset else do
-    (_, offset) ← content_at size check start bytes offset
-    blocks_at left (numbers ++ number ∷ []) primary bytes offset
+  (block, _) ← heads_at numbers bytes start
+  if block.block_type == 1 then payload_at primary (length numbers + 1) block bytes else do
+    (_, end) ← rest_of block bytes
+    with_blocks (CanonicalOf (ended block end) ∷ [])
+        (blocks_at left (numbers ++ block.number ∷ []) primary bytes end)
 
 -- the first byte opens an array of indefinite length
 unfoldable pub opening_at : List ℕ → ReadAt Bool
@@ -80,8 +101,8 @@ unfoldable pub bundle_at : List ℕ → Result Bundle Stop
 bundle_at bytes = do
   (_, start) ← opening_at bytes
   ((primary, check), offset) ← primary_at bytes start
-  (_, offset) ← field_at check start bytes offset
-  blocks_at 64 [] primary bytes offset
+  (_, end) ← field_at check start bytes offset
+  with_blocks (PrimaryOf primary check end ∷ []) (blocks_at 64 [] primary bytes end)
 
 -- the bundle, if no byte follows it, or else the fault of trailing bytes
 abbrev pub if_alone : List ℕ → Bundle → Result Bundle Stop
@@ -91,6 +112,8 @@ if_alone bytes bundle =
       fault = Trailing;
       offset = bundle.length;
       payload_span = Some bundle.payload_span;
+      blocks = bundle.blocks;
+      cut_block = None;
     })
 
 -- all of the bytes as a bundle, or the stop at their first fault
@@ -107,6 +130,22 @@ verdict_by (Err stop) = Err (stop.fault, stop.offset)
 -- the verdict on the bytes: a bundle, or the first fault and its offset
 unfoldable pub verdict : List ℕ → Result BundleInfo (BundleFault × ℕ)
 verdict bytes = verdict_by (judged_bundle bytes)
+
+-- the whole blocks among the bytes, in order, also if the bytes are no bundle
+abbrev pub blocks_of : Result Bundle Stop → List Block
+blocks_of (Ok bundle) = bundle.blocks
+blocks_of (Err stop) = stop.blocks
+
+unfoldable pub blocks_in : List ℕ → List Block
+blocks_in bytes = blocks_of (judged_bundle bytes)
+
+-- the block in whose data or check field the bytes end
+abbrev pub cut_block_of : Result Bundle Stop → Option CanonicalBlock
+cut_block_of (Ok bundle) = None
+cut_block_of (Err stop) = stop.cut_block
+
+unfoldable pub cut_block_in : List ℕ → Option CanonicalBlock
+cut_block_in bytes = cut_block_of (judged_bundle bytes)
 
 -- the offset and the length of the payload, if they are known
 abbrev pub payload_of : Result Bundle Stop → Option (ℕ × ℕ)

@@ -43,22 +43,25 @@ canonical_fits canonical.Type draft =
     is_none draft.payload_span && (is_unread draft.check && nat_lt (length draft.numbers) 64)
 canonical_fits canonical.Number draft =
     is_none draft.payload_span && (is_unread draft.check && nat_lt (length draft.numbers) 64)
-canonical_fits canonical.Flags draft = is_none draft.payload_span && is_unread draft.check
-canonical_fits canonical.CheckType draft = is_none draft.payload_span && is_unread draft.check
-canonical_fits canonical.Data draft = is_none draft.payload_span
+canonical_fits canonical.Flags draft =
+    is_none draft.payload_span && (is_unread draft.check && nat_lt (length draft.numbers) 64)
+canonical_fits canonical.CheckType draft =
+    is_none draft.payload_span && (is_unread draft.check && nat_lt (length draft.numbers) 64)
+canonical_fits canonical.Data draft =
+    is_none draft.payload_span && nat_lt (length draft.numbers) 64
 
 abbrev pub field_fits : Field → Draft → Bool
 field_fits (field.Primary which) draft = primary_fits which draft
 field_fits (field.Endpoint role part) draft = true
 field_fits (field.Canonical which) draft = canonical_fits which draft
-field_fits (field.Check kind) draft = is_kind (kind_of draft.check) kind
+field_fits (field.Check block kind) draft = is_kind (kind_of draft.check) kind
 field_fits field.Closing draft = is_some draft.payload_span
 
--- a name that is kept has room for the bytes that are left of it
+-- a name has room for the bytes that are left of it
 abbrev pub rest_fits : Role → Draft → ℕ → Bool
 rest_fits Destination draft left = name_fits draft.destination left
 rest_fits Source draft left = name_fits draft.source left
-rest_fits ReportTo draft left = true
+rest_fits ReportTo draft left = name_fits draft.report_to left
 
 abbrev pub stage_fits : Stage → Draft → Bool
 stage_fits Start draft =
@@ -66,7 +69,7 @@ stage_fits Start draft =
 stage_fits (Head which) draft = field_fits which draft
 stage_fits (Name role left) draft = nat_lt 0 left && rest_fits role draft left
 stage_fits (Content left) draft = nat_lt 0 left
-stage_fits (Stored offset left stored kind) draft =
+stage_fits (Stored offset left stored block kind) draft =
     is_kind (kind_of draft.check) kind
     && (nat_lt 0 left && (nat_le left 4 && nat_lt stored (256 ^ (4 - left))))
 stage_fits Ended draft = is_some draft.payload_span
@@ -92,11 +95,11 @@ is_block (Head (field.Canonical canonical.Number)) = false
 is_block (Head (field.Canonical canonical.Flags)) = false
 is_block (Head (field.Canonical canonical.CheckType)) = false
 is_block (Head (field.Canonical canonical.Data)) = false
-is_block (Head (field.Check kind)) = false
+is_block (Head (field.Check block kind)) = false
 is_block (Head field.Closing) = false
 is_block (Name role left) = false
 is_block (Content left) = false
-is_block (Stored offset left stored kind) = false
+is_block (Stored offset left stored block kind) = false
 is_block Ended = false
 is_block (Failed fault offset) = false
 
@@ -105,7 +108,7 @@ is_begun Start = false
 is_begun (Head which) = true
 is_begun (Name role left) = true
 is_begun (Content left) = true
-is_begun (Stored offset left stored kind) = true
+is_begun (Stored offset left stored block kind) = true
 is_begun Ended = true
 is_begun (Failed fault offset) = true
 
@@ -126,7 +129,7 @@ head_fits Start head = true
 head_fits (Head which) head = may_scan_head head
 head_fits (Name role left) head = true
 head_fits (Content left) head = true
-head_fits (Stored offset left stored kind) head = true
+head_fits (Stored offset left stored block kind) head = true
 head_fits Ended head = true
 head_fits (Failed fault offset) head = true
 

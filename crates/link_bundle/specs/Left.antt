@@ -2,7 +2,7 @@
 -- there on. A draft has the values of the heads before. These definitions join the code to
 -- `judged_bundle`. The promises need none of them.
 
-use Rattle.std.specs.Prelude.{◌≡◌, ◌≤◌, ℕ, ◌+◌, ◌-◌, ◌==◌, Bool, true, List, [], ◌∷◌, ◌++◌, length, replicate, slice_range, drop, unwrap_or, Option, Some, None, Result, Ok, Err, if◌then◌else◌}
+use Rattle.std.specs.Prelude.{◌≡◌, ◌≤◌, ℕ, ◌+◌, ◌-◌, ◌==◌, Bool, true, false, List, [], ◌∷◌, ◌++◌, length, replicate, slice_range, drop, unwrap_or, Option, Some, None, Result, Ok, Err, if◌then◌else◌}
 use Rattle.link_cbor.specs.declared.check.CheckKind.{CheckKind}
 use Rattle.link_cbor.specs.declared.head.Head.{Head as HeadItem}
 use Rattle.link_cbor.specs.Crc.{crc}
@@ -17,6 +17,9 @@ use Rattle.link_bundle.specs.declared.stage.PrimaryField.{PrimaryField}
 use Rattle.link_bundle.specs.declared.stage.PrimaryField.TheVariants as primary
 use Rattle.link_bundle.specs.declared.stage.CanonicalField.{CanonicalField}
 use Rattle.link_bundle.specs.declared.stage.CanonicalField.TheVariants as canonical
+use Rattle.link_bundle.specs.declared.stage.BlockKind.{BlockKind}
+use Rattle.link_bundle.specs.declared.stage.BlockKind.TheVariants.{Primary as PrimaryKind, Canonical}
+use Rattle.link_bundle.specs.declared.block.CanonicalBlock.{CanonicalBlock}
 use Rattle.link_bundle.specs.declared.stage.Role.{Role}
 use Rattle.link_bundle.specs.declared.stage.Role.TheVariants.{Destination, Source, ReportTo}
 use Rattle.link_bundle.specs.declared.stage.Part.{Part}
@@ -30,9 +33,10 @@ use Rattle.link_bundle.specs.Reading.{Stop, stopped, ReadAt, head_at, row_at, by
 use Rattle.link_bundle.specs.EndpointId.{specific_at, eid_at}
 use Rattle.link_bundle_types.specs.KeptEid.{name_of}
 use Rattle.link_bundle.specs.CheckField.{number_from, field_at}
-use Rattle.link_bundle.specs.Primary.{Primary, fragment_at}
+use Rattle.link_bundle.specs.Primary.{fragment_at}
+use Rattle.link_bundle.specs.Blocks.{Primary, Block, PrimaryOf, CanonicalOf, ended}
 use Rattle.link_bundle.specs.Canonical.{content_at}
-use Rattle.link_bundle.specs.Bundle.{Bundle, with_payload, info_of, payload_at, blocks_at, if_alone, judged_bundle}
+use Rattle.link_bundle.specs.Bundle.{Bundle, with_payload, with_blocks, inside, info_of, rest_of, payload_at, blocks_at, if_alone, judged_bundle}
 
 abbrev pub primary_of : Draft → Primary
 primary_of draft =
@@ -40,6 +44,7 @@ primary_of draft =
       flags = draft.flags;
       destination = draft.destination;
       source = draft.source;
+      report_to = draft.report_to;
       time = draft.time;
       sequence = draft.sequence;
       lifetime = draft.lifetime;
@@ -57,6 +62,7 @@ bundle_of draft end =
       info = info_of (primary_of draft) (length draft.numbers) payload.1;
       length = end;
       payload_span = payload;
+      blocks = [];
     }
 
 abbrev pub with_known_payload : Option (ℕ × ℕ) → Result Bundle Stop → Result Bundle Stop
@@ -73,21 +79,51 @@ block_end (Some (start, size)) numbers primary bytes offset = do
     info = info_of primary (length numbers) size;
     length = end;
     payload_span = (start, size);
+    blocks = [];
   })
 
--- the rest after a check field
-abbrev pub after_field : Draft → List ℕ → ReadAt Bool → Result Bundle Stop
-after_field draft bytes field = do
-  (_, offset) ← field
-  block_end draft.payload_span draft.numbers (primary_of draft) bytes offset
+-- the current canonical block, whose check is of this kind
+abbrev pub current : Draft → Option CheckKind → CanonicalBlock
+current draft check = record draft.block { check = check; end = None }
+
+-- the current block, which ends before `end`
+abbrev pub block_of : BlockKind → Draft → Option CheckKind → ℕ → Block
+block_of PrimaryKind draft check end = PrimaryOf (primary_of draft) check end
+block_of Canonical draft check end = CanonicalOf (ended (current draft check) end)
+
+-- a part of the current block, after the heads before its data
+abbrev pub in_block : BlockKind → Draft → Option CheckKind → ReadAt Bool → ReadAt Bool
+in_block PrimaryKind draft check reading = reading
+in_block Canonical draft check reading = inside (current draft check) reading
+
+-- the rest after the check field of the current block, or after the place of one
+abbrev pub after_field : BlockKind → Draft → Option CheckKind → List ℕ → ReadAt Bool
+    → Result Bundle Stop
+after_field kind draft check bytes field = do
+  (_, end) ← in_block kind draft check field
+  with_blocks (block_of kind draft check end ∷ [])
+      (block_end draft.payload_span draft.numbers (primary_of draft) bytes end)
 
 -- the rest after the fields of the primary block
 abbrev pub after_primary : Draft → ℕ → List ℕ → ReadAt (Primary × Option CheckKind)
     → Result Bundle Stop
 after_primary draft start bytes fields = do
   ((primary, check), offset) ← fields
-  (_, offset) ← field_at check start bytes offset
-  block_end draft.payload_span draft.numbers primary bytes offset
+  (_, end) ← field_at check start bytes offset
+  with_blocks (PrimaryOf primary check end ∷ [])
+      (block_end draft.payload_span draft.numbers primary bytes end)
+
+-- the rest after the heads of a canonical block
+abbrev pub after_heads : Draft → List ℕ → ReadAt CanonicalBlock → Result Bundle Stop
+after_heads draft bytes heads = do
+  (block, _) ← heads
+  if block.block_type == 1
+      then payload_at (primary_of draft) (length draft.numbers + 1) block bytes
+      else do
+        (_, end) ← rest_of block bytes
+        with_blocks (CanonicalOf (ended block end) ∷ [])
+            (blocks_at (63 - length draft.numbers) (draft.numbers ++ block.number ∷ [])
+            (primary_of draft) bytes end)
 
 -- The rest of the primary block: one definition for each of its fields, from that field on.
 
@@ -131,7 +167,7 @@ timestamp_left draft bytes offset = do
 unfoldable pub report_to_left : Draft → List ℕ → ℕ → ReadAt (Primary × Option CheckKind)
 report_to_left draft bytes offset = do
   (eid, offset) ← eid_at bytes offset
-  timestamp_left draft bytes offset
+  timestamp_left (record draft { report_to = eid }) bytes offset
 
 unfoldable pub source_left : Draft → List ℕ → ℕ → ReadAt (Primary × Option CheckKind)
 source_left draft bytes offset = do
@@ -143,11 +179,11 @@ destination_left draft bytes offset = do
   (eid, offset) ← eid_at bytes offset
   source_left (record draft { destination = eid }) bytes offset
 
--- an endpoint ID in the field of its role; the report-to endpoint is not kept
+-- an endpoint ID in the field of its role
 abbrev pub with_eid : Role → Draft → Eid → Draft
 with_eid Destination draft eid = record draft { destination = eid }
 with_eid Source draft eid = record draft { source = eid }
-with_eid ReportTo draft eid = draft
+with_eid ReportTo draft eid = record draft { report_to = eid }
 
 abbrev pub role_left : Role → Draft → List ℕ → ℕ → ReadAt (Primary × Option CheckKind)
 role_left Destination draft bytes offset = source_left draft bytes offset
@@ -177,10 +213,17 @@ version_left draft bytes offset = do
   (_, offset) ← row_at version bytes offset
   flags_left draft bytes offset
 
+-- a block that begins at `start`, and whose array has `count` elements
+abbrev pub begun : Draft → ℕ → ℕ → Draft
+begun draft start count = record draft {
+  count = count;
+  block = record draft.block { start = start };
+}
+
 unfoldable pub primary_block_left : Draft → List ℕ → ℕ → ReadAt (Primary × Option CheckKind)
-primary_block_left draft bytes offset = do
-  (count, offset) ← row_at primary_block bytes offset
-  version_left (record draft { count = count }) bytes offset
+primary_block_left draft bytes start = do
+  (count, offset) ← row_at primary_block bytes start
+  version_left (begun draft start count) bytes offset
 
 abbrev pub primary_left : PrimaryField → Draft → List ℕ → ℕ → ReadAt (Primary × Option CheckKind)
 primary_left primary.Block draft bytes offset = primary_block_left draft bytes offset
@@ -228,11 +271,11 @@ part_left part.Allocator draft bytes offset = allocator_left bytes offset
 part_left part.Node draft bytes offset = node_left draft.allocator bytes offset
 part_left part.Service draft bytes offset = service_left draft.allocator draft.node bytes offset
 
--- the bytes so far of a name that is kept
+-- the bytes so far of a name
 abbrev pub kept_name : Role → Draft → List ℕ
 kept_name Destination draft = name_of draft.destination
 kept_name Source draft = name_of draft.source
-kept_name ReportTo draft = []
+kept_name ReportTo draft = name_of draft.report_to
 
 -- the rest of a name that begins with these bytes
 unfoldable pub name_left : List ℕ → ℕ → List ℕ → ℕ → ReadAt Eid
@@ -240,84 +283,49 @@ name_left name left bytes offset = do
   (rest, offset) ← bytes_at left bytes offset
   Ok (Dtn (record { items = name ++ rest }), offset)
 
--- the rest of a canonical block; `left` more blocks may come, and with this one there are `blocks`
+-- The rest of the heads of a canonical block: one definition for each of them, from that head on.
 
-unfoldable pub data_left : ℕ → ℕ → Draft → ℕ → List ℕ → ℕ → Result Bundle Stop
-data_left left blocks draft start bytes offset = do
+unfoldable pub data_left : Draft → List ℕ → ℕ → ReadAt CanonicalBlock
+data_left draft bytes offset = do
   (size, offset) ← row_at byte_string bytes offset
-  if draft.block_type == 1
-      then payload_at (primary_of draft) blocks size (kind_of draft.check) start bytes offset
-      else do
-        (_, offset) ← content_at size (kind_of draft.check) start bytes offset
-        blocks_at left draft.numbers (primary_of draft) bytes offset
+  Ok (
+    record (current draft (kind_of draft.check)) { data_start = offset; data_length = size },
+    offset,
+  )
 
-unfoldable pub block_check_left : ℕ → ℕ → Draft → ℕ → List ℕ → ℕ → Result Bundle Stop
-block_check_left left blocks draft start bytes offset = do
+unfoldable pub block_check_left : Draft → List ℕ → ℕ → ReadAt CanonicalBlock
+block_check_left draft bytes offset = do
   (check, offset) ← row_at (block_check_type draft.count) bytes offset
-  data_left left blocks (record draft { check = Is check }) start bytes offset
+  data_left (record draft { check = Is check }) bytes offset
 
-unfoldable pub block_flags_left : ℕ → ℕ → Draft → ℕ → List ℕ → ℕ → Result Bundle Stop
-block_flags_left left blocks draft start bytes offset = do
-  (_, offset) ← row_at unsigned bytes offset
-  block_check_left left blocks draft start bytes offset
+unfoldable pub block_flags_left : Draft → List ℕ → ℕ → ReadAt CanonicalBlock
+block_flags_left draft bytes offset = do
+  (flags, offset) ← row_at unsigned bytes offset
+  block_check_left (record draft { block = record draft.block { flags = flags } }) bytes offset
 
-unfoldable pub number_left : ℕ → ℕ → Draft → ℕ → List ℕ → ℕ → Result Bundle Stop
-number_left left blocks draft start bytes offset = do
-  (number, offset) ← row_at (block_number draft.block_type draft.numbers) bytes offset
-  block_flags_left left blocks (record draft { numbers = draft.numbers ++ number ∷ [] }) start bytes
-      offset
+unfoldable pub number_left : Draft → List ℕ → ℕ → ReadAt CanonicalBlock
+number_left draft bytes offset = do
+  (number, offset) ← row_at (block_number draft.block.block_type draft.numbers) bytes offset
+  block_flags_left (record draft { block = record draft.block { number = number } }) bytes offset
 
-unfoldable pub type_left : ℕ → ℕ → Draft → ℕ → List ℕ → ℕ → Result Bundle Stop
-type_left left blocks draft start bytes offset = do
+unfoldable pub type_left : Draft → List ℕ → ℕ → ReadAt CanonicalBlock
+type_left draft bytes offset = do
   (type, offset) ← row_at unsigned bytes offset
-  number_left left blocks (record draft { block_type = type }) start bytes offset
+  number_left (record draft { block = record draft.block { block_type = type } }) bytes offset
 
-abbrev pub canonical_left : CanonicalField → Draft → ℕ → List ℕ → ℕ → Result Bundle Stop
-canonical_left canonical.Block draft start bytes offset =
+abbrev pub canonical_left : CanonicalField → Draft → List ℕ → ℕ → Result Bundle Stop
+canonical_left canonical.Block draft bytes offset =
     blocks_at (64 - length draft.numbers) draft.numbers (primary_of draft) bytes offset
-canonical_left canonical.Type draft start bytes offset =
-    type_left (63 - length draft.numbers) (length draft.numbers + 1) draft start bytes offset
-canonical_left canonical.Number draft start bytes offset =
-    number_left (63 - length draft.numbers) (length draft.numbers + 1) draft start bytes offset
-canonical_left canonical.Flags draft start bytes offset =
-    block_flags_left (64 - length draft.numbers) (length draft.numbers) draft start bytes offset
-canonical_left canonical.CheckType draft start bytes offset =
-    block_check_left (64 - length draft.numbers) (length draft.numbers) draft start bytes offset
-canonical_left canonical.Data draft start bytes offset =
-    data_left (64 - length draft.numbers) (length draft.numbers) draft start bytes offset
-
--- the rest from each field on, in a block that begins at `start`
-unfoldable pub field_left : Field → Draft → ℕ → List ℕ → ℕ → Result Bundle Stop
-field_left (field.Primary which) draft start bytes offset =
-    after_primary draft start bytes (primary_left which draft bytes offset)
-field_left (field.Endpoint role which) draft start bytes offset =
-    after_primary draft start bytes
-    (after_eid role draft bytes (part_left which draft bytes offset))
-field_left (field.Canonical which) draft start bytes offset =
-    canonical_left which draft start bytes offset
-field_left (field.Check kind) draft start bytes offset =
-    after_field draft bytes (field_at (Some kind) start bytes offset)
-field_left field.Closing draft start bytes offset = do
-  (_, end) ← row_at closing bytes offset
-  Ok (bundle_of draft end)
-
--- the bundle that was read, if no byte follows it, or else the fault of trailing bytes
-abbrev pub read_alone : List ℕ → Result Bundle Stop → Result Bundle Stop
-read_alone bytes reading = do
-  bundle ← reading
-  if_alone bytes bundle
-
--- the check value of a block from its start to the content of its check field, and of that many
--- zeros
-unfoldable pub zeroed_check : CheckKind → ℕ → ℕ → ℕ → List ℕ → ℕ
-zeroed_check kind start content zeros bytes =
-    crc kind (slice_range bytes start content ++ replicate zeros 0)
-
--- the rest of the content of a check field whose head is at `head`
-unfoldable pub stored_left : ℕ → ℕ → ℕ → ℕ → List ℕ → ℕ → ReadAt Bool
-stored_left left stored expected head bytes offset = do
-  (rest, next) ← bytes_at left bytes offset
-  if number_from stored rest == expected then Ok (true, next) else Err (stopped CheckDiffers head)
+canonical_left canonical.Type draft bytes offset =
+    after_heads draft bytes (type_left draft bytes offset)
+canonical_left canonical.Number draft bytes offset =
+    after_heads draft bytes (number_left draft bytes offset)
+canonical_left canonical.Flags draft bytes offset =
+    after_heads draft bytes (block_flags_left draft bytes offset)
+canonical_left canonical.CheckType draft bytes offset =
+    after_heads draft bytes (block_check_left draft bytes offset)
+canonical_left canonical.Data draft bytes offset =
+    after_heads draft bytes (data_left draft bytes offset)
 
 -- the offset of the current block: the head of an array begins its block
 abbrev pub block_start : Field → ℕ → ℕ → ℕ
@@ -338,88 +346,187 @@ block_start (field.Canonical canonical.Number) start offset = start
 block_start (field.Canonical canonical.Flags) start offset = start
 block_start (field.Canonical canonical.CheckType) start offset = start
 block_start (field.Canonical canonical.Data) start offset = start
-block_start (field.Check kind) start offset = start
+block_start (field.Check block kind) start offset = start
 block_start field.Closing start offset = start
 
--- The rest at a stage, in a block that begins at `start`. The current head is at `head`, and
--- `offset` bytes were seen. In a check field, the head is at `head` and the content at `content`.
-unfoldable pub stage_left : Stage → Draft → ℕ → ℕ → List ℕ → ℕ → Result Bundle Stop
-stage_left Start draft start head bytes offset = judged_bundle bytes
-stage_left (Head which) draft start head bytes offset =
+-- the rest from each field on
+unfoldable pub field_left : Field → Draft → List ℕ → ℕ → Result Bundle Stop
+field_left (field.Primary which) draft bytes offset =
+    after_primary draft (block_start (field.Primary which) draft.block.start offset) bytes
+    (primary_left which draft bytes offset)
+field_left (field.Endpoint role which) draft bytes offset =
+    after_primary draft draft.block.start bytes
+    (after_eid role draft bytes (part_left which draft bytes offset))
+field_left (field.Canonical which) draft bytes offset = canonical_left which draft bytes offset
+field_left (field.Check block kind) draft bytes offset =
+    after_field block draft (Some kind) bytes (field_at (Some kind) draft.block.start bytes offset)
+field_left field.Closing draft bytes offset = do
+  (_, end) ← row_at closing bytes offset
+  Ok (bundle_of draft end)
+
+-- the current block, if it is a canonical block whose check is of this kind
+abbrev pub kind_block : BlockKind → Draft → CheckKind → Option CanonicalBlock
+kind_block PrimaryKind draft kind = None
+kind_block Canonical draft kind = Some (current draft (Some kind))
+
+-- the canonical block whose check field has this head
+abbrev pub field_block : Field → Draft → Option CanonicalBlock
+field_block (field.Primary which) draft = None
+field_block (field.Endpoint role which) draft = None
+field_block (field.Canonical which) draft = None
+field_block (field.Check block kind) draft = kind_block block draft kind
+field_block field.Closing draft = None
+
+-- the canonical block whose data or check field goes on at a stage
+abbrev pub stage_block : Stage → Draft → Option CanonicalBlock
+stage_block Start draft = None
+stage_block (Head which) draft = field_block which draft
+stage_block (Name role left) draft = None
+stage_block (Content left) draft = Some (current draft (kind_of draft.check))
+stage_block (Stored head left stored block kind) draft = kind_block block draft kind
+stage_block Ended draft = None
+stage_block (Failed fault at) draft = None
+
+-- whether a block ends before this field
+abbrev pub follows_block : Field → Bool
+follows_block (field.Primary which) = false
+follows_block (field.Endpoint role which) = false
+follows_block (field.Canonical canonical.Block) = true
+follows_block (field.Canonical canonical.Type) = false
+follows_block (field.Canonical canonical.Number) = false
+follows_block (field.Canonical canonical.Flags) = false
+follows_block (field.Canonical canonical.CheckType) = false
+follows_block (field.Canonical canonical.Data) = false
+follows_block (field.Check block kind) = false
+follows_block field.Closing = true
+
+-- the block that ends before the head at `head`, if one does
+abbrev pub last_block : Field → Draft → ℕ → List Block
+last_block which draft head =
+    if follows_block which then block_of draft.last draft draft.block.check head ∷ [] else []
+
+-- whether a block ends before this stage
+abbrev pub stage_follows : Stage → Bool
+stage_follows Start = false
+stage_follows (Head which) = follows_block which
+stage_follows (Name role left) = false
+stage_follows (Content left) = false
+stage_follows (Stored field left stored block kind) = false
+stage_follows Ended = false
+stage_follows (Failed fault at) = false
+
+abbrev pub stage_last : Stage → Draft → ℕ → List Block
+stage_last stage draft head =
+    if stage_follows stage then block_of draft.last draft draft.block.check head ∷ [] else []
+
+abbrev pub with_last : Field → Draft → ℕ → Result Bundle Stop → Result Bundle Stop
+with_last which draft head reading =
+    if follows_block which
+    then with_blocks (block_of draft.last draft draft.block.check head ∷ []) reading
+    else reading
+
+-- the bundle that was read, if no byte follows it, or else the fault of trailing bytes
+abbrev pub read_alone : List ℕ → Result Bundle Stop → Result Bundle Stop
+read_alone bytes reading = do
+  bundle ← reading
+  if_alone bytes bundle
+
+-- the check value of a block from its start to the content of its check field, and of that many
+-- zeros
+unfoldable pub zeroed_check : CheckKind → ℕ → ℕ → ℕ → List ℕ → ℕ
+zeroed_check kind start content zeros bytes =
+    crc kind (slice_range bytes start content ++ replicate zeros 0)
+
+-- the rest of the content of a check field whose head is at `head`
+unfoldable pub stored_left : ℕ → ℕ → ℕ → ℕ → List ℕ → ℕ → ReadAt Bool
+stored_left left stored expected head bytes offset = do
+  (rest, next) ← bytes_at left bytes offset
+  if number_from stored rest == expected then Ok (true, next) else Err (stopped CheckDiffers head)
+
+-- The rest at a stage. The current head is at `head`, and `offset` bytes were seen. In a check
+-- field, the head is at `head` and the content at `content`.
+unfoldable pub stage_left : Stage → Draft → ℕ → List ℕ → ℕ → Result Bundle Stop
+stage_left Start draft head bytes offset = judged_bundle bytes
+stage_left (Head which) draft head bytes offset =
     read_alone bytes (with_known_payload draft.payload_span
-    (field_left which draft (block_start which start head) bytes head))
-stage_left (Name role left) draft start head bytes offset =
+    (with_last which draft head (field_left which draft bytes head)))
+stage_left (Name role left) draft head bytes offset =
     read_alone bytes (with_known_payload draft.payload_span
-    (after_primary draft start bytes
+    (after_primary draft draft.block.start bytes
     (after_eid role draft bytes (name_left (kept_name role draft) left bytes offset))))
-stage_left (Content left) draft start head bytes offset =
+stage_left (Content left) draft head bytes offset =
+    let check = kind_of draft.check in
     read_alone bytes (with_known_payload draft.payload_span
-    (after_field draft bytes (content_at left (kind_of draft.check) start bytes offset)))
-stage_left (Stored head left stored kind) draft start content bytes offset =
-    let check = zeroed_check kind start content (offset + left - content) bytes in
+    (after_field Canonical draft check bytes
+    (content_at left check draft.block.start bytes offset)))
+stage_left (Stored head left stored block kind) draft content bytes offset =
+    let check = zeroed_check kind draft.block.start content (offset + left - content) bytes in
     read_alone bytes (with_known_payload draft.payload_span
-    (after_field draft bytes (stored_left left stored check head bytes offset)))
-stage_left Ended draft start head bytes offset = if_alone bytes (bundle_of draft head)
-stage_left (Failed fault at) draft start head bytes offset =
+    (after_field block draft (Some kind) bytes (stored_left left stored check head bytes offset)))
+stage_left Ended draft head bytes offset = if_alone bytes (bundle_of draft head)
+stage_left (Failed fault at) draft head bytes offset =
     with_known_payload draft.payload_span (Err (stopped fault at))
 
 -- the rest after a whole head that begins at `offset` and ends before `next`
-abbrev pub goes_on : Result Stage BundleFault → Draft → ℕ → ℕ → ℕ → List ℕ → Result Bundle Stop
-goes_on (Ok stage) draft start offset next bytes = stage_left stage draft start next bytes next
-goes_on (Err fault) draft start offset next bytes =
+abbrev pub goes_on : Result Stage BundleFault → Draft → ℕ → ℕ → List ℕ → Result Bundle Stop
+goes_on (Ok stage) draft offset next bytes = stage_left stage draft next bytes next
+goes_on (Err fault) draft offset next bytes =
     with_known_payload draft.payload_span (Err (stopped fault offset))
 
 -- The head that begins at `offset` and ends before `next` is judged as the reading of the bundle
 -- judges it. The stage and the draft after it determine the rest.
 abbrev pub AsReadFrom : ℕ → ℕ → Field → Draft → HeadItem → Result Stage BundleFault → Draft → Type 0
 AsReadFrom offset next which old head result new =
-    (bytes : List ℕ) (start : ℕ) → head_at bytes offset ≡ Ok (head, next) → next ≤ length bytes →
-    read_alone bytes (with_known_payload old.payload_span
-    (field_left which old (block_start which start offset) bytes offset))
-    ≡ goes_on result new (block_start which start offset) offset next bytes
+    (bytes : List ℕ) → head_at bytes offset ≡ Ok (head, next) → next ≤ length bytes →
+    read_alone bytes (with_known_payload old.payload_span (field_left which old bytes offset))
+    ≡ goes_on result new offset next bytes
 
 -- the stage after a block, after its fields and after an endpoint ID
 
-abbrev pub BlockEnds : Draft → Stage → Draft → Type 0
-BlockEnds old stage new =
-    (bytes : List ℕ) (start next : ℕ) →
+abbrev pub BlockEnds : BlockKind → Option CheckKind → Draft → Stage → Draft → Type 0
+BlockEnds block check old stage new =
+    (bytes : List ℕ) (next : ℕ) →
     read_alone bytes (with_known_payload old.payload_span
-    (block_end old.payload_span old.numbers (primary_of old) bytes next))
-    ≡ stage_left stage new start next bytes next
+    (with_blocks (block_of block old check next ∷ [])
+    (block_end old.payload_span old.numbers (primary_of old) bytes next)))
+    ≡ stage_left stage new next bytes next
 
-abbrev pub FieldsEnd : Draft → Stage → Draft → Type 0
-FieldsEnd old stage new =
-    (bytes : List ℕ) (start next : ℕ) →
+abbrev pub FieldsEnd : BlockKind → Draft → Stage → Draft → Type 0
+FieldsEnd block old stage new =
+    (bytes : List ℕ) (next : ℕ) →
+    let check = kind_of old.check in
     read_alone bytes (with_known_payload old.payload_span
-    (after_field old bytes (field_at (kind_of old.check) start bytes next)))
-    ≡ stage_left stage new start next bytes next
+    (after_field block old check bytes (field_at check old.block.start bytes next)))
+    ≡ stage_left stage new next bytes next
 
 -- the stage after the head of data of this size
 abbrev pub ContentBegins : ℕ → Draft → Stage → Draft → Type 0
 ContentBegins size old stage new =
-    (bytes : List ℕ) (start next : ℕ) → next ≤ length bytes →
+    (bytes : List ℕ) (next : ℕ) → next ≤ length bytes →
+    let check = kind_of old.check in
     read_alone bytes (with_known_payload old.payload_span
-    (after_field old bytes (content_at size (kind_of old.check) start bytes next)))
-    ≡ stage_left stage new start next bytes next
+    (after_field Canonical old check bytes (content_at size check old.block.start bytes next)))
+    ≡ stage_left stage new next bytes next
 
 abbrev pub EidEnds : Role → Eid → Draft → Stage → Draft → Type 0
 EidEnds role eid old stage new =
-    (bytes : List ℕ) (start next : ℕ) →
+    (bytes : List ℕ) (next : ℕ) →
     read_alone bytes (with_known_payload old.payload_span
-    (after_primary old start bytes (after_eid role old bytes (Ok (eid, next)))))
-    ≡ stage_left stage new start next bytes next
+    (after_primary old old.block.start bytes (after_eid role old bytes (Ok (eid, next)))))
+    ≡ stage_left stage new next bytes next
 
 -- the stage at the beginning of a name of this many bytes
 abbrev pub NameBegins : Role → ℕ → Draft → Stage → Draft → Type 0
 NameBegins role size old stage new =
-    (bytes : List ℕ) (start next : ℕ) → next ≤ length bytes →
+    (bytes : List ℕ) (next : ℕ) → next ≤ length bytes →
     read_alone bytes (with_known_payload old.payload_span
-    (after_primary old start bytes (after_eid role old bytes (name_left [] size bytes next))))
-    ≡ stage_left stage new start next bytes next
+    (after_primary old old.block.start bytes
+    (after_eid role old bytes (name_left [] size bytes next))))
+    ≡ stage_left stage new next bytes next
 
 -- the stage after more bytes of a name that had `left` bytes left
 abbrev pub NameGoesOn : Role → ℕ → List ℕ → Draft → Stage → Draft → Type 0
 NameGoesOn role left run old stage new =
-    (bytes more : List ℕ) (start head offset : ℕ) → drop offset bytes ≡ run ++ more →
-    stage_left (Name role left) old start head bytes offset
-    ≡ stage_left stage new start (offset + length run) bytes (offset + length run)
+    (bytes more : List ℕ) (head offset : ℕ) → drop offset bytes ≡ run ++ more →
+    stage_left (Name role left) old head bytes offset
+    ≡ stage_left stage new (offset + length run) bytes (offset + length run)

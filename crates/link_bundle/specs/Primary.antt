@@ -2,21 +2,10 @@
 
 use Rattle.std.specs.Prelude.{ℕ, Bool, true, false, List, Option, Some, None, Ok}
 use Rattle.link_cbor.specs.declared.check.CheckKind.{CheckKind}
-use Rattle.link_bundle_types.specs.declared.eid.Eid.{Eid}
 use Rattle.link_bundle_heads.specs.Rows.{◌>>=◌, unsigned, pair, primary_block, version, is_fragment, primary_check_type}
+use Rattle.link_bundle.specs.Blocks.{Primary}
 use Rattle.link_bundle.specs.Reading.{ReadAt, row_at}
 use Rattle.link_bundle.specs.EndpointId.{eid_at}
-
--- the fields of the primary block that are kept
-pub record Primary : Type 0 where
-  pub flags : ℕ
-  pub destination : Eid
-  pub source : Eid
-  pub time : ℕ
-  pub sequence : ℕ
-  pub lifetime : ℕ
-  -- the fragment offset and the total length
-  pub fragment : Option (ℕ × ℕ)
 
 -- the fragment offset and the total length, if the bundle is a fragment
 unfoldable pub fragment_at : Bool → List ℕ → ℕ → ReadAt (Option (ℕ × ℕ))
@@ -51,6 +40,7 @@ primary_at bytes offset = do
         flags = flags;
         destination = destination;
         source = source;
+        report_to = report_to;
         time = time;
         sequence = sequence;
         lifetime = lifetime;

@@ -1,12 +1,14 @@
 -- How the parts of a bundle are read at offsets of a whole list of bytes. `next` is the offset
 -- after a part.
 
-use Rattle.std.specs.Prelude.{ℕ, ◌+◌, nat_lt, List, length, take, drop, Option, None, Result, Ok, Err, if◌then◌else◌}
+use Rattle.std.specs.Prelude.{ℕ, ◌+◌, nat_lt, List, [], length, take, drop, Option, None, Result, Ok, Err, if◌then◌else◌}
 use Rattle.link_cbor.specs.declared.head.Head.{Head}
 use Rattle.link_cbor.specs.Head.{HeadFront, Cut as CutHead, IllFormed, Whole, head_front}
 use Rattle.link_bundle_types.specs.declared.fault.BundleFault.{BundleFault}
 use Rattle.link_bundle_types.specs.declared.fault.BundleFault.TheVariants.{Cut, BadHead}
 use Rattle.link_bundle_heads.specs.Rows.{◌>>=◌}
+use Rattle.link_bundle.specs.declared.block.CanonicalBlock.{CanonicalBlock}
+use Rattle.link_bundle.specs.Blocks.{Block}
 
 -- The end of a reading: the fault and its offset. If the head of the payload's data was accepted
 -- before, the offset and the length of the payload are known too.
@@ -15,9 +17,14 @@ pub record Stop : Type 0 where
   pub offset : ℕ
   -- the offset and the length
   pub payload_span : Option (ℕ × ℕ)
+  -- the whole blocks before the fault
+  pub blocks : List Block
+  -- the block in whose data or check field the bytes end
+  pub cut_block : Option CanonicalBlock
 
 abbrev pub stopped : BundleFault → ℕ → Stop
-stopped fault offset = record { fault = fault; offset = offset; payload_span = None }
+stopped fault offset =
+    record { fault = fault; offset = offset; payload_span = None; blocks = []; cut_block = None }
 
 -- a part that begins at an offset and the offset after it, or the stop
 abbrev pub ReadAt : Type 0 → Type 0

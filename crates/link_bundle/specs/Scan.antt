@@ -1,7 +1,7 @@
 -- The bytes that a scan of a bundle has seen. The promises need only two facts: `new` has seen
 -- nothing, and a step adds its byte.
 
-use Rattle.std.specs.Prelude.{◌≡◌, ℕ, ◌+◌, ◌-◌, ◌^◌, ◌<◌, ◌≤◌, ◌⊎◌, Bool, true, false, List, [], ◌++◌, length, replicate, slice_range, take, drop}
+use Rattle.std.specs.Prelude.{◌≡◌, ℕ, ◌+◌, ◌-◌, ◌^◌, ◌<◌, ◌≤◌, ◌==◌, if◌then◌else◌, ◌⊎◌, Bool, true, false, List, [], ◌++◌, length, replicate, slice_range, take, drop}
 use Rattle.link_cbor.specs.Head.{AreBytes, Cut, head_front}
 use Rattle.link_cbor.specs.HeadScan.{HasScannedHead}
 use Rattle.link_bundle.specs.declared.cursor.Cursor.{Cursor}
@@ -11,9 +11,10 @@ use Rattle.link_bundle.specs.declared.stage.CheckType.{CheckType}
 use Rattle.link_bundle.specs.declared.stage.Field.{Field}
 use Rattle.link_bundle.specs.declared.stage.Stage.{Stage}
 use Rattle.link_bundle.specs.declared.stage.Stage.TheVariants.{Start, Head, Name, Content, Stored, Ended, Failed}
-use Rattle.link_bundle.specs.Bundle.{judged_bundle, bundle_goes}
+use Rattle.link_bundle.specs.Blocks.{Block}
+use Rattle.link_bundle.specs.Bundle.{with_blocks, judged_bundle, bundle_goes, blocks_in}
 use Rattle.link_bundle.specs.Covers.{Covers}
-use Rattle.link_bundle.specs.Left.{block_start, stage_left}
+use Rattle.link_bundle.specs.Left.{block_start, stage_last, stage_left}
 use Rattle.link_bundle.specs.Stages.{stage_state, takes_bytes}
 
 -- in a head that begins at `cursor.offset`, in a block that begins at `start`
@@ -54,39 +55,49 @@ IsAtStage Start cursor check start seen = IsFresh cursor check seen
 IsAtStage (Head field) cursor check start seen = IsInHead field cursor check start seen
 IsAtStage (Name role left) cursor check start seen = IsInside cursor check start seen
 IsAtStage (Content left) cursor check start seen = IsInside cursor check start seen
-IsAtStage (Stored offset left stored kind) cursor check start seen =
+IsAtStage (Stored offset left stored block kind) cursor check start seen =
     IsInStored cursor check start seen
 IsAtStage Ended cursor check start seen = cursor.offset ≡ length seen
 IsAtStage (Failed fault offset) cursor check start seen = Unit {0}
 
--- Exactly these bytes were seen. Whatever bytes follow, the bundle is the rest that is read from
--- this stage on.
-pub record HasSeen (stage : Stage) (cursor : Cursor) (draft : Draft) (seen : List ℕ) : Type 0 where
-  pub all_bytes : AreBytes seen
-  pub count : cursor.count ≡ length seen
-  -- the offset of the current block
-  pub start : ℕ
-  pub reads : (more : List ℕ)
-      → judged_bundle (seen ++ more)
-      ≡ stage_left stage draft start cursor.offset (seen ++ more) (length seen)
-  pub stands : IsAtStage stage cursor draft.check start seen
-
--- bytes of the head at `cursor.offset` were seen, and the head is not judged yet
-pub record HasSeenHead (which : Field) (cursor : Cursor) (draft : Draft)
+-- Exactly these bytes were seen. Whatever bytes follow, the bundle is the blocks before, and the
+-- rest that is read from this stage on.
+pub record HasSeen (stage : Stage) (cursor : Cursor) (draft : Draft) (before : List Block)
     (seen : List ℕ) : Type 0 where
   pub all_bytes : AreBytes seen
   pub count : cursor.count ≡ length seen
-  pub start : ℕ
   pub reads : (more : List ℕ)
       → judged_bundle (seen ++ more)
-      ≡ stage_left (Head which) draft start cursor.offset (seen ++ more) (length seen)
+      ≡ with_blocks before (stage_left stage draft cursor.offset (seen ++ more) (length seen))
+  pub stands : IsAtStage stage cursor draft.check draft.block.start seen
+
+-- bytes of the head at `cursor.offset` were seen, and the head is not judged yet
+pub record HasSeenHead (which : Field) (cursor : Cursor) (draft : Draft) (before : List Block)
+    (seen : List ℕ) : Type 0 where
+  pub all_bytes : AreBytes seen
+  pub count : cursor.count ≡ length seen
+  pub reads : (more : List ℕ)
+      → judged_bundle (seen ++ more)
+      ≡ with_blocks before
+      (stage_left (Head which) draft cursor.offset (seen ++ more) (length seen))
   pub in_bytes : cursor.offset ≤ length seen
-  pub in_block : block_start which start cursor.offset ≤ length seen
-  pub checks : Covers draft.check cursor.checks (drop (block_start which start cursor.offset) seen)
+  pub in_block : block_start which draft.block.start cursor.offset ≤ length seen
+  pub checks : Covers draft.check cursor.checks
+      (drop (block_start which draft.block.start cursor.offset) seen)
+
+-- the block that ends with the bytes seen, if one does
+abbrev pub ending_at : Stage → Draft → Cursor → List Block
+ending_at stage draft cursor =
+    if cursor.offset == cursor.count then stage_last stage draft cursor.offset else []
+
+abbrev pub ending : BundleScan → List Block
+ending scan = ending_at scan.stage scan.draft scan.cursor
 
 -- the scan has seen exactly these bytes
-abbrev pub HasScanned : BundleScan → List ℕ → Type 0
-HasScanned scan seen = HasSeen scan.stage scan.cursor scan.draft seen
+pub record HasScanned (scan : BundleScan) (seen : List ℕ) : Type 0 where
+  -- the blocks that ended before the last one
+  pub before : List Block
+  pub come : HasSeen scan.stage scan.cursor scan.draft before seen
 
 -- the number of bytes seen
 abbrev pub scan_size : BundleScan → ℕ
@@ -96,10 +107,13 @@ scan_size scan = scan.cursor.count
 abbrev pub may_scan : BundleScan → Bool
 may_scan scan = takes_bytes (stage_state scan.stage)
 
--- the scan has taken exactly these bytes
+-- The scan has taken exactly these bytes. A block may have ended with the last of them, and none
+-- with the bytes before.
 pub record HasTaken (old new : BundleScan) (run : List ℕ) : Type 0 where
   pub size : scan_size new ≡ scan_size old + length run
   pub seen : (seen : List ℕ) → HasScanned old seen → HasScanned new (seen ++ run)
+  pub blocks : (seen : List ℕ) → HasScanned old seen
+      → blocks_in (seen ++ run) ≡ blocks_in seen ++ ending new
 
 -- the scan may take the next bytes of a piece: it needs more bytes, and the piece has some
 pub record MayAdvance (scan : BundleScan) (piece : List ℕ) : Type 0 where
@@ -116,6 +130,12 @@ pub record Advances (old new : BundleScan) (piece : List ℕ) (count : ℕ) : Ty
   pub seen : (seen : List ℕ) → HasScanned old seen → HasScanned new (seen ++ take count piece)
   pub goes : (seen : List ℕ) → HasScanned old seen
       → (fewer : ℕ) → fewer < count → bundle_goes (seen ++ take fewer piece) ≡ true
+
+-- A block may have ended with the last of these bytes, and none with those before.
+abbrev pub AddsBlock : BundleScan → BundleScan → List ℕ → ℕ → Type 0
+AddsBlock old new piece count =
+    (seen : List ℕ) → HasScanned old seen
+    → blocks_in (seen ++ take count piece) ≡ blocks_in seen ++ ending new
 
 -- The scan's verdict is that on these bytes. It has seen all of them, or the bytes that it has not
 -- seen cannot change the verdict.

@@ -16,7 +16,7 @@ stage_state Start = state.Going
 stage_state (Head field) = state.Going
 stage_state (Name role left) = state.Going
 stage_state (Content left) = state.Going
-stage_state (Stored offset left stored kind) = state.Going
+stage_state (Stored offset left stored block kind) = state.Going
 stage_state Ended = state.Ended
 stage_state (Failed fault offset) = state.Failed fault offset
 

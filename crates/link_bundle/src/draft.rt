@@ -1,10 +1,11 @@
 //! The parts of a bundle that a scan keeps, and how each head changes them.
 ghost use Rattle.std.specs.Prelude.{◌≡◌, ◌≤◌, [], ◌++◌, IsTrue, length};
 
-use crate::stage::{CanonicalField, CheckType, Field, Part, PrimaryField, Role, Stage};
+use crate::block::{BlockView, CanonicalBlock, PrimaryBlock};
+use crate::stage::{BlockKind, CanonicalField, CheckType, Field, Part, PrimaryField, Role, Stage};
 use link_bundle_heads::{Scheme, row};
 use link_bundle_types::{BlockNumbers, BundleFault, BundleView, EidForm, KeptEid};
-use link_cbor::Head;
+use link_cbor::{CheckKind, Head};
 
 /// The values of the heads so far.
 #[derive(Drop)]
@@ -16,6 +17,7 @@ pub(crate) struct Draft {
     pub flags: u64,
     pub destination: KeptEid,
     pub source: KeptEid,
+    pub report_to: KeptEid,
     /// The allocator identifier of the ipn endpoint ID that is being read, if it has one.
     pub allocator: Option<u64>,
     /// The node number of the ipn endpoint ID that is being read.
@@ -26,9 +28,13 @@ pub(crate) struct Draft {
     pub fragment_offset: u64,
     /// The fragment offset and the total length, if the bundle is a fragment.
     pub fragment: Option<(u64, u64)>,
-    /// The type code of the current canonical block.
-    pub block_type: u64,
-    /// The numbers of the canonical blocks so far.
+    /// The current block, as far as its heads were read.
+    ///
+    /// Of the primary block, it has the start. After a block, it has the kind of its check too.
+    pub block: CanonicalBlock,
+    /// Which kind of block ended last.
+    pub last: BlockKind,
+    /// The numbers of the canonical blocks whose data has begun.
     pub numbers: BlockNumbers,
     /// The offset of the payload's first byte, and the payload's length by its head.
     pub payload_span: Option<(u64, u64)>,
@@ -39,7 +45,8 @@ impl Draft {
     ghost use Rattle.link_bundle.specs.Bundle.{info_of};
     ghost use Rattle.link_bundle_types.specs.BundleView.{viewed_info};
     ghost use Rattle.link_bundle_types.specs.ShortNames.{HasShortNames};
-    ghost use Rattle.link_bundle.specs.Left.{BlockEnds, FieldsEnd, primary_of, span_of};
+    ghost use Rattle.link_bundle.specs.Blocks.{viewed_block, HasShortBlock};
+    ghost use Rattle.link_bundle.specs.Left.{BlockEnds, FieldsEnd, primary_of, span_of, current, kind_block, stage_block, block_of};
 
     /// The draft of a bundle before its first byte.
     pub fn new() -> Draft
@@ -52,6 +59,7 @@ impl Draft {
             flags: 0,
             destination: KeptEid::new(),
             source: KeptEid::new(),
+            report_to: KeptEid::new(),
             allocator: None,
             node: 0,
             time: 0,
@@ -59,7 +67,17 @@ impl Draft {
             lifetime: 0,
             fragment_offset: 0,
             fragment: None,
-            block_type: 0,
+            block: CanonicalBlock {
+                start: 0,
+                block_type: 0,
+                number: 0,
+                flags: 0,
+                check: None,
+                data_start: 0,
+                data_length: 0,
+                end: None,
+            },
+            last: BlockKind::Primary,
             numbers: BlockNumbers::new(),
             payload_span: None,
         }
@@ -78,6 +96,7 @@ impl Draft {
     }
 
     /// The fields of a complete bundle.
+    #[inline(always)]
     pub fn view(&self) -> BundleView<'_>
         ensures view { viewed_info result
             ≡ info_of (primary_of self.now) (length self.now.numbers)
@@ -89,6 +108,7 @@ impl Draft {
             flags: self.flags,
             destination: self.destination.view(),
             source: self.source.view(),
+            report_to: self.report_to.view(),
             time: self.time,
             sequence: self.sequence,
             lifetime: self.lifetime,
@@ -98,13 +118,76 @@ impl Draft {
         }
     }
 
-    /// The stage after a block: the next block, or the break after the payload block.
+    /// The current canonical block, whose check is of this kind.
+    fn current(&self, check: Option<CheckKind>) -> CanonicalBlock
+        ensures { result ≡ current self.now check }
+    {
+        let mut block = self.block;
+        block.check = check;
+        block.end = None;
+        block
+    }
+
+    /// The canonical block whose data or check field goes on at a stage.
+    pub fn block_at(&self, stage: Stage) -> Option<CanonicalBlock>
+        ensures { result ≡ stage_block stage self.now }
+    {
+        match stage {
+            Stage::Content(_) => Some(self.current(self.check.kind())),
+            Stage::Stored { block, kind, .. } => self.in_block(block, kind),
+            Stage::Head(Field::Check(block, kind)) => self.in_block(block, kind),
+            _ => None,
+        }
+    }
+
+    /// The current block, if it is a canonical block whose check is of this kind.
+    fn in_block(&self, block: BlockKind, kind: CheckKind) -> Option<CanonicalBlock>
+        ensures { result ≡ kind_block block self.now kind }
+    {
+        match block {
+            BlockKind::Primary => None,
+            BlockKind::Canonical => Some(self.current(Some(kind))),
+        }
+    }
+
+    /// The block that ended last, before the offset `end`.
+    pub fn last_block(&self, end: u64) -> BlockView<'_>
+        ensures block { viewed_block result ≡ block_of self.now.last self.now self.now.block.check end }
+        ensures short { HasShortBlock (viewed_block result) }
+    {
+        match self.last {
+            BlockKind::Primary => BlockView::Primary(PrimaryBlock {
+                flags: self.flags,
+                check: self.block.check,
+                destination: self.destination.view(),
+                source: self.source.view(),
+                report_to: self.report_to.view(),
+                time: self.time,
+                sequence: self.sequence,
+                lifetime: self.lifetime,
+                fragment: self.fragment,
+                end,
+            }),
+            BlockKind::Canonical => {
+                let mut block = self.block;
+                block.end = Some(end);
+                BlockView::Canonical(block)
+            }
+        }
+    }
+
+    /// The stage after a block of this kind, whose check is of kind `check`.
+    ///
+    /// It is that of the next block, or that of the break after the payload block.
     #[tactic(auto, using(crate::proofs::Heads::closes, crate::proofs::Heads::goes_to_block), unfolding(crate::specs::Left::stage_left, crate::specs::Left::field_left))]
-    pub fn after_block(&mut self) -> Stage
-        ensures reads { BlockEnds self.old result self.new }
+    pub fn after_block(&mut self, block: BlockKind, check: Option<CheckKind>) -> Stage
+        ensures reads { BlockEnds block check self.old result self.new }
         ensures fits { IsTrue (stage_fits result self.new) }
         ensures keeps { KeepsCheck self.old.check result self.new.check }
+        ensures start { self.new.block.start ≡ self.old.block.start }
     {
+        self.last = block;
+        self.block.check = check;
         if self.payload_span.is_some() {
             return Stage::Head(Field::Closing);
         }
@@ -112,16 +195,17 @@ impl Draft {
         Stage::Head(Field::Canonical(CanonicalField::Block))
     }
 
-    /// The stage after those fields of a block that come before its check field.
+    /// The stage after those fields of a block of this kind that come before its check field.
     #[tactic(auto, unfolding(crate::specs::Left::stage_left, crate::specs::Left::field_left, crate::specs::CheckField::field_at))]
-    pub fn after_fields(&mut self) -> Stage
-        ensures reads { FieldsEnd self.old result self.new }
+    pub fn after_fields(&mut self, block: BlockKind) -> Stage
+        ensures reads { FieldsEnd block self.old result self.new }
         ensures fits { IsTrue (stage_fits result self.new) }
         ensures keeps { KeepsCheck self.old.check result self.new.check }
+        ensures start { self.new.block.start ≡ self.old.block.start }
     {
         match self.check.kind() {
-            Some(kind) => Stage::Head(Field::Check(kind)),
-            None => self.after_block(),
+            Some(kind) => Stage::Head(Field::Check(block, kind)),
+            None => self.after_block(block, None),
         }
     }
 }
@@ -129,15 +213,20 @@ impl Draft {
 /// The primary block (RFC 9171 section 4.3.1).
 impl Draft {
     ghost use Rattle.link_bundle.specs.Fits.{stage_fits};
-    ghost use Rattle.link_bundle.specs.Judged.{Judged};
+    ghost use Rattle.link_bundle.specs.Judged.{Judged, JudgedAfter};
 
-    /// Judges a head of the primary block.
-    pub fn primary(&mut self, field: PrimaryField, head: Head) -> Result<Stage, BundleFault>
+    /// Judges a head of the primary block, which begins at `offset`.
+    pub fn primary(
+        &mut self,
+        field: PrimaryField,
+        head: Head,
+        offset: u64,
+    ) -> Result<Stage, BundleFault>
         requires { IsTrue (stage_fits (Stage.Head (Field.Primary field)) self.old) }
-        ensures { Judged (Field.Primary field) self.old head result self.new }
+        ensures { JudgedAfter offset (Field.Primary field) self.old head result self.new }
     {
         match field {
-            PrimaryField::Block => self.primary_block(head),
+            PrimaryField::Block => self.primary_block(head, offset),
             PrimaryField::Version => self.version(head),
             PrimaryField::Flags => self.flags(head),
             PrimaryField::CheckType => self.primary_check_type(head),
@@ -151,11 +240,13 @@ impl Draft {
     }
 
     #[tactic(auto, using(crate::proofs::Heads::heads), unfolding(crate::specs::Left::field_left, crate::specs::Left::stage_left, crate::specs::Left::primary_block_left))]
-    fn primary_block(&mut self, head: Head) -> Result<Stage, BundleFault>
+    fn primary_block(&mut self, head: Head, offset: u64) -> Result<Stage, BundleFault>
         requires { IsTrue (stage_fits (Stage.Head (Field.Primary PrimaryField.Block)) self.old) }
-        ensures { Judged (Field.Primary PrimaryField.Block) self.old head result self.new }
+        ensures { JudgedAfter offset (Field.Primary PrimaryField.Block)
+            self.old head result self.new }
     {
         self.count = row::primary_block(head)?;
+        self.block.start = offset;
         Ok(Stage::Head(Field::Primary(PrimaryField::Version)))
     }
 
@@ -220,7 +311,7 @@ impl Draft {
             return Ok(Stage::Head(Field::Primary(PrimaryField::FragmentOffset)));
         }
         self.fragment = None;
-        Ok(self.after_fields())
+        Ok(self.after_fields(BlockKind::Primary))
     }
 
     #[tactic(auto, using(crate::proofs::Heads::heads), unfolding(crate::specs::Left::field_left, crate::specs::Left::stage_left, crate::specs::Left::offset_left, crate::specs::Left::total_left, crate::specs::Primary::fragment_at))]
@@ -237,7 +328,7 @@ impl Draft {
     {
         let total_length = row::unsigned(head)?;
         self.fragment = Some((self.fragment_offset, total_length));
-        Ok(self.after_fields())
+        Ok(self.after_fields(BlockKind::Primary))
     }
 }
 
@@ -340,6 +431,7 @@ impl Draft {
         ensures reads { NameBegins role size self.old result self.new }
         ensures fits { IsTrue (stage_fits result self.new) }
         ensures keeps { KeepsCheck self.old.check result self.new.check }
+        ensures start { self.new.block.start ≡ self.old.block.start }
     {
         self.keep(role, EidForm::Dtn);
         match size {
@@ -355,6 +447,7 @@ impl Draft {
         ensures reads { NameGoesOn role left run.now self.old result self.new }
         ensures fits { IsTrue (stage_fits result self.new) }
         ensures keeps { KeepsCheck self.old.check result self.new.check }
+        ensures start { self.new.block.start ≡ self.old.block.start }
     {
         self.keep_more(role, run);
         match left - run.len() as u64 {
@@ -368,21 +461,20 @@ impl Draft {
         ensures reads { EidEnds role (formed form []) self.old result self.new }
         ensures fits { IsTrue (stage_fits result self.new) }
         ensures keeps { KeepsCheck self.old.check result self.new.check }
+        ensures start { self.new.block.start ≡ self.old.block.start }
     {
         self.keep(role, form);
         role.stage_after()
     }
 
     /// Keeps an endpoint ID in the field of its role.
-    ///
-    /// The report-to endpoint is judged but not kept.
     fn keep(&mut self, role: Role, form: EidForm)
         ensures { self.new ≡ with_eid role self.old (formed form []) }
     {
         match role {
             Role::Destination => self.destination.set(form),
             Role::Source => self.source.set(form),
-            Role::ReportTo => {}
+            Role::ReportTo => self.report_to.set(form),
         }
     }
 
@@ -395,7 +487,7 @@ impl Draft {
         match role {
             Role::Destination => self.destination.extend(run),
             Role::Source => self.source.extend(run),
-            Role::ReportTo => {}
+            Role::ReportTo => self.report_to.extend(run),
         }
     }
 }
@@ -403,21 +495,22 @@ impl Draft {
 /// Canonical blocks (RFC 9171 section 4.3.2).
 impl Draft {
     ghost use Rattle.link_bundle.specs.Fits.{stage_fits, KeepsCheck};
-    ghost use Rattle.link_bundle.specs.Judged.{Judged, JudgedAt};
+    ghost use Rattle.link_bundle.specs.Judged.{Judged, JudgedAfter, JudgedAt, JudgedFrom};
     ghost use Rattle.link_bundle.specs.Left.{ContentBegins};
 
-    /// Judges a head of a canonical block; `next` is the offset after the head.
+    /// Judges a head of a canonical block, which begins at `offset` and ends before `next`.
     pub fn canonical(
         &mut self,
         field: CanonicalField,
         head: Head,
+        offset: u64,
         next: u64,
     ) -> Result<Stage, BundleFault>
         requires { IsTrue (stage_fits (Stage.Head (Field.Canonical field)) self.old) }
-        ensures { JudgedAt next (Field.Canonical field) self.old head result self.new }
+        ensures { JudgedFrom offset next (Field.Canonical field) self.old head result self.new }
     {
         match field {
-            CanonicalField::Block => self.block(head),
+            CanonicalField::Block => self.block(head, offset),
             CanonicalField::Type => self.block_type(head),
             CanonicalField::Number => self.block_number(head),
             CanonicalField::Flags => self.block_flags(head),
@@ -427,15 +520,17 @@ impl Draft {
     }
 
     #[tactic(auto, using(crate::proofs::Heads::heads), unfolding(crate::specs::Left::field_left, crate::specs::Left::stage_left))]
-    fn block(&mut self, head: Head) -> Result<Stage, BundleFault>
+    fn block(&mut self, head: Head, offset: u64) -> Result<Stage, BundleFault>
         requires { IsTrue (stage_fits (Stage.Head (Field.Canonical CanonicalField.Block))
             self.old) }
-        ensures { Judged (Field.Canonical CanonicalField.Block) self.old head result self.new }
+        ensures { JudgedAfter offset (Field.Canonical CanonicalField.Block)
+            self.old head result self.new }
     {
         self.count = row::block(head)?;
         if self.numbers.is_full() {
             return Err(BundleFault::TooManyBlocks);
         }
+        self.block.start = offset;
         Ok(Stage::Head(Field::Canonical(CanonicalField::Type)))
     }
 
@@ -444,7 +539,7 @@ impl Draft {
         requires { IsTrue (stage_fits (Stage.Head (Field.Canonical CanonicalField.Type)) self.old) }
         ensures { Judged (Field.Canonical CanonicalField.Type) self.old head result self.new }
     {
-        self.block_type = row::unsigned(head)?;
+        self.block.block_type = row::unsigned(head)?;
         Ok(Stage::Head(Field::Canonical(CanonicalField::Number)))
     }
 
@@ -454,8 +549,8 @@ impl Draft {
             self.old) }
         ensures { Judged (Field.Canonical CanonicalField.Number) self.old head result self.new }
     {
-        let number = row::block_number(self.block_type, self.numbers.as_slice(), head)?;
-        self.numbers.push(number);
+        let numbers = self.numbers.as_slice();
+        self.block.number = row::block_number(self.block.block_type, numbers, head)?;
         Ok(Stage::Head(Field::Canonical(CanonicalField::Flags)))
     }
 
@@ -465,7 +560,7 @@ impl Draft {
             self.old) }
         ensures { Judged (Field.Canonical CanonicalField.Flags) self.old head result self.new }
     {
-        row::unsigned(head)?;
+        self.block.flags = row::unsigned(head)?;
         Ok(Stage::Head(Field::Canonical(CanonicalField::CheckType)))
     }
 
@@ -486,7 +581,10 @@ impl Draft {
             self.old head result self.new }
     {
         let size = row::byte_string(head)?;
-        self.payload_span = (self.block_type == row::PAYLOAD_TYPE).then_some((next, size));
+        self.block.data_start = next;
+        self.block.data_length = size;
+        self.numbers.push(self.block.number);
+        self.payload_span = (self.block.block_type == row::PAYLOAD_TYPE).then_some((next, size));
         Ok(self.content(size))
     }
 
@@ -496,9 +594,10 @@ impl Draft {
         ensures reads { ContentBegins size self.old result self.new }
         ensures fits { IsTrue (stage_fits result self.new) }
         ensures keeps { KeepsCheck self.old.check result self.new.check }
+        ensures start { self.new.block.start ≡ self.old.block.start }
     {
         match size {
-            0 => self.after_fields(),
+            0 => self.after_fields(BlockKind::Canonical),
             left => Stage::Content(left),
         }
     }

@@ -1,7 +1,7 @@
 //! Laws over the definitions alone.
 //!
 //! The functions do nothing when they run. Their contracts are the laws.
-ghost use Rattle.link_bundle.specs.Laws.{FaultLasts, TrailingLasts, PayloadLasts, PayloadPlaced, PayloadEnds};
+ghost use Rattle.link_bundle.specs.Laws.{FaultLasts, TrailingLasts, PayloadLasts, PayloadPlaced, PayloadEnds, BlocksGrow, BlocksEnd, BlocksWithin, BlockPlaced};
 
 /// How the verdict on some bytes lasts when more bytes follow.
 ///
@@ -18,4 +18,18 @@ pub fn verdict_lasts()
     ensures payload { PayloadLasts }
     ensures placed { PayloadPlaced }
     ensures ends { PayloadEnds }
+{}
+
+/// How the blocks among some bytes last when more bytes follow.
+///
+/// - More bytes leave the whole blocks as they are, and may add some.
+/// - Once the bytes do not end inside a bundle, no more blocks come.
+/// - The data of the whole blocks lies within the bytes.
+/// - The canonical block that comes next is the one that the bytes cut, or its data begins after
+///   them.
+pub fn blocks_last()
+    ensures grow { BlocksGrow }
+    ensures end { BlocksEnd }
+    ensures within { BlocksWithin }
+    ensures placed { BlockPlaced }
 {}

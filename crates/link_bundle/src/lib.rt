@@ -30,6 +30,8 @@
 //! `link_bundle_heads` judges the heads.
 #![tactic(auto)]
 
+mod block;
+mod block_scan;
 mod checks;
 mod cursor;
 mod draft;
@@ -40,6 +42,7 @@ mod scan;
 mod stage;
 mod whole;
 
+pub use block::{BlockView, CanonicalBlock, PrimaryBlock};
 pub use link_bundle_types::{
     BLOCK_LIMIT, BundleFault, BundleInfo, BundleView, EID_LIMIT, Eid, EidView, State,
 };

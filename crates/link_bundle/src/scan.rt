@@ -6,7 +6,7 @@ ghost use Rattle.link_cbor.specs.Head.{Whole, head_front};
 use crate::cursor::Cursor;
 use crate::draft::Draft;
 use crate::judging::take_head;
-use crate::stage::{CheckType, Field, PrimaryField, Role, Stage};
+use crate::stage::{BlockKind, CheckType, Field, PrimaryField, Role, Stage};
 use link_bundle_types::{BundleFault, BundleInfo, BundleView, State};
 use link_cbor::{CheckKind, Head, HeadStep, Piecewise};
 use std::fmt;
@@ -19,9 +19,9 @@ pub(crate) const OPENING: u8 = 0x9f;
 /// It keeps the fields of [`BundleInfo`], and no bytes of a block's data.
 #[derive(Drop)]
 pub struct BundleScan {
-    stage: Stage,
-    cursor: Cursor,
-    draft: Draft,
+    pub(crate) stage: Stage,
+    pub(crate) cursor: Cursor,
+    pub(crate) draft: Draft,
     ghost fits: { IsTrue (scan_fits stage cursor draft) },
 }
 
@@ -92,6 +92,7 @@ impl BundleScan {
     }
 
     /// The verdict that [`finish`](BundleScan::finish) returns, with the bundle by reference.
+    #[inline(always)]
     pub fn view(&self) -> Result<BundleView<'_>, (BundleFault, u64)>
         ensures seen { (seen : List ℕ) → HasScanned self.now seen
             → viewed_verdict result ≡ verdict seen }
@@ -189,15 +190,23 @@ impl BundleScan {
         if left > 0 {
             self.stage = Stage::Content(left);
         } else {
-            let stage = self.draft.after_fields();
+            let stage = self.draft.after_fields(BlockKind::Canonical);
             self.cursor.enter(stage);
             self.stage = stage;
         }
     }
 
     /// Takes a byte of a check field's content, which the check covers as zero.
-    fn stored_byte(&mut self, offset: u64, left: u64, stored: u32, kind: CheckKind, byte: u8)
-        requires stage { self.old.stage ≡ Stage.Stored offset left stored kind }
+    fn stored_byte(
+        &mut self,
+        offset: u64,
+        left: u64,
+        stored: u32,
+        block: BlockKind,
+        kind: CheckKind,
+        byte: u8,
+    )
+        requires stage { self.old.stage ≡ Stage.Stored offset left stored block kind }
         requires room { self.old.cursor.count < 2 ^ 63 - 1 }
         ensures { HasTaken self.old self.new (byte ∷ []) }
     {
@@ -208,12 +217,13 @@ impl BundleScan {
                 offset,
                 left: left - 1,
                 stored,
+                block,
                 kind,
             };
         } else if stored == self.cursor.checks.value(kind) {
             // Nothing more of the block is checked.
             self.draft.check = CheckType::Is(None);
-            let stage = self.draft.after_block();
+            let stage = self.draft.after_block(block, Some(kind));
             self.cursor.enter(stage);
             self.stage = stage;
         } else {
@@ -230,12 +240,35 @@ impl BundleScan {
         self.stage = Stage::Failed(BundleFault::Trailing, self.cursor.offset);
         self.cursor.count += 1;
     }
+
+    /// Takes one byte, of whatever is next.
+    fn take_byte(&mut self, byte: u8)
+        requires may_step { IsTrue (may_scan self.old) }
+        requires room { scan_size self.old < 2 ^ 63 - 1 }
+        ensures { HasTaken self.old self.new (byte ∷ []) }
+    {
+        match self.stage {
+            Stage::Start => self.open(byte),
+            Stage::Head(field) => self.head_byte(field, byte),
+            Stage::Name(role, left) => self.name_run(role, left, &[byte]),
+            Stage::Content(left) => self.content_run(left, &[byte]),
+            Stage::Stored {
+                offset,
+                left,
+                stored,
+                block,
+                kind,
+            } => self.stored_byte(offset, left, stored, block, kind, byte),
+            Stage::Ended => self.trailing_byte(byte),
+            Stage::Failed(..) => unreachable!(),
+        }
+    }
 }
 
 impl BundleScan {
     ghost use Rattle.link_cbor.specs.Pieces.{taken};
     ghost use Rattle.link_bundle.specs.Bundle.{bundle_goes};
-    ghost use Rattle.link_bundle.specs.Scan.{HasScanned, scan_size, may_scan, MayAdvance, Advances};
+    ghost use Rattle.link_bundle.specs.Scan.{HasScanned, scan_size, may_scan, MayAdvance, Advances, AddsBlock};
 
     /// Takes the bytes of a piece while more are needed, and returns how many.
     #[inline(always)]
@@ -257,13 +290,29 @@ impl BundleScan {
 
     /// Takes the next bytes of a piece while more are needed, and returns how many, at least one.
     ///
-    /// It takes the bytes of a name or of data that the piece has, or a whole bundle, or a whole
-    /// head. In all other cases it takes one byte.
+    /// It takes a whole bundle if the piece begins with it, or else a part of one.
     #[inline(always)]
     fn advance(&mut self, piece: &[u8]) -> usize
         requires may_step { IsTrue (may_scan self.old) }
         requires may_take { MayAdvance self.old piece.now }
         ensures { Advances self.old self.new piece.now result }
+    {
+        match self.stage {
+            Stage::Start => self.advance_start(piece),
+            _ => self.advance_part(piece),
+        }
+    }
+
+    /// Takes the next bytes of a piece while more are needed, and returns how many, at least one.
+    ///
+    /// It takes the bytes of a name or of data that the piece has, or a whole head. In all other
+    /// cases it takes one byte. A block may end with the last of them.
+    #[inline(always)]
+    pub(crate) fn advance_part(&mut self, piece: &[u8]) -> usize
+        requires may_step { IsTrue (may_scan self.old) }
+        requires may_take { MayAdvance self.old piece.now }
+        ensures advances { Advances self.old self.new piece.now result }
+        ensures blocks { AddsBlock self.old self.new piece.now result }
     {
         match self.stage {
             Stage::Name(role, left) => {
@@ -276,12 +325,11 @@ impl BundleScan {
                 self.content_run(left, run);
                 run.len()
             }
-            Stage::Start => self.advance_start(piece),
             Stage::Head(field) if self.cursor.offset == self.cursor.count => {
                 self.advance_head(field, piece)
             }
             _ => {
-                self.step(piece[0]);
+                self.take_byte(piece[0]);
                 1
             }
         }
@@ -315,7 +363,8 @@ impl BundleScan {
         requires stage { self.old.stage ≡ Stage.Head field }
         requires begins { self.old.cursor.offset ≡ self.old.cursor.count }
         requires may_take { MayAdvance self.old piece.now }
-        ensures { Advances self.old self.new piece.now result }
+        ensures advances { Advances self.old self.new piece.now result }
+        ensures blocks { AddsBlock self.old self.new piece.now result }
     {
         match Head::front(piece) {
             Some((head, size)) => {
@@ -393,19 +442,6 @@ impl Piecewise for BundleScan {
     }
 
     fn step(&mut self, byte: u8) {
-        match self.stage {
-            Stage::Start => self.open(byte),
-            Stage::Head(field) => self.head_byte(field, byte),
-            Stage::Name(role, left) => self.name_run(role, left, &[byte]),
-            Stage::Content(left) => self.content_run(left, &[byte]),
-            Stage::Stored {
-                offset,
-                left,
-                stored,
-                kind,
-            } => self.stored_byte(offset, left, stored, kind, byte),
-            Stage::Ended => self.trailing_byte(byte),
-            Stage::Failed(..) => unreachable!(),
-        }
+        self.take_byte(byte);
     }
 }

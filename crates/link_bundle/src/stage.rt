@@ -28,6 +28,13 @@ impl Role {
     }
 }
 
+/// A kind of block.
+#[derive(Clone, Copy)]
+pub(crate) enum BlockKind {
+    Primary,
+    Canonical,
+}
+
 /// A head of an endpoint ID.
 #[derive(Clone, Copy)]
 pub(crate) enum Part {
@@ -79,7 +86,7 @@ pub(crate) enum Field {
     Endpoint(Role, Part),
     Canonical(CanonicalField),
     /// The check field of a block whose check is of this kind.
-    Check(CheckKind),
+    Check(BlockKind, CheckKind),
     /// The break after the payload block.
     Closing,
 }
@@ -102,6 +109,7 @@ pub(crate) enum Stage {
         offset: u64,
         left: u64,
         stored: u32,
+        block: BlockKind,
         kind: CheckKind,
     },
     Ended,
@@ -110,6 +118,7 @@ pub(crate) enum Stage {
 
 impl Stage {
     ghost use Rattle.link_bundle.specs.Fits.{is_block};
+    ghost use Rattle.link_bundle.specs.Left.{stage_follows};
     ghost use Rattle.link_bundle.specs.Stages.{stage_state};
 
     /// The state that a caller sees.
@@ -130,6 +139,17 @@ impl Stage {
         match self {
             Stage::Head(Field::Primary(PrimaryField::Block)) => true,
             Stage::Head(Field::Canonical(CanonicalField::Block)) => true,
+            _ => false,
+        }
+    }
+
+    /// Whether a block ends before this stage.
+    pub fn follows_block(self) -> bool
+        ensures { result ≡ stage_follows self }
+    {
+        match self {
+            Stage::Head(Field::Canonical(CanonicalField::Block)) => true,
+            Stage::Head(Field::Closing) => true,
             _ => false,
         }
     }

@@ -3,20 +3,22 @@
 //! Each function has the name of its definition in specs/. An error means only that no bundle was
 //! read: it is cut or has a fault, or a head in it is spelled at greater length than it has to be.
 //! The scan then finds out which, byte by byte.
-ghost use Rattle.std.specs.Prelude.{◌≡◌, ℕ, suc, ◌<◌, ◌≤◌, ◌++◌, [], length, replicate, is_some, true, Some, Ok, IfOk, IsTrue};
+ghost use Rattle.std.specs.Prelude.{◌≡◌, ℕ, List, ◌<◌, ◌≤◌, ◌++◌, [], length, replicate, is_some, true, Some, Ok, IfOk, IsTrue};
 ghost use Rattle.link_bundle_types.specs.EidView.{viewed_eid};
 ghost use Rattle.link_bundle_types.specs.ShortNames.{IsShort};
 ghost use Rattle.link_cbor.specs.Crc.{crc};
 ghost use Rattle.link_bundle_heads.specs.Rows.{check_width};
 ghost use Rattle.link_bundle.specs.EndpointId.{eid_at, specific_at};
 ghost use Rattle.link_bundle.specs.CheckField.{number_from, field_at};
-ghost use Rattle.link_bundle.specs.Canonical.{content_at};
-ghost use Rattle.link_bundle.specs.Primary.{Primary, fragment_at, primary_at};
+ghost use Rattle.link_bundle.specs.Canonical.{heads_at, content_at};
+ghost use Rattle.link_bundle.specs.Primary.{fragment_at, primary_at};
+ghost use Rattle.link_bundle.specs.Blocks.{Primary, Block};
 ghost use Rattle.link_bundle.specs.Bundle.{blocks_at, bundle_at};
 ghost use Rattle.link_bundle.specs.Left.{primary_of, bundle_of};
-ghost use Rattle.link_bundle.specs.Whole.{after_heads, bundle_with};
+ghost use Rattle.link_bundle.specs.Whole.{bundle_with};
 ghost use Rattle.link_bundle_heads.specs.declared.endpoint.Scheme.TheVariants.{Dtn, Ipn};
 
+use crate::block::CanonicalBlock;
 use crate::draft::Draft;
 use crate::item::{bytes_at, closing_at, item_at, pair_at, small_at, unsigned_at};
 use crate::scan::OPENING;
@@ -209,42 +211,41 @@ fn content_at(
     field_at(check, start, bytes, offset)
 }
 
-/// The values of the heads of a canonical block, up to its data.
-#[derive(Clone, Copy)]
-struct Heads {
-    block_type: u64,
-    number: u64,
-    check: Option<CheckKind>,
-    size: u64,
-}
-
-/// Reads the heads of a canonical block (RFC 9171 section 4.3.2).
+/// Reads a canonical block up to its data (RFC 9171 section 4.3.2).
 ///
-/// `numbers` are the numbers of the blocks before it.
+/// `numbers` are the numbers of the blocks before it. Returns the offset of its data too.
 #[inline(always)]
-fn heads_at(numbers: &[u64], bytes: &[u8], offset: usize) -> Result<(Heads, usize), BundleFault>
-    ensures { IfOk result (λ read. (left : ℕ) (primary : Primary)
-        → blocks_at (suc left) numbers.now primary bytes.now offset
-        ≡ after_heads read.0 left numbers.now primary offset bytes.now read.1) }
+fn heads_at(
+    numbers: &[u64],
+    bytes: &[u8],
+    start: usize,
+) -> Result<(CanonicalBlock, usize), BundleFault>
+    ensures read { IfOk result (λ read. heads_at numbers.now bytes.now start ≡ Ok read) }
+    ensures start { IfOk result (λ read. read.0.start ≡ start) }
+    ensures data { IfOk result (λ read. read.0.data_start ≡ read.1) }
 {
-    let (head, offset) = small_at(row::ARRAY, bytes, offset)?;
+    let (head, offset) = small_at(row::ARRAY, bytes, start)?;
     let count = row::block(head)?;
     let (block_type, offset) = unsigned_at(bytes, offset)?;
     let (number_head, offset) = item_at(row::UNSIGNED, bytes, offset)?;
-    let (_, offset) = unsigned_at(bytes, offset)?;
+    let (flags, offset) = unsigned_at(bytes, offset)?;
     let (head, offset) = small_at(row::UNSIGNED, bytes, offset)?;
     let check = row::block_check_type(count, head)?;
     let (head, offset) = item_at(row::BYTE_STRING, bytes, offset)?;
-    let size = row::byte_string(head)?;
+    let data_length = row::byte_string(head)?;
     // The call comes last, where little has to be kept over it.
     let number = row::block_number(block_type, numbers, number_head)?;
-    let heads = Heads {
+    let block = CanonicalBlock {
+        start: start as u64,
         block_type,
         number,
+        flags,
         check,
-        size,
+        data_start: offset as u64,
+        data_length,
+        end: None,
     };
-    Ok((heads, offset))
+    Ok((block, offset))
 }
 
 /// Reads the canonical blocks, and the break after the payload block.
@@ -257,18 +258,18 @@ fn blocks_at(
     offset: usize,
 ) -> Result<((u64, u64), usize), BundleFault>
     requires { numbers.old ≡ [] }
-    ensures { IfOk result (λ read. (primary : Primary)
+    ensures { IfOk result (λ read. (blocks : List Block) × ((primary : Primary)
         → blocks_at 64 [] primary bytes.now offset
-        ≡ Ok (bundle_with primary (length numbers.new) read.0 read.1)) }
+        ≡ Ok (bundle_with primary (length numbers.new) read.0 read.1 blocks))) }
 {
     let mut start = offset;
     while !numbers.is_full() {
-        let (heads, offset) = heads_at(numbers.as_slice(), bytes, start)?;
-        numbers.push(heads.number);
-        let next = content_at(heads.size, heads.check, start, bytes, offset)?;
-        if heads.block_type == row::PAYLOAD_TYPE {
+        let (block, offset) = heads_at(numbers.as_slice(), bytes, start)?;
+        numbers.push(block.number);
+        let next = content_at(block.data_length, block.check, start, bytes, offset)?;
+        if block.block_type == row::PAYLOAD_TYPE {
             let end = closing_at(bytes, next)?;
-            return Ok(((offset as u64, heads.size), end));
+            return Ok(((block.data_start, block.data_length), end));
         }
         start = next;
     }
@@ -300,7 +301,8 @@ impl Draft {
         self.destination.keep(destination);
         let (source, offset) = eid_at(bytes, offset)?;
         self.source.keep(source);
-        let (_report_to, offset) = eid_at(bytes, offset)?;
+        let (report_to, offset) = eid_at(bytes, offset)?;
+        self.report_to.keep(report_to);
         let offset = pair_at(bytes, offset)?;
         let (time, offset) = unsigned_at(bytes, offset)?;
         let (sequence, offset) = unsigned_at(bytes, offset)?;
@@ -321,7 +323,8 @@ impl Draft {
     pub fn whole(&mut self, bytes: &[u8]) -> Result<usize, BundleFault>
         requires some { 0 < length bytes.now }
         requires blank { self.old.numbers ≡ [] }
-        ensures read { IfOk result (λ size. bundle_at bytes.now ≡ Ok (bundle_of self.new size)) }
+        ensures read { IfOk result (λ size. (blocks : List Block)
+            × (bundle_at bytes.now ≡ Ok (record (bundle_of self.new size) { blocks = blocks }))) }
         ensures payload { IfOk result (λ _. IsTrue (is_some self.new.payload_span)) }
     {
         if bytes[0] != OPENING {

@@ -12,6 +12,7 @@ viewed_info view =
       flags = view.flags;
       destination = viewed_eid view.destination;
       source = viewed_eid view.source;
+      report_to = viewed_eid view.report_to;
       time = view.time;
       sequence = view.sequence;
       lifetime = view.lifetime;

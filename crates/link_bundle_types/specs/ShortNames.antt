@@ -12,7 +12,8 @@ IsShort (Dtn name) = length name.items ≤ 1024
 IsShort (Ipn node service) = Unit {0}
 IsShort (Ipn3 allocator node service) = Unit {0}
 
--- the names of a bundle's source and destination have at most 1,024 bytes each
+-- the names of a bundle's three endpoint IDs have at most 1,024 bytes each
 pub record HasShortNames (info : BundleInfo) : Type 0 where
   pub source : IsShort info.source
   pub destination : IsShort info.destination
+  pub report_to : IsShort info.report_to

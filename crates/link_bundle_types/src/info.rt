@@ -17,6 +17,8 @@ pub struct BundleInfo {
     pub destination: Eid,
     /// The endpoint ID of the source node.
     pub source: Eid,
+    /// The endpoint ID to which status reports go (RFC 9171 section 4.3.1).
+    pub report_to: Eid,
     /// The creation time, in milliseconds since 2000-01-01 UTC (RFC 9171 section 4.2.6).
     pub time: u64,
     /// The sequence number of the creation timestamp (RFC 9171 section 4.2.7).
@@ -41,6 +43,7 @@ impl BundleInfo {
             flags: view.flags,
             destination: Eid::of(view.destination),
             source: Eid::of(view.source),
+            report_to: Eid::of(view.report_to),
             time: view.time,
             sequence: view.sequence,
             lifetime: view.lifetime,
@@ -60,6 +63,7 @@ impl BundleInfo {
             flags,
             destination,
             source,
+            report_to,
             time,
             sequence,
             lifetime,
@@ -71,6 +75,7 @@ impl BundleInfo {
             flags: *flags,
             destination: destination.view(),
             source: source.view(),
+            report_to: report_to.view(),
             time: *time,
             sequence: *sequence,
             lifetime: *lifetime,
@@ -92,6 +97,8 @@ pub struct BundleView<'a> {
     pub destination: EidView<'a>,
     /// The endpoint ID of the source node.
     pub source: EidView<'a>,
+    /// The endpoint ID to which status reports go (RFC 9171 section 4.3.1).
+    pub report_to: EidView<'a>,
     /// The creation time, in milliseconds since 2000-01-01 UTC (RFC 9171 section 4.2.6).
     pub time: u64,
     /// The sequence number of the creation timestamp (RFC 9171 section 4.2.7).

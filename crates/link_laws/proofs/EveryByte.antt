@@ -11,7 +11,7 @@ use Rattle.link_transfer.specs.declared.joiner.Turn.TheVariants as turn
 use Rattle.link_run.specs.Run.{Outcome}
 use Rattle.link_walk.proofs.Heads.{other_has_none}
 use Rattle.link_unpack.specs.Transfers.{Transfer, closes}
-use Rattle.link_unpack.specs.TransferScan.{grown}
+use Rattle.link_unpack.specs.TransferJudge.{grown}
 use Rattle.link_unpack.specs.Unpacking.{parts_of}
 use Rattle.link_unpack.specs.declared.wanted.Wanted.{Wanted}
 use Rattle.link_unpack.proofs.Effects.{Does, Strays, Passes, Begins, Continues}

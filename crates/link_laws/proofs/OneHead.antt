@@ -23,7 +23,7 @@ use Rattle.link_report.specs.declared.transfer.TransferEntry.{TransferEntry}
 use Rattle.link_walk.specs.Walk.{is_last, is_plain, open_with}
 use Rattle.link_walk.proofs.Heads.{open_then}
 use Rattle.link_unpack.specs.Transfers.{Transfer, closes, after_segment}
-use Rattle.link_unpack.specs.TransferScan.{grown}
+use Rattle.link_unpack.specs.TransferJudge.{grown}
 use Rattle.link_unpack.specs.Unpacking.{order_line, line_due, good_due}
 use Rattle.link_unpack.specs.declared.wanted.Wanted.{Wanted}
 use Rattle.link_unpack.proofs.Effects.{zero_eq, Does, Strays, Passes, Begins, Continues, what_does}

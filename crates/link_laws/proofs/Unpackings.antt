@@ -7,7 +7,7 @@ use Rattle.link_bundle.specs.Bundle.{payload_in}
 use Rattle.link_transfer.specs.declared.joiner.Turn.{Turn}
 use Rattle.link_run.specs.Run.{Texts}
 use Rattle.link_walk.specs.Walk.{WalkEvent, ContactHeader, MessageHead, Data, Whole, LeftOpen}
-use Rattle.link_unpack.specs.TransferScan.{grown}
+use Rattle.link_unpack.specs.TransferJudge.{grown}
 use Rattle.link_unpack.specs.Transfers.{Transfer, continued, after_message}
 use Rattle.link_unpack.specs.Unpacking.{is_selected, parts_of, Told, transfers_at, told_event, told_after, unpack_telling, unpack_tool}
 use Rattle.link_unpack.specs.declared.wanted.Wanted.{Wanted}

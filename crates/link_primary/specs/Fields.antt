@@ -21,6 +21,7 @@ pub record PrimaryFields : Type 0 where
   pub flags : ℕ
   pub destination : Option Eid
   pub source : Option Eid
+  pub report_to : Option Eid
   pub time : ℕ
   pub sequence : ℕ
   pub lifetime : ℕ
@@ -35,6 +36,7 @@ no_fields =
       flags = 0;
       destination = None;
       source = None;
+      report_to = None;
       time = 0;
       sequence = 0;
       lifetime = 0;
@@ -68,10 +70,18 @@ endpoint_fields fields bytes offset = do
   (destination, offset) ← or_before fields (eid_at bytes offset)
   (source, offset) ← or_before (record fields { accepted = 4; destination = Some destination })
       (eid_at bytes offset)
-  (_, offset) ← or_before
+  (report_to, offset) ← or_before
       (record fields { accepted = 5; destination = Some destination; source = Some source })
       (eid_at bytes offset)
-  Ok (record fields { accepted = 6; destination = Some destination; source = Some source }, offset)
+  Ok (
+    record fields {
+      accepted = 6;
+      destination = Some destination;
+      source = Some source;
+      report_to = Some report_to;
+    },
+    offset,
+  )
 
 -- the creation timestamp (section 4.2.7) and the lifetime
 unfoldable pub time_fields : PrimaryFields → List ℕ → ℕ → Reading

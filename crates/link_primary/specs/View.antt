@@ -16,6 +16,7 @@ viewed_fields view =
       flags = view.flags;
       destination = option_map viewed_eid view.destination;
       source = option_map viewed_eid view.source;
+      report_to = option_map viewed_eid view.report_to;
       time = view.time;
       sequence = view.sequence;
       lifetime = view.lifetime;

@@ -66,10 +66,11 @@ fn endpoint_fields<'a>(
     };
     fields.accepted = 5;
     fields.source = Some(source);
-    let Some((_, offset)) = eid_at(bytes, offset) else {
+    let Some((report_to, offset)) = eid_at(bytes, offset) else {
         return Err(fields);
     };
     fields.accepted = 6;
+    fields.report_to = Some(report_to);
     Ok((fields, offset))
 }
 

@@ -25,6 +25,8 @@ pub struct PrimaryView<'a> {
     pub destination: Option<EidView<'a>>,
     /// The endpoint ID of the source node, element 5.
     pub source: Option<EidView<'a>>,
+    /// The endpoint ID to which status reports go, element 6.
+    pub report_to: Option<EidView<'a>>,
     /// The creation time, in milliseconds since 2000-01-01 UTC; the first part of element 7.
     pub time: u64,
     /// The sequence number, the second part of element 7.
@@ -48,6 +50,7 @@ impl PrimaryView<'_> {
             flags: 0,
             destination: None,
             source: None,
+            report_to: None,
             time: 0,
             sequence: 0,
             lifetime: 0,

@@ -1,5 +1,5 @@
 -- The judgement on a transfer's data, and its text in the line of the transfer.
-use Rattle.std.specs.Prelude.{ℕ, Bool, ◌==◌, if◌then◌else◌, Result, Ok, Err, List, ◌++◌, codes}
+use Rattle.std.specs.Prelude.{ℕ, Bool, ◌==◌, if◌then◌else◌, Result, Ok, Err, List, [], ◌++◌, codes}
 use Rattle.link_bundle_types.specs.BundleView.{viewed_info}
 use Rattle.link_bundle_types.specs.ShortNames.{HasShortNames}
 use Rattle.link_bundle_types.specs.declared.fault.BundleFault.{BundleFault}
@@ -33,13 +33,25 @@ abbrev pub judged_transfer : Bool → Announced → ℕ → Result BundleInfo (B
 judged_transfer abandoned announced size verdict =
     if abandoned then Abandoned else judged_length announced size verdict
 
-unfoldable pub judgement_text : Judgement → List ℕ
-judgement_text Abandoned = codes "abandoned"
-judgement_text BadLengthItem = codes "bad-length-item"
-judgement_text (LengthDiffers announced) = number_text (codes "length-differs announced=") announced
-judgement_text (Bad fault offset) =
+-- the judgement alone, without the identity of a good bundle
+unfoldable pub outcome_text : Judgement → List ℕ
+outcome_text Abandoned = codes "abandoned"
+outcome_text BadLengthItem = codes "bad-length-item"
+outcome_text (LengthDiffers announced) = number_text (codes "length-differs announced=") announced
+outcome_text (Bad fault offset) =
     codes "bad=" ++ code_text fault ++ number_text (codes " byte=") offset
-judgement_text (Good info) = codes "good " ++ identity_text info
+outcome_text (Good info) = codes "good"
+
+-- the identity of a good bundle
+unfoldable pub good_text : Judgement → List ℕ
+good_text Abandoned = []
+good_text BadLengthItem = []
+good_text (LengthDiffers announced) = []
+good_text (Bad fault offset) = []
+good_text (Good info) = codes " " ++ identity_text info
+
+unfoldable pub judgement_text : Judgement → List ℕ
+judgement_text judgement = outcome_text judgement ++ good_text judgement
 
 -- the judgement that a view shows
 abbrev pub viewed_judgement : JudgementView → Judgement

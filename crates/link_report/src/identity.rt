@@ -14,10 +14,10 @@ use crate::put::{LINE_MAX, Line, put_bytes};
 use link_bundle_types::{BundleView, EID_LIMIT, EidView};
 
 /// The greatest length of an endpoint ID's text: 4 bytes, and a name with each byte escaped.
-const EID_MAX: usize = 4 + 4 * EID_LIMIT;
+pub const EID_MAX: usize = 4 + 4 * EID_LIMIT;
 
 /// The greatest length of a fragment's text: 11 bytes and two numbers.
-const FRAGMENT_MAX: usize = 51;
+pub const FRAGMENT_MAX: usize = 51;
 
 /// The greatest length of a bundle's text in bytes.
 ///
@@ -56,7 +56,7 @@ fn write_three(page: &mut [u8], at: usize, allocator: u64, node: u64, service: u
 /// Writes an endpoint ID.
 #[tactic(auto, unfolding(crate::specs::Eid::eid_text))]
 #[inline(always)]
-fn write_eid(page: &mut [u8], at: usize, eid: &EidView<'_>) -> usize
+pub fn write_eid(page: &mut [u8], at: usize, eid: &EidView<'_>) -> usize
     requires short { IsShort (viewed_eid eid.now) }
     requires room { at + EID_MAX ≤ length page.old }
     ensures text { take result page.new ≡ take at page.old ++ eid_text (viewed_eid eid.now) }
@@ -93,7 +93,7 @@ fn write_part(page: &mut [u8], at: usize, offset: u64, total: u64) -> usize
 /// Writes the fragment offset and the total length, or nothing if the bundle is no fragment.
 #[tactic(auto, unfolding(crate::specs::Identity::fragment_text))]
 #[inline(always)]
-fn write_fragment(page: &mut [u8], at: usize, fragment: Option<(u64, u64)>) -> usize
+pub fn write_fragment(page: &mut [u8], at: usize, fragment: Option<(u64, u64)>) -> usize
     requires { at + FRAGMENT_MAX ≤ length page.old }
     ensures text { take result page.new ≡ take at page.old ++ fragment_text fragment }
     ensures fits { result ≤ at + FRAGMENT_MAX }

@@ -5,7 +5,7 @@ ghost use Rattle.link_bundle_types.specs.BundleView.{viewed_info, viewed_verdict
 ghost use Rattle.link_bundle_types.specs.ShortNames.{HasShortNames};
 ghost use Rattle.link_report.specs.BundleFault.{code_text};
 ghost use Rattle.link_report.specs.Text.{number_text};
-ghost use Rattle.link_report.specs.Judgement.{judged_transfer, judgement_text, viewed_judgement, IsShortJudgement};
+ghost use Rattle.link_report.specs.Judgement.{judged_transfer, outcome_text, good_text, judgement_text, viewed_judgement, IsShortJudgement};
 
 use crate::bundle_fault::code_of;
 use crate::identity::{IDENTITY_MAX, write_identity};
@@ -13,8 +13,11 @@ use crate::page::{write_bytes, write_number, write_text};
 use link_bundle_types::{BundleFault, BundleInfo, BundleView};
 use link_transfer::Announced;
 
-/// The greatest length of a judgement's text in bytes: 5, and the text of a bundle.
-pub(crate) const JUDGEMENT_MAX: usize = 5 + IDENTITY_MAX;
+/// The greatest length of a judgement's text in bytes, without the text of a bundle.
+pub const OUTCOME_MAX: usize = 45;
+
+/// The greatest length of a judgement's text in bytes: that, a space, and the text of a bundle.
+pub(crate) const JUDGEMENT_MAX: usize = OUTCOME_MAX + 1 + IDENTITY_MAX;
 
 /// The judgement on the data of a transfer.
 #[derive(Debug, PartialEq, Eq, Drop)]
@@ -88,6 +91,7 @@ pub fn judge(
 }
 
 /// Judges a transfer as [`judge`] does, with the bundle by reference.
+#[inline(always)]
 pub fn judge_view<'a>(
     abandoned: bool,
     announced: Announced,
@@ -119,15 +123,59 @@ pub fn judge_view<'a>(
 #[cold]
 #[inline(never)]
 fn write_bad(page: &mut [u8], at: usize, fault: BundleFault, offset: u64) -> usize
-    requires { at + JUDGEMENT_MAX ≤ length page.old }
+    requires { at + OUTCOME_MAX ≤ length page.old }
     ensures text { take result page.new ≡ take at page.old
         ++ codes "bad=" ++ code_text fault ++ number_text (codes " byte=") offset }
-    ensures fits { result ≤ at + JUDGEMENT_MAX }
+    ensures fits { result ≤ at + OUTCOME_MAX }
     ensures size { length page.new ≡ length page.old }
 {
     let at = write_bytes(page, at, *b"bad=");
     let at = write_text(page, at, code_of(fault));
     write_number(page, at, *b" byte=", offset)
+}
+
+/// Writes a judgement without the identity of a good bundle.
+#[tactic(auto, unfolding(crate::specs::Judgement::outcome_text))]
+#[inline(always)]
+pub fn write_outcome(page: &mut [u8], at: usize, judgement: &JudgementView<'_>) -> usize
+    requires { at + OUTCOME_MAX ≤ length page.old }
+    ensures text { take result page.new
+        ≡ take at page.old ++ outcome_text (viewed_judgement judgement.now) }
+    ensures fits { result ≤ at + OUTCOME_MAX }
+    ensures size { length page.new ≡ length page.old }
+{
+    match judgement {
+        JudgementView::Abandoned => write_bytes(page, at, *b"abandoned"),
+        JudgementView::BadLengthItem => write_bytes(page, at, *b"bad-length-item"),
+        JudgementView::LengthDiffers(announced) => {
+            write_number(page, at, *b"length-differs announced=", *announced)
+        }
+        JudgementView::Bad(fault, offset) => write_bad(page, at, *fault, *offset),
+        JudgementView::Good(_) => write_bytes(page, at, *b"good"),
+    }
+}
+
+/// Writes the identity of a good bundle, and nothing for another judgement.
+#[tactic(auto, unfolding(crate::specs::Judgement::good_text))]
+#[inline(always)]
+fn write_good(page: &mut [u8], at: usize, judgement: &JudgementView<'_>) -> usize
+    requires short { IsShortJudgement (viewed_judgement judgement.now) }
+    requires room { at + 1 + IDENTITY_MAX ≤ length page.old }
+    ensures text { take result page.new
+        ≡ take at page.old ++ good_text (viewed_judgement judgement.now) }
+    ensures fits { result ≤ at + 1 + IDENTITY_MAX }
+    ensures size { length page.new ≡ length page.old }
+{
+    match judgement {
+        JudgementView::Good(info) => {
+            let at = write_bytes(page, at, *b" ");
+            write_identity(page, at, info)
+        }
+        JudgementView::Abandoned
+        | JudgementView::BadLengthItem
+        | JudgementView::LengthDiffers(_)
+        | JudgementView::Bad(..) => at,
+    }
 }
 
 /// Writes a judgement.
@@ -141,16 +189,6 @@ pub(crate) fn write_judgement(page: &mut [u8], at: usize, judgement: &JudgementV
     ensures fits { result ≤ at + JUDGEMENT_MAX }
     ensures size { length page.new ≡ length page.old }
 {
-    match judgement {
-        JudgementView::Abandoned => write_bytes(page, at, *b"abandoned"),
-        JudgementView::BadLengthItem => write_bytes(page, at, *b"bad-length-item"),
-        JudgementView::LengthDiffers(announced) => {
-            write_number(page, at, *b"length-differs announced=", *announced)
-        }
-        JudgementView::Bad(fault, offset) => write_bad(page, at, *fault, *offset),
-        JudgementView::Good(info) => {
-            let at = write_bytes(page, at, *b"good ");
-            write_identity(page, at, info)
-        }
-    }
+    let at = write_outcome(page, at, judgement);
+    write_good(page, at, judgement)
 }

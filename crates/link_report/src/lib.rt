@@ -19,11 +19,12 @@
 //! and [`packed_line`] make the same line from values. [`MessageText`], [`TransferText`] and
 //! [`PackedText`] are the same lines as texts, which are written directly into the output or the
 //! report.
+//!
+//! A crate with lines of its own makes them of the pieces that the `write_` calls put into a page.
+//! Each of these calls takes the index where its piece begins and returns the index after it.
 #![tactic(auto)]
 
 mod bundle_fault;
-#[cfg(test)]
-mod bundle_tests;
 mod fault;
 mod identity;
 mod judgement;
@@ -33,16 +34,15 @@ mod packed;
 mod page;
 mod put;
 mod reason;
-#[cfg(test)]
-mod tests;
 mod transfer;
 
 pub use bundle_fault::{code_of, words_of};
 pub use fault::{Fault, fault_line, order_words, put_wire};
-pub use identity::put_eid;
-pub use judgement::{Judgement, JudgementView, judge, judge_view};
+pub use identity::{EID_MAX, FRAGMENT_MAX, put_eid, write_eid, write_fragment};
+pub use judgement::{Judgement, JudgementView, OUTCOME_MAX, judge, judge_view, write_outcome};
 pub use kept_digits::KeptDigits;
 pub use message::{MessageText, contact_line, message_line};
 pub use packed::{PackedEntry, PackedText, PackedView, packed_line, packed_view_line};
+pub use page::{write_bytes, write_decimal, write_hex2, write_number, write_text};
 pub use put::{LINE_MAX, Line, put_text};
 pub use transfer::{TransferEntry, TransferText, TransferView, transfer_line, transfer_view_line};

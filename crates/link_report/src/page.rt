@@ -8,8 +8,9 @@ ghost use Rattle.link_report.specs.Text.{hex2, hex4, escaped, escaped_byte, is_p
 
 use link_wire::copy_into;
 
+/// Writes `text` unchanged.
 #[inline(always)]
-pub(crate) fn write_text(page: &mut [u8], at: usize, text: &str) -> usize
+pub fn write_text(page: &mut [u8], at: usize, text: &str) -> usize
     requires { at + length text.now ≤ length page.old }
     ensures text { take result page.new ≡ take at page.old ++ text.now }
     ensures end { result ≡ at + length text.now }
@@ -20,7 +21,7 @@ pub(crate) fn write_text(page: &mut [u8], at: usize, text: &str) -> usize
 
 /// Writes a text of a constant length, which compiles only to stores.
 #[inline(always)]
-pub(crate) fn write_bytes<const N: usize>(page: &mut [u8], at: usize, text: [u8; N]) -> usize
+pub fn write_bytes<const N: usize>(page: &mut [u8], at: usize, text: [u8; N]) -> usize
     requires { at + N ≤ length page.old }
     ensures text { take result page.new ≡ take at page.old ++ text.entry }
     ensures end { result ≡ at + N }
@@ -75,7 +76,7 @@ fn write_long(page: &mut [u8], at: usize, number: u64) -> usize
 /// Where the number of digits is a constant, the compiler leaves only the stores.
 #[tactic(auto, using(crate::proofs::Digits::few_digits))]
 #[inline(always)]
-pub(crate) fn write_decimal(page: &mut [u8], at: usize, number: u64) -> usize
+pub fn write_decimal(page: &mut [u8], at: usize, number: u64) -> usize
     requires { at + 20 ≤ length page.old }
     ensures text { take result page.new ≡ take at page.old ++ decimal number }
     ensures fits { result ≤ at + 20 }
@@ -102,7 +103,7 @@ pub(crate) fn hex_digits(byte: u8) -> [u8; 2]
 
 /// Writes `byte` as two lower-case hexadecimal digits.
 #[inline(always)]
-pub(crate) fn write_hex2(page: &mut [u8], at: usize, byte: u8) -> usize
+pub fn write_hex2(page: &mut [u8], at: usize, byte: u8) -> usize
     requires { at + 2 ≤ length page.old }
     ensures text { take result page.new ≡ take at page.old ++ hex2 byte }
     ensures end { result ≡ at + 2 }
@@ -174,7 +175,7 @@ pub(crate) fn write_escaped(page: &mut [u8], at: usize, bytes: &[u8]) -> usize
 /// Writes `label` and `number` in decimal.
 #[tactic(auto, unfolding(crate::specs::Text::number_text))]
 #[inline(always)]
-pub(crate) fn write_number<const N: usize>(
+pub fn write_number<const N: usize>(
     page: &mut [u8],
     at: usize,
     label: [u8; N],

@@ -1,12 +1,13 @@
 -- What `unpack` has said after more events, and after data.
-use Rattle.std.proofs.Common.{◌≡◌, ℕ, Bool, true, false, List, [], ◌∷◌, ◌++◌, if◌then◌else◌, refl, ap, ◌∙◌, append-nil, append_assoc}
+use Rattle.std.proofs.Common.{◌≡◌, ℕ, Bool, true, false, not, List, [], ◌∷◌, ◌++◌, if◌then◌else◌, refl, ap, ◌∙◌, append-nil, append_assoc}
 use Rattle.std.specs.List.{fold}
 use Rattle.std.proofs.Math.Bool.{and-true}
 use Rattle.std.proofs.lemmas.Grind.{fold-append}
 use Rattle.link_wire.specs.declared.message.SegmentHead.{SegmentHead}
 use Rattle.link_walk.specs.Walk.{WalkEvent, Whole, data_events}
+use Rattle.link_walk.specs.Telling.{data_ends}
 use Rattle.link_unpack.specs.Transfers.{Transfer, continued}
-use Rattle.link_unpack.specs.TransferScan.{grown}
+use Rattle.link_unpack.specs.TransferJudge.{grown}
 use Rattle.link_unpack.specs.Unpacking.{Told, none_told, told_event, told_after, with_line}
 use Rattle.link_unpack.specs.declared.wanted.Wanted.{Wanted}
 
@@ -76,3 +77,24 @@ module _ (wanted : Wanted) where
         (append-nil content)
     whole_told false =
         rw (append-nil lines, and-true good) refl
+
+-- a transfer that is open is not closed
+pub open_is : (closed : Bool) → true ≡ not closed → closed ≡ false
+open_is true is = absurd (cc)
+open_is false is = refl
+
+-- data of the open transfer has come, which may be the last of it
+pub data_after : (wanted : Wanted) (before : List WalkEvent) (bytes : List ℕ) (whole : Bool)
+    (latest : Transfer) (earlier : List Transfer)
+    → (told_after wanted before).transfers ≡ latest ∷ earlier → latest.closed ≡ false
+    → told_after wanted (before ++ data_ends bytes whole)
+    ≡ whole_if wanted latest.first (latest.content ++ bytes) earlier
+    (told_after wanted before).report (told_after wanted before).good whole
+data_after wanted before bytes whole latest earlier are opened =
+    let was = told_after wanted before in
+    told_push wanted before (data_ends bytes whole)
+    ∙ told_both wanted was (data_events bytes) (if whole then Whole ∷ [] else [])
+    ∙ ap (λ told. told_then wanted told (if whole then Whole ∷ [] else []))
+    (data_told wanted bytes was.transfers was.report was.good (rw are opened)
+    ∙ ap (λ ts. record { transfers = continued ts bytes false; report = was.report; good = was.good }) are)
+    ∙ whole_told wanted latest.first (latest.content ++ bytes) earlier was.report was.good whole

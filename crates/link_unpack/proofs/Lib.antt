@@ -1,6 +1,6 @@
 pub mod Parts
 mod Payloads
-mod Transfers
+pub mod Transfers
 pub mod Heads
 pub mod Texts
 pub mod Effects

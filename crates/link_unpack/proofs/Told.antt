@@ -15,16 +15,17 @@ use Rattle.link_run.specs.Run.{no_texts, ◌then◌}
 use Rattle.link_run.specs.Writers.{on_output, on_report, AfterWrite}
 use Rattle.link_run.specs.declared.writers.Writers.{Writers}
 use Rattle.link_run.proofs.Runs.{texts_as}
-use Rattle.link_walk.specs.Walk.{Head, WalkEvent, MessageHead, Whole, closes as closes_head, is_last, is_beginning, open_with, open_after_event, data_events, data_size_of, data_size, has_open, abandons}
+use Rattle.link_walk.specs.Walk.{Head, WalkEvent, MessageHead, closes as closes_head, is_last, is_beginning, open_with, open_after_event, data_size_of, data_size, has_open, abandons}
 use Rattle.link_walk.specs.Telling.{ComesAfter, Tells, data_ends}
 use Rattle.link_unpack.specs.Transfers.{Transfer, closes, continued}
 use Rattle.link_unpack.specs.Unpacking.{part_of, parts_of, order_line, Told, line_due, good_due, transfers_at, told_event, told_after, unpack_telling}
-use Rattle.link_unpack.specs.TransferScan.{IsAtTransfer, begun, grown}
+use Rattle.link_unpack.specs.TransferJudge.{begun, grown}
+use Rattle.link_unpack.specs.TransferScan.{IsAtTransfer}
 use Rattle.link_unpack.specs.Unpacker.{IsAtLatest, KnowsTold}
 use Rattle.link_unpack.specs.declared.transfer.TransferScan.{TransferScan}
 use Rattle.link_unpack.specs.declared.unpacker.Unpacker.{Unpacker}
 use Rattle.link_unpack.specs.declared.wanted.Wanted.{Wanted}
-use Rattle.link_unpack.proofs.Events.{LatestIsOpen, told_then, told_both, told_push, data_told, whole_if, whole_told}
+use Rattle.link_unpack.proofs.Events.{open_is, told_push, data_after, whole_if}
 use Rattle.link_unpack.proofs.Heads.{transfers_same, transfer_begins, transfer_continues}
 use Rattle.link_unpack.proofs.Effects.{zero_eq, Does, Strays, Passes, Begins, Continues, comes_does}
 use Rattle.link_unpack.proofs.Texts.{parts_more, parts_sum}
@@ -60,13 +61,13 @@ open_of_data [] false opened = refl
 open_of_data (byte ∷ bytes) whole opened = open_of_data bytes whole opened
 
 module _ (before : List WalkEvent) (bytes : List ℕ) (whole : Bool) where
-  size_with_data : data_size (before ++ data_ends bytes whole) ≡ data_size before + length bytes
+  pub size_with_data : data_size (before ++ data_ends bytes whole) ≡ data_size before + length bytes
   unfolding data_size
   size_with_data =
       fold-append (λ size e. size + data_size_of e) 0 before (data_ends bytes whole)
       ∙ size_of_data bytes whole _
 
-  open_with_data : has_open (before ++ data_ends bytes whole) ≡ (not whole && has_open before)
+  pub open_with_data : has_open (before ++ data_ends bytes whole) ≡ (not whole && has_open before)
   unfolding has_open
   open_with_data =
       fold-append open_after_event false before (data_ends bytes whole)
@@ -79,14 +80,6 @@ module _ (wanted : Wanted) where
       → IsAtTransfer wanted now transfer earlier
       → now.start + now.written ≡ length (parts_of wanted (transfer ∷ earlier))
   sum_at now transfer earlier at = parts_sum wanted transfer earlier _ _ at.start at.written
-
-  pub latest_is_open : (now : TransferScan) (transfers : List Transfer)
-      → IsAtLatest wanted now true transfers → LatestIsOpen transfers
-  latest_is_open now transfers at = rw at.are (closed_false at.transfer.closed at.opened)
-    where
-      closed_false : (closed : Bool) → true ≡ not closed → closed ≡ false
-      closed_false true is = absurd (cc)
-      closed_false false is = refl
 
   -- the latest transfer is continued without data
   pub continued_at : (now : TransferScan) (transfers : List Transfer) (closed is_open : Bool)
@@ -186,14 +179,8 @@ module _ (wanted : Wanted) where
         ≡ whole_if wanted at.transfer.first (at.transfer.content ++ bytes) at.earlier was.report
         was.good whole
     data_next =
-        told_push wanted before (data_ends bytes whole)
-        ∙ told_both wanted was (data_events bytes) (if whole then Whole ∷ [] else [])
-        ∙ ap (λ told. told_then wanted told (if whole then Whole ∷ [] else []))
-        (data_told wanted bytes was.transfers was.report was.good
-        (latest_is_open old.latest was.transfers at)
-        ∙ ap (λ ts. record { transfers = continued ts bytes false; report = was.report; good = was.good }) at.are)
-        ∙ whole_told wanted at.transfer.first (at.transfer.content ++ bytes) at.earlier was.report
-        was.good whole
+        data_after wanted before bytes whole at.transfer at.earlier at.are
+        (open_is at.transfer.closed at.opened)
 
     pub data_known : (now : Unpacker) → now.latest.total ≤ old.latest.total + length bytes
         → now.good ≡ (old.good && good_due whole data_transfers) → Follows old.latest now.latest bytes
@@ -311,7 +298,7 @@ module _ (wanted : Wanted) where
 
 -- ---- before the first event
 
-told_none : (wanted : Wanted)
+pub told_none : (wanted : Wanted)
     → told_after wanted [] ≡ record { transfers = []; report = []; good = true }
 unfolding told_after
 told_none wanted = refl

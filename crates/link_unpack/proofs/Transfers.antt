@@ -7,10 +7,9 @@ use Rattle.link_bundle_types.specs.declared.info.BundleInfo.{BundleInfo}
 use Rattle.link_bundle.specs.Bundle.{judged_bundle as judged_bytes, bundle_at, opening_at, verdict, payload_in}
 use Rattle.link_bundle.specs.Scan.{HasScanned}
 use Rattle.link_bundle.proofs.Pieces.{verdict_judged}
-use Rattle.link_report.specs.Judgement.{judged_transfer, viewed_judgement}
+use Rattle.link_report.specs.Judgement.{judged_transfer}
 use Rattle.link_report.specs.Transfer.{transfer_text}
 use Rattle.link_report.specs.declared.judgement.Judgement.{Judgement}
-use Rattle.link_report.specs.declared.judgement.JudgementView.{JudgementView}
 use Rattle.link_report.specs.declared.transfer.TransferEntry.{TransferEntry}
 use Rattle.link_transfer.specs.Announced.{announced_of}
 use Rattle.link_wire.specs.Codes.{is_start}
@@ -21,8 +20,10 @@ use Rattle.link_wire.specs.declared.message.Message.TheVariants.{Segment}
 use Rattle.link_wire.specs.declared.message.MessageBuffer.{MessageBuffer}
 use Rattle.link_wire.specs.declared.message.SegmentHead.{SegmentHead}
 use Rattle.link_unpack.specs.Transfers.{Transfer}
-use Rattle.link_unpack.specs.TransferScan.{IsAtTransfer, begun, grown}
+use Rattle.link_unpack.specs.TransferJudge.{IsJudging, begun, grown}
+use Rattle.link_unpack.specs.TransferScan.{IsAtTransfer}
 use Rattle.link_unpack.specs.Unpacking.{is_selected, part_of, parts_of, judgement_of, entry_of}
+use Rattle.link_unpack.specs.declared.judge.TransferJudge.{TransferJudge}
 use Rattle.link_unpack.specs.declared.transfer.TransferScan.{TransferScan}
 use Rattle.link_unpack.specs.declared.wanted.Wanted.{Wanted}
 use Rattle.link_unpack.proofs.Texts.{parts_more}
@@ -62,32 +63,34 @@ same_entry : (id start written size : ℕ) (judgement : Judgement)
     (record { id = id'; start = start'; written = written'; length = size'; judgement = judgement' })
 same_entry id start written size judgement id' start' written' size' judgement' a b c d e = cc
 
-module _ (wanted : Wanted) (now : TransferScan) (transfer : Transfer) (earlier : List Transfer)
-    (follows : IsAtTransfer wanted now transfer earlier)
-    (abandoned : Bool) (over : abandoned ≡ not transfer.closed)
-    (outcome : Result BundleInfo (BundleFault × ℕ)) (seen : (seen : List ℕ) → HasScanned now.scan seen → outcome ≡ verdict seen)
-    (shown : JudgementView) (judges : viewed_judgement shown ≡ judged_transfer abandoned now.announced now.size outcome) where
-  pub judgement_is : viewed_judgement shown ≡ judgement_of transfer
-  judgement_is =
-      let bytes = follows.judged.seen in
-      judges
-      ∙ ap (λ gone. judged_transfer gone now.announced now.size outcome) over
-      ∙ ap (λ announced. judged_transfer (not transfer.closed) announced now.size outcome) follows.announced
-      ∙ ap (λ size. judged_transfer (not transfer.closed) (announced_of transfer.first.items.items) size outcome) follows.size
-      ∙ ap (judged_transfer (not transfer.closed) (announced_of transfer.first.items.items) (length transfer.content))
-      (seen bytes follows.judged.scanned ∙ verdict_judged now.scan transfer.content follows.judged)
+-- the judge's judgement is that on the transfer
+pub judgement_is : (now : TransferJudge) (transfer : Transfer) → IsJudging now transfer
+    → (abandoned : Bool) → abandoned ≡ not transfer.closed
+    → (outcome : Result BundleInfo (BundleFault × ℕ))
+    → ((seen : List ℕ) → HasScanned now.scan seen → outcome ≡ verdict seen)
+    → judged_transfer abandoned now.announced now.size outcome ≡ judgement_of transfer
+judgement_is now transfer judging abandoned over outcome seen =
+    ap (λ gone. judged_transfer gone now.announced now.size outcome) over
+    ∙ ap (λ announced. judged_transfer (not transfer.closed) announced now.size outcome) judging.announced
+    ∙ ap (λ size. judged_transfer (not transfer.closed) (announced_of transfer.first.items.items) size outcome) judging.size
+    ∙ ap (judged_transfer (not transfer.closed) (announced_of transfer.first.items.items) (length transfer.content))
+    (seen judging.judged.seen judging.judged.scanned ∙ verdict_judged now.scan transfer.content judging.judged)
 
-  pub line_is : transfer_text
-      (record {
-        id = now.id;
-        start = now.start;
-        written = now.written;
-        length = now.size;
-        judgement = viewed_judgement shown;
-      })
-      ≡ transfer_text (entry_of wanted transfer (length (parts_of wanted earlier)))
-  line_is = ap transfer_text
-      (same_entry _ _ _ _ _ _ _ _ _ _ follows.id follows.start follows.written follows.size judgement_is)
+pub line_is : (wanted : Wanted) (now : TransferScan) (transfer : Transfer) (earlier : List Transfer)
+    → IsAtTransfer wanted now transfer earlier → (judgement : Judgement)
+    → judgement ≡ judgement_of transfer
+    → transfer_text
+    (record {
+      id = now.judge.id;
+      start = now.start;
+      written = now.written;
+      length = now.judge.size;
+      judgement = judgement;
+    })
+    ≡ transfer_text (entry_of wanted transfer (length (parts_of wanted earlier)))
+line_is wanted now transfer earlier follows judgement is =
+    ap transfer_text
+    (same_entry _ _ _ _ _ _ _ _ _ _ follows.judging.id follows.start follows.written follows.judging.size is)
 
 -- ---- more of a transfer, without data
 
@@ -99,16 +102,22 @@ same_part wanted transfer closed =
     then (if wanted.payload then payload_in xs else xs) else [])
     (append-nil transfer.content)
 
+pub judging_same : (now : TransferJudge) (transfer : Transfer) (closed : Bool)
+    → IsJudging now transfer → IsJudging now (grown transfer [] closed)
+judging_same now transfer closed judging = record {
+  id = judging.id;
+  announced = judging.announced;
+  size = judging.size ∙ ap length (sym (append-nil transfer.content));
+  judged = rw append-nil judging.judged;
+}
+
 pub follows_same : (wanted : Wanted) (now : TransferScan) (transfer : Transfer) (closed : Bool)
     (earlier : List Transfer) → IsAtTransfer wanted now transfer earlier
     → IsAtTransfer wanted now (grown transfer [] closed) earlier
 follows_same wanted now transfer closed earlier follows = record {
-  id = follows.id;
-  announced = follows.announced;
+  judging = judging_same now.judge transfer closed follows.judging;
   start = follows.start;
   written = follows.written ∙ ap length (sym (same_part wanted transfer closed));
-  size = follows.size ∙ ap length (sym (append-nil transfer.content));
-  judged = rw append-nil follows.judged;
 }
 
 pub same_parts : (wanted : Wanted) (transfer : Transfer) (closed : Bool) (earlier : List Transfer)

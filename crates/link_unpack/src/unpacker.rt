@@ -1,26 +1,23 @@
 //! `unpack`: the data of the transfers of a recorded stream, and a line for each transfer.
 
 ghost use Rattle.std.specs.Prelude.{◌≡◌, ◌+◌, ◌&&◌, true, false, not, [], is_some, List, length, OnOk, Option};
-ghost use Rattle.link_wire.specs.Codes.{is_start};
-ghost use Rattle.link_wire.specs.MessageBuffer.{SegmentHasTotals, message_of};
-ghost use Rattle.link_wire.specs.declared.message.Message.{Message};
-ghost use Rattle.link_wire.specs.declared.message.SegmentHead.{SegmentHead};
 ghost use Rattle.link_report.specs.Fault.{fault_text};
 ghost use Rattle.link_run.specs.Run.{AfterRun, devices_at, looks};
 ghost use Rattle.link_run.specs.Writers.{AfterWrite, on_report};
 ghost use Rattle.link_unpack.specs.Transfers.{Transfer};
 ghost use Rattle.link_unpack.specs.Unpacking.{parts_of, order_line, line_of, is_good, judgement_of, unpack_telling, unpack_tool, line_due, good_due};
-ghost use Rattle.link_unpack.specs.TransferScan.{IsAtTransfer, begun};
+ghost use Rattle.link_unpack.specs.TransferScan.{IsAtTransfer};
 ghost use Rattle.link_unpack.specs.Unpacker.{IsAtLatest, KnowsTold};
 ghost use Rattle.link_unpack.specs.declared.wanted.Wanted.{Wanted};
 
-use crate::transfer::{TransferScan, is_bundle};
+use crate::judge::is_bundle;
+use crate::transfer::TransferScan;
 use crate::wanted::Wanted;
 use link_report::Fault;
 use link_run::{Run, RunEnd, Writers};
-use link_transfer::{OrderFault, announced};
+use link_transfer::OrderFault;
 use link_walk::{Consumer, EventView, Manner, WalkRun, walk_run};
-use link_wire::{Fields, InDevice, IoFault, MessageBuffer, OutDevice};
+use link_wire::{InDevice, IoFault, OutDevice};
 
 /// What is known about the transfers so far.
 #[derive(Drop)]
@@ -74,7 +71,7 @@ impl Consumer for Unpacker {
                     return Err(fault);
                 }
                 if head.begins() {
-                    begin_latest(&mut self.latest, head.message);
+                    self.latest.begin(head.message);
                 }
                 report(options, head.closes(), false, writers, self)
             }
@@ -95,9 +92,9 @@ impl Consumer for Unpacker {
     }
 }
 
-/// Writes the line of a head's fault, if it has one.
+/// Writes the line of a head's fault to the report, if it has one. Then `good` becomes false.
 #[inline(always)]
-fn tell_order<W: OutDevice, E: OutDevice>(
+pub fn tell_order<W: OutDevice, E: OutDevice>(
     offset: u64,
     fault: Option<OrderFault>,
     writers: &mut Writers<W, E>,
@@ -129,20 +126,6 @@ fn report_order<W: OutDevice, E: OutDevice>(
     match writers.report_fault(fault) {
         Ok(_) => Ok(()),
         Err(fault) => Err(fault),
-    }
-}
-
-/// Begins the scan of the transfer to which the head that was read belongs.
-fn begin_latest(latest: &mut TransferScan, message: &MessageBuffer)
-    requires { SegmentHasTotals message.now }
-    ensures follows { (wanted : Wanted) (head : SegmentHead) (closed : _) (earlier : List Transfer)
-        → message_of message.now ≡ Message.Segment head → is_start head.flags ≡ true
-        → latest.old.start + latest.old.written ≡ length (parts_of wanted earlier)
-        → IsAtTransfer wanted latest.new (begun head closed) earlier }
-    ensures total { latest.new.total ≡ latest.old.total }
-{
-    if let Fields::Segment { id, .. } = message.fields {
-        latest.begin(id, announced(&message.items));
     }
 }
 

@@ -83,6 +83,7 @@ primary_shown verdict primary =
       flags = primary.flags;
       destination = eid_or_none primary.destination;
       source = eid_or_none primary.source;
+      report_to = eid_or_none primary.report_to;
       time = primary.time;
       sequence = primary.sequence;
       lifetime = primary.lifetime;
@@ -108,6 +109,7 @@ bundle_shown verdict primary info =
       flags = info.flags;
       destination = eid_shown info.destination;
       source = eid_shown info.source;
+      report_to = eid_shown info.report_to;
       time = info.time;
       sequence = info.sequence;
       lifetime = info.lifetime;
@@ -118,36 +120,53 @@ bundle_shown verdict primary info =
       payload_length = info.payload;
     }
 
--- the slices for the two names, before or after a call
+-- the three names, or the slices for them before or after a call
 pub record Names : Type 0 where
   pub destination : List ℕ
   pub source : List ℕ
+  pub report_to : List ℕ
+
+abbrev pub three_names : (destination source report_to : List ℕ) → Names
+three_names destination source report_to =
+    record { destination = destination; source = source; report_to = report_to }
+
+abbrev pub names_of : BundleInfo → Names
+names_of info =
+    three_names (name_of info.destination) (name_of info.source) (name_of info.report_to)
+
+abbrev pub primary_names : PrimaryFields → Names
+primary_names primary =
+    three_names (name_or_none primary.destination) (name_or_none primary.source)
+    (name_or_none primary.report_to)
 
 -- the slices have these names, as far as there is room, and their other bytes are as they were
-pub record GivesNames (destination source : List ℕ) (old new : Names) : Type 0 where
-  pub destination_name : HoldsFront new.destination destination
-  pub destination_rest : KeepsRest old.destination new.destination destination
-  pub source_name : HoldsFront new.source source
-  pub source_rest : KeepsRest old.source new.source source
+pub record GivesNames (names old new : Names) : Type 0 where
+  pub destination_name : HoldsFront new.destination names.destination
+  pub destination_rest : KeepsRest old.destination new.destination names.destination
+  pub source_name : HoldsFront new.source names.source
+  pub source_rest : KeepsRest old.source new.source names.source
+  pub report_to_name : HoldsFront new.report_to names.report_to
+  pub report_to_rest : KeepsRest old.report_to new.report_to names.report_to
 
 -- TCPCLKIT_OK, or TCPCLKIT_TOO_SMALL if a name is longer than the slice for it
-abbrev pub names_status : (destination source : List ℕ) → Names → ℕ
-names_status destination source names =
-    if nat_le (length destination) (length names.destination)
-    && nat_le (length source) (length names.source) then 0 else 5
+abbrev pub names_status : (names slices : Names) → ℕ
+names_status names slices =
+    if nat_le (length names.destination) (length slices.destination)
+    && (nat_le (length names.source) (length slices.source)
+    && nat_le (length names.report_to) (length slices.report_to)) then 0 else 5
 
 -- the numbers are those of the bundle, and the slices have its names
 pub record ReturnsBundle (info : BundleInfo) (verdict : Verdict) (primary : PrimaryFields)
     (old new : Names) (bundle : Bundle) (status : ℕ) : Type 0 where
   pub numbers : bundle ≡ bundle_shown verdict primary info
-  pub names : GivesNames (name_of info.destination) (name_of info.source) old new
-  pub fits : status ≡ names_status (name_of info.destination) (name_of info.source) new
+  pub names : GivesNames (names_of info) old new
+  pub fits : status ≡ names_status (names_of info) new
 
 -- the bytes are no good bundle: the numbers and the names are those up to the first fault
 pub record ReturnsStop (verdict : Verdict) (state : State) (primary : PrimaryFields)
     (old new : Names) (bundle : Bundle) (status : ℕ) : Type 0 where
   pub numbers : bundle ≡ primary_shown verdict primary
-  pub names : GivesNames (name_or_none primary.destination) (name_or_none primary.source) old new
+  pub names : GivesNames (primary_names primary) old new
   pub stops : status ≡ state_status state
 
 -- the answer, by the verdict, by where the payload's bytes are, and by the primary block

@@ -7,7 +7,7 @@ ghost use Rattle.link_bundle.specs.Bundle.{verdict, payload_seen, state_of};
 ghost use Rattle.link_bundle.specs.Scan.{HasJudged};
 ghost use Rattle.link_primary.specs.Fields.{primary_fields};
 ghost use Rattle.link_primary.specs.View.{viewed_fields};
-ghost use Rattle.tcpclkit_c.specs.Bundle.{state_status, fault_of, with_span, verdict_shown, no_eid, eid_shown, eid_or_none, name_of, name_or_none, primary_shown, bundle_shown, ReturnsVerdict, GivesNames, names_status, ReturnsBundle, ReturnsStop, ReturnsInfo};
+ghost use Rattle.tcpclkit_c.specs.Bundle.{state_status, fault_of, with_span, verdict_shown, no_eid, eid_shown, eid_or_none, name_of, name_or_none, primary_shown, bundle_shown, ReturnsVerdict, three_names, GivesNames, names_status, ReturnsBundle, ReturnsStop, ReturnsInfo};
 
 use crate::fault::Fault;
 use crate::slice::copy_front;
@@ -63,6 +63,8 @@ pub struct Bundle {
     pub destination: EidNumbers,
     /// The endpoint ID of the source node.
     pub source: EidNumbers,
+    /// The endpoint ID to which status reports go.
+    pub report_to: EidNumbers,
     /// The creation time.
     pub time: u64,
     /// The sequence number of the creation timestamp.
@@ -246,6 +248,7 @@ fn primary_shown(verdict: Verdict, primary: &PrimaryView<'_>) -> Bundle
         flags: primary.flags,
         destination: eid_or_none(&primary.destination),
         source: eid_or_none(&primary.source),
+        report_to: eid_or_none(&primary.report_to),
         time: primary.time,
         sequence: primary.sequence,
         lifetime: primary.lifetime,
@@ -272,6 +275,7 @@ fn bundle_shown(verdict: Verdict, primary: &PrimaryView<'_>, info: &BundleView<'
         flags: info.flags,
         destination: eid_shown(&info.destination),
         source: eid_shown(&info.source),
+        report_to: eid_shown(&info.report_to),
         time: info.time,
         sequence: info.sequence,
         lifetime: info.lifetime,
@@ -283,22 +287,27 @@ fn bundle_shown(verdict: Verdict, primary: &PrimaryView<'_>, info: &BundleView<'
     }
 }
 
-/// Copies the names of destination and source, and returns the status if nothing else is wrong.
+/// Copies the names, and returns the status if nothing else is wrong.
 fn give_names(
     destination: &[u8],
     source: &[u8],
+    report_to: &[u8],
     destination_name: &mut [u8],
     source_name: &mut [u8],
+    report_to_name: &mut [u8],
 ) -> u32
-    ensures names { GivesNames destination.now source.now
-        (record { destination = destination_name.old; source = source_name.old })
-        (record { destination = destination_name.new; source = source_name.new }) }
-    ensures status { result ≡ names_status destination.now source.now
-        (record { destination = destination_name.new; source = source_name.new }) }
+    ensures names { GivesNames
+        (three_names destination.now source.now report_to.now)
+        (three_names destination_name.old source_name.old report_to_name.old)
+        (three_names destination_name.new source_name.new report_to_name.new) }
+    ensures status { result ≡ names_status
+        (three_names destination.now source.now report_to.now)
+        (three_names destination_name.new source_name.new report_to_name.new) }
 {
     let destination_fits = copy_front(destination_name, destination);
     let source_fits = copy_front(source_name, source);
-    if destination_fits && source_fits {
+    let report_to_fits = copy_front(report_to_name, report_to);
+    if destination_fits && source_fits && report_to_fits {
         OK
     } else {
         TOO_SMALL
@@ -312,19 +321,22 @@ fn give_good(
     primary: &PrimaryView<'_>,
     destination_name: &mut [u8],
     source_name: &mut [u8],
+    report_to_name: &mut [u8],
     answer: &mut Bundle,
 ) -> u32
     ensures { ReturnsBundle (viewed_info info.now) verdict (viewed_fields primary.now)
-        (record { destination = destination_name.old; source = source_name.old })
-        (record { destination = destination_name.new; source = source_name.new })
+        (three_names destination_name.old source_name.old report_to_name.old)
+        (three_names destination_name.new source_name.new report_to_name.new)
         answer.new result }
 {
     *answer = bundle_shown(verdict, primary, info);
     give_names(
         name_of(&info.destination),
         name_of(&info.source),
+        name_of(&info.report_to),
         destination_name,
         source_name,
+        report_to_name,
     )
 }
 
@@ -335,19 +347,22 @@ fn give_bad(
     primary: &PrimaryView<'_>,
     destination_name: &mut [u8],
     source_name: &mut [u8],
+    report_to_name: &mut [u8],
     answer: &mut Bundle,
 ) -> u32
     ensures { ReturnsStop verdict state (viewed_fields primary.now)
-        (record { destination = destination_name.old; source = source_name.old })
-        (record { destination = destination_name.new; source = source_name.new })
+        (three_names destination_name.old source_name.old report_to_name.old)
+        (three_names destination_name.new source_name.new report_to_name.new)
         answer.new result }
 {
     *answer = primary_shown(verdict, primary);
     give_names(
         name_or_none(&primary.destination),
         name_or_none(&primary.source),
+        name_or_none(&primary.report_to),
         destination_name,
         source_name,
+        report_to_name,
     );
     state_status(state)
 }
@@ -358,12 +373,13 @@ pub(crate) fn give_info(
     primary: &PrimaryView<'_>,
     destination_name: &mut [u8],
     source_name: &mut [u8],
+    report_to_name: &mut [u8],
     answer: &mut Bundle,
 ) -> u32
     ensures { (bytes : List ℕ) → HasJudged scan.now bytes
         → ReturnsInfo (verdict bytes) (payload_seen bytes) (viewed_fields primary.now)
-        (record { destination = destination_name.old; source = source_name.old })
-        (record { destination = destination_name.new; source = source_name.new })
+        (three_names destination_name.old source_name.old report_to_name.old)
+        (three_names destination_name.new source_name.new report_to_name.new)
         answer.new result }
 {
     let verdict = found(scan);
@@ -374,6 +390,7 @@ pub(crate) fn give_info(
             primary,
             destination_name,
             source_name,
+            report_to_name,
             answer,
         ),
         Err(_) => give_bad(
@@ -382,6 +399,7 @@ pub(crate) fn give_info(
             primary,
             destination_name,
             source_name,
+            report_to_name,
             answer,
         ),
     }
@@ -393,14 +411,22 @@ pub extern "C" fn tcpclkit_raw_describe_bundle(
     bytes: &[u8],
     destination_name: &mut [u8],
     source_name: &mut [u8],
+    report_to_name: &mut [u8],
     answer: &mut Bundle,
 ) -> u32
     ensures { ReturnsInfo (verdict bytes.now) (payload_seen bytes.now) (primary_fields bytes.now)
-        (record { destination = destination_name.old; source = source_name.old })
-        (record { destination = destination_name.new; source = source_name.new })
+        (three_names destination_name.old source_name.old report_to_name.old)
+        (three_names destination_name.new source_name.new report_to_name.new)
         answer.new result }
 {
     let scan = judged_scan(bytes);
     let primary = primary_fields(bytes);
-    give_info(&scan, &primary, destination_name, source_name, answer)
+    give_info(
+        &scan,
+        &primary,
+        destination_name,
+        source_name,
+        report_to_name,
+        answer,
+    )
 }

@@ -7,7 +7,7 @@ ghost use denote.Memory.{lone};
 ghost use denote.RawPtr.{room_at};
 ghost use Rattle.link_bundle.specs.Bundle.{verdict, payload_seen, state_of};
 ghost use Rattle.link_primary.specs.Fields.{primary_fields};
-ghost use Rattle.tcpclkit_c.specs.Bundle.{verdict_shown, state_status, ReturnsInfo};
+ghost use Rattle.tcpclkit_c.specs.Bundle.{verdict_shown, state_status, three_names, ReturnsInfo};
 ghost use Rattle.tcpclkit_c.specs.Scan.{IsScan, HoldsScan, fed, fed_status, FeedsMarked, JudgesMarked, DescribesMarked};
 ghost use Rattle.tcpclkit_c.specs.contracts.scan.MarkedScan.{the_row};
 
@@ -131,18 +131,26 @@ fn describe(
     scan: &MarkedScan,
     destination_name: &mut [u8],
     source_name: &mut [u8],
+    report_to_name: &mut [u8],
     answer: &mut Bundle,
 ) -> u32
     ensures { DescribesMarked scan.now
-        (record { destination = destination_name.old; source = source_name.old })
-        (record { destination = destination_name.new; source = source_name.new })
+        (three_names destination_name.old source_name.old report_to_name.old)
+        (three_names destination_name.new source_name.new report_to_name.new)
         answer.old answer.new result }
 {
     if scan.mark != MARK {
         return RANGE;
     }
     let primary = primary_fields(scan.kept.as_slice());
-    give_info(&scan.scan, &primary, destination_name, source_name, answer)
+    give_info(
+        &scan.scan,
+        &primary,
+        destination_name,
+        source_name,
+        report_to_name,
+        answer,
+    )
 }
 
 /// The verdict on the bytes seen, and the fields that were accepted.
@@ -151,20 +159,22 @@ pub unsafe extern "C" fn tcpclkit_raw_describe_scan(
     memory: *const u64,
     destination_name: &mut [u8],
     source_name: &mut [u8],
+    report_to_name: &mut [u8],
     answer: &mut Bundle,
 ) -> u32
     ghost seen: { List ℕ }
     requires* { sem 𝓛 (HoldsScan memory seen) }
     ensures* scan { sem 𝓛 (HoldsScan memory seen) }
     ensures answer { ReturnsInfo (verdict seen) (payload_seen seen) (primary_fields seen)
-        (record { destination = destination_name.old; source = source_name.old })
-        (record { destination = destination_name.new; source = source_name.new })
+        (three_names destination_name.old source_name.old report_to_name.old)
+        (three_names destination_name.new source_name.new report_to_name.new)
         answer.new result }
 {
     describe(
         &*(memory as *const MarkedScan),
         destination_name,
         source_name,
+        report_to_name,
         answer,
     )
 }

@@ -1,10 +1,10 @@
-use Rattle.std.proofs.Common.{◌∙◌, Bool, sym, ap, rules}
+use Rattle.std.proofs.Common.{◌∙◌, Bool, Some, sym, ap, rules}
 use Rattle.std.proofs.lemmas.Result.{err_from_is_err_and}
 use Rattle.link_bundle_heads.specs.Rows.{check_field}
-use Rattle.link_bundle.specs.Reading.{ReadAt, stopped}
+use Rattle.link_bundle.specs.Reading.{ReadAt}
 use Rattle.link_bundle.specs.CheckField.{field_at}
 use Rattle.link_bundle.specs.Left.{field_left, stage_left, read_alone, with_known_payload, after_field}
-use Rattle.link_bundle.proofs.Heads.{row_at-refused, read_alone-stopped}
+use Rattle.link_bundle.proofs.Heads.{row_at-refused, refused_in}
 use Rattle.link_bundle.proofs.Fields.{field_at-accepted}
 use Rattle.link_bundle.proofs.Judgings.{as_judged}
 use Rattle.link_bundle.proofs.judging.judge.Goals as goal
@@ -12,26 +12,28 @@ use Rattle.link_bundle.proofs.judging.judge.Goals as goal
 pub returns-in_err-check_field-in-Check : goal.returns-in_err-check_field-in-Check
 unfolding field_left stage_left field_at
 returns-in_err-check_field-in-Check c =
-    as_judged (search rules) (search rules)
+    as_judged (search rules) (search rules) (search rules)
     (let exit = err_from_is_err_and c.from_residual.result c.from_residual.ensures.1 in
     rw (c.in-Check.is, exit.1, exit.2)
-    (λ bytes start outcome within.
+    (λ bytes outcome within.
     rw (row_at-refused (check_field c.in-Check.kind) bytes c.args.cursor.now.offset
     c.args.cursor.now.count c.args.head c.in_err-check_field-in-Check.field-0.0 outcome
     (sym c.check_field.ensures.judged ∙ c.in_err-check_field-in-Check.was))
-    (read_alone-stopped c.args.draft.now.payload_span bytes
-    (stopped c.in_err-check_field-in-Check.field-0.0 c.args.cursor.now.offset))))
+    (refused_in c.in-Check.block c.args.draft.now c.in-Check.kind
+    c.in_err-check_field-in-Check.field-0.0 bytes c.args.cursor.now.offset
+    c.in_err-check_field-in-Check.ensures.lasts)))
 
 pub returns-in_ok-check_field-in-Check : goal.returns-in_ok-check_field-in-Check
 unfolding field_left stage_left
 returns-in_ok-check_field-in-Check c =
-    as_judged (search rules) (search rules) (let now = c.args.draft.now in
+    as_judged (search rules) (search rules) (search rules) (let now = c.args.draft.now in
     let cursor = c.args.cursor.now in
     rw c.in-Check.is
-    (λ bytes start outcome within.
+    (λ bytes outcome within.
     ap (λ (field : ReadAt Bool). read_alone bytes
-    (with_known_payload now.payload_span (after_field now bytes field)))
-    (field_at-accepted c.in-Check.kind bytes start cursor.offset cursor.count c.check_width.result
+    (with_known_payload now.payload_span
+    (after_field c.in-Check.block now (Some c.in-Check.kind) bytes field)))
+    (field_at-accepted c.in-Check.kind bytes now.block.start cursor.offset cursor.count c.check_width.result
     c.args.head c.in_ok-check_field-in-Check.field-0
     outcome (sym c.check_field.ensures.judged ∙ c.in_ok-check_field-in-Check.was)
     c.check_width.ensures)))

@@ -5,7 +5,7 @@ use Rattle.tcpclkit_c.specs.declared.scan.MarkedScan.{MarkedScan}
 use Rattle.tcpclkit_c.specs.contracts.scan.MarkedScan.{the_row as R}
 use Rattle.link_bundle.specs.Bundle.{verdict, payload_seen}
 use Rattle.link_primary.specs.Fields.{primary_fields}
-use Rattle.tcpclkit_c.specs.Bundle.{Names, ReturnsInfo}
+use Rattle.tcpclkit_c.specs.Bundle.{Names, three_names, ReturnsInfo}
 use Rattle.tcpclkit_c.specs.Scan.{HoldsScan, DescribesMarked}
 use Rattle.tcpclkit_c.proofs.Lending.{lent_scan, lends_scan, held_scan}
 use Rattle.tcpclkit_c.specs.contracts.bundle.Bundle.{the_row as B}
@@ -16,7 +16,7 @@ use Rattle.tcpclkit_c.specs.contracts.scan.describe as g
 use Rattle.tcpclkit_c.proofs.scan.describe.Met.{met}
 
 abbrev stayed : Stays f.ended.signature.params f.ended.kept
-stayed = (stay_dropped _ yes, (stay_passed _ yes, (stay_passed _ yes, (stay_passed _ yes, tt))))
+stayed = (stay_dropped _ yes, (stay_passed _ yes, (stay_passed _ yes, (stay_passed _ yes, (stay_passed _ yes, tt)))))
 
 pub tcpclkit_raw_describe_scan_spec : {M : Type 1} → statement M
 tcpclkit_raw_describe_scan_spec 𝓤 𝓛 𝓜 𝓡 wired =
@@ -24,43 +24,46 @@ tcpclkit_raw_describe_scan_spec 𝓤 𝓛 𝓜 𝓡 wired =
     let W = walk_of 𝓛 f.ended stayed c in
     let 𝓣 = tables 𝓤 𝓛.H 𝓜 𝓡 𝓡.env in
     proved 𝓛 f.ended stayed c 𝓜 𝓡
-    (Goes-dropped 𝓛 3 (plain (λ _. RawPtr)) yes (λ κs x w. refl), (Goes-passed 𝓛 3 (mut_slice_of (0 ∷ []) tt (plain (λ _. u8))) yes, (Goes-passed 𝓛 3 (mut_slice_of (1 ∷ []) tt (plain (λ _. u8))) yes, (Goes-passed 𝓛 3 (mut_ref_to (2 ∷ []) tt (plain (λ _. B))) yes, tt))))
+    (Goes-dropped 𝓛 4 (plain (λ _. RawPtr)) yes (λ κs x w. refl), (Goes-passed 𝓛 4 (mut_slice_of (0 ∷ []) tt (plain (λ _. u8))) yes, (Goes-passed 𝓛 4 (mut_slice_of (1 ∷ []) tt (plain (λ _. u8))) yes, (Goes-passed 𝓛 4 (mut_slice_of (2 ∷ []) tt (plain (λ _. u8))) yes, (Goes-passed 𝓛 4 (mut_ref_to (3 ∷ []) tt (plain (λ _. B))) yes, tt)))))
     f.Key.name code.function (code.unfolded 𝓤 𝓛.H 𝓜 𝓡 wired)
-    (λ κs. (rawptr_vals, (mut_slice_vals, (mut_slice_vals, (mut_vals, tt)))))
-    (λ κs. (rawptr_Tells, (mut_slice_Tells (named 0) κs.0 u8, (mut_slice_Tells (named 1) κs.1.0 u8, (mut_Tells (named 2) κs.1.1.0 B, tt))))) (λ κs qs bounds a seen are.
+    (λ κs. (rawptr_vals, (mut_slice_vals, (mut_slice_vals, (mut_slice_vals, (mut_vals, tt))))))
+    (λ κs. (rawptr_Tells, (mut_slice_Tells (named 0) κs.0 u8, (mut_slice_Tells (named 1) κs.1.0 u8, (mut_slice_Tells (named 2) κs.1.1.0 u8, (mut_Tells (named 3) κs.1.1.1.0 B, tt)))))) (λ κs qs bounds a seen are.
     let destination = a.1.0 in
     let source = a.1.1.0 in
-    let before : Names = record { destination = destination.now; source = source.now } in
-    let answer = a.1.1.1.0 in
-    let y : Ptr → W.Ghost = λ p. ((κs, qs, bounds, (p, a.1), (rawptr_vals p, (mut_slice_vals destination, (mut_slice_vals source, (mut_vals answer, tt))))), seen) in
-    let Tokens = (‵ (flft κs.0 qs.0) ⊛ (‵ (flft κs.1.0 qs.1.0) ⊛ (‵ (flft κs.1.1.0 qs.1.1.0) ⊛ ‵ ftrue))) in
-    let Rest = (‵ ((MutSlice (named 0) κs.0 u8).own_val destination (mut_slice_vals destination)) ⊛ (‵ ((MutSlice (named 1) κs.1.0 u8).own_val source (mut_slice_vals source)) ⊛ (‵ ((MutRef (named 2) κs.1.1.0 B).own_val answer (mut_vals answer)) ⊛ ‵ ftrue))) in
+    let report_to = a.1.1.1.0 in
+    let before : Names = three_names destination.now source.now report_to.now in
+    let answer = a.1.1.1.1.0 in
+    let y : Ptr → W.Ghost = λ p. ((κs, qs, bounds, (p, a.1), (rawptr_vals p, (mut_slice_vals destination, (mut_slice_vals source, (mut_slice_vals report_to, (mut_vals answer, tt)))))), seen) in
+    let Tokens = (‵ (flft κs.0 qs.0) ⊛ (‵ (flft κs.1.0 qs.1.0) ⊛ (‵ (flft κs.1.1.0 qs.1.1.0) ⊛ (‵ (flft κs.1.1.1.0 qs.1.1.1.0) ⊛ ‵ ftrue)))) in
+    let Rest = (‵ ((MutSlice (named 0) κs.0 u8).own_val destination (mut_slice_vals destination)) ⊛ (‵ ((MutSlice (named 1) κs.1.0 u8).own_val source (mut_slice_vals source)) ⊛ (‵ ((MutSlice (named 2) κs.1.1.0 u8).own_val report_to (mut_slice_vals report_to)) ⊛ (‵ ((MutRef (named 3) κs.1.1.1.0 B).own_val answer (mut_vals answer)) ⊛ ‵ ftrue)))) in
     qed 𝓛 ((Tokens ⊛ (‵ (RawPtr.own_val a.0 (rawptr_vals a.0)) ⊛ Rest)) ∷ ‵ (HoldsScan a.0 seen) ∷ []) ∵
     split ! $ move ! (1 ∷ []) $ split ! $ drop ! $ move ! (2 ∷ []) $ fpick ! (λ scan. fsplit ! $ move ! (1 ∷ []) $ fpick ! (λ has. drop ! $
     -- [the scan; what the other parameters own; the tokens]
     in_a_block ! a.0 (λ p. lies_at R full_share p scan) (id⊢ 𝓤 _) (λ b o e.
-    regoal ! (λ p. prop (WpFn 𝓤 𝓛.H 𝓣.C 𝓣.Λ code.function (rawptr_vals p ++ (slice_val destination.ref_ptr (length destination.now) ∷ slice_val source.ref_ptr (length source.now) ∷ vptr answer.ref_ptr.0 answer.ref_ptr.1 ∷ [])) (W.post (y p)))) e refl $
-    enter ! _ _ _ _ _ $ alloc_all ! (λ l. pass_all ! refl ((tt, tt), ((tt, (tt, (record { fits = are.1.0.0.1.0 }, tt))), ((tt, (tt, (record { fits = are.1.1.0.0.1.0 }, tt))), ((tt, tt), tt)))) $
+    regoal ! (λ p. prop (WpFn 𝓤 𝓛.H 𝓣.C 𝓣.Λ code.function (rawptr_vals p ++ (slice_val destination.ref_ptr (length destination.now) ∷ slice_val source.ref_ptr (length source.now) ∷ slice_val report_to.ref_ptr (length report_to.now) ∷ vptr answer.ref_ptr.0 answer.ref_ptr.1 ∷ [])) (W.post (y p)))) e refl $
+    enter ! _ _ _ _ _ $ alloc_all ! (λ l. pass_all ! refl ((tt, tt), ((tt, (tt, (record { fits = are.1.0.0.1.0 }, tt))), ((tt, (tt, (record { fits = are.1.1.0.0.1.0 }, tt))), ((tt, (tt, (record { fits = are.1.1.1.0.0.1.0 }, tt))), ((tt, tt), tt))))) $
     sets ! (of_opd ! (get ! refl)) refl (tt, tt) $
     sets ! (addr ! (through ! refl (stop !))) refl (tt, tt) $
     sets ! (addr ! (from ! (fld ! refl (hop ! (look_in_at ! 2 (sub ! 0 refl (whole !))) (stop !))))) refl (tt, tt) $
     sets ! (agg ! (and_then ! (get ! refl) (and_then ! (get_in ! (fld ! refl (stop !)) (sub ! 1 refl (whole !))) (no_more !)))) refl (tt, (tt, (record { fits = are.1.0.0.1.0 }, tt))) $
     sets ! (addr ! (from ! (fld ! refl (hop ! (look_in_at ! 3 (sub ! 0 refl (whole !))) (stop !))))) refl (tt, tt) $
     sets ! (agg ! (and_then ! (get ! refl) (and_then ! (get_in ! (fld ! refl (stop !)) (sub ! 1 refl (whole !))) (no_more !)))) refl (tt, (tt, (record { fits = are.1.1.0.0.1.0 }, tt))) $
+    sets ! (addr ! (from ! (fld ! refl (hop ! (look_in_at ! 4 (sub ! 0 refl (whole !))) (stop !))))) refl (tt, tt) $
+    sets ! (agg ! (and_then ! (get ! refl) (and_then ! (get_in ! (fld ! refl (stop !)) (sub ! 1 refl (whole !))) (no_more !)))) refl (tt, (tt, (record { fits = are.1.1.1.0.0.1.0 }, tt))) $
     sets ! (addr ! (through ! refl (stop !))) refl (tt, tt) $
     lft_new ! tt (λ α. let κ = α ∷ [] in move ! (1 ∷ 0 ∷ []) $
     use2 𝓛 (lent_scan 𝓛 scan b o κ) (lends_scan 𝓛 scan b o κ) $ await ! tt $ split ! $ split ! $
     -- [the loan; the lender's part; the loan's token; what the other parameters own; the tokens]
     let loan : Bor MarkedScan = record { ref_ptr = (b, o); now = scan } in
     let G = triple_of 𝓛 g.signature (g.spec 𝓛 𝓜.mem 𝓡.returns) in
-    let z : G.Ghost = (((κ, κs), (full_share, qs), tt, (loan, a.1), (vptr b o ∷ [], (mut_slice_vals destination, (mut_slice_vals source, (mut_vals answer, tt))))), tt) in
+    let z : G.Ghost = (((κ, κs), (full_share, qs), tt, (loan, a.1), (vptr b o ∷ [], (mut_slice_vals destination, (mut_slice_vals source, (mut_slice_vals report_to, (mut_vals answer, tt)))))), tt) in
     move ! (0 ∷ 3 ∷ []) $ join ! $ move ! (2 ∷ 3 ∷ []) $ join ! $ join ! $
     nothing ! $ move ! (1 ∷ 0 ∷ []) $ use2 𝓛 (raw (G.pre z)) (id⊢ 𝓤 _) $
     calls_at ! (framed 𝓤 𝓛.H 𝓜 (tables 𝓤 𝓛.H 𝓜 𝓡 𝓡.env)) G (met 𝓤 𝓛 𝓜 𝓡 (code.calls-tcpclkit_c::scan::describe 𝓡.env wired)) z
-    (and_then ! (get ! refl) (and_then ! (get ! refl) (and_then ! (get ! refl) (and_then ! (get ! refl) (no_more !))))) (λ v.
+    (and_then ! (get ! refl) (and_then ! (get ! refl) (and_then ! (get ! refl) (and_then ! (get ! refl) (and_then ! (get ! refl) (no_more !)))))) (λ v.
     use1 𝓛 (later (some (λ (r : ℕ). ((‵ (flft κ full_share) ⊛ Tokens) ⊛ ‵ (u32.own_val r (v ∷ []))) ⊛
     some (λ (ws : Lasts g.ended z.0.0 z.0.3). ‵ (lasts g.ended z.0.0 z.0.3 ws) ⊛
-    raw (fact 𝓤 (DescribesMarked scan before (record { destination = ws.1.0; source = ws.1.1.0 }) answer.now ws.1.1.1.0 r)))))) (id⊢ 𝓤 _) $
+    raw (fact 𝓤 (DescribesMarked scan before (three_names ws.1.0 ws.1.1.0 ws.1.1.1.0) answer.now ws.1.1.1.1.0 r)))))) (id⊢ 𝓤 _) $
     await ! tt $ pick ! (λ r. split ! $ split ! $ split ! $ lft_end ! tt $
     move ! (2 ∷ []) $ peeks ! u32 (Is u32) (shows 𝓛 u32) r (v ∷ []) (λ is. lands_as ! refl refl ((uint_Lawful 𝓛 w32).typed r _ is).0 $
     move ! (3 ∷ []) $ pick ! (λ ws. split ! $ move ! (1 ∷ []) $ heard ! _ (λ gives. fsplit ! $
@@ -71,7 +74,7 @@ tcpclkit_raw_describe_scan_spec 𝓤 𝓛 𝓜 𝓡 wired =
     use1 𝓛 (‵ (HoldsScan (block_ptr b o) seen)) (held_scan 𝓛 scan b o seen has) $
     move ! (1 ∷ []) $ nothing ! $ join ! $
     -- [what is left of the parameters; the scan; the result; the tokens]
-    use0 𝓛 (raw (fact 𝓤 (ReturnsInfo (verdict seen) (payload_seen seen) (primary_fields seen) before (record { destination = ws.1.0; source = ws.1.1.0 }) ws.1.1.1.0 r))) (fact_i 𝓤 (ReturnsInfo (verdict seen) (payload_seen seen) (primary_fields seen) before (record { destination = ws.1.0; source = ws.1.1.0 }) ws.1.1.1.0 r) (emp 𝓤) (gives.scan seen has)) $
+    use0 𝓛 (raw (fact 𝓤 (ReturnsInfo (verdict seen) (payload_seen seen) (primary_fields seen) before (three_names ws.1.0 ws.1.1.0 ws.1.1.1.0) ws.1.1.1.1.0 r))) (fact_i 𝓤 (ReturnsInfo (verdict seen) (payload_seen seen) (primary_fields seen) before (three_names ws.1.0 ws.1.1.0 ws.1.1.1.0) ws.1.1.1.1.0 r) (emp 𝓤) (gives.scan seen has)) $
     move ! (4 ∷ 1 ∷ 3 ∷ 2 ∷ []) $
-    suffices ! _ (ends_at 𝓛 f.ended stayed c (y (block_ptr b o)) v r (tt, ws.1) (tt, (tt, (tt, (tt, tt))))) $
+    suffices ! _ (ends_at 𝓛 f.ended stayed c (y (block_ptr b o)) v r (tt, ws.1) (tt, (tt, (tt, (tt, (tt, tt)))))) $
     group ! 3 $ done !)))))))))))

@@ -8,10 +8,10 @@ use Rattle.link_bundle.proofs.draft.Draft.allocator.Goals as goal
 
 pub returns : goal.returns
 unfolding field_left stage_left allocator_left
-returns c = as_judged (search rules) (search rules) (λ next offset bytes start outcome within.
+returns c = as_judged (search rules) (search rules) (search rules) (λ next offset bytes outcome within.
     let now = c.args.self.now in
     let allocator = Some c.in_ok-unsigned.field-0 in
     rw (row_at-accepted unsigned bytes offset next c.args.head c.in_ok-unsigned.field-0 outcome
     (sym c.unsigned.ensures.judged ∙ c.in_ok-unsigned.was))
-    (by_eid-numbered c.args.role now allocator now.node start bytes
+    (by_eid-numbered c.args.role now allocator now.node bytes
     (node_left allocator bytes next)))

@@ -12,7 +12,7 @@ use Rattle.link_bundle.proofs.draft.Draft.block.Goals as goal
 pub returns-in_err-self : goal.returns-in_err-self
 unfolding field_left stage_left
 returns-in_err-self c =
-    as_judged (search rules) (search rules) (λ next offset bytes start outcome within.
+    as_judged (search rules) (search rules) (search rules) (λ next bytes outcome within.
     let now = c.args.self.now in
     let fault = c.in_err-self.field-0.0 in
     let exit = err_from_is_err_and c.from_residual.result c.from_residual.ensures.1 in
@@ -20,27 +20,27 @@ returns-in_err-self c =
     (ap (λ (reading : Result Bundle Stop). read_alone bytes
     (with_known_payload now.payload_span reading))
     (blocks_at-refused (64 - length now.numbers) now.numbers
-    (primary_of now) bytes offset next c.args.head fault outcome
+    (primary_of now) bytes c.args.offset next c.args.head fault outcome
     (sym c.block.ensures.judged ∙ c.in_err-self.was))
-    ∙ read_alone-stopped now.payload_span bytes (stopped fault offset)))
+    ∙ read_alone-stopped now.payload_span bytes (stopped fault c.args.offset)))
 
 pub returns-then-is_full : goal.returns-then-is_full
 unfolding field_left stage_left
 returns-then-is_full c =
-    as_judged (search rules) (search rules) (λ next offset bytes start outcome within.
+    as_judged (search rules) (search rules) (search rules) (λ next bytes outcome within.
     let now = c.args.self.now in
     ap (λ (reading : Result Bundle Stop). read_alone bytes (with_known_payload now.payload_span reading))
     (blocks_at-full (64 - length now.numbers) now.numbers
-    (primary_of now) bytes offset next c.args.head c.in_ok-self.field-0
+    (primary_of now) bytes c.args.offset next c.args.head c.in_ok-self.field-0
     (no_room (length now.numbers) c.if-is_full.ensures.value) outcome
     (sym c.block.ensures.judged ∙ c.in_ok-self.was))
-    ∙ read_alone-stopped now.payload_span bytes (stopped TooManyBlocks offset))
+    ∙ read_alone-stopped now.payload_span bytes (stopped TooManyBlocks c.args.offset))
 
 pub returns : goal.returns
 unfolding field_left stage_left
-returns c = as_judged (search rules) (search rules) (λ next offset bytes start outcome within.
+returns c = as_judged (search rules) (search rules) (search rules) (λ next bytes outcome within.
     let now = c.args.self.now in
     ap (λ (reading : Result Bundle Stop). read_alone bytes (with_known_payload now.payload_span reading))
-    (blocks_at-open now bytes offset next c.args.head c.in_ok-self.field-0
+    (blocks_at-open now bytes c.args.offset next c.args.head c.in_ok-self.field-0
     (some_room (length now.numbers) c.if-is_full.ensures.value c.is_full.ensures.fits) outcome
     (sym c.block.ensures.judged ∙ c.in_ok-self.was)))

@@ -9,15 +9,15 @@ use Rattle.link_bundle.proofs.draft.Draft.dtn.Goals as goal
 pub returns-in-None : goal.returns-in-None
 unfolding field_left stage_left specific_at dtn_at name_left
 returns-in-None c =
-    as_judged (search rules) (search rules) (λ next offset bytes start outcome within.
+    as_judged (search rules) (search rules) (search rules) (λ next offset bytes outcome within.
     rw (row_at-accepted dtn_part bytes offset next c.args.head None outcome
     (sym c.dtn_part.ensures.judged ∙ c.in_ok-dtn_part.was ∙ ap Ok c.in-None.is))
-    (c.after_eid.ensures.reads bytes start next))
+    (c.after_eid.ensures.reads bytes next))
 
 pub returns-in-Some : goal.returns-in-Some
 unfolding field_left stage_left specific_at dtn_at name_left
 returns-in-Some c =
-    as_judged (search rules) (search rules) (λ next offset bytes start outcome within.
+    as_judged (search rules) (search rules) (search rules) (λ next offset bytes outcome within.
     rw (row_at-accepted dtn_part bytes offset next c.args.head (Some c.in-Some.size) outcome
     (sym c.dtn_part.ensures.judged ∙ c.in_ok-dtn_part.was ∙ ap Ok c.in-Some.is))
-    (c.name.ensures.reads bytes start next within))
+    (c.name.ensures.reads bytes next within))

@@ -8,6 +8,6 @@ use Rattle.link_bundle.proofs.draft.Draft.eid.Goals as goal
 
 pub returns : goal.returns
 unfolding field_left stage_left eid_at scheme_left
-returns c = as_judged (search rules) (search rules) (λ next offset bytes start outcome within.
+returns c = as_judged (search rules) (search rules) (search rules) (λ next offset bytes outcome within.
     rw (row_at-accepted pair bytes offset next c.args.head c.in_ok-pair.field-0 outcome
     (sym c.pair.ensures.judged ∙ c.in_ok-pair.was)) refl)

@@ -7,6 +7,6 @@ use Rattle.link_bundle.proofs.draft.Draft.flags.Goals as goal
 
 pub returns : goal.returns
 unfolding field_left stage_left flags_left
-returns c = as_judged (search rules) (search rules) (λ next offset bytes start outcome within.
+returns c = as_judged (search rules) (search rules) (search rules) (λ next offset bytes outcome within.
     rw (row_at-accepted unsigned bytes offset next c.args.head c.in_ok-self.field-0 outcome
     (sym c.unsigned.ensures.judged ∙ c.in_ok-self.was)) refl)

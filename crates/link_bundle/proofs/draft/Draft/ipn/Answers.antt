@@ -11,14 +11,14 @@ use Rattle.link_bundle.proofs.draft.Draft.ipn.Goals as goal
 
 pub returns-in-3 : goal.returns-in-3
 unfolding field_left stage_left specific_at ipn_at allocator_left node_left service_left
-returns-in-3 c = as_judged (search rules) (search rules) (λ next offset bytes start outcome within.
+returns-in-3 c = as_judged (search rules) (search rules) (search rules) (λ next offset bytes outcome within.
     rw (row_at-accepted ipn_part bytes offset next c.args.head 3 outcome
     (sym c.ipn_part.ensures.judged ∙ c.in_ok-ipn_part.was ∙ ap Ok c.in-3.is)) refl)
 
 pub returns-in_default : goal.returns-in_default
 unfolding field_left stage_left specific_at ipn_at node_left service_left
 returns-in_default c =
-    as_judged (search rules) (search rules) (λ next offset bytes start outcome within.
+    as_judged (search rules) (search rules) (search rules) (λ next offset bytes outcome within.
     let two : (c.in_ok-ipn_part.field-0 == 3) ≡ false =
     ne_eqb c.in_ok-ipn_part.field-0 3 (λ three. omega arith) in
     rw (
@@ -26,5 +26,5 @@ returns-in_default c =
           (sym c.ipn_part.ensures.judged ∙ c.in_ok-ipn_part.was),
       two,
     )
-    (by_eid-numbered c.args.role c.args.self.now None c.args.self.now.node start bytes
+    (by_eid-numbered c.args.role c.args.self.now None c.args.self.now.node bytes
     (node_left None bytes next)))

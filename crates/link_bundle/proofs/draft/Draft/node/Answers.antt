@@ -8,10 +8,10 @@ use Rattle.link_bundle.proofs.draft.Draft.node.Goals as goal
 
 pub returns : goal.returns
 unfolding field_left stage_left node_left
-returns c = as_judged (search rules) (search rules) (λ next offset bytes start outcome within.
+returns c = as_judged (search rules) (search rules) (search rules) (λ next offset bytes outcome within.
     let now = c.args.self.now in
     let node = c.in_ok-self.field-0 in
     rw (row_at-accepted unsigned bytes offset next c.args.head node outcome
     (sym c.unsigned.ensures.judged ∙ c.in_ok-self.was))
-    (by_eid-numbered c.args.role now now.allocator node start bytes
+    (by_eid-numbered c.args.role now now.allocator node bytes
     (service_left now.allocator node bytes next)))

@@ -25,7 +25,7 @@ returns-clause-read c =
           c.in_ok-head-3.ensures (sym c.primary_check_type.ensures.judged ∙ c.in_ok-check.was),
       c.in_ok-destination.ensures.read,
       c.in_ok-source.ensures.read,
-      c.in_ok-_report_to.ensures.read,
+      c.in_ok-report_to.ensures.read,
       c.in_ok-offset.ensures,
       c.in_ok-time.ensures,
       c.in_ok-sequence.ensures,
@@ -33,4 +33,5 @@ returns-clause-read c =
       fragment,
       c.keep.ensures,
       c.keep-2.ensures,
+      c.keep-3.ensures,
     ) refl

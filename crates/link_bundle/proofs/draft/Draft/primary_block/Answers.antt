@@ -7,6 +7,6 @@ use Rattle.link_bundle.proofs.draft.Draft.primary_block.Goals as goal
 
 pub returns : goal.returns
 unfolding field_left stage_left primary_block_left
-returns c = as_judged (search rules) (search rules) (λ next offset bytes start outcome within.
-    rw (row_at-accepted primary_block bytes offset next c.args.head c.in_ok-self.field-0 outcome
+returns c = as_judged (search rules) (search rules) (search rules) (λ next bytes outcome within.
+    rw (row_at-accepted primary_block bytes c.args.offset next c.args.head c.in_ok-self.field-0 outcome
     (sym c.primary_block.ensures.judged ∙ c.in_ok-self.was)) refl)

@@ -7,7 +7,7 @@ use Rattle.link_bundle.proofs.draft.Draft.primary_check_type.Goals as goal
 
 pub returns : goal.returns
 unfolding field_left stage_left check_type_left destination_left
-returns c = as_judged (search rules) (search rules) (λ next offset bytes start outcome within.
+returns c = as_judged (search rules) (search rules) (search rules) (λ next offset bytes outcome within.
     rw (row_at-accepted (primary_check_type c.args.self.now.count c.args.self.now.flags) bytes offset
     next c.args.head c.in_ok-primary_check_type.field-0 outcome
     (sym c.primary_check_type.ensures.judged ∙ c.in_ok-primary_check_type.was)) refl)

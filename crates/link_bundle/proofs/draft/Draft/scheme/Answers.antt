@@ -7,6 +7,6 @@ use Rattle.link_bundle.proofs.draft.Draft.scheme.Goals as goal
 
 pub returns : goal.returns
 unfolding field_left stage_left scheme_left
-returns c = as_judged (search rules) (search rules) (λ next offset bytes start outcome within.
+returns c = as_judged (search rules) (search rules) (search rules) (λ next offset bytes outcome within.
     rw (row_at-accepted scheme bytes offset next c.args.head c.in_ok-scheme.scheme outcome
     (sym c.scheme.ensures.judged ∙ c.in_ok-scheme.was)) refl)

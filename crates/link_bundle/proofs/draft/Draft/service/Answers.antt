@@ -20,22 +20,22 @@ ended : (c : In_ok-service) (allocator : Option ℕ) (stage : Stage) (new : Draf
     → AsReadFrom offset next (field.Endpoint c.args.role part.Service) c.args.self.now c.args.head
     (Ok stage) new
 unfolding field_left stage_left service_left
-ended c allocator stage new is ends next offset bytes start outcome within =
+ended c allocator stage new is ends next offset bytes outcome within =
     let now = c.args.self.now in
     let service = c.in_ok-service.service in
     rw (row_at-accepted unsigned bytes offset next c.args.head service outcome
     (sym c.unsigned.ensures.judged ∙ c.in_ok-service.was))
-    (ap (λ (allocator : Option ℕ). by_eid c.args.role now start bytes
+    (ap (λ (allocator : Option ℕ). by_eid c.args.role now bytes
     (Ok (numbered allocator now.node service, next))) is
-    ∙ ends bytes start next)
+    ∙ ends bytes next)
 
 pub returns-in-None : goal.returns-in-None
 returns-in-None c =
-    as_judged (search rules) (search rules)
+    as_judged (search rules) (search rules) (search rules)
     (ended (goal.at.returns-in-None c).In_ok-service _ _ _ c.in-None.is c.after_eid.ensures.reads)
 
 pub returns-in-Some : goal.returns-in-Some
 returns-in-Some c =
-    as_judged (search rules) (search rules)
+    as_judged (search rules) (search rules) (search rules)
     (ended (goal.at.returns-in-Some c).In_ok-service _ _ _ c.in-Some.is
     c.after_eid-in-Some.ensures.reads)

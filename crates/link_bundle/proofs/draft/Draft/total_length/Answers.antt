@@ -7,7 +7,7 @@ use Rattle.link_bundle.proofs.draft.Draft.total_length.Goals as goal
 
 pub returns : goal.returns
 unfolding field_left stage_left total_left
-returns c = as_judged (search rules) (search rules) (λ next offset bytes start outcome within.
+returns c = as_judged (search rules) (search rules) (search rules) (λ next offset bytes outcome within.
     rw (row_at-accepted unsigned bytes offset next c.args.head c.in_ok-total_length.total_length
     outcome (sym c.unsigned.ensures.judged ∙ c.in_ok-total_length.was))
-    (c.after_fields.ensures.reads bytes start next))
+    (c.after_fields.ensures.reads bytes next))

@@ -19,16 +19,16 @@ whole c =
 pub head_run-requires-clause-whole : goal.head_run-requires-clause-whole
 head_run-requires-clause-whole c = whole (goal.at.head_run-requires-clause-whole c).In-Some
 
-pub returns-in-Some : goal.returns-in-Some
-returns-in-Some c =
+pub returns-in-Some-clause-advances : goal.returns-in-Some-clause-advances
+returns-in-Some-clause-advances c =
     as_taken (search rules) (search rules) (search rules) (search rules) (λ seen come count below.
     let now = c.args.self.now in
     let piece = c.args.piece.now in
     let size = c.in-Some.size in
     ap (λ (bytes : List ℕ). bundle_goes (seen ++ bytes))
     (sym (take-take count size piece (omega arith)))
-    ∙ goes_in_head c.args.field now.cursor now.draft seen (take size piece) c.in-Some.head count
-    (at_stage now _ seen c.requires.stage come)
+    ∙ goes_in_head c.args.field now.cursor now.draft come.before seen (take size piece) c.in-Some.head count
+    (at_stage now _ come.before seen c.requires.stage come.come)
     c.requires.begins
-    (whole (goal.at.returns-in-Some c).In-Some)
+    (whole (goal.at.returns-in-Some-clause-advances c).In-Some)
     (omega (arith, length-take-le size piece c.in-Some.ensures.within)))

@@ -5,21 +5,28 @@ use Rattle.std.proofs.lemmas.List.Elements.{All-from_get_or}
 use Rattle.link_bundle.specs.declared.stage.Stage.{Stage}
 use Rattle.link_bundle.specs.CheckKinds.{is_unread}
 use Rattle.link_bundle.specs.Left.{bundle_of}
-use Rattle.link_bundle.specs.Scan.{HasSeen}
+use Rattle.link_bundle.specs.Bundle.{Bundle}
+use Rattle.link_bundle.specs.Scan.{HasSeen, HasScanned}
 use Rattle.link_bundle.proofs.Alone.{BeginsWith, begins_with, whole_come, goes_in_whole, restarted}
 use Rattle.link_bundle.proofs.Fields.{before_and, after_and}
 use Rattle.link_bundle.proofs.Steps.{at_stage, fits_at}
 use Rattle.link_bundle.proofs.scan.BundleScan.advance_start.Goals as goal
 use Rattle.link_bundle.proofs.scan.BundleScan.advance_start.Goals.{In-Ok}
 
-begins : (c : In-Ok) → BeginsWith (bundle_of c.whole.new.self c.in-Ok.size) c.args.piece.now
-begins c =
-    begins_with (bundle_of c.whole.new.self c.in-Ok.size) c.args.piece.now c.in-Ok.ensures.read
+-- the bundle that the piece begins with
+bundle : In-Ok → Bundle
+bundle c = record (bundle_of c.whole.new.self c.in-Ok.size) { blocks = c.in-Ok.ensures.read.0 }
+
+begins : (c : In-Ok) → BeginsWith (bundle c) c.args.piece.now
+unfolding bundle
+begins c = begins_with (bundle c) c.args.piece.now c.in-Ok.ensures.read.1
 
 pub overflow_add-self : goal.overflow_add-self
+unfolding bundle
 overflow_add-self c = omega (arith, (begins c).within)
 
 pub returns-in-Ok : goal.returns-in-Ok
+unfolding bundle
 returns-in-Ok c =
     let now = c.args.self.now in
     let piece = c.args.piece.now in
@@ -30,17 +37,18 @@ returns-in-Ok c =
       some = begins_here.some;
       within = begins_here.within;
       size = search rules;
-      seen = λ seen come.
-          whole_come now.cursor (record now.cursor { count = count; offset = count }) now.draft
-          c.whole.new.self
-          seen piece size
-          (at_stage now _ seen c.requires.stage come)
-          (All-from_get_or (λ (byte : ℕ). byte < 256) piece 0
-          (λ k within. omega (arith, c.type_inv.piece k)))
-          begins_here refl refl;
+      seen = λ seen come. record {
+        before = c.in-Ok.ensures.read.0;
+        come = whole_come now.cursor (record now.cursor { count = count; offset = count }) now.draft
+            c.whole.new.self come.before c.in-Ok.ensures.read.0 seen piece size
+            (at_stage now _ come.before seen c.requires.stage come.come)
+            (All-from_get_or (λ (byte : ℕ). byte < 256) piece 0
+            (λ k within. omega (arith, c.type_inv.piece k)))
+            begins_here refl refl;
+      };
       goes = λ seen come count below.
-          goes_in_whole now.cursor now.draft (bundle_of c.whole.new.self size) seen piece count
-          (at_stage now _ seen c.requires.stage come)
+          goes_in_whole now.cursor now.draft come.before _ seen piece count
+          (at_stage now _ come.before seen c.requires.stage come.come)
           begins_here below;
     }
 
@@ -52,18 +60,19 @@ returns-in-Err c = record {
   seen = λ seen come.
       let now = c.args.self.now in
       let piece = c.args.piece.now in
-      let here = at_stage now _ seen c.requires.stage come in
+      let here = at_stage now _ come.before seen c.requires.stage come.come in
       let fits = fits_at now _ c.requires.stage in
       let unread = before_and (is_unread now.draft.check) (length now.draft.numbers == 0)
       (after_and (is_none now.draft.payload_span)
       (is_unread now.draft.check && (length now.draft.numbers == 0)) fits) in
-      subst (λ (run : List ℕ). HasSeen c.open.new.self.stage c.open.new.self.cursor
-      c.open.new.self.draft (seen ++ run))
+      subst (λ (run : List ℕ). HasScanned c.open.new.self (seen ++ run))
       (sym (take_more piece 0 0 c.requires.may_take.some))
-      (c.open.ensures.seen seen
-      (subst (λ (stage : Stage). HasSeen stage now.cursor c.restart.new.self seen)
-      (sym c.requires.stage)
-      (restarted now.cursor now.draft c.restart.new.self seen here unread
-      c.restart.ensures.check)));
+      (c.open.ensures.seen seen (record {
+        before = come.before;
+        come = subst (λ (stage : Stage). HasSeen stage now.cursor c.restart.new.self come.before seen)
+            (sym c.requires.stage)
+            (restarted now.cursor now.draft c.restart.new.self come.before seen here unread
+            c.restart.ensures.check);
+      }));
   goes = search rules;
 }

@@ -1,60 +1,91 @@
-use Rattle.std.proofs.Common.{List, ℕ, ◌∷◌, [], ◌++◌, drop, sym, subst, arith, rules}
+use Rattle.std.proofs.Common.{◌≡◌, List, ℕ, ◌∷◌, [], ◌++◌, drop, refl, ap, sym, ◌∙◌, subst, arith, rules}
+use Rattle.std.proofs.lemmas.Bool.{ne_eqb}
 use Rattle.link_cbor.specs.HeadScan.{HasScannedHead}
+use Rattle.link_bundle_types.specs.declared.fault.BundleFault.TheVariants.{BadHead}
+use Rattle.link_bundle.specs.Blocks.{Block}
 use Rattle.link_bundle.specs.declared.stage.Stage.{Stage}
-use Rattle.link_bundle.specs.Scan.{HasSeen, HasScanned, HasSeenHead}
+use Rattle.link_bundle.specs.declared.stage.Stage.TheVariants.{Failed}
+use Rattle.link_bundle.specs.Left.{last_block, stage_last}
+use Rattle.link_bundle.specs.Scan.{HasSeen, HasSeenHead}
 use Rattle.link_bundle.proofs.Steps.{at_stage, one_byte, grown_head, grown_bytes, more_head, bad_head}
+use Rattle.link_bundle.proofs.Taking.{last_of, IsAfter, takes_on, takes_more, ends_nowhere}
 use Rattle.link_bundle.proofs.scan.BundleScan.head_byte.Goals as goal
 use Rattle.link_bundle.proofs.scan.BundleScan.head_byte.Goals.{After-head_byte}
 
 -- the head with the byte
-grown : (c : After-head_byte) (seen : List ℕ) → HasScanned c.args.self.now seen
-    → HasSeenHead c.args.field c.head_byte.new.self c.args.self.now.draft (seen ++ c.args.byte ∷ [])
-grown c seen come =
+grown : (c : After-head_byte) (before : List Block) (seen : List ℕ)
+    → IsAfter c.args.self.now before seen
+    → HasSeenHead c.args.field c.head_byte.new.self c.args.self.now.draft before
+    (seen ++ c.args.byte ∷ [])
+grown c before seen come =
     let now = c.args.self.now in
-    grown_head c.args.field now.cursor c.head_byte.new.self now.draft seen (c.args.byte ∷ [])
-    (at_stage now _ seen c.requires.stage come) (one_byte c.args.byte (omega arith))
+    grown_head c.args.field now.cursor c.head_byte.new.self now.draft before seen (c.args.byte ∷ [])
+    (at_stage now _ before seen c.requires.stage come) (one_byte c.args.byte (omega arith))
     c.head_byte.ensures.takes
 
-scanned : (c : After-head_byte) (seen : List ℕ) → HasScanned c.args.self.now seen
+scanned : (c : After-head_byte) (before : List Block) (seen : List ℕ)
+    → IsAfter c.args.self.now before seen
     → HasScannedHead c.head_byte.new.self.head
     (drop c.head_byte.new.self.offset (seen ++ c.args.byte ∷ []))
-scanned c seen come =
+scanned c before seen come =
     let now = c.args.self.now in
-    grown_bytes c.args.field now.cursor c.head_byte.new.self now.draft seen c.args.byte
-    (at_stage now _ seen c.requires.stage come) c.head_byte.ensures.takes.offset
+    grown_bytes c.args.field now.cursor c.head_byte.new.self now.draft before seen c.args.byte
+    (at_stage now _ before seen c.requires.stage come) c.head_byte.ensures.takes.offset
     c.head_byte.ensures.head
 
+-- the block that ended before the head, after its byte
+same_last : (c : After-head_byte)
+    → last_block c.args.field c.args.self.now.draft c.head_byte.new.self.offset
+    ≡ last_of c.args.self.now
+same_last c =
+    let now = c.args.self.now in
+    ap (λ (offset : ℕ). last_block c.args.field now.draft offset) c.head_byte.ensures.takes.offset
+    ∙ ap (λ (stage : Stage). stage_last stage now.draft now.cursor.offset) (sym c.requires.stage)
+
 pub returns-in-More : goal.returns-in-More
-returns-in-More c = record {
-  size = search rules;
-  seen = λ seen come.
-      let after = (goal.at.returns-in-More c).After-head_byte in
-      let new = c.head_byte.new.self in
-      let bytes = seen ++ c.args.byte ∷ [] in
-      let head = scanned after seen come in
-      subst (λ (stage : Stage). HasSeen stage new c.args.self.now.draft bytes)
-      (sym c.requires.stage)
-      (more_head c.args.field new c.args.self.now.draft bytes (grown after seen come) head
-      (c.in-More.ensures.front (drop new.offset bytes) head));
-}
+returns-in-More c =
+    let at = (goal.at.returns-in-More c).After-head_byte in
+    let now = c.args.self.now in
+    let new = c.head_byte.new.self in
+    takes_more (search rules)
+    (ap (λ (offset : ℕ). stage_last now.stage now.draft offset) c.head_byte.ensures.takes.offset)
+    (λ before seen come.
+    rw (ne_eqb new.offset new.count
+    (λ same. omega (
+      arith,
+      same,
+      c.head_byte.ensures.takes.offset,
+      c.head_byte.ensures.takes.count,
+      come.count,
+      (at_stage now _ before seen c.requires.stage come).stands.at.in_bytes,
+    ))) refl)
+    (λ before seen come.
+    let bytes = seen ++ c.args.byte ∷ [] in
+    let head = scanned at before seen come in
+    subst (λ (stage : Stage). HasSeen stage new now.draft before bytes) (sym c.requires.stage)
+    (more_head c.args.field new now.draft before bytes (grown at before seen come) head
+    (c.in-More.ensures.front (drop new.offset bytes) head)))
 
 pub returns-in-Bad : goal.returns-in-Bad
-returns-in-Bad c = record {
-  size = search rules;
-  seen = λ seen come.
-      let after = (goal.at.returns-in-Bad c).After-head_byte in
-      let new = c.head_byte.new.self in
-      let bytes = seen ++ c.args.byte ∷ [] in
-      bad_head c.args.field new c.args.self.now.draft bytes (grown after seen come)
-      (c.in-Bad.ensures.front (drop new.offset bytes) (scanned after seen come));
-}
+returns-in-Bad c =
+    let at = (goal.at.returns-in-Bad c).After-head_byte in
+    let now = c.args.self.now in
+    let new = c.head_byte.new.self in
+    takes_on (search rules) (ends_nowhere now.draft new)
+    (λ before seen come.
+    let bytes = seen ++ c.args.byte ∷ [] in
+    subst (λ (last : List Block). HasSeen (Failed BadHead new.offset) new now.draft (before ++ last) bytes) (same_last at)
+    (bad_head c.args.field new now.draft before bytes (grown at before seen come)
+    (c.in-Bad.ensures.front (drop new.offset bytes) (scanned at before seen come))))
 
 pub returns-in-Done : goal.returns-in-Done
-returns-in-Done c = record {
-  size = search rules;
-  seen = λ seen come.
-      let after = (goal.at.returns-in-Done c).After-head_byte in
-      let bytes = seen ++ c.args.byte ∷ [] in
-      c.take_head-self.ensures.seen bytes (grown after seen come)
-      (c.in-Done.ensures.front (drop c.head_byte.new.self.offset bytes) (scanned after seen come));
-}
+returns-in-Done c =
+    let at = (goal.at.returns-in-Done c).After-head_byte in
+    takes_on (search rules) c.take_head-self.ensures.ends
+    (λ before seen come.
+    let bytes = seen ++ c.args.byte ∷ [] in
+    subst (λ (last : List Block). HasSeen c.take_head-self.result c.take_head-self.new.cursor
+    c.take_head-self.new.draft (before ++ last) bytes) (same_last at)
+    (c.take_head-self.ensures.seen before bytes (grown at before seen come)
+    (c.in-Done.ensures.front (drop c.head_byte.new.self.offset bytes)
+    (scanned at before seen come))))

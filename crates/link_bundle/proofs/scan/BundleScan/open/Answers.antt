@@ -1,27 +1,27 @@
 use Rattle.std.proofs.Common.{◌+◌, refl, arith, rules}
 use Rattle.link_bundle.proofs.Opening.{opened, not_opened}
 use Rattle.link_bundle.proofs.Steps.{at_stage, fits_at}
+use Rattle.link_bundle.proofs.Taking.{takes_plain, none_last, ends_nowhere}
 use Rattle.link_bundle.proofs.scan.BundleScan.open.Goals as goal
 
 pub returns-then-byte-eq-OPENING : goal.returns-then-byte-eq-OPENING
-returns-then-byte-eq-OPENING c = record {
-  size = search rules;
-  seen = λ seen come.
-      let now = c.args.self.now in
-      let here = at_stage now _ seen c.requires.stage come in
-      let fits = fits_at now _ c.requires.stage in
-      opened now.cursor (record now.cursor { count = now.cursor.count + 1 }) c.enter.new.self
-      now.draft seen c.args.byte here fits c.if-byte-eq-OPENING.true refl refl
-      c.enter.ensures;
-}
+returns-then-byte-eq-OPENING c =
+    let now = c.args.self.now in
+    takes_plain (search rules) (none_last now _ c.requires.stage refl)
+    (ends_nowhere now.draft c.enter.new.self)
+    (λ before seen come.
+    opened now.cursor c.enter.new.self now.draft before seen c.args.byte
+    (at_stage now _ before seen c.requires.stage come) (fits_at now _ c.requires.stage)
+    c.if-byte-eq-OPENING.true c.enter.ensures.count c.enter.ensures.offset c.enter.ensures.head
+    c.enter.ensures.checks)
 
 pub returns-else-byte-eq-OPENING : goal.returns-else-byte-eq-OPENING
-returns-else-byte-eq-OPENING c = record {
-  size = search rules;
-  seen = λ seen come.
-      let now = c.args.self.now in
-      let here = at_stage now _ seen c.requires.stage come in
-      let fits = fits_at now _ c.requires.stage in
-      not_opened now.cursor (record now.cursor { count = now.cursor.count + 1 }) now.draft seen
-      c.args.byte here (omega arith) fits c.if-byte-eq-OPENING.false refl;
-}
+returns-else-byte-eq-OPENING c =
+    let now = c.args.self.now in
+    let cursor = record now.cursor { count = now.cursor.count + 1 } in
+    takes_plain (search rules) (none_last now _ c.requires.stage refl)
+    (ends_nowhere now.draft cursor)
+    (λ before seen come.
+    not_opened now.cursor cursor now.draft before seen c.args.byte
+    (at_stage now _ before seen c.requires.stage come) (omega arith)
+    (fits_at now _ c.requires.stage) c.if-byte-eq-OPENING.false refl)

@@ -4,18 +4,21 @@ use Rattle.link_bundle.specs.Covers.{Covers}
 use Rattle.std.proofs.lemmas.List.Elements.{All-nil}
 use Rattle.std.specs.Prelude.{◌<◌}
 use Rattle.link_bundle.specs.Left.{stage_left}
+use Rattle.link_bundle.proofs.Blocks.{none_before}
 use Rattle.link_bundle.proofs.scan.BundleScan.restart.Goals as goal
 
 pub returns-clause-seen : goal.returns-clause-seen
 unfolding stage_left
 returns-clause-seen c = record {
-  all_bytes = All-nil (λ (byte : ℕ). byte < 256);
-  count = c.new-self.ensures.count;
-  start = 0;
-  reads = λ more. refl;
-  stands = record {
-    nothing = refl;
-    checks = subst (λ (check : CheckType). Covers check c.new-self.result.checks [])
-        (sym c.restart.ensures.check) c.new-self.ensures.checks;
+  before = [];
+  come = record {
+    all_bytes = All-nil (λ (byte : ℕ). byte < 256);
+    count = c.new-self.ensures.count;
+    reads = λ more. sym (none_before _);
+    stands = record {
+      nothing = refl;
+      checks = subst (λ (check : CheckType). Covers check c.new-self.result.checks [])
+          (sym c.restart.ensures.check) c.new-self.ensures.checks;
+    };
   };
 }

@@ -1,14 +1,16 @@
-use Rattle.std.proofs.Common.{ℕ, ◌≡◌, ◌+◌, ◌*◌, ◌<◌, Some, ap, sym, ◌∙◌, arith, rules}
+use Rattle.std.proofs.Common.{ℕ, ◌≡◌, ◌+◌, ◌*◌, ◌<◌, Some, refl, ap, sym, ◌∙◌, arith, rules}
 use Rattle.std.proofs.lemmas.Bool.{eq-eqb, ne_eqb}
 use Rattle.link_cbor.specs.declared.check.CheckKind.{CheckKind}
 use Rattle.link_bundle.specs.CheckKinds.{kind_of, is_kind}
 use Rattle.link_bundle.specs.declared.scan.BundleScan.{BundleScan}
+use Rattle.link_bundle.specs.declared.stage.BlockKind.{BlockKind}
 use Rattle.link_bundle.specs.declared.stage.CheckType.{CheckType}
 use Rattle.link_bundle.specs.declared.stage.CheckType.TheVariants.{Is}
 use Rattle.link_bundle.specs.declared.stage.Stage.TheVariants.{Stored}
 use Rattle.link_bundle.proofs.Fields.{HasRoom, same_check, has_room, room, before_and}
 use Rattle.link_bundle.proofs.Contents.{grown_stored, equal_stored, other_stored}
 use Rattle.link_bundle.proofs.Steps.{at_stage, fits_at}
+use Rattle.link_bundle.proofs.Taking.{takes_plain, none_last, ends_here, ends_nowhere}
 use Rattle.link_bundle.proofs.scan.BundleScan.stored_byte.Goals as goal
 
 -- what is known of a scan in the content of a check field
@@ -16,10 +18,11 @@ record IsStoring (left stored : ℕ) (kind : CheckKind) (check : CheckType) (byt
   more : HasRoom left stored byte
   same : check ≡ Is (Some kind)
 
-storing : (scan : BundleScan) (offset left stored : ℕ) (kind : CheckKind) (byte : ℕ)
-    → scan.stage ≡ Stored offset left stored kind → byte < 256
+storing : (scan : BundleScan) (offset left stored : ℕ) (block : BlockKind) (kind : CheckKind)
+    (byte : ℕ)
+    → scan.stage ≡ Stored offset left stored block kind → byte < 256
     → IsStoring left stored kind scan.draft.check byte
-storing scan offset left stored kind byte is small =
+storing scan offset left stored block kind byte is small =
     let fits = fits_at scan _ is in
     let same_kind = is_kind (kind_of scan.draft.check) kind in
     record {
@@ -30,57 +33,57 @@ storing scan offset left stored kind byte is small =
 pub overflow_mul-stored : goal.overflow_mul-stored
 overflow_mul-stored c = omega (
   arith,
-  (storing c.args.self.now _ _ _ _ c.args.byte c.requires.stage (omega arith)).more.scaled,
+  (storing c.args.self.now _ _ _ _ _ c.args.byte c.requires.stage (omega arith)).more.scaled,
 )
 
 pub overflow_add-stored : goal.overflow_add-stored
 overflow_add-stored c = omega (
   arith,
-  (storing c.args.self.now _ _ _ _ c.args.byte c.requires.stage (omega arith)).more.scaled,
+  (storing c.args.self.now _ _ _ _ _ c.args.byte c.requires.stage (omega arith)).more.scaled,
 )
 
 pub returns-then-left-gt1 : goal.returns-then-left-gt1
-returns-then-left-gt1 c = record {
-  size = search rules;
-  seen = λ seen come.
-      let now = c.args.self.now in
-      let here = at_stage now _ seen c.requires.stage come in
-      rw c.from.ensures
-      (grown_stored c.args.offset c.args.left c.args.stored c.args.kind now.cursor
-      c.content_run.new.self now.draft seen c.args.byte
-      here (omega arith) (omega arith)
-      c.content_run.ensures);
-}
+returns-then-left-gt1 c =
+    let now = c.args.self.now in
+    takes_plain (search rules) (none_last now _ c.requires.stage refl)
+    (ends_nowhere now.draft c.content_run.new.self)
+    (λ before seen come.
+    rw c.from.ensures
+    (grown_stored c.args.offset c.args.left c.args.stored c.args.block c.args.kind now.cursor
+    c.content_run.new.self now.draft before seen c.args.byte
+    (at_stage now _ before seen c.requires.stage come) (omega arith) (omega arith)
+    c.content_run.ensures))
 
 pub returns-then-stored-value : goal.returns-then-stored-value
-returns-then-stored-value c = record {
-  size = search rules;
-  seen = λ seen come.
-      let now = c.args.self.now in
-      let at = storing now _ _ _ _ c.args.byte c.requires.stage (omega arith) in
-      equal_stored c.args.offset c.args.left c.args.stored c.value.result c.args.kind now.cursor
-      c.content_run.new.self c.enter.new.self
-      now.draft c.after_block-stage.new.self c.after_block-stage.result seen c.args.byte
-      (at_stage now _ seen c.requires.stage come)
-      (omega arith) (omega (arith, at.more.wants))
-      (eq-eqb (c.args.stored * 256 + c.args.byte) c.value.result
-      (ap (λ (byte : ℕ). c.args.stored * 256 + byte) (sym c.from.ensures) ∙ c.if-stored-value.true))
-      c.content_run.ensures (record { is = at.same; outcome = c.value.ensures })
-      c.after_block-stage.ensures.reads c.after_block-stage.ensures.keeps
-      c.enter.ensures;
-}
+returns-then-stored-value c =
+    let now = c.args.self.now in
+    let at = storing now _ _ _ _ _ c.args.byte c.requires.stage (omega arith) in
+    takes_plain (search rules) (none_last now _ c.requires.stage refl)
+    (ends_here c.after_block-stage.result c.after_block-stage.new.self c.enter.new.self
+    (c.enter.ensures.offset ∙ sym c.enter.ensures.count))
+    (λ before seen come.
+    equal_stored c.args.offset c.args.left c.args.stored c.value.result c.args.block c.args.kind
+    now.cursor c.content_run.new.self c.enter.new.self
+    now.draft c.after_block-stage.new.self c.after_block-stage.result before seen c.args.byte
+    (at_stage now _ before seen c.requires.stage come)
+    (omega arith) (omega (arith, at.more.wants))
+    (eq-eqb (c.args.stored * 256 + c.args.byte) c.value.result
+    (ap (λ (byte : ℕ). c.args.stored * 256 + byte) (sym c.from.ensures) ∙ c.if-stored-value.true))
+    c.content_run.ensures (record { is = at.same; outcome = c.value.ensures })
+    c.after_block-stage.ensures.reads c.after_block-stage.ensures.start
+    c.after_block-stage.ensures.keeps c.enter.ensures)
 
 pub returns-else-stored-value : goal.returns-else-stored-value
-returns-else-stored-value c = record {
-  size = search rules;
-  seen = λ seen come.
-      let now = c.args.self.now in
-      let at = storing now _ _ _ _ c.args.byte c.requires.stage (omega arith) in
-      other_stored c.args.offset c.args.left c.args.stored c.value.result c.args.kind now.cursor
-      c.content_run.new.self now.draft seen c.args.byte
-      (at_stage now _ seen c.requires.stage come) (omega arith) (omega (arith, at.more.wants))
-      (ne_eqb (c.args.stored * 256 + c.args.byte) c.value.result
-      (λ same. c.if-stored-value.false
-      (ap (λ (byte : ℕ). c.args.stored * 256 + byte) c.from.ensures ∙ same)))
-      c.content_run.ensures (record { is = at.same; outcome = c.value.ensures });
-}
+returns-else-stored-value c =
+    let now = c.args.self.now in
+    let at = storing now _ _ _ _ _ c.args.byte c.requires.stage (omega arith) in
+    takes_plain (search rules) (none_last now _ c.requires.stage refl)
+    (ends_nowhere now.draft c.content_run.new.self)
+    (λ before seen come.
+    other_stored c.args.offset c.args.left c.args.stored c.value.result c.args.block c.args.kind
+    now.cursor c.content_run.new.self now.draft before seen c.args.byte
+    (at_stage now _ before seen c.requires.stage come) (omega arith) (omega (arith, at.more.wants))
+    (ne_eqb (c.args.stored * 256 + c.args.byte) c.value.result
+    (λ same. c.if-stored-value.false
+    (ap (λ (byte : ℕ). c.args.stored * 256 + byte) c.from.ensures ∙ same)))
+    c.content_run.ensures (record { is = at.same; outcome = c.value.ensures }))

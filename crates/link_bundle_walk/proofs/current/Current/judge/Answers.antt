@@ -11,7 +11,7 @@ returns-then-room-eq0-clause-took c = λ begun reading short.
       arith,
       c.room-room.ensures,
       c.if-room-eq0.true,
-      reading.scanned.count,
+      reading.scanned.come.count,
       reading.opened.within,
       c.requires.some,
       short,
@@ -31,4 +31,4 @@ pub returns-clause-took : goal.returns-clause-took
 returns-clause-took c = λ begun reading short.
     judged c.args.limit _ begun c.args.piece.now c.min-size.result c.feed-count.result c.found.result (c.feed-count.ensures.count begun reading.scanned) (returns-clause-some c begun reading short)
     (c.feed-count.ensures.seen begun reading.scanned) reading.opened.front
-    (omega (arith, reading.scanned.count, reading.opened.within)) c.found.ensures
+    (omega (arith, reading.scanned.come.count, reading.opened.within)) c.found.ensures

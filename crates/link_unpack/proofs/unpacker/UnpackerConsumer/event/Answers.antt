@@ -71,13 +71,13 @@ returns-after-begins g c = rw c.in-Head.is (λ before knows comes.
     × (new.latest.total ≡ old.total) × (new.good ≡ mid.good) =
     elim c.if-begins.branch [
       | then-begins w ↦ rw w.self-is (
-        at_head wanted old w.begin_latest.new.latest transfers head.turn head.message
+        at_head wanted old w.begin.new.self transfers head.turn head.message
             (has_open before) act knows.sum knows.at_open
             (λ first closed earlier begins is starts sum.
-            w.begin_latest.ensures.follows wanted first closed earlier is starts
+            w.begin.ensures.follows wanted first closed earlier is starts
             (ap size c.report.ensures.latest ∙ sum))
             (λ none. absurd (false≢true (sym none ∙ (sym c.begins.ensures ∙ w.if-begins.true)))),
-        w.begin_latest.ensures.total ∙ ap (λ (l : TransferScan). l.total) c.report.ensures.latest,
+        w.begin.ensures.total ∙ ap (λ (l : TransferScan). l.total) c.report.ensures.latest,
         refl,
       )
       | else-begins w ↦ rw w.self-is (

@@ -1,0 +1,126 @@
+-- The data of the whole blocks lies within the bytes.
+
+use Rattle.std.proofs.Common.{◌≡◌, ℕ, zero, suc, ◌+◌, ◌<◌, ◌≤◌, Bool, true, false, List, [], ◌∷◌, ◌++◌, length, Option, Result, Ok, Err, refl, sym, ap, ⊎_elim, ltb}
+use Rattle.std.specs.Prelude.{◌==◌, if◌then◌else◌}
+use Rattle.std.specs.List.{All}
+use Rattle.std.proofs.lemmas.Bool.{cases_lt, lt-ltb}
+use Rattle.std.proofs.lemmas.List.Elements.{All-nil, All-cons}
+use Rattle.link_cbor.specs.declared.check.CheckKind.{CheckKind}
+use Rattle.link_bundle_heads.specs.Rows.{◌>>=◌, block_too_many, closing}
+use Rattle.link_bundle.specs.declared.block.CanonicalBlock.{CanonicalBlock}
+use Rattle.link_bundle.specs.Blocks.{Primary, Block, PrimaryOf, CanonicalOf, ended, LiesWithin}
+use Rattle.link_bundle.specs.Reading.{Stop, ReadAt, stopped, cut_short, row_at, bytes_at}
+use Rattle.link_bundle.specs.CheckField.{field_at}
+use Rattle.link_bundle.specs.Primary.{primary_at}
+use Rattle.link_bundle.specs.Canonical.{heads_at, content_at}
+use Rattle.link_bundle.specs.Bundle.{Bundle, with_payload, with_blocks, inside, rest_of, payload_at, blocks_at, opening_at, bundle_at, blocks_of}
+use Rattle.link_bundle.specs.Laws.{BlocksWithin}
+use Rattle.link_bundle.proofs.Blocks.{blocks_of-blocks}
+use Rattle.link_bundle.proofs.Showing.{blocks_payload, blocks_judged}
+use Rattle.link_bundle.proofs.Steady.{Reads, short, whole, row_at-reads, field_at-reads, content_at-reads, heads_at-reads, primary_at-reads, opening_at-reads}
+
+-- the data of the blocks of a reading lies within the bytes
+abbrev Lie : List ℕ → Result Bundle Stop → Type 0
+Lie bytes reading = All (LiesWithin (length bytes)) (blocks_of reading)
+
+-- a stop outside the data of blocks
+stops_bare : {A : Type 0} (bytes : List ℕ) (offset : ℕ) (stop : Stop) (later : ReadAt A)
+    → Reads bytes offset (Err stop) later → stop.blocks ≡ []
+stops_bare bytes offset stop later (short cut onward past) = ap (λ (stop : Stop). stop.blocks) cut
+stops_bare bytes offset stop later (whole is onward within) =
+    ap (λ (stop : Stop). stop.blocks) onward
+
+bare_lies : (bytes : List ℕ) (blocks : List Block) → blocks ≡ []
+    → All (LiesWithin (length bytes)) blocks
+bare_lies bytes blocks none = rw none (All-nil (LiesWithin (length bytes)))
+
+lies-then : {A : Type 0} (bytes : List ℕ) (offset : ℕ) (now later : ReadAt A)
+    (next : A × ℕ → Result Bundle Stop) → Reads bytes offset now later
+    → ((value : A × ℕ) → Lie bytes (next value)) → Lie bytes (now >>= next)
+lies-then bytes offset (Ok value) later next reads each = each value
+lies-then bytes offset (Err stop) later next reads each =
+    bare_lies bytes stop.blocks (stops_bare bytes offset stop later reads)
+
+lies-if : (test : Bool) (bytes : List ℕ) (one other : Result Bundle Stop)
+    → Lie bytes one → Lie bytes other → Lie bytes (if test then one else other)
+lies-if true bytes one other taken passed = taken
+lies-if false bytes one other taken passed = passed
+
+-- data that is read lies within the bytes
+content_within : (size : ℕ) (check : Option CheckKind) (start : ℕ) (bytes : List ℕ) (offset : ℕ)
+    (value : Bool × ℕ) → content_at size check start bytes offset ≡ Ok value
+    → offset + size ≤ length bytes
+unfolding content_at bytes_at
+content_within size check start bytes offset value is =
+    ⊎_elim
+    (λ missing.
+    let short_now : ltb (length bytes) (offset + size) ≡ true =
+    lt-ltb (length bytes) (offset + size) missing in
+    absurd (let cut : cut_short bytes ≡ Ok value = rw short_now at is in cc))
+    (λ there. there)
+    (cases_lt (length bytes) (offset + size))
+
+lies-after : (block : CanonicalBlock) (bytes : List ℕ) (now later : ReadAt Bool)
+    (rest : ℕ → Result Bundle Stop) → Reads bytes block.data_start now later
+    → ((value : Bool × ℕ) → now ≡ Ok value → block.data_start + block.data_length ≤ length bytes)
+    → ((end : ℕ) → Lie bytes (rest end))
+    → Lie bytes (inside block now
+    >>= λ (_, end). with_blocks (CanonicalOf (ended block end) ∷ []) (rest end))
+lies-after block bytes (Ok (read, end)) later rest reads there each =
+    rw (blocks_of-blocks (CanonicalOf (ended block end) ∷ []) (rest end))
+    (All-cons (LiesWithin (length bytes)) (CanonicalOf (ended block end)) (blocks_of (rest end))
+    (there (read, end) refl) (each end))
+lies-after block bytes (Err stop) later rest reads there each =
+    bare_lies bytes stop.blocks (stops_bare bytes block.data_start stop later reads)
+
+rest_lies : (block : CanonicalBlock) (bytes : List ℕ) (rest : ℕ → Result Bundle Stop)
+    → ((end : ℕ) → Lie bytes (rest end))
+    → Lie bytes (rest_of block bytes
+    >>= λ (_, end). with_blocks (CanonicalOf (ended block end) ∷ []) (rest end))
+rest_lies block bytes rest each =
+    let size = block.data_length in
+    let at = block.data_start in
+    lies-after block bytes (content_at size block.check block.start bytes at)
+    (content_at size block.check block.start (bytes ++ []) at) rest
+    (content_at-reads size block.check block.start bytes [] at)
+    (λ value is. content_within size block.check block.start bytes at value is) each
+
+payload_at-lies : (primary : Primary) (blocks : ℕ) (block : CanonicalBlock) (bytes : List ℕ)
+    → Lie bytes (payload_at primary blocks block bytes)
+unfolding payload_at
+payload_at-lies primary blocks block bytes =
+    rw (blocks_payload (block.data_start, block.data_length) _)
+    (rest_lies block bytes _
+    (λ end. lies-then bytes end (row_at closing bytes end) (row_at closing (bytes ++ []) end) _
+    (row_at-reads closing bytes [] end) (λ value. All-nil (LiesWithin (length bytes)))))
+
+blocks_at-lies : (left : ℕ) (numbers : List ℕ) (primary : Primary) (bytes : List ℕ) (start : ℕ)
+    → Lie bytes (blocks_at left numbers primary bytes start)
+unfolding blocks_at
+blocks_at-lies zero numbers primary bytes start =
+    lies-then bytes start (row_at block_too_many bytes start)
+    (row_at block_too_many (bytes ++ []) start) _ (row_at-reads block_too_many bytes [] start)
+    (λ value. All-nil (LiesWithin (length bytes)))
+blocks_at-lies (suc left) numbers primary bytes start =
+    lies-then bytes start (heads_at numbers bytes start) (heads_at numbers (bytes ++ []) start) _
+    (heads_at-reads numbers bytes [] start)
+    (λ (block, _). lies-if (block.block_type == 1) bytes _ _
+    (payload_at-lies primary (length numbers + 1) block bytes)
+    (rest_lies block bytes _
+    (λ end. blocks_at-lies left (numbers ++ block.number ∷ []) primary bytes end)))
+
+bundle_at-lies : (bytes : List ℕ) → Lie bytes (bundle_at bytes)
+unfolding bundle_at
+bundle_at-lies bytes =
+    lies-then bytes 0 (opening_at bytes) (opening_at (bytes ++ [])) _ (opening_at-reads bytes [])
+    (λ (_, start). lies-then bytes start (primary_at bytes start)
+    (primary_at (bytes ++ []) start) _ (primary_at-reads bytes [] start)
+    (λ ((primary, check), offset). lies-then bytes offset (field_at check start bytes offset)
+    (field_at check start (bytes ++ []) offset) _ (field_at-reads check start bytes [] offset)
+    (λ (_, end).
+    rw (blocks_of-blocks (PrimaryOf primary check end ∷ []) (blocks_at 64 [] primary bytes end))
+    (All-cons (LiesWithin (length bytes)) (PrimaryOf primary check end)
+    (blocks_of (blocks_at 64 [] primary bytes end)) tt (blocks_at-lies 64 [] primary bytes end)))))
+
+pub BlocksWithin-holds : BlocksWithin
+BlocksWithin-holds bytes = rw (blocks_judged bytes) (bundle_at-lies bytes)

@@ -1,0 +1,150 @@
+-- A run that was taken, and the block that ended with it.
+
+use Rattle.std.proofs.Common.{◌≡◌, ℕ, ◌+◌, ◌-◌, ◌&&◌, Bool, true, false, List, [], ◌∷◌, ◌++◌, length, take, drop, refl, sym, ap, subst, ◌∙◌, append-nil, length-drop, ⊎_elim, arith}
+use Rattle.std.specs.Prelude.{◌==◌, if◌then◌else◌}
+use Rattle.std.proofs.lemmas.Bool.{cases_lt, eq-eqb}
+use Rattle.link_bundle.specs.declared.cursor.Cursor.{Cursor}
+use Rattle.link_bundle.specs.declared.draft.Draft.{Draft}
+use Rattle.link_bundle.specs.declared.scan.BundleScan.{BundleScan}
+use Rattle.link_bundle.specs.declared.stage.Stage.{Stage}
+use Rattle.link_bundle.specs.declared.stage.Stage.TheVariants.{Ended}
+use Rattle.link_bundle.specs.Blocks.{Block}
+use Rattle.link_bundle.specs.Bundle.{blocks_in, bundle_goes}
+use Rattle.link_bundle.specs.Left.{block_of, stage_follows, stage_last}
+use Rattle.link_bundle.specs.Scan.{HasSeen, HasScanned, HasTaken, Advances, AddsBlock, ending_at, ending, scan_size}
+use Rattle.link_bundle.proofs.Feeding.{joined_run}
+use Rattle.link_bundle.proofs.Verdicts.{blocks_of-seen}
+
+-- the block that ended before the stage of a scan
+abbrev pub last_of : BundleScan → List Block
+last_of scan = stage_last scan.stage scan.draft scan.cursor.offset
+
+-- exactly these bytes were seen, after these blocks and the last one
+abbrev pub IsAfter : BundleScan → List Block → List ℕ → Type 0
+IsAfter scan before seen = HasSeen scan.stage scan.cursor scan.draft before seen
+
+blocks_grown : (old new : BundleScan) (after : List Block) (seen run : List ℕ)
+    → (come : HasScanned old seen) → IsAfter new after (seen ++ run)
+    → after ++ last_of new ≡ (come.before ++ last_of old) ++ ending new
+    → blocks_in (seen ++ run) ≡ blocks_in seen ++ ending new
+blocks_grown old new after seen run come now grew =
+    blocks_of-seen new.stage new.cursor new.draft after (seen ++ run) now new.fits
+    ∙ grew
+    ∙ ap (λ (blocks : List Block). blocks ++ ending new)
+    (sym (blocks_of-seen old.stage old.cursor old.draft come.before seen come.come old.fits))
+
+-- a stage that is entered, or a fault
+pub takes_on : {old new : BundleScan} {run : List ℕ}
+    → scan_size new ≡ scan_size old + length run → ending new ≡ last_of new
+    → ((before : List Block) (seen : List ℕ) → IsAfter old before seen
+    → IsAfter new (before ++ last_of old) (seen ++ run))
+    → HasTaken old new run
+takes_on {old = old} {new = new} {run = run} size ends goes = record {
+  size = size;
+  seen = λ seen come. record {
+    before = come.before ++ last_of old;
+    come = goes come.before seen come.come;
+  };
+  blocks = λ seen come.
+      blocks_grown old new (come.before ++ last_of old) seen run come
+      (goes come.before seen come.come)
+      (ap (λ (last : List Block). (come.before ++ last_of old) ++ last) (sym ends));
+}
+
+-- the same from a stage before which no block ended
+pub takes_plain : {old new : BundleScan} {run : List ℕ}
+    → scan_size new ≡ scan_size old + length run → last_of old ≡ [] → ending new ≡ last_of new
+    → ((before : List Block) (seen : List ℕ) → IsAfter old before seen
+    → IsAfter new before (seen ++ run))
+    → HasTaken old new run
+takes_plain {old = old} {new = new} {run = run} size none ends goes =
+    takes_on size ends
+    (λ before seen come. subst (λ (blocks : List Block). IsAfter new blocks (seen ++ run))
+    (sym (ap (λ (last : List Block). before ++ last) none ∙ append-nil before))
+    (goes before seen come))
+
+-- more bytes of a head
+pub takes_more : {old new : BundleScan} {run : List ℕ}
+    → scan_size new ≡ scan_size old + length run → last_of new ≡ last_of old
+    → ((before : List Block) (seen : List ℕ) → IsAfter old before seen → ending new ≡ [])
+    → ((before : List Block) (seen : List ℕ) → IsAfter old before seen
+    → IsAfter new before (seen ++ run))
+    → HasTaken old new run
+takes_more {old = old} {new = new} {run = run} size same none goes = record {
+  size = size;
+  seen = λ seen come.
+      record { before = come.before; come = goes come.before seen come.come };
+  blocks = λ seen come.
+      blocks_grown old new come.before seen run come (goes come.before seen come.come)
+      (ap (λ (last : List Block). come.before ++ last) same
+      ∙ sym (append-nil (come.before ++ last_of old))
+      ∙ ap (λ (last : List Block). (come.before ++ last_of old) ++ last)
+      (sym (none come.before seen come.come)));
+}
+
+-- no block ended before this stage
+pub none_last : (scan : BundleScan) (stage : Stage) → scan.stage ≡ stage
+    → stage_last stage scan.draft scan.cursor.offset ≡ [] → last_of scan ≡ []
+none_last scan stage is none =
+    ap (λ (stage : Stage). stage_last stage scan.draft scan.cursor.offset) is ∙ none
+
+-- a block that ended before a stage ends with the bytes seen, if no byte of its head was seen
+pub ends_here : (stage : Stage) (draft : Draft) (cursor : Cursor) → cursor.offset ≡ cursor.count
+    → ending_at stage draft cursor ≡ stage_last stage draft cursor.offset
+ends_here stage draft cursor here = rw (eq-eqb cursor.offset cursor.count here) refl
+
+none_chosen : (test : Bool) (none : List Block) → none ≡ [] → (if test then none else []) ≡ []
+none_chosen true none is = is
+none_chosen false none is = refl
+
+pub ends_nowhere : (draft : Draft) (cursor : Cursor) → ending_at Ended draft cursor ≡ []
+ends_nowhere draft cursor = none_chosen (cursor.offset == cursor.count) [] refl
+
+-- ---- one part after another
+
+-- no block ends where the code finds none
+ending_by : (here follows : Bool) (block : Block) → false ≡ (here && follows)
+    → (if here then (if follows then block ∷ [] else []) else []) ≡ []
+ending_by true true block none = cc
+ending_by true false block none = refl
+ending_by false follows block none = refl
+
+pub no_ending : (scan : BundleScan)
+    → false ≡ ((scan.cursor.offset == scan.cursor.count) && stage_follows scan.stage)
+    → ending scan ≡ []
+no_ending scan none =
+    ending_by (scan.cursor.offset == scan.cursor.count) (stage_follows scan.stage)
+    (block_of scan.draft.last scan.draft scan.draft.block.check scan.cursor.offset) none
+
+pub advances_on : (old mid new : BundleScan) (piece : List ℕ) (count more : ℕ)
+    → Advances old mid piece count → Advances mid new (drop count piece) more
+    → Advances old new piece (count + more)
+advances_on old mid new piece count more first second = record {
+  some = omega (arith, first.some);
+  within = omega (arith, first.within, second.within, length-drop count piece);
+  size = omega (arith, first.size, second.size);
+  seen = λ seen come.
+      rw (joined_run seen piece count more) at
+      (second.seen (seen ++ take count piece) (first.seen seen come));
+  goes = λ seen come fewer below. ⊎_elim
+      (λ sooner. first.goes seen come fewer sooner)
+      (λ later.
+      let rest : fewer ≡ count + (fewer - count) = omega arith in
+      ap (λ (size : ℕ). bundle_goes (seen ++ take size piece)) rest
+      ∙ ap bundle_goes (sym (joined_run seen piece count (fewer - count)))
+      ∙ second.goes (seen ++ take count piece) (first.seen seen come) (fewer - count)
+      (omega (arith, later, below)))
+      (cases_lt fewer count);
+}
+
+-- if no block ended with the first part
+pub adds_on : (old mid new : BundleScan) (piece : List ℕ) (count more : ℕ)
+    → Advances old mid piece count → ending mid ≡ []
+    → AddsBlock old mid piece count → AddsBlock mid new (drop count piece) more
+    → AddsBlock old new piece (count + more)
+adds_on old mid new piece count more advances none first second seen come =
+    ap blocks_in (sym (joined_run seen piece count more))
+    ∙ second (seen ++ take count piece) (advances.seen seen come)
+    ∙ ap (λ (blocks : List Block). blocks ++ ending new)
+    (first seen come ∙ ap (λ (last : List Block). blocks_in seen ++ last) none
+    ∙ append-nil (blocks_in seen))
