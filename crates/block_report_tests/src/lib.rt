@@ -1,0 +1,7 @@
+//! Tests of the lines of blocks.
+#![tactic(auto)]
+
+#[cfg(test)]
+mod lines;
+#[cfg(test)]
+mod words;

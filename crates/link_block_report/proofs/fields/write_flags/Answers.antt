@@ -1,0 +1,27 @@
+use Rattle.std.proofs.Common.{◌≡◌, ℕ, ◌<◌, [], ◌∷◌, refl, ap, arith}
+use Rattle.std.specs.Int.{w64, to_be_bytes, byte_at}
+use Rattle.std.specs.List.{flat_map}
+use Rattle.link_report.specs.Text.{hex2}
+use Rattle.link_block_report.specs.Fields.{significant, flags_text}
+use Rattle.link_block_report.proofs.fields.write_flags.Goals as goal
+
+-- a number of one byte in eight bytes
+one_byte : (n : ℕ) → n < 256 → to_be_bytes w64 n ≡ 0 ∷ 0 ∷ 0 ∷ 0 ∷ 0 ∷ 0 ∷ 0 ∷ n ∷ []
+one_byte n few =
+    let a : byte_at 0 n ≡ n = omega arith in
+    let b : byte_at 1 n ≡ 0 = omega arith in
+    let c : byte_at 2 n ≡ 0 = omega arith in
+    let d : byte_at 3 n ≡ 0 = omega arith in
+    let e : byte_at 4 n ≡ 0 = omega arith in
+    let f : byte_at 5 n ≡ 0 = omega arith in
+    let g : byte_at 6 n ≡ 0 = omega arith in
+    let h : byte_at 7 n ≡ 0 = omega arith in
+    rw (a, b, c, d, e, f, g, h) refl
+
+one_pair : (n : ℕ) → n < 256 → flags_text n ≡ hex2 n
+unfolding flags_text hex2
+one_pair n few = ap (λ bytes. flat_map hex2 (significant bytes)) (one_byte n few)
+
+pub returns-then-flags-lt256-clause-text : goal.returns-then-flags-lt256-clause-text
+returns-then-flags-lt256-clause-text c =
+    rw (one_pair c.args.flags c.if-flags-lt256.true) c.write_hex2.ensures.text

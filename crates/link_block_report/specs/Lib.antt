@@ -1,0 +1,5 @@
+pub mod Kinds
+pub mod Fields
+pub mod Words
+pub mod Blocks
+pub mod Fits
