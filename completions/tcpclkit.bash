@@ -5,7 +5,7 @@ _tcpclkit() {
   local words='' values='' flags='-h --help'
   COMPREPLY=()
   if ((COMP_CWORD == 1)); then
-    words='list unpack pack'
+    words='list unpack blocks pack'
     [[ $word != -* ]] || words="$flags -V --version"
     mapfile -t COMPREPLY < <(compgen -W "$words" -- "$word")
     return
@@ -13,6 +13,7 @@ _tcpclkit() {
   case ${COMP_WORDS[1]} in
     list) ;;
     unpack) values='--transfer' flags+=' --payload --keep-going' ;;
+    blocks) values='--transfer' flags+=' --keep-going --bundles' ;;
     pack)
       values='--node --keepalive --segment-mru --transfer-mru --peer-segment --peer-transfer --announce'
       flags+=' --end'

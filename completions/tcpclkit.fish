@@ -18,6 +18,7 @@ complete -c tcpclkit -s h -l help -d 'Print help'
 complete -c tcpclkit -n __tcpclkit_begins -s V -l version -d 'Print version'
 complete -c tcpclkit -n __tcpclkit_begins -a list -d 'Writes a line for the contact header and each message of a recording'
 complete -c tcpclkit -n __tcpclkit_begins -a unpack -d "Writes the data of a recording's transfers"
+complete -c tcpclkit -n __tcpclkit_begins -a blocks -d 'Writes a line for each block of the bundles in a recording'
 complete -c tcpclkit -n __tcpclkit_begins -a pack -d 'Writes bundles as the stream of a sender'
 
 complete -c tcpclkit -n 'not __tcpclkit_begins' -F
@@ -25,6 +26,10 @@ complete -c tcpclkit -n 'not __tcpclkit_begins' -F
 complete -c tcpclkit -n '__tcpclkit_takes unpack transfer VALUE' -x -l transfer -d 'The ID of the transfers whose data is written'
 complete -c tcpclkit -n '__tcpclkit_takes unpack payload' -l payload -d 'Write the payload of each bundle alone'
 complete -c tcpclkit -n '__tcpclkit_takes unpack keep-going' -l keep-going -d 'Go on after a fault of the order of messages'
+
+complete -c tcpclkit -n '__tcpclkit_takes blocks transfer VALUE' -x -l transfer -d 'The ID of the transfers whose lines are written'
+complete -c tcpclkit -n '__tcpclkit_takes blocks keep-going' -l keep-going -d 'Go on after a fault of the order of messages'
+complete -c tcpclkit -n '__tcpclkit_takes blocks bundles' -l bundles -d 'Read bundles, one after another, in place of a recording'
 
 complete -c tcpclkit -n '__tcpclkit_takes pack node VALUE' -x -l node -d "The sender's node ID"
 complete -c tcpclkit -n '__tcpclkit_takes pack keepalive VALUE' -x -l keepalive -d 'The keepalive interval in seconds'

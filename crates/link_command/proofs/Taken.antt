@@ -10,19 +10,19 @@ use Rattle.clap.specs.Takes.{is_given}
 use Rattle.clap.specs.Kinds.{check_kinds}
 use Rattle.clap.specs.Faults.{built_fault, check_fault, defaults_fault, entered_fault, level_fault, settle_fault, walk_fault}
 use Rattle.clap.proofs.OnLiterals.{clap_on_literals}
-use Rattle.link_command.specs.Table.{list_words, pack_words, table, unpack_words}
+use Rattle.link_command.specs.Table.{blocks_words, list_words, pack_words, table, unpack_words}
 use Rattle.clap.specs.declared.parser.matches.ArgMatches.{ArgMatches}
 use Rattle.clap.specs.declared.error.kind.ErrorKind.{ErrorKind}
 use Rattle.clap.specs.declared.error.kind.ErrorKind.TheVariants.{OutOfMemory}
 use Rattle.clap.proofs.WalkLemmas.{both}
 use Rattle.link_command.proofs.Stopped.{StopsElsewhere, level_stops, not_help, second_empty}
-use Rattle.link_command.specs.Usage.{AreAccepted, IsFaultOf, is_request, node_of}
+use Rattle.link_command.specs.Usage.{AreAccepted, IsFaultOf, is_request, mixes_inputs_of, node_of}
 use Rattle.link_command.specs.Reading.{IsToolFault, NamesTool, StandsFor}
 use Rattle.link_command.specs.declared.usage.UsageFault.{UsageFault}
-use Rattle.link_command.specs.declared.usage.UsageFault.TheVariants.{Help, Words, NodeTooLong, Memory}
+use Rattle.link_command.specs.declared.usage.UsageFault.TheVariants.{Help, Words, NodeTooLong, MixedInputs, Memory}
 
 pub table_is_simple : is_simple_and_free table ≡ true
-unfolding clap_on_literals table list_words unpack_words pack_words
+unfolding clap_on_literals table list_words unpack_words blocks_words pack_words
 table_is_simple = refl
 
 -- ---- a tool is named
@@ -49,58 +49,62 @@ level_checked s names h words has below none =
     let defaults = second_empty (settle_fault s.rules s.args_override_self end) _ settle in
     second_empty (defaults_fault (settled s.rules end).rows s.rules) _ defaults
 
--- a subcommand is entered, and its name is one of the three
-abbrev NamesOneOf : (a b c : Text) → Option (Text × List Row) → Type 0
-NamesOneOf a b c None = ⊥
-NamesOneOf a b c (Some tool) = (tool.0 ≡ a) ⊎ ((tool.0 ≡ b) ⊎ (tool.0 ≡ c))
+-- a subcommand is entered, and its name is one of the four
+abbrev NamesOneOf : (a b c d : Text) → Option (Text × List Row) → Type 0
+NamesOneOf a b c d None = ⊥
+NamesOneOf a b c d (Some tool) = (tool.0 ≡ a) ⊎ ((tool.0 ≡ b) ⊎ ((tool.0 ≡ c) ⊎ (tool.0 ≡ d)))
 
 -- the subcommand of the first test that passes, if there is one
-abbrev first_of_four : (b₁ b₂ b₃ b₄ : Bool) (s₁ s₂ s₃ s₄ : Shape) → Option Shape
-first_of_four b₁ b₂ b₃ b₄ s₁ s₂ s₃ s₄ =
-    cond b₁ (Some s₁) (cond b₂ (Some s₂) (cond b₃ (Some s₃) (cond b₄ (Some s₄) None)))
+abbrev first_of_five : (b₁ b₂ b₃ b₄ b₅ : Bool) (s₁ s₂ s₃ s₄ s₅ : Shape) → Option Shape
+first_of_five b₁ b₂ b₃ b₄ b₅ s₁ s₂ s₃ s₄ s₅ =
+    cond b₁ (Some s₁)
+    (cond b₂ (Some s₂) (cond b₃ (Some s₃) (cond b₄ (Some s₄) (cond b₅ (Some s₅) None))))
 
--- If the test of the fourth fails, the name is that of one of the first three.
-entered_name : (s₁ s₂ s₃ s₄ : Shape) (rest : List Text) (b₁ b₂ b₃ b₄ : Bool) → b₄ ≡ false
-    → is_some (option_map (λ s. rows_at s rest) (first_of_four b₁ b₂ b₃ b₄ s₁ s₂ s₃ s₄)) ≡ true
-    → NamesOneOf s₁.name s₂.name s₃.name
-    (option_map (λ s. rows_at s rest) (first_of_four b₁ b₂ b₃ b₄ s₁ s₂ s₃ s₄))
-entered_name s₁ s₂ s₃ s₄ rest true b₂ b₃ b₄ other some = inl refl
-entered_name s₁ s₂ s₃ s₄ rest false true b₃ b₄ other some = inr (inl refl)
-entered_name s₁ s₂ s₃ s₄ rest false false true b₄ other some = inr (inr refl)
-entered_name s₁ s₂ s₃ s₄ rest false false false true other some = absurd (true≢false other)
-entered_name s₁ s₂ s₃ s₄ rest false false false false other some = absurd (true≢false (sym some))
+-- If the test of the fifth fails, the name is that of one of the first four.
+entered_name : (s₁ s₂ s₃ s₄ s₅ : Shape) (rest : List Text) (b₁ b₂ b₃ b₄ b₅ : Bool) → b₅ ≡ false
+    → is_some (option_map (λ s. rows_at s rest) (first_of_five b₁ b₂ b₃ b₄ b₅ s₁ s₂ s₃ s₄ s₅))
+    ≡ true
+    → NamesOneOf s₁.name s₂.name s₃.name s₄.name
+    (option_map (λ s. rows_at s rest) (first_of_five b₁ b₂ b₃ b₄ b₅ s₁ s₂ s₃ s₄ s₅))
+entered_name s₁ s₂ s₃ s₄ s₅ rest true b₂ b₃ b₄ b₅ other some = inl refl
+entered_name s₁ s₂ s₃ s₄ s₅ rest false true b₃ b₄ b₅ other some = inr (inl refl)
+entered_name s₁ s₂ s₃ s₄ s₅ rest false false true b₄ b₅ other some = inr (inr (inl refl))
+entered_name s₁ s₂ s₃ s₄ s₅ rest false false false true b₅ other some = inr (inr (inr refl))
+entered_name s₁ s₂ s₃ s₄ s₅ rest false false false false true other some = absurd (true≢false other)
+entered_name s₁ s₂ s₃ s₄ s₅ rest false false false false false other some = absurd (true≢false (sym some))
 
--- a command with three tools and a fourth subcommand, which is `help`
-abbrev with_tools : (top s₁ s₂ s₃ s₄ : Shape) → App
-with_tools top s₁ s₂ s₃ s₄ = record { top = top; subs = s₁ ∷ s₂ ∷ s₃ ∷ s₄ ∷ [] }
+-- a command with four tools and a fifth subcommand, which is `help`
+abbrev with_tools : (top s₁ s₂ s₃ s₄ s₅ : Shape) → App
+with_tools top s₁ s₂ s₃ s₄ s₅ = record { top = top; subs = s₁ ∷ s₂ ∷ s₃ ∷ s₄ ∷ s₅ ∷ [] }
 
--- The subcommand at which a walk stopped is one of the first three, if the walk stopped elsewhere
+-- The subcommand at which a walk stopped is one of the first four, if the walk stopped elsewhere
 -- than at `help`.
-entered_one : (top s₁ s₂ s₃ s₄ : Shape) (stop : Option (Text × List Text))
-    → label_of s₄ ≡ (codes "help", []) → StopsElsewhere stop
-    → is_some (entered (with_tools top s₁ s₂ s₃ s₄) stop) ≡ true
-    → NamesOneOf s₁.name s₂.name s₃.name (entered (with_tools top s₁ s₂ s₃ s₄) stop)
-entered_one top s₁ s₂ s₃ s₄ None help elsewhere some = absurd (true≢false (sym some))
-entered_one top s₁ s₂ s₃ s₄ (Some p) help elsewhere some = entered_name s₁ s₂ s₃ s₄ p.1 (answers_to p.0 (label_of s₁)) (answers_to p.0 (label_of s₂)) (answers_to p.0 (label_of s₃)) (answers_to p.0 (label_of s₄))
+entered_one : (top s₁ s₂ s₃ s₄ s₅ : Shape) (stop : Option (Text × List Text))
+    → label_of s₅ ≡ (codes "help", []) → StopsElsewhere stop
+    → is_some (entered (with_tools top s₁ s₂ s₃ s₄ s₅) stop) ≡ true
+    → NamesOneOf s₁.name s₂.name s₃.name s₄.name
+    (entered (with_tools top s₁ s₂ s₃ s₄ s₅) stop)
+entered_one top s₁ s₂ s₃ s₄ s₅ None help elsewhere some = absurd (true≢false (sym some))
+entered_one top s₁ s₂ s₃ s₄ s₅ (Some p) help elsewhere some = entered_name s₁ s₂ s₃ s₄ s₅ p.1 (answers_to p.0 (label_of s₁)) (answers_to p.0 (label_of s₂)) (answers_to p.0 (label_of s₃)) (answers_to p.0 (label_of s₄)) (answers_to p.0 (label_of s₅))
     (ap (answers_to p.0) help ∙ not_help p.0 elsewhere) some
 
--- Where a subcommand is required, words in which nothing is wrong name one of the three tools.
-built_names : (top s₁ s₂ s₃ s₄ : Shape) (words : List Text) → top.subcommand_required ≡ true
-    → top.disable_help_subcommand ≡ false → label_of s₄ ≡ (codes "help", [])
-    → built_fault (with_tools top s₁ s₂ s₃ s₄) nothing_held words ≡ []
-    → NamesOneOf s₁.name s₂.name s₃.name (entered (with_tools top s₁ s₂ s₃ s₄)
-    (stop_after top.rules (names_of (with_tools top s₁ s₂ s₃ s₄)) words))
-built_names top s₁ s₂ s₃ s₄ words required enabled help none =
-    let app : App = with_tools top s₁ s₂ s₃ s₄ in
+-- Where a subcommand is required, words in which nothing is wrong name one of the four tools.
+built_names : (top s₁ s₂ s₃ s₄ s₅ : Shape) (words : List Text) → top.subcommand_required ≡ true
+    → top.disable_help_subcommand ≡ false → label_of s₅ ≡ (codes "help", [])
+    → built_fault (with_tools top s₁ s₂ s₃ s₄ s₅) nothing_held words ≡ []
+    → NamesOneOf s₁.name s₂.name s₃.name s₄.name (entered (with_tools top s₁ s₂ s₃ s₄ s₅)
+    (stop_after top.rules (names_of (with_tools top s₁ s₂ s₃ s₄ s₅)) words))
+built_names top s₁ s₂ s₃ s₄ s₅ words required enabled help none =
+    let app : App = with_tools top s₁ s₂ s₃ s₄ s₅ in
     let names : Names = names_of app in
     let stop = stop_after top.rules names words in
     let has = is_some (entered app stop) in
-    entered_one top s₁ s₂ s₃ s₄ stop help (level_stops top names nothing_held words has (entered_fault app stop) enabled none)
+    entered_one top s₁ s₂ s₃ s₄ s₅ stop help (level_stops top names nothing_held words has (entered_fault app stop) enabled none)
     (check_passes top (finished top.rules (walk top.rules names nothing_held words).held) has required (level_checked top names nothing_held words has (entered_fault app stop) none))
 
 pub taken_names : (words : List Text) → AreAccepted words → NamesTool (subcommand_of table words)
-unfolding table list_words unpack_words pack_words
-taken_names words taken = built_names (built table).top (built_leaf list_words) (built_leaf unpack_words) (built_leaf pack_words) (built_leaf help_shape) (argument_words table words) refl refl refl taken
+unfolding table list_words unpack_words blocks_words pack_words
+taken_names words taken = built_names (built table).top (built_leaf list_words) (built_leaf unpack_words) (built_leaf blocks_words) (built_leaf pack_words) (built_leaf help_shape) (argument_words table words) refl refl refl taken
 
 -- ---- the results of a parse, if the command is that of the table
 
@@ -119,7 +123,8 @@ pub tool_fault : (words : List Text) (tool : Option (Text × List Row))
     → tool ≡ subcommand_of table words → AreAccepted words
     → (fault : UsageFault) → IsToolFault tool fault → IsFaultOf words fault
 tool_fault words tool is taken fault (inl long) = subst (IsFaultOf words) (sym long.0) (taken, subst (λ t. 1024 < length (node_of t)) is long.1)
-tool_fault words tool is taken fault (inr memory) = subst (IsFaultOf words) (sym memory) tt
+tool_fault words tool is taken fault (inr (inl mixed)) = subst (IsFaultOf words) (sym mixed.0) (taken, subst (λ t. mixes_inputs_of t ≡ true) is mixed.1)
+tool_fault words tool is taken fault (inr (inr memory)) = subst (IsFaultOf words) (sym memory) tt
 
 pub clap_fault : (a : App) (words : List Text) (kind : ErrorKind) (fault : UsageFault)
     → a ≡ table → StandsFor kind fault
@@ -129,4 +134,5 @@ clap_fault a words kind (Help text) is stands (inr among) = (kind, subst (λ x. 
 clap_fault a words kind (Words text) is stands (inl memory) = absurd (stands.1 memory)
 clap_fault a words kind (Words text) is stands (inr among) = (kind, subst (λ x. IsAmong kind (fault_of x words)) is among, stands.0)
 clap_fault a words kind NodeTooLong is stands among = absurd stands
+clap_fault a words kind MixedInputs is stands among = absurd stands
 clap_fault a words kind Memory is stands among = tt

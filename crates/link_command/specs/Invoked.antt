@@ -1,5 +1,5 @@
 -- The invocation that a command line asks for, by the matches that `clap` defines for its words.
-use Rattle.std.specs.Prelude.{◌≡◌, ◌&&◌, ◌^◌, ℕ, Bool, false, List, [], Option, Some, None, codes, length, max, min, nat_lt, option_and_then, option_map, string_bytes, unwrap_or, if◌then◌else◌}
+use Rattle.std.specs.Prelude.{◌≡◌, ◌&&◌, ◌||◌, ◌^◌, ℕ, Bool, true, false, List, [], Option, Some, None, codes, is_some, length, max, min, nat_lt, option_and_then, option_map, string_bytes, unwrap_or, if◌then◌else◌}
 use Rattle.std.specs.List.{list_all}
 use Rattle.std.specs.Option.{option_map_or}
 use Rattle.std.specs.Str.{bytes_eq}
@@ -7,6 +7,7 @@ use Rattle.std.specs.Str.Parse.{digits_value, without_leading_plus}
 use Rattle.std.specs.Char.{digit_value}
 use Rattle.clap.specs.Words.{Row, Text, first_of, one_of, subcommand_of}
 use Rattle.link_unpack.specs.declared.wanted.Wanted.{Wanted}
+use Rattle.link_blocks.specs.declared.options.BlockOptions.{BlockOptions}
 use Rattle.link_pack.specs.declared.options.PackOptions.{PackOptions}
 use Rattle.link_command.specs.Table.{table}
 use Rattle.link_tools.specs.declared.options.Options.{Options}
@@ -43,12 +44,26 @@ is_set name rows = option_map_or (λ text. bytes_eq text (codes "true")) (first_
 unfoldable pub text_of : (name : Text) → List Row → Text
 text_of name rows = unwrap_or (first_of name rows) []
 
+-- whether an option of `blocks` for recordings was given
+abbrev pub is_for_recordings : List Row → Bool
+is_for_recordings rows =
+    is_some (first_of (codes "transfer") rows) || is_set (codes "keep-going") rows
+
+-- whether `--bundles` was given together with an option for recordings
+abbrev pub mixes_inputs : List Row → Bool
+mixes_inputs rows = is_set (codes "bundles") rows && is_for_recordings rows
+
 -- ---- the invocation
 
 pub record IsWanted (rows : List Row) (wanted : Wanted) : Type 0 where
   pub only : wanted.only ≡ number_in (2 ^ 64) (codes "transfer") rows
   pub payload : wanted.payload ≡ is_set (codes "payload") rows
   pub keep_going : wanted.keep_going ≡ is_set (codes "keep-going") rows
+
+pub record IsBlockOptions (rows : List Row) (options : BlockOptions) : Type 0 where
+  pub recording : is_set (codes "bundles") rows ≡ false
+  pub only : options.only ≡ number_in (2 ^ 64) (codes "transfer") rows
+  pub keep_going : options.keep_going ≡ is_set (codes "keep-going") rows
 
 -- `max` and `min` change no number that `clap` takes, because the table has the same bounds.
 pub record IsPackOptions (rows : List Row) (packing : PackOptions) : Type 0 where
@@ -65,6 +80,9 @@ pub record IsPackOptions (rows : List Row) (packing : PackOptions) : Type 0 wher
 abbrev pub AreOptions : (name : Text) → List Row → Options → Type 0
 AreOptions name rows options.List = name ≡ codes "list"
 AreOptions name rows (options.Unpack wanted) = (name ≡ codes "unpack") × IsWanted rows wanted
+AreOptions name rows (options.Blocks shown) = (name ≡ codes "blocks") × IsBlockOptions rows shown
+AreOptions name rows options.BundleBlocks = (name ≡ codes "blocks")
+    × (is_set (codes "bundles") rows ≡ true) × (is_for_recordings rows ≡ false)
 AreOptions name rows (options.Pack packing) = (name ≡ codes "pack") × IsPackOptions rows packing
 
 pub record IsInvokedBy (name : Text) (rows : List Row) (invocation : Invocation) : Type 0 where

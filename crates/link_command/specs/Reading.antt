@@ -3,21 +3,23 @@ use Rattle.std.specs.Prelude.{◌≡◌, ◌<◌, ◌⊎◌, ⊤, true, false, L
 use Rattle.clap.specs.Words.{Row, Text}
 use Rattle.clap.specs.declared.error.kind.ErrorKind.{ErrorKind}
 use Rattle.clap.specs.declared.error.kind.ErrorKind.TheVariants.{OutOfMemory}
-use Rattle.link_command.specs.Usage.{is_request, node_of}
+use Rattle.link_command.specs.Usage.{is_request, mixes_inputs_of, node_of}
 use Rattle.link_command.specs.declared.usage.UsageFault.{UsageFault}
-use Rattle.link_command.specs.declared.usage.UsageFault.TheVariants.{Help, Words, NodeTooLong, Memory}
+use Rattle.link_command.specs.declared.usage.UsageFault.TheVariants.{Help, Words, NodeTooLong, MixedInputs, Memory}
 
 abbrev pub IsToolName : Text → Type 0
-IsToolName name = (name ≡ codes "list") ⊎ ((name ≡ codes "unpack") ⊎ (name ≡ codes "pack"))
+IsToolName name = (name ≡ codes "list")
+    ⊎ ((name ≡ codes "unpack") ⊎ ((name ≡ codes "blocks") ⊎ (name ≡ codes "pack")))
 
--- the words name one of the three tools
+-- the words name one of the four tools
 abbrev pub NamesTool : Option (Text × List Row) → Type 0
 NamesTool None = ⊥
 NamesTool (Some tool) = IsToolName tool.0
 
 -- the faults that may be returned for the matches of a tool
 abbrev pub IsToolFault : Option (Text × List Row) → UsageFault → Type 0
-IsToolFault tool fault = ((fault ≡ NodeTooLong) × (1024 < length (node_of tool))) ⊎ (fault ≡ Memory)
+IsToolFault tool fault = ((fault ≡ NodeTooLong) × (1024 < length (node_of tool)))
+    ⊎ (((fault ≡ MixedInputs) × (mixes_inputs_of tool ≡ true)) ⊎ (fault ≡ Memory))
 
 -- The faults that may be returned for an error of `clap` of this kind. `Memory` may be returned for
 -- any kind.
@@ -25,4 +27,5 @@ abbrev pub StandsFor : ErrorKind → UsageFault → Type 0
 StandsFor kind (Help text) = is_request kind ≡ true
 StandsFor kind (Words text) = (is_request kind ≡ false) × (kind ≡ OutOfMemory → ⊥)
 StandsFor kind NodeTooLong = ⊥
+StandsFor kind MixedInputs = ⊥
 StandsFor kind Memory = ⊤

@@ -58,6 +58,14 @@ unpack_words = tool (codes "unpack") (
     ∷ file
     ∷ [])
 
+unfoldable pub blocks_words : Shape
+blocks_words = tool (codes "blocks") (
+    number (codes "transfer") any_u64
+    ∷ flag (codes "keep-going")
+    ∷ flag (codes "bundles")
+    ∷ file
+    ∷ [])
+
 unfoldable pub pack_words : Shape
 pack_words = tool (codes "pack") (
     record (option (codes "node")) { required = true }
@@ -85,5 +93,5 @@ unfoldable pub table : App
 table =
     record {
       top = record program { is_leaf = false };
-      subs = list_words ∷ unpack_words ∷ pack_words ∷ [];
+      subs = list_words ∷ unpack_words ∷ blocks_words ∷ pack_words ∷ [];
     }

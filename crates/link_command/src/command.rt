@@ -3,7 +3,7 @@
 ghost use Rattle.std.specs.Prelude.{◌≡◌, [], ◌∷◌, codes, IfOk, true};
 ghost use Rattle.clap.specs.Words.{app_of};
 ghost use Rattle.link_command.specs.Building.{AddsRules, HasRule, IsTool};
-ghost use Rattle.link_command.specs.Table.{any_u16, any_u64, file, flag, list_words, number, number_or, one_or_more, option, pack_words, program, table, tool, unpack_words, up_to_1048576};
+ghost use Rattle.link_command.specs.Table.{any_u16, any_u64, blocks_words, file, flag, list_words, number, number_or, one_or_more, option, pack_words, program, table, tool, unpack_words, up_to_1048576};
 
 use clap::builder::ValueParser;
 use clap::{Arg, ArgAction, Command, value_parser};
@@ -37,7 +37,8 @@ out of a capture.
 
 Exit status:
   0  the input was read to its end, and nothing was wrong with it; or help was asked for
-  1  unpack: some transfer is not good, or with --keep-going some message was out of order
+  1  unpack, blocks: some transfer is not good, or with --keep-going some message was
+     out of order
   2  the arguments are wrong; standard error says how
   3  a fault of the input stopped the run
   4  the file could not be opened, reading or writing failed, the input is too long,
@@ -83,6 +84,29 @@ Example:
   $ tcpclkit unpack --payload session.tcpcl > payloads
   transfer 0 start=0 written=5 length=34 good source=ipn:1.1 time=0 sequence=0 destination=ipn:2.1 payload=5";
 
+const BLOCKS_ABOUT: &str = "Writes a line for each block of the bundles in a recording";
+
+const BLOCKS_HELP: &str =
+    "Offsets are those of a bundle's bytes. After the blocks of a transfer comes a line that says
+whether it is good, as the report of unpack does. Standard error has fault lines alone.
+
+With --bundles, FILE has bundles, one after another, such as the output of unpack.
+
+Exit status:
+  0  each transfer is good, and nothing was wrong with the input
+  1  the recording was read to its end, and some transfer is not good, or with
+     --keep-going some message was out of order
+  2  the arguments are wrong; standard error says how
+  3  a fault of the recording, or with --bundles a bad bundle, stopped the run
+  4  the file could not be opened, reading or writing failed, the input is too long,
+     or there was no memory
+
+Example:
+  $ tcpclkit blocks --transfer 0 session.tcpcl
+  0 primary at=1 length=21 flags=00 check=none destination=ipn:2.1 source=ipn:1.1 report-to=dtn:none time=0 sequence=0 lifetime=0
+  0 block 1 at=22 length=11 type=1/payload flags=00 check=none data-at=28 data-length=5
+  0 end length=34 good";
+
 const PACK_ABOUT: &str =
     "Writes bundles as the stream of a sender, and a line for each on standard error";
 
@@ -102,13 +126,13 @@ pub(crate) fn tcpclkit<'a>(alloc: Global) -> Result<Command<'a>, AllocError>
     ensures { IfOk result (λ command. app_of command ≡ table) }
 {
     let list = list_command(alloc)?;
+    let one = program(alloc).subcommand(list)?;
     let unpack = unpack_command(alloc)?;
-    let pack = pack_command(alloc)?;
-    let top = program(alloc);
-    let one = top.subcommand(list)?;
     let two = one.subcommand(unpack)?;
-    let all = two.subcommand(pack)?;
-    Ok(all)
+    let blocks = blocks_command(alloc)?;
+    let three = two.subcommand(blocks)?;
+    let pack = pack_command(alloc)?;
+    three.subcommand(pack)
 }
 
 /// The command `tcpclkit` without its tools.
@@ -126,9 +150,7 @@ fn program<'a>(alloc: Global) -> Command<'a>
 fn list_command<'a>(alloc: Global) -> Result<Command<'a>, AllocError>
     ensures { IfOk result (IsTool list_words) }
 {
-    let tool = tool(alloc, "list", LIST_ABOUT, LIST_HELP);
-    let whole = tool.arg(file(alloc))?;
-    Ok(whole)
+    tool(alloc, "list", LIST_ABOUT, LIST_HELP).arg(file(alloc))
 }
 
 /// The tool `unpack`.
@@ -136,15 +158,9 @@ fn unpack_command<'a>(alloc: Global) -> Result<Command<'a>, AllocError>
     ensures { IfOk result (IsTool unpack_words) }
 {
     let tool = tool(alloc, "unpack", UNPACK_ABOUT, UNPACK_HELP);
-    let keep_going = flag(
-        alloc,
-        "keep-going",
-        "Go on after a fault of the order of messages",
-    );
     let one = with_selection(alloc, tool)?;
-    let two = one.arg(keep_going)?;
-    let whole = two.arg(file(alloc))?;
-    Ok(whole)
+    let two = one.arg(keep_going(alloc))?;
+    two.arg(file(alloc))
 }
 
 /// Adds the options of `unpack` for the data that is written.
@@ -154,10 +170,43 @@ fn with_selection<'a>(alloc: Global, tool: Command<'a>) -> Result<Command<'a>, A
         ∷ flag (codes "payload")
         ∷ []) tool.entry) }
 {
+    let transfer = transfer(
+        alloc,
+        "The ID of the transfers whose data is written, 0 to 18446744073709551615 [default: all]",
+    );
+    let one = tool.arg(transfer)?;
     let payload = flag(alloc, "payload", "Write the payload of each bundle alone");
-    let one = tool.arg(transfer(alloc))?;
-    let two = one.arg(payload)?;
-    Ok(two)
+    one.arg(payload)
+}
+
+/// The tool `blocks`.
+fn blocks_command<'a>(alloc: Global) -> Result<Command<'a>, AllocError>
+    ensures { IfOk result (IsTool blocks_words) }
+{
+    let tool = tool(alloc, "blocks", BLOCKS_ABOUT, BLOCKS_HELP);
+    let one = with_shown(alloc, tool)?;
+    let bundles = flag(
+        alloc,
+        "bundles",
+        "Read bundles, one after another, in place of a recording",
+    );
+    let two = one.arg(bundles)?;
+    two.arg(file(alloc))
+}
+
+/// Adds the options of `blocks` for recordings.
+fn with_shown<'a>(alloc: Global, tool: Command<'a>) -> Result<Command<'a>, AllocError>
+    ensures { IfOk result (AddsRules (
+        number (codes "transfer") any_u64
+        ∷ flag (codes "keep-going")
+        ∷ []) tool.entry) }
+{
+    let transfer = transfer(
+        alloc,
+        "The ID of the transfers whose lines are written, 0 to 18446744073709551615 [default: all]",
+    );
+    let one = tool.arg(transfer)?;
+    one.arg(keep_going(alloc))
 }
 
 /// The tool `pack`.
@@ -167,8 +216,7 @@ fn pack_command<'a>(alloc: Global) -> Result<Command<'a>, AllocError>
     let tool = tool(alloc, "pack", PACK_ABOUT, PACK_HELP);
     let one = with_sender(alloc, tool)?;
     let two = with_limits(alloc, one)?;
-    let whole = with_form(alloc, two)?;
-    Ok(whole)
+    with_form(alloc, two)
 }
 
 /// Adds the options of `pack` for the sender: node ID, keepalive interval and segment MRU.
@@ -181,8 +229,7 @@ fn with_sender<'a>(alloc: Global, tool: Command<'a>) -> Result<Command<'a>, Allo
 {
     let one = tool.arg(node(alloc))?;
     let two = one.arg(keepalive(alloc))?;
-    let three = two.arg(segment_mru(alloc))?;
-    Ok(three)
+    two.arg(segment_mru(alloc))
 }
 
 /// Adds the options of `pack` for the sender's transfer MRU and for the limits of the peer.
@@ -195,8 +242,7 @@ fn with_limits<'a>(alloc: Global, tool: Command<'a>) -> Result<Command<'a>, Allo
 {
     let one = tool.arg(transfer_mru(alloc))?;
     let two = one.arg(peer_segment(alloc))?;
-    let three = two.arg(peer_transfer(alloc))?;
-    Ok(three)
+    two.arg(peer_transfer(alloc))
 }
 
 /// Adds the options of `pack` for announced lengths and for SESS_TERM, and its input.
@@ -213,24 +259,29 @@ fn with_form<'a>(alloc: Global, tool: Command<'a>) -> Result<Command<'a>, AllocE
         up_to_1048576(),
         "Announce the length of bundles of more than one segment and at most N bytes, 0 to 1048576",
     );
-    let end = flag(alloc, "end", "End the stream with SESS_TERM");
     let one = tool.arg(announce.default_value("0"))?;
+    let end = flag(alloc, "end", "End the stream with SESS_TERM");
     let two = one.arg(end)?;
-    let three = two.arg(file(alloc))?;
-    Ok(three)
+    two.arg(file(alloc))
 }
 
-/// The option `--transfer` of `unpack`.
-fn transfer<'a>(alloc: Global) -> Arg<'a>
+/// The option `--transfer` of `unpack` and `blocks`.
+fn transfer<'a>(alloc: Global, help: &'a str) -> Arg<'a>
     ensures { HasRule (number (codes "transfer") any_u64) result }
 {
-    let transfer = number(
-        alloc,
-        "transfer",
-        any_u64(),
-        "The ID of the transfers whose data is written, 0 to 18446744073709551615 [default: all]",
-    );
+    let transfer = number(alloc, "transfer", any_u64(), help);
     transfer.value_name("ID")
+}
+
+/// The flag `--keep-going` of `unpack` and `blocks`.
+fn keep_going<'a>(alloc: Global) -> Arg<'a>
+    ensures { HasRule (flag (codes "keep-going")) result }
+{
+    flag(
+        alloc,
+        "keep-going",
+        "Go on after a fault of the order of messages",
+    )
 }
 
 /// The option `--node` of `pack`.

@@ -3,7 +3,7 @@
 ghost use Rattle.std.specs.Prelude.{◌≡◌, ◌^◌, ◌<◌, ◌⊎◌, codes, length, map, option_map, string_bytes, true, IfErr, IfNone, IfOk, IfSome, Some};
 ghost use Rattle.clap.specs.Words.{first_of, found_of, kind_of, rows_of, subcommand_rows_of, takes};
 ghost use Rattle.link_command.specs.Table.{table};
-ghost use Rattle.link_command.specs.Invoked.{AreOptions, IsInvoked, IsInvokedBy, IsInvokedByTool, IsPackOptions, IsWanted, is_set, number_in, number_of, text_of};
+ghost use Rattle.link_command.specs.Invoked.{AreOptions, IsInvoked, IsInvokedBy, IsInvokedByTool, IsPackOptions, IsWanted, is_for_recordings, is_set, mixes_inputs, number_in, number_of, text_of};
 ghost use Rattle.link_command.specs.Usage.{AreAccepted, IsFaultOf};
 ghost use Rattle.link_command.specs.Reading.{IsToolFault, IsToolName, NamesTool, StandsFor};
 
@@ -12,7 +12,7 @@ use crate::invocation::Invocation;
 use crate::usage::UsageFault;
 use clap::error::ErrorKind;
 use clap::{ArgMatches, Error};
-use link_tools::{Options, PackOptions, Wanted};
+use link_tools::{BlockOptions, Options, PackOptions, Wanted};
 use link_wire::NodeId;
 use std::alloc::{AllocError, Global};
 
@@ -23,13 +23,15 @@ use std::alloc::{AllocError, Global};
 /// - [`UsageFault::Help`]: `clap` finds a request for help or for the version in the words.
 /// - [`UsageFault::Words`]: `clap` refuses the words. Its own definition decides which it takes.
 /// - [`UsageFault::NodeTooLong`]: the node ID has more than 1,024 bytes.
+/// - [`UsageFault::MixedInputs`]: `--bundles` comes with an option for recordings.
 /// - [`UsageFault::Memory`]: a request for memory was refused.
 pub fn options(alloc: Global, words: &[String]) -> Result<Invocation, UsageFault>
     ensures ok { IfOk result (IsInvoked (map string_bytes words.now)) }
     ensures taken { IfOk result (λ _. AreAccepted (map string_bytes words.now)) }
     ensures err { IfErr result (IsFaultOf (map string_bytes words.now)) }
     ensures passes { takes table (map string_bytes words.now) ≡ true
-        → IfErr result (λ fault. (fault ≡ UsageFault.NodeTooLong) ⊎ (fault ≡ UsageFault.Memory)) }
+        → IfErr result (λ fault. (fault ≡ UsageFault.NodeTooLong)
+        ⊎ ((fault ≡ UsageFault.MixedInputs) ⊎ (fault ≡ UsageFault.Memory))) }
 {
     let command = match tcpclkit(alloc) {
         Ok(command) => command,
@@ -59,26 +61,27 @@ fn invocation_of(alloc: Global, name: &str, tool: &ArgMatches<'_>) -> Result<Inv
     ensures ok { IfOk result (IsInvokedBy name.now (rows_of (found_of tool.now))) }
     ensures err { IfErr result (IsToolFault (Some (name.now, rows_of (found_of tool.now)))) }
 {
-    let Some(options) = options_of(name, tool) else {
-        return Err(UsageFault::NodeTooLong);
-    };
+    let options = options_of(name, tool)?;
     match file(alloc, tool) {
         Ok(file) => Ok(Invocation { options, file }),
         Err(_) => Err(UsageFault::Memory),
     }
 }
 
-/// The options of the tool of this name. `None`: the node ID is too long.
-fn options_of(name: &str, tool: &ArgMatches<'_>) -> Option<Options>
+/// The options of the tool of this name.
+fn options_of(name: &str, tool: &ArgMatches<'_>) -> Result<Options, UsageFault>
     requires { IsToolName name.now }
-    ensures some { IfSome result (AreOptions name.now (rows_of (found_of tool.now))) }
-    ensures none { IfNone result (1024
-        < length (text_of (codes "node") (rows_of (found_of tool.now)))) }
+    ensures ok { IfOk result (AreOptions name.now (rows_of (found_of tool.now))) }
+    ensures err { IfErr result (IsToolFault (Some (name.now, rows_of (found_of tool.now)))) }
 {
     match name {
-        "unpack" => Some(Options::Unpack(wanted(tool))),
-        "pack" => Some(Options::Pack(pack_options(tool)?)),
-        _ => Some(Options::List),
+        "unpack" => Ok(Options::Unpack(wanted(tool))),
+        "blocks" => blocks(tool),
+        "pack" => match pack_options(tool) {
+            Some(options) => Ok(Options::Pack(options)),
+            None => Err(UsageFault::NodeTooLong),
+        },
+        _ => Ok(Options::List),
     }
 }
 
@@ -102,6 +105,31 @@ fn wanted(tool: &ArgMatches<'_>) -> Wanted
         payload: is_set(tool, "payload"),
         keep_going: is_set(tool, "keep-going"),
     }
+}
+
+/// The options of `blocks`.
+fn blocks(tool: &ArgMatches<'_>) -> Result<Options, UsageFault>
+    ensures ok { IfOk result (AreOptions (codes "blocks") (rows_of (found_of tool.now))) }
+    ensures err { IfErr result (λ fault. (fault ≡ UsageFault.MixedInputs)
+        × (mixes_inputs (rows_of (found_of tool.now)) ≡ true)) }
+{
+    if !is_set(tool, "bundles") {
+        return Ok(Options::Blocks(BlockOptions {
+            only: number_in(tool, "transfer"),
+            keep_going: is_set(tool, "keep-going"),
+        }));
+    }
+    if is_for_recordings(tool) {
+        return Err(UsageFault::MixedInputs);
+    }
+    Ok(Options::BundleBlocks)
+}
+
+/// Whether an option of `blocks` for recordings was given.
+fn is_for_recordings(tool: &ArgMatches<'_>) -> bool
+    ensures { result ≡ is_for_recordings (rows_of (found_of tool.now)) }
+{
+    text(tool, "transfer").is_some() || is_set(tool, "keep-going")
 }
 
 /// The options of `pack`. `None`: the node ID is too long.

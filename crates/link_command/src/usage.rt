@@ -17,6 +17,10 @@ pub enum UsageFault {
     /// The text of `--node` has more than 1,024 bytes.
     #[error("node id longer than 1024 bytes")]
     NodeTooLong,
+    /// `--bundles` was given together with `--transfer` or `--keep-going`, which are for
+    /// recordings.
+    #[error("--bundles goes with no other option")]
+    MixedInputs,
     /// A request for memory was refused.
     #[error("out of memory")]
     Memory,
@@ -33,6 +37,7 @@ pub fn usage_exit(fault: &UsageFault) -> (u8, &'static str)
         UsageFault::Help(_) => (0, ""),
         UsageFault::Words(_) => (2, ""),
         UsageFault::NodeTooLong => (2, "tcpclkit: node id longer than 1024 bytes"),
+        UsageFault::MixedInputs => (2, "tcpclkit: --bundles goes with no other option"),
         UsageFault::Memory => (4, "tcpclkit: out of memory"),
     }
 }

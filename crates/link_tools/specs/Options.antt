@@ -5,6 +5,8 @@ use Rattle.link_run.specs.Run.{Tool, Looks, Devices, Wait, AfterRun}
 use Rattle.link_run.specs.declared.run.Status.{Status}
 use Rattle.link_list.specs.Listing.{list_tool}
 use Rattle.link_unpack.specs.Unpacking.{unpack_tool}
+use Rattle.link_blocks.specs.Showing.{blocks_tool}
+use Rattle.link_blocks.specs.Bundles.{bundle_blocks_tool}
 use Rattle.link_pack.specs.Packing.{pack_tool}
 use Rattle.link_pack.specs.Packer.{IsCutterFor}
 use Rattle.link_pack.specs.PackRun.{LacksMemory}
@@ -17,6 +19,8 @@ use Rattle.link_tools.specs.declared.options.Options.TheVariants as chosen
 abbrev pub options_of : Job → Options
 options_of job.List = chosen.List
 options_of (job.Unpack wanted) = chosen.Unpack wanted
+options_of (job.Blocks options) = chosen.Blocks options
+options_of job.BundleBlocks = chosen.BundleBlocks
 options_of (job.Pack options memory) = chosen.Pack options
 
 -- `pack` has a new cutter for its options, or its request for memory was refused. The other tools
@@ -24,12 +28,16 @@ options_of (job.Pack options memory) = chosen.Pack options
 abbrev pub IsReady : Job → Type 0
 IsReady job.List = ⊤
 IsReady (job.Unpack wanted) = ⊤
+IsReady (job.Blocks options) = ⊤
+IsReady job.BundleBlocks = ⊤
 IsReady (job.Pack options memory) = IfOk memory (IsCutterFor options)
 
 -- The tool of a job that has the memory that it needs. Only the request of `pack` may be refused.
 abbrev pub job_tool : Job → Option Tool
 job_tool job.List = Some list_tool
 job_tool (job.Unpack wanted) = Some (unpack_tool wanted)
+job_tool (job.Blocks options) = Some (blocks_tool options)
+job_tool job.BundleBlocks = Some bundle_blocks_tool
 job_tool (job.Pack options (Ok cutter)) = Some (pack_tool options)
 job_tool (job.Pack options (Err refused)) = None
 

@@ -4,6 +4,7 @@ ghost use Rattle.std.specs.Prelude.{◌≡◌, false};
 ghost use Rattle.link_run.specs.Run.{looks};
 ghost use Rattle.link_tools.specs.Options.{AfterJob, IsReady, options_of};
 
+use link_blocks::{BlockOptions, blocks, bundle_blocks};
 use link_list::list;
 use link_pack::{PackOptions, cutter_for, pack};
 use link_run::RunEnd;
@@ -19,6 +20,10 @@ pub enum Options {
     List,
     /// `unpack`: the wanted data of a recording's transfers, and a line for each transfer.
     Unpack(Wanted),
+    /// `blocks` of a recording: a line for each block of its bundles.
+    Blocks(BlockOptions),
+    /// `blocks` of bundles, one after another: a line for each of their blocks.
+    BundleBlocks,
     /// `pack`: bundles as the stream of a sender, and a line for each bundle.
     Pack(PackOptions),
 }
@@ -30,6 +35,10 @@ pub enum Job {
     List,
     /// The tool of [`Options::Unpack`].
     Unpack(Wanted),
+    /// The tool of [`Options::Blocks`].
+    Blocks(BlockOptions),
+    /// The tool of [`Options::BundleBlocks`].
+    BundleBlocks,
     /// The tool of [`Options::Pack`], with the result of its one request for memory.
     Pack(PackOptions, Result<Cutter, AllocError>),
 }
@@ -45,6 +54,8 @@ impl Job {
         match options {
             Options::List => Job::List,
             Options::Unpack(wanted) => Job::Unpack(wanted),
+            Options::Blocks(options) => Job::Blocks(options),
+            Options::BundleBlocks => Job::BundleBlocks,
             Options::Pack(options) => {
                 let memory = cutter_for(alloc, &options);
                 Job::Pack(options, memory)
@@ -75,6 +86,8 @@ pub fn run_tool<R: InDevice, W: OutDevice, E: OutDevice>(
     match job {
         Job::List => list(reader, output, report),
         Job::Unpack(wanted) => unpack(wanted, reader, output, report),
+        Job::Blocks(options) => blocks(options, reader, output, report),
+        Job::BundleBlocks => bundle_blocks(reader, output, report),
         Job::Pack(options, memory) => pack(memory, options, reader, output, report),
     }
 }

@@ -1,4 +1,5 @@
 use Rattle.std.proofs.Common.{◌∙◌, ap₂}
+use Rattle.std.proofs.lemmas.Result.{IfOk-weaker}
 use Rattle.clap.specs.Words.{with_subcommand}
 use Rattle.link_command.specs.Table.{table}
 use Rattle.link_command.proofs.command.tcpclkit.Goals as goal
@@ -6,6 +7,9 @@ use Rattle.link_command.proofs.command.tcpclkit.Goals as goal
 pub returns : goal.returns
 unfolding table
 returns c =
-    let one = c.in_ok-one.ensures.shape c.in_ok-list.ensures.local ∙ ap₂ with_subcommand c.program-top.ensures c.in_ok-list.ensures.shape in
+    let one = c.in_ok-one.ensures.shape c.in_ok-list.ensures.local ∙ ap₂ with_subcommand c.program.ensures c.in_ok-list.ensures.shape in
     let two = c.in_ok-two.ensures.shape c.in_ok-unpack.ensures.local ∙ ap₂ with_subcommand one c.in_ok-unpack.ensures.shape in
-    c.in_ok-all.ensures.shape c.in_ok-pack.ensures.local ∙ ap₂ with_subcommand two c.in_ok-pack.ensures.shape
+    let three = c.in_ok-three.ensures.shape c.in_ok-blocks.ensures.local ∙ ap₂ with_subcommand two c.in_ok-blocks.ensures.shape in
+    IfOk-weaker c.subcommand-4.result _ _
+    (λ all adds. adds.shape c.in_ok-pack.ensures.local ∙ ap₂ with_subcommand three c.in_ok-pack.ensures.shape)
+    c.subcommand-4.ensures

@@ -1,0 +1,154 @@
+-- The texts of bundles, when more bytes come.
+use Rattle.std.proofs.Common.{◌≡◌, ℕ, suc, ◌+◌, List, [], ◌∷◌, ◌++◌, length, None, OnOk, Result, Ok, Err, refl, ap, sym, ◌∙◌, append-nil, append_assoc, arith}
+use Rattle.link_wire.specs.Device.{Output}
+use Rattle.link_wire.specs.declared.IoFault.{IoFault}
+use Rattle.link_report.specs.declared.judgement.Judgement.TheVariants.{Good}
+use Rattle.link_block_report.specs.Blocks.{end_text}
+use Rattle.link_run.specs.Run.{no_texts, ◌then◌}
+use Rattle.link_run.specs.Writers.{on_output, AfterWrite}
+use Rattle.link_run.specs.declared.writers.Writers.{Writers}
+use Rattle.link_run.proofs.Runs.{texts_as, writes_none, outputs_then, part_of_more}
+use Rattle.link_bundle_walk.specs.Bundles.{Packed}
+use Rattle.link_bundle_walk.specs.Telling.{SoFar, none_yet, between, with_run, Tells}
+use Rattle.link_blocks.specs.BlockLines.{block_lines}
+use Rattle.link_blocks.specs.BundleLister.{IsListing}
+use Rattle.link_blocks.specs.Bundles.{whole_lines, bundle_lines, bundle_blocks_telling}
+use Rattle.link_blocks.specs.Piece.{ShowsMore}
+use Rattle.link_blocks.specs.declared.bundles.BundleLister.{BundleLister}
+use Rattle.link_blocks.proofs.Lines.{no_lines}
+
+-- one more bundle, which has the number `n`
+lines_of_push : (number n : ℕ) (bundles : List Packed) (bundle : Packed)
+    → n ≡ number + length bundles
+    → bundle_lines number (bundles ++ bundle ∷ []) ≡ bundle_lines number bundles
+    ++ whole_lines n bundle
+unfolding bundle_lines
+lines_of_push number n [] bundle is =
+    append-nil _ ∙ ap (λ k. whole_lines k bundle) {y = n} (omega arith)
+lines_of_push number n (first ∷ bundles) bundle is =
+    ap (λ (lines : List ℕ). whole_lines number first ++ lines)
+    (lines_of_push (suc number) n bundles bundle (omega arith))
+    ∙ sym (append_assoc (whole_lines number first) _ _)
+
+-- between two bundles, the lines are those of the whole ones
+between_lines : (bundles : List Packed)
+    → bundle_lines 0 bundles ++ block_lines (length bundles) [] ≡ bundle_lines 0 bundles
+between_lines bundles =
+    ap (λ (lines : List ℕ). bundle_lines 0 bundles ++ lines) (no_lines (length bundles))
+    ∙ append-nil (bundle_lines 0 bundles)
+
+holds_if : {P : Type 0} (result : Result (Unit {0}) IoFault) → P → OnOk result P
+holds_if (Ok done) holds = holds
+holds_if (Err fault) holds = tt
+
+none_lines : bundle_lines 0 [] ≡ []
+unfolding bundle_lines
+none_lines = refl
+
+module _ {W E : Type 0} (out_look : W → Output) (report_look : E → Output) (lister : BundleLister) where
+  -- of what is said of `now`, all that was not said of `before` was written
+  abbrev TellsRun : (before now : SoFar) → (old new : Writers W E) → Result (Unit {0}) IoFault → Type 0
+  TellsRun before now old new result =
+      Tells out_look report_look (bundle_blocks_telling.texts before)
+      (bundle_blocks_telling.texts now) (IsListing lister now.begun) old new result
+
+  -- nothing has come
+  pub told_none : (writers : Writers W E) → IsListing lister []
+      → Tells out_look report_look no_texts (bundle_blocks_telling.texts none_yet)
+      (IsListing lister []) writers writers (Ok tt)
+  told_none writers listing = record {
+    texts = no_texts;
+    said = texts_as (sym (between_lines [] ∙ none_lines)) refl;
+    wrote = writes_none out_look report_look writers;
+    known = listing;
+  }
+
+  -- the input has ended
+  pub told_end : (bundles : List Packed) (writers : Writers W E)
+      → Tells out_look report_look (bundle_blocks_telling.texts (between bundles))
+      (bundle_blocks_telling.ended bundles) (Unit {0}) writers writers (Ok tt)
+  told_end bundles writers = record {
+    texts = no_texts;
+    said = texts_as (append-nil _ ∙ between_lines bundles) refl;
+    wrote = writes_none out_look report_look writers;
+    known = tt;
+  }
+
+  module _ (before : SoFar) (run : List ℕ) (number : ℕ)
+      (numbered : number ≡ length before.bundles) where
+    abbrev whole : List ℕ
+    whole = bundle_lines 0 before.bundles
+
+    -- the bundle goes on
+    pub told_on : (old new : Writers W E) (result : Result (Unit {0}) IoFault)
+        → ShowsMore out_look report_look number before.begun run old new result
+        → OnOk result (IsListing lister (before.begun ++ run))
+        → TellsRun before (with_run before run None) old new result
+    told_on old new result shows listing = record {
+      texts = on_output shows.lines;
+      said = texts_as
+          (append_assoc whole (block_lines (length before.bundles) before.begun) shows.lines
+          ∙ ap (λ (lines : List ℕ). whole ++ lines)
+          (ap (λ n. block_lines n before.begun ++ shows.lines) (sym numbered)
+          ∙ sym shows.are ∙ ap (λ n. block_lines n (before.begun ++ run)) numbered))
+          refl;
+      wrote = shows.wrote;
+      known = listing;
+    }
+
+    -- the bundle is whole, and has the line of its end
+    module _ (bundle : Packed) (is : bundle.bytes ≡ before.begun ++ run) where
+      abbrev ended : SoFar
+      ended = between (before.bundles ++ bundle ∷ [])
+
+      abbrev last : List ℕ
+      last = end_text number (length bundle.bytes) (Good bundle.info)
+
+      whole_said : (lines : List ℕ)
+          → block_lines number (before.begun ++ run) ≡ block_lines number before.begun ++ lines
+          → bundle_blocks_telling.texts before then on_output (lines ++ last)
+          ≡ bundle_blocks_telling.texts ended
+      whole_said lines are = texts_as
+          (append_assoc whole (block_lines (length before.bundles) before.begun) (lines ++ last)
+          ∙ ap (λ (rest : List ℕ). whole ++ rest)
+          (ap (λ n. block_lines n before.begun ++ (lines ++ last)) (sym numbered)
+          ∙ sym (append_assoc (block_lines number before.begun) lines last)
+          ∙ ap (λ (rest : List ℕ). rest ++ last) (sym are)
+          ∙ ap (λ (bytes : List ℕ). block_lines number bytes ++ last) (sym is))
+          ∙ sym (lines_of_push 0 number before.bundles bundle (omega arith))
+          ∙ sym (between_lines (before.bundles ++ bundle ∷ [])))
+          refl
+
+      tells_ended : (old new : Writers W E) (result : Result (Unit {0}) IoFault) (lines : List ℕ)
+          → block_lines number (before.begun ++ run) ≡ block_lines number before.begun ++ lines
+          → AfterWrite out_look report_look old new (on_output (lines ++ last)) result
+          → OnOk result (IsListing lister []) → TellsRun before ended old new result
+      tells_ended old new result lines are wrote listing = record {
+        texts = on_output (lines ++ last);
+        said = whole_said lines are;
+        wrote = wrote;
+        known = listing;
+      }
+
+      -- a writer failed in the lines of the blocks
+      pub told_lost : (old new : Writers W E) (fault : IoFault)
+          → ShowsMore out_look report_look number before.begun run old new (Err fault)
+          → TellsRun before ended old new (Err fault)
+      told_lost old new fault shows =
+          tells_ended old new (Err fault) shows.lines shows.are
+          (part_of_more out_look report_look old new (on_output shows.lines) (on_output last) fault
+          (λ none. absurd (omega arith)) shows.wrote)
+          tt
+
+      -- `size` is the length of the bundle
+      pub told_whole : (size : ℕ) → size ≡ length bundle.bytes
+          → (old mid new : Writers W E) (done : Unit {0}) (result : Result (Unit {0}) IoFault)
+          → ShowsMore out_look report_look number before.begun run old mid (Ok done)
+          → AfterWrite out_look report_look mid new
+          (on_output (end_text number size (Good bundle.info))) result
+          → IsListing lister [] → TellsRun before ended old new result
+      told_whole size sized old mid new done result shows wrote listing =
+          tells_ended old new result shows.lines shows.are
+          (outputs_then out_look report_look old mid new shows.lines last result shows.wrote
+          (rw (sym sized) wrote))
+          (holds_if result listing)

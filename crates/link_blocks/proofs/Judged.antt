@@ -1,0 +1,73 @@
+-- A piece of a bundle, of which some bytes were scanned.
+use Rattle.std.proofs.Common.{◌≡◌, ℕ, ◌⊎◌, false, List, [], ◌++◌, take, drop, Result, IsTrue, ap, sym, ◌∙◌, subst, ⊎_elim, append-nil, append_assoc, fold}
+use Rattle.std.proofs.lemmas.Bool.{false≢true}
+use Rattle.std.proofs.lemmas.List.{take-append-drop}
+use Rattle.link_bundle_types.specs.declared.fault.BundleFault.{BundleFault}
+use Rattle.link_bundle_types.specs.declared.info.BundleInfo.{BundleInfo}
+use Rattle.link_bundle.specs.Blocks.{Block}
+use Rattle.link_bundle.specs.Bundle.{state_of, is_going, bundle_goes, blocks_in}
+use Rattle.link_bundle.specs.Scan.{HasScanned, HasJudged, may_scan}
+use Rattle.link_bundle.specs.declared.scan.BundleScan.{BundleScan}
+use Rattle.link_bundle.proofs.Pieces.{verdict_judged}
+use Rattle.link_blocks.specs.BlockLines.{flags_after, lines_from, block_lines}
+use Rattle.link_blocks.specs.DataReader.{IsReading}
+use Rattle.link_blocks.specs.declared.data.DataReader.{DataReader}
+use Rattle.link_blocks.proofs.Lines.{lines_more, lines_end}
+use Rattle.link_blocks.proofs.Reading.{read_end}
+
+-- ---- a scan that has judged some bytes
+
+module _ (scan : BundleScan) (bytes : List ℕ) (judged : HasJudged scan bytes) where
+  -- if it may take more bytes, it has seen all of these
+  pub seen_all : IsTrue (may_scan scan) → HasScanned scan bytes
+  seen_all may = ⊎_elim
+      (λ (none : judged.rest ≡ []).
+      subst (HasScanned scan)
+      (sym (append-nil judged.seen) ∙ ap (λ xs. judged.seen ++ xs) (sym none) ∙ judged.parts)
+      judged.scanned)
+      (λ stuck. absurd (false≢true (sym stuck ∙ may)))
+      judged.enough
+
+  pub goes_judged : bundle_goes judged.seen ≡ bundle_goes bytes
+  goes_judged =
+      ap (λ (v : Result BundleInfo (BundleFault × ℕ)). is_going (state_of v))
+      (verdict_judged scan bytes judged)
+
+-- ---- the rest of a piece
+
+pub joined_rest : (content piece : List ℕ) (count : ℕ)
+    → (content ++ take count piece) ++ drop count piece ≡ content ++ piece
+joined_rest content piece count =
+    append_assoc content (take count piece) (drop count piece)
+    ∙ ap (λ xs. content ++ xs) (take-append-drop count piece)
+
+-- no more blocks come in the rest, or there is none
+pub rest_read : (reader : DataReader) (bytes rest : List ℕ)
+    → (bundle_goes bytes ≡ false) ⊎ (rest ≡ []) → IsReading reader bytes
+    → IsReading reader (bytes ++ rest)
+rest_read reader bytes rest ends reading = ⊎_elim
+    (λ stops. read_end reader bytes rest reading stops)
+    (λ none. subst (IsReading reader) (sym (append-nil bytes) ∙ ap (λ xs. bytes ++ xs) (sym none)) reading)
+    ends
+
+pub rest_lines : (id : ℕ) (bytes rest : List ℕ) → (bundle_goes bytes ≡ false) ⊎ (rest ≡ [])
+    → block_lines id (bytes ++ rest) ≡ block_lines id bytes
+rest_lines id bytes rest ends = ⊎_elim
+    (λ stops. lines_end id bytes rest stops)
+    (λ none. ap (block_lines id) (ap (λ xs. bytes ++ xs) none ∙ append-nil bytes))
+    ends
+
+-- ---- one more block
+
+-- the lines so far, and those of the blocks that a run adds
+pub run_lines : (id flags : ℕ) (content bytes run lines : List ℕ) (new : List Block)
+    → flags ≡ fold flags_after 0 (blocks_in bytes)
+    → blocks_in (bytes ++ run) ≡ blocks_in bytes ++ new
+    → block_lines id bytes ≡ block_lines id content ++ lines
+    → block_lines id (bytes ++ run)
+    ≡ block_lines id content ++ (lines ++ lines_from id flags (bytes ++ run) new)
+run_lines id flags content bytes run lines new is grown are =
+    lines_more id bytes run new grown
+    ∙ ap (λ n. block_lines id bytes ++ lines_from id n (bytes ++ run) new) (sym is)
+    ∙ ap (λ (xs : List ℕ). xs ++ lines_from id flags (bytes ++ run) new) are
+    ∙ append_assoc (block_lines id content) lines (lines_from id flags (bytes ++ run) new)

@@ -1,0 +1,7 @@
+mod Lines
+mod Reading
+mod Runs
+mod Judged
+mod Ended
+mod Told
+mod BundleTexts

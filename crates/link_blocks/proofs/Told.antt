@@ -1,0 +1,329 @@
+-- What is kept after one more event, and what is written for it.
+use Rattle.std.proofs.Common.{◌≡◌, ℕ, ◌+◌, ◌≤◌, Bool, true, false, not, ◌&&◌, ◌==◌, is_some, List, [], ◌∷◌, ◌++◌, length, Option, Result, Ok, Err, OnOk, flat_map, if◌then◌else◌, refl, ap, sym, ◌∙◌, append-nil, append_assoc, arith}
+use Rattle.std.proofs.Math.Bool.{and-true}
+use Rattle.std.proofs.lemmas.Grind.{flat_map-append}
+use Rattle.link_wire.specs.Codes.{is_start, is_end}
+use Rattle.link_wire.specs.Device.{Output}
+use Rattle.link_wire.specs.Message.{data_length}
+use Rattle.link_wire.specs.declared.IoFault.{IoFault}
+use Rattle.link_wire.specs.declared.message.Message.{Message}
+use Rattle.link_wire.specs.declared.message.Message.TheVariants as message
+use Rattle.link_wire.specs.declared.message.SegmentHead.{SegmentHead}
+use Rattle.link_transfer.specs.declared.joiner.Turn.{Turn}
+use Rattle.link_run.specs.Run.{Texts, no_texts, ◌then◌}
+use Rattle.link_run.specs.Writers.{on_output, on_report, Writes, AfterWrite}
+use Rattle.link_run.specs.declared.writers.Writers.{Writers}
+use Rattle.link_run.proofs.Runs.{texts_as, writes_then, part_behind}
+use Rattle.link_walk.specs.Walk.{Head, WalkEvent, MessageHead, closes as closes_head, is_last, is_beginning, open_with, open_after_event, data_size, has_open, abandons}
+use Rattle.link_walk.specs.Telling.{ComesAfter, Tells, data_ends}
+use Rattle.link_unpack.specs.Transfers.{Transfer, closes, continued}
+use Rattle.link_unpack.specs.TransferJudge.{begun, grown}
+use Rattle.link_unpack.specs.Unpacking.{order_line, Told, good_due, transfers_at, told_event, told_after}
+use Rattle.link_unpack.proofs.Effects.{zero_eq, Does, Strays, Passes, Begins, Continues, comes_does}
+use Rattle.link_unpack.proofs.Events.{open_is, told_push, data_after, whole_if}
+use Rattle.link_unpack.proofs.Heads.{transfers_same, transfer_begins, transfer_continues}
+use Rattle.link_unpack.proofs.Told.{size_then, open_then, size_with_data, open_with_data, told_none}
+use Rattle.link_unpack.proofs.Transfers.{judging_same}
+use Rattle.link_blocks.specs.Lister.{IsAtLatest, KnowsShown, end_due}
+use Rattle.link_blocks.specs.Showing.{transfer_lines, lines_of, order_line_of, unpacking_by, blocks_telling}
+use Rattle.link_blocks.specs.TransferBlocks.{IsShowing}
+use Rattle.link_blocks.specs.declared.lister.BlockLister.{BlockLister}
+use Rattle.link_blocks.specs.declared.options.BlockOptions.{BlockOptions}
+use Rattle.link_blocks.specs.declared.transfer.TransferBlocks.{TransferBlocks}
+use Rattle.link_blocks.proofs.Ended.{lines_of-more, ended_lines, head_lines}
+
+-- ---- the latest transfer
+
+module _ (only : Option ℕ) where
+  showing_same : (now : TransferBlocks) (transfer : Transfer) (closed : Bool)
+      → IsShowing only now transfer → IsShowing only now (grown transfer [] closed)
+  showing_same now transfer closed shows = record {
+    judging = judging_same now.judge transfer closed shows.judging;
+    reading = rw append-nil shows.reading;
+  }
+
+  -- the latest transfer is continued without data
+  continued_at : (now : TransferBlocks) (transfers : List Transfer) (closed is_open : Bool)
+      → is_open ≡ not closed → IsAtLatest only now true transfers
+      → IsAtLatest only now is_open (continued transfers [] closed)
+  continued_at now transfers closed is_open is at = record {
+    transfer = grown at.transfer [] closed;
+    earlier = at.earlier;
+    are = ap (λ ts. continued ts [] closed) at.are;
+    opened = is;
+    shows = showing_same now at.transfer closed at.shows;
+  }
+
+  -- what is known of the latest transfer after a head, which may close it
+  pub record AtHead (now : TransferBlocks) (transfers : List Transfer) (effect : Option Turn)
+      (closing opened : Bool) : Type 0 where
+    pub closed : closing ≡ true → IsAtLatest only now false transfers
+    pub opens : open_with effect closing opened ≡ true → IsAtLatest only now true transfers
+
+  -- the head's segment is in the latest transfer, which it closes or not
+  at_segment : (now : TransferBlocks) (transfers : List Transfer) (effect : Option Turn)
+      (closing opened : Bool) → open_with effect closing opened ≡ not closing
+      → ((is_open : Bool) → is_open ≡ not closing → IsAtLatest only now is_open transfers)
+      → AtHead now transfers effect closing opened
+  at_segment now transfers effect closing opened goes at = record {
+    closed = λ is. at false (sym (ap not is));
+    opens = λ is. at true (sym is ∙ goes);
+  }
+
+  pub at_head : (before now : TransferBlocks) (transfers : List Transfer) (effect : Option Turn)
+      (sent : Message) (opened : Bool) → Does effect sent opened
+      → (opened ≡ true → IsAtLatest only before true transfers)
+      → ((first : SegmentHead) (closed : Bool) → is_beginning effect ≡ true
+      → sent ≡ message.Segment first → is_start first.flags ≡ true
+      → IsShowing only now (begun first closed))
+      → (is_beginning effect ≡ false → now ≡ before)
+      → AtHead now (transfers_at effect transfers sent) effect
+      (is_last effect && (data_length sent == 0)) opened
+  at_head before now transfers effect sent opened (Strays is) at begins same =
+      rw (is, same (ap is_beginning is)) (record { closed = λ none. absurd (cc); opens = at })
+  at_head before now transfers effect sent opened (Passes is other) at begins same =
+      rw (is, same (ap is_beginning is), transfers_same transfers sent [] other)
+      (record { closed = λ none. absurd (cc); opens = at })
+  at_head before now transfers effect sent opened (Begins first abandoned is starts does also) at begins same =
+      let shows = begins first (closes first []) (ap is_beginning does) is starts in
+      rw (does, is, transfer_begins transfers first [] starts)
+      (at_segment now (begun first (closes first []) ∷ transfers) _ _ opened refl
+      (λ is_open goes. record {
+        transfer = begun first (closes first []);
+        earlier = transfers;
+        are = refl;
+        opened = goes ∙ ap (λ b. not (is_end first.flags && b)) (sym (zero_eq first.length));
+        shows = shows;
+      }))
+  at_head before now transfers effect sent opened (Continues first is starts does also) at begins same =
+      rw (does, is, same (ap is_beginning does), transfer_continues transfers first [] starts)
+      (at_segment before (continued transfers [] (closes first [])) _ _ opened refl
+      (λ is_open goes.
+      continued_at before transfers (closes first []) is_open
+      (goes ∙ ap (λ b. not (is_end first.flags && b)) (sym (zero_eq first.length))) (at also)))
+
+-- ---- one more event
+
+-- data is no head
+data_orders : (bytes : List ℕ) (whole : Bool) → flat_map order_line_of (data_ends bytes whole) ≡ []
+data_orders [] true = refl
+data_orders [] false = refl
+data_orders (byte ∷ bytes) whole = data_orders bytes whole
+
+module _ (options : BlockOptions) (before : List WalkEvent) where
+  abbrev pub was : Told
+  was = told_after (unpacking_by options) before
+
+  module _ (event : WalkEvent) where
+    abbrev pub next : Told
+    next = told_event (unpacking_by options) was event
+
+    next_is : told_after (unpacking_by options) (before ++ event ∷ []) ≡ next
+    next_is = told_push (unpacking_by options) before (event ∷ [])
+
+    pub known : (now : BlockLister) → now.latest.judge.size ≤ data_size before
+        → now.good ≡ next.good
+        → (open_after_event (has_open before) event ≡ true
+        → IsAtLatest options.only now.latest true next.transfers)
+        → KnowsShown options now (before ++ event ∷ [])
+    known now size good at_open = record {
+      size = omega (arith, size_then before event);
+      good = rw next_is good;
+      at_open = λ opened. rw next_is (at_open (sym (open_then before event) ∙ opened));
+    }
+
+    pub tells : {W E : Type 0} (out_look : W → Output) (report_look : E → Output)
+        (old new : Writers W E) (result : Result (Unit {0}) IoFault) (now : BlockLister)
+        (texts : Texts)
+        → lines_of options.only (open_after_event (has_open before) event) next.transfers
+        ≡ lines_of options.only (has_open before) was.transfers ++ texts.output
+        → order_line_of event ≡ texts.report
+        → AfterWrite out_look report_look old new texts result
+        → OnOk result (KnowsShown options now (before ++ event ∷ []))
+        → Tells out_look report_look (blocks_telling options) (KnowsShown options now) before
+        (event ∷ []) old new result
+    tells out_look report_look old new result now texts lines orders wrote knows = record {
+      texts = texts;
+      said = texts_as
+          (sym (ap (λ (told : Told). lines_of options.only (has_open (before ++ event ∷ [])) told.transfers) next_is
+          ∙ ap (λ b. lines_of options.only b next.transfers) (open_then before event) ∙ lines))
+          (sym (flat_map-append order_line_of before (event ∷ [])
+          ∙ ap (λ xs. flat_map order_line_of before ++ xs)
+          (append-nil (order_line_of event) ∙ orders)));
+      wrote = wrote;
+      known = knows;
+    }
+
+  -- ---- data of the open transfer, which may be the last of it
+
+  module _ (bytes : List ℕ) (whole : Bool) (old : BlockLister)
+      (knows : KnowsShown options old before) (opened : has_open before ≡ true) where
+    abbrev pub at : IsAtLatest options.only old.latest true was.transfers
+    at = knows.at_open opened
+
+    abbrev new : Transfer
+    new = grown at.transfer bytes whole
+
+    abbrev pub data_transfers : List Transfer
+    data_transfers = new ∷ at.earlier
+
+    pub data_latest : (now : TransferBlocks) → IsShowing options.only now new
+        → {is_open : Bool} → is_open ≡ not whole
+        → IsAtLatest options.only now is_open data_transfers
+    data_latest now shows is = record {
+      transfer = new;
+      earlier = at.earlier;
+      are = refl;
+      opened = is;
+      shows = shows;
+    }
+
+    data_next : told_after (unpacking_by options) (before ++ data_ends bytes whole)
+        ≡ whole_if (unpacking_by options) at.transfer.first (at.transfer.content ++ bytes)
+        at.earlier was.report was.good whole
+    data_next =
+        data_after (unpacking_by options) before bytes whole at.transfer at.earlier at.are
+        (open_is at.transfer.closed at.opened)
+
+    data_open : has_open (before ++ data_ends bytes whole) ≡ not whole
+    data_open =
+        open_with_data before bytes whole ∙ ap (λ b. not whole && b) opened ∙ and-true (not whole)
+
+    pub data_known : (now : BlockLister)
+        → now.latest.judge.size ≤ old.latest.judge.size + length bytes
+        → now.good ≡ (old.good && good_due whole data_transfers)
+        → IsShowing options.only now.latest new
+        → KnowsShown options now (before ++ data_ends bytes whole)
+    data_known now size good shows = record {
+      size = omega (arith, size_with_data before bytes whole, knows.size);
+      good = rw data_next (good ∙ ap (λ g. g && good_due whole data_transfers) knows.good);
+      at_open = λ some. rw data_next (data_latest now.latest shows (sym some ∙ data_open));
+    }
+
+    pub data_tells : {W E : Type 0} (out_look : W → Output) (report_look : E → Output)
+        (from to : Writers W E) (result : Result (Unit {0}) IoFault) (now : BlockLister)
+        (lines : List ℕ)
+        → transfer_lines options.only true new
+        ≡ transfer_lines options.only true at.transfer ++ lines
+        → AfterWrite out_look report_look from to
+        (on_output lines then on_output (end_due options.only whole data_transfers)) result
+        → OnOk result (KnowsShown options now (before ++ data_ends bytes whole))
+        → Tells out_look report_look (blocks_telling options) (KnowsShown options now) before
+        (data_ends bytes whole) from to result
+    data_tells out_look report_look from to result now lines are wrote known = record {
+      texts = on_output lines then on_output (end_due options.only whole data_transfers);
+      said = texts_as (sym output)
+          (sym (flat_map-append order_line_of before (data_ends bytes whole)
+          ∙ ap (λ xs. flat_map order_line_of before ++ xs) (data_orders bytes whole)));
+      wrote = wrote;
+      known = known;
+    }
+      where
+        end : List ℕ
+        end = end_due options.only whole data_transfers
+
+        output : lines_of options.only (has_open (before ++ data_ends bytes whole))
+            (told_after (unpacking_by options) (before ++ data_ends bytes whole)).transfers
+            ≡ lines_of options.only (has_open before) was.transfers
+            ++ (lines ++ end_due options.only whole data_transfers)
+        output =
+            ap (λ (told : Told). lines_of options.only (has_open (before ++ data_ends bytes whole)) told.transfers) data_next
+            ∙ ap (λ b. lines_of options.only b data_transfers) data_open
+            ∙ ended_lines options.only whole data_transfers
+            ∙ ap (λ (xs : List ℕ). xs ++ end_due options.only whole data_transfers)
+            (lines_of-more options.only true new at.earlier
+            ∙ ap (λ (xs : List ℕ). lines_of options.only false at.earlier ++ xs) are
+            ∙ sym (append_assoc (lines_of options.only false at.earlier) (transfer_lines options.only true at.transfer) lines)
+            ∙ ap (λ (xs : List ℕ). xs ++ lines)
+            (sym (ap (λ b. lines_of options.only b was.transfers) opened
+            ∙ ap (lines_of options.only true) at.are
+            ∙ lines_of-more options.only true at.transfer at.earlier)))
+            ∙ append_assoc (lines_of options.only (has_open before) was.transfers) lines (end_due options.only whole data_transfers)
+
+-- ---- a head
+
+good_after : (good first second order : Bool)
+    → (((good && first) && second) && order) ≡ (((good && order) && first) && second)
+good_after false first second order = refl
+good_after true false second true = refl
+good_after true false second false = refl
+good_after true true true true = refl
+good_after true true true false = refl
+good_after true true false true = refl
+good_after true true false false = refl
+
+-- the texts of a head: the line of the transfer that it abandons, of the one that it ends, and of
+-- its fault
+abbrev pub head_texts : BlockOptions → Told → Head → Texts
+head_texts options told head =
+    on_output (end_due options.only (abandons head.turn) told.transfers)
+    then (on_output (end_due options.only (closes_head head)
+    (transfers_at head.turn told.transfers head.message))
+    then on_report (order_line head.offset head.fault))
+
+module _ {W E : Type 0} (out_look : W → Output) (report_look : E → Output)
+    (options : BlockOptions) (before : List WalkEvent) (head : Head)
+    (comes : ComesAfter before head) where
+  abbrev had : Told
+  had = told_after (unpacking_by options) before
+
+  pub does : Does head.turn head.message (has_open before)
+  does = comes_does before head comes
+
+  pub head_tells : (old new : Writers W E) (result : Result (Unit {0}) IoFault) (now : BlockLister)
+      → AfterWrite out_look report_look old new (head_texts options had head) result
+      → OnOk result (KnowsShown options now (before ++ MessageHead head ∷ []))
+      → Tells out_look report_look (blocks_telling options) (KnowsShown options now) before
+      (MessageHead head ∷ []) old new result
+  head_tells old new result now wrote knows =
+      tells options before (MessageHead head) out_look report_look old new result now
+      (head_texts options had head)
+      (head_lines options.only had.transfers head.turn head.message (has_open before) does
+      ∙ append_assoc (lines_of options.only (has_open before) had.transfers) _ _
+      ∙ ap (λ (xs : List ℕ). lines_of options.only (has_open before) had.transfers
+      ++ (end_due options.only (abandons head.turn) had.transfers ++ xs)) (sym (append-nil _)))
+      refl wrote knows
+
+  pub head_known : (old now : BlockLister) → KnowsShown options old before
+      → now.latest.judge.size ≤ old.latest.judge.size
+      → now.good ≡ (((old.good && good_due (abandons head.turn) had.transfers)
+      && good_due (closes_head head) (transfers_at head.turn had.transfers head.message))
+      && not (is_some head.fault))
+      → AtHead options.only now.latest (transfers_at head.turn had.transfers head.message) head.turn
+      (closes_head head) (has_open before)
+      → KnowsShown options now (before ++ MessageHead head ∷ [])
+  head_known old now knows size good at =
+      known options before (MessageHead head) now (omega (arith, size, knows.size))
+      (good ∙ good_after old.good _ _ _
+      ∙ ap (λ g. ((g && not (is_some head.fault)) && good_due (abandons head.turn) had.transfers)
+      && good_due (closes_head head) (transfers_at head.turn had.transfers head.message)) knows.good)
+      at.opens
+
+-- ---- before the first event
+
+pub says_nothing : (options : BlockOptions) → (blocks_telling options).texts [] ≡ no_texts
+unfolding told_after lines_of
+says_nothing options = refl
+
+pub knows_nothing : (options : BlockOptions) (now : BlockLister) → now.latest.judge.size ≡ 0
+    → now.good ≡ true → KnowsShown options now []
+unfolding data_size has_open
+knows_nothing options now size good = record {
+  size = omega arith;
+  good = rw (told_none (unpacking_by options)) good;
+  at_open = λ opened. absurd (cc);
+}
+
+-- ---- what is written
+
+module _ {W E : Type 0} (out_look : W → Output) (report_look : E → Output) where
+  -- a text was written to the output, and then others
+  pub output_then : (old mid new : Writers W E) (first : List ℕ) (second : Texts)
+      (result : Result (Unit {0}) IoFault)
+      → Writes out_look report_look old mid (on_output first)
+      → AfterWrite out_look report_look mid new second result
+      → AfterWrite out_look report_look old new (on_output first then second) result
+  output_then old mid new first second (Ok done) one two =
+      writes_then out_look report_look old mid new (on_output first) second one two
+  output_then old mid new first second (Err fault) one part =
+      part_behind out_look report_look old mid new first second fault one part

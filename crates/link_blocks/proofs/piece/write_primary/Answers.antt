@@ -1,0 +1,23 @@
+use Rattle.std.proofs.Common.{arith}
+use Rattle.link_bundle.specs.Blocks.{viewed_primary}
+use Rattle.link_block_report.specs.Blocks.{primary_start_text, primary_rest_text, primary_text}
+use Rattle.link_run.specs.Writers.{on_output}
+use Rattle.link_run.proofs.Runs.{outputs_then, part_of_more}
+use Rattle.link_blocks.proofs.piece.write_primary.Goals as goal
+
+pub returns-in-Err : goal.returns-in-Err
+unfolding primary_text
+returns-in-Err g c =
+    part_of_more g.W.OutDevice.state g.E.OutDevice.state c.args.writers.now c.write_text.new.self
+    (on_output (primary_start_text c.args.id (viewed_primary c.args.block.now) c.args.block.now.check c.args.block.now.end))
+    (on_output (primary_rest_text (viewed_primary c.args.block.now))) c.in-Err.fault
+    (λ some. absurd (omega arith)) c.in-Err.ensures.gives
+
+pub returns : goal.returns
+unfolding primary_text
+returns g c =
+    outputs_then g.W.OutDevice.state g.E.OutDevice.state c.args.writers.now c.write_text.new.self
+    c.write_text-2.new.self
+    (primary_start_text c.args.id (viewed_primary c.args.block.now) c.args.block.now.check c.args.block.now.end)
+    (primary_rest_text (viewed_primary c.args.block.now)) c.write_text-2.result
+    c.in_default.ensures.gives c.write_text-2.ensures.gives

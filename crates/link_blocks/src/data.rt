@@ -1,0 +1,99 @@
+//! The data of the blocks of a bundle, read as it comes.
+
+ghost use Rattle.std.specs.Prelude.{◌≡◌, ◌+◌, ◌^◌, ◌≤◌, ◌<◌, [], ◌++◌, Some, List, ℕ, length, option_map};
+ghost use Rattle.link_bundle.specs.declared.block.CanonicalBlock.{CanonicalBlock};
+ghost use Rattle.link_block_data.specs.DataView.{viewed_result};
+ghost use Rattle.link_block_data.specs.Scan.{HasScanned};
+ghost use Rattle.link_block_data.specs.declared.kind.DataKind.{DataKind};
+ghost use Rattle.link_block_report.specs.Fits.{HasFittingWords};
+ghost use Rattle.link_block_report.specs.Kinds.{kind_of};
+ghost use Rattle.link_blocks.specs.BlockLines.{found_in};
+ghost use Rattle.link_blocks.specs.DataReader.{IsReading, IsReadingBlock, read_size};
+
+use link_block_data::{DataKind, DataScan, DataView};
+use link_block_report::data_kind;
+use link_bundle::CanonicalBlock;
+use link_unpack::part_in;
+
+/// Reads the data of one block after another.
+#[derive(Drop)]
+pub(crate) struct DataReader {
+    /// The flags of the bundle, once its primary block has come.
+    pub(crate) flags: u64,
+    /// The kind of the latest block's data, if it is read.
+    kind: Option<DataKind>,
+    scan: DataScan,
+}
+
+impl DataReader {
+    /// Makes a reader for the first bundle.
+    pub(crate) fn new() -> DataReader
+        ensures size { read_size result ≡ 0 }
+    {
+        DataReader {
+            flags: 0,
+            kind: None,
+            scan: DataScan::new(DataKind::Record),
+        }
+    }
+
+    /// Begins another bundle.
+    pub(crate) fn restart(&mut self)
+        ensures reads { IsReading self.new [] }
+        ensures size { read_size self.new ≡ 0 }
+    {
+        self.flags = 0;
+        self.kind = None;
+    }
+
+    /// Begins the data of a block.
+    fn begin(&mut self, block: &CanonicalBlock)
+        ensures kind { self.new.kind ≡ kind_of self.old.flags block.now.block_type }
+        ensures scan { (kind : DataKind) → self.new.kind ≡ Some kind
+            → HasScanned kind self.new.scan [] }
+        ensures size { read_size self.new ≡ 0 }
+        ensures flags { self.new.flags ≡ self.old.flags }
+    {
+        self.kind = data_kind(self.flags, block.block_type);
+        if let Some(kind) = self.kind {
+            self.scan.restart(kind);
+        }
+    }
+
+    /// Reads the bytes of a block's data that a run of the bundle has. The run comes after the
+    /// first `before` bytes.
+    pub(crate) fn take(&mut self, block: &CanonicalBlock, before: u64, run: &[u8])
+        requires room { before + length run.now < 2 ^ 63 }
+        requires size { read_size self.old ≤ before }
+        ensures reads { (seen : List ℕ) → length seen ≡ before
+            → (block.now.data_start < before → IsReadingBlock self.old seen block.now)
+            → IsReadingBlock self.new (seen ++ run.now) block.now }
+        ensures size { read_size self.new ≤ before + length run.now }
+        ensures flags { self.new.flags ≡ self.old.flags }
+    {
+        if block.data_start >= before {
+            self.begin(block);
+        }
+        if self.kind.is_some() {
+            let end = before + run.len() as u64;
+            let count = block.data_length.min(end.saturating_sub(block.data_start));
+            self.scan
+                .take(part_in(run, before, block.data_start, count));
+        }
+    }
+
+    /// What the data of the latest block says, if it is read, or the offset in the data at which it
+    /// is malformed.
+    pub(crate) fn found(&self) -> Option<Result<DataView<'_>, u64>>
+        ensures found { (seen : List ℕ) (block : CanonicalBlock)
+            → IsReadingBlock self.now seen block
+            → option_map viewed_result result ≡ found_in self.now.flags seen block }
+        ensures fits { (start : ℕ) → start + read_size self.now < 2 ^ 64
+            → HasFittingWords start (option_map viewed_result result) }
+    {
+        match self.kind {
+            Some(_) => Some(self.scan.view()),
+            None => None,
+        }
+    }
+}

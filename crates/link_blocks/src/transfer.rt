@@ -1,0 +1,93 @@
+//! The latest transfer of a stream, and the lines of its blocks.
+
+ghost use Rattle.std.specs.Prelude.{◌≡◌, ◌+◌, ◌^◌, ◌≤◌, ◌<◌, true, length};
+ghost use Rattle.link_blocks.specs.DataReader.{read_size};
+
+use crate::data::DataReader;
+use crate::options::BlockOptions;
+use crate::piece::show_piece;
+use link_run::Writers;
+use link_unpack::TransferJudge;
+use link_wire::{INPUT_LIMIT, IoFault, MessageBuffer, OutDevice};
+
+/// Judges one transfer after another, and shows the blocks of those that are selected.
+#[derive(Drop)]
+pub(crate) struct TransferBlocks {
+    pub(crate) judge: TransferJudge,
+    reader: DataReader,
+    ghost read: { read_size reader ≤ judge.size },
+}
+
+impl TransferBlocks {
+    ghost use Rattle.std.specs.Prelude.{OnOk};
+    ghost use Rattle.link_wire.specs.Codes.{is_start};
+    ghost use Rattle.link_wire.specs.MessageBuffer.{SegmentHasTotals, message_of};
+    ghost use Rattle.link_wire.specs.declared.message.Message.{Message};
+    ghost use Rattle.link_wire.specs.declared.message.SegmentHead.{SegmentHead};
+    ghost use Rattle.link_unpack.specs.Transfers.{Transfer};
+    ghost use Rattle.link_unpack.specs.TransferJudge.{begun, grown};
+    ghost use Rattle.link_blocks.specs.TransferBlocks.{IsShowing, Shows};
+
+    /// What is known before the first transfer of a stream.
+    pub(crate) fn new() -> TransferBlocks
+        ensures size { result.judge.size ≡ 0 }
+    {
+        TransferBlocks {
+            judge: TransferJudge::new(),
+            reader: DataReader::new(),
+        }
+    }
+
+    /// Begins the transfer whose first segment has this head.
+    pub(crate) fn begin(&mut self, message: &MessageBuffer)
+        requires { SegmentHasTotals message.now }
+        ensures follows { (only : _) (head : SegmentHead) (closed : _)
+            → message_of message.now ≡ Message.Segment head → is_start head.flags ≡ true
+            → IsShowing only self.new (begun head closed) }
+        ensures size { self.new.judge.size ≤ self.old.judge.size }
+    {
+        self.judge.begin(message);
+        self.reader.restart();
+    }
+
+    /// Takes the next piece of the transfer's data, and writes the line of each block that it
+    /// completes, if the transfer is selected.
+    ///
+    /// If the data would be longer than any input, it takes nothing. This never happens in a run,
+    /// since the data is part of its input.
+    #[inline(always)]
+    pub(crate) fn take<W: OutDevice, E: OutDevice>(
+        &mut self,
+        options: &BlockOptions,
+        piece: &[u8],
+        writers: &mut Writers<W, E>,
+    ) -> Result<(), IoFault>
+        ensures follows { (transfer : Transfer) (closed : _)
+            → self.old.judge.size + length piece.now < 2 ^ 63
+            → IsShowing options.now.only self.old transfer
+            → OnOk result (IsShowing options.now.only self.new (grown transfer piece.now closed)) }
+        ensures gives { (transfer : Transfer) → self.old.judge.size + length piece.now < 2 ^ 63
+            → IsShowing options.now.only self.old transfer
+            → Shows W.state E.state options.now.only transfer piece.now writers.old writers.new
+            result }
+        ensures size { self.new.judge.size ≤ self.old.judge.size + length piece.now }
+    {
+        if piece.len() as u64 > INPUT_LIMIT - self.judge.size {
+            return Ok(());
+        }
+        if !self.judge.is_selected(options.only) {
+            self.judge.take(piece);
+            return Ok(());
+        }
+        let before = self.judge.size;
+        self.judge.size += piece.len() as u64;
+        show_piece(
+            self.judge.id,
+            before,
+            piece,
+            &mut self.judge.scan,
+            &mut self.reader,
+            writers,
+        )
+    }
+}
