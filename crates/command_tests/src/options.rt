@@ -1,7 +1,7 @@
 //! Tests of the command line on tables of words.
 
 use link_command::{Invocation, UsageFault, options, usage_exit};
-use link_tools::{Options, PackOptions, Wanted};
+use link_tools::{BlockOptions, Options, PackOptions, Wanted};
 use link_wire::NodeId;
 use std::alloc::{AllocError, Global};
 use std::process::Abort;
@@ -23,6 +23,7 @@ fn name_of(outcome: &Result<Invocation, UsageFault>) -> &'static str {
         Err(UsageFault::Help(_)) => "help",
         Err(UsageFault::Words(_)) => "words",
         Err(UsageFault::NodeTooLong) => "node too long",
+        Err(UsageFault::MixedInputs) => "mixed inputs",
         Err(UsageFault::Memory) => "memory",
     }
 }
@@ -148,6 +149,14 @@ fn wrong_words(rt: HostRuntime) -> Result<(), Fail> {
             &["unpack", "--keep"],
             &["unpack", "--end"],
             &["unpack", "a", "b"],
+            &["blocks", "--transfer", "18446744073709551616"],
+            &["blocks", "--transfer", "1", "--transfer", "1"],
+            &["blocks", "--bundles", "--bundles"],
+            &["blocks", "--bundles=true"],
+            &["blocks", "--keep-going", "--keep-going"],
+            &["blocks", "--payload"],
+            &["blocks", "a", "b"],
+            &["unpack", "--bundles"],
             &["pack", "--node", "x", "--peer-segment", "0"],
             &["pack", "--node", "ipn:1.0", "--announce", "1048577"],
             &["pack", "--node", "x", "--keepalive", "65536"],
@@ -174,11 +183,13 @@ fn requests_for_help(rt: HostRuntime) -> Result<(), Fail> {
             &["-V"],
             &["list", "--help"],
             &["unpack", "--help"],
+            &["blocks", "--help"],
             &["pack", "--help"],
             &["pack", "-h"],
             &["help"],
             &["help", "list"],
             &["help", "unpack"],
+            &["help", "blocks"],
             &["help", "pack"],
             &["help", "help"],
         ],
@@ -193,11 +204,11 @@ fn list_has_no_options(rt: HostRuntime) -> Result<(), Fail> {
     Ok(())
 }
 
-/// Checks that each line asks for `unpack` with these options.
-fn all_unpack(rt: &impl Abort, alloc: Global, lines: &[(&[&str], Wanted)]) -> Result<(), Fail> {
-    for (line, wanted) in lines {
+/// Checks that each line asks for these options.
+fn all_ask_for(rt: &impl Abort, alloc: Global, lines: &[(&[&str], Options)]) -> Result<(), Fail> {
+    for (line, options) in lines {
         let invocation = taken(alloc, line)?;
-        assert!(rt; invocation.options == Options::Unpack(*wanted), "{line:?}");
+        assert!(rt; invocation.options == *options, "{line:?}");
     }
     Ok(())
 }
@@ -214,15 +225,27 @@ fn options_of_unpack(rt: HostRuntime) -> Result<(), Fail> {
         only: Some(u64::MAX),
         ..all
     };
-    let lines: [(&[&str], Wanted); 6] = [
-        (&["unpack"], all),
-        (&["unpack", "--payload", "--transfer", "7", "f"], of_seven),
-        (&["unpack", "f", "--transfer=7", "--payload"], of_seven),
-        (&["unpack", "--transfer", "+07", "--payload"], of_seven),
-        (&["unpack", "--transfer", "18446744073709551615"], of_last),
-        (&["unpack", "--", "--payload"], all),
+    let lines: [(&[&str], Options); 6] = [
+        (&["unpack"], Options::Unpack(all)),
+        (
+            &["unpack", "--payload", "--transfer", "7", "f"],
+            Options::Unpack(of_seven),
+        ),
+        (
+            &["unpack", "f", "--transfer=7", "--payload"],
+            Options::Unpack(of_seven),
+        ),
+        (
+            &["unpack", "--transfer", "+07", "--payload"],
+            Options::Unpack(of_seven),
+        ),
+        (
+            &["unpack", "--transfer", "18446744073709551615"],
+            Options::Unpack(of_last),
+        ),
+        (&["unpack", "--", "--payload"], Options::Unpack(all)),
     ];
-    all_unpack(&rt, rt.alloc(), &lines)
+    all_ask_for(&rt, rt.alloc(), &lines)
 }
 
 #[test]
@@ -236,16 +259,60 @@ fn unpack_goes_on(rt: HostRuntime) -> Result<(), Fail> {
         payload: true,
         keep_going: true,
     };
-    let lines: [(&[&str], Wanted); 4] = [
-        (&["unpack", "--keep-going"], going_on),
-        (&["unpack", "f", "--keep-going"], going_on),
-        (&["unpack", "--", "--keep-going"], Wanted::default()),
+    let lines: [(&[&str], Options); 4] = [
+        (&["unpack", "--keep-going"], Options::Unpack(going_on)),
+        (&["unpack", "f", "--keep-going"], Options::Unpack(going_on)),
+        (
+            &["unpack", "--", "--keep-going"],
+            Options::Unpack(Wanted::default()),
+        ),
         (
             &["unpack", "--keep-going", "--payload", "--transfer", "7"],
-            with_seven,
+            Options::Unpack(with_seven),
         ),
     ];
-    all_unpack(&rt, rt.alloc(), &lines)
+    all_ask_for(&rt, rt.alloc(), &lines)
+}
+
+#[test]
+fn options_of_blocks(rt: HostRuntime) -> Result<(), Fail> {
+    let all = BlockOptions::default();
+    let of_seven = BlockOptions {
+        only: Some(7),
+        keep_going: true,
+    };
+    let lines: [(&[&str], Options); 6] = [
+        (&["blocks"], Options::Blocks(all)),
+        (
+            &["blocks", "--keep-going", "--transfer", "7", "f"],
+            Options::Blocks(of_seven),
+        ),
+        (
+            &["blocks", "f", "--transfer=7", "--keep-going"],
+            Options::Blocks(of_seven),
+        ),
+        (&["blocks", "--", "--bundles"], Options::Blocks(all)),
+        (&["blocks", "--bundles"], Options::BundleBlocks),
+        (&["blocks", "f", "--bundles"], Options::BundleBlocks),
+    ];
+    all_ask_for(&rt, rt.alloc(), &lines)
+}
+
+/// `--bundles` is accepted alone, and not with an option for recordings.
+#[test]
+fn mixed_inputs(rt: HostRuntime) -> Result<(), Fail> {
+    all_come_to(
+        &rt,
+        rt.alloc(),
+        "mixed inputs",
+        &[
+            &["blocks", "--bundles", "--transfer", "0"],
+            &["blocks", "--transfer=0", "--bundles"],
+            &["blocks", "--bundles", "--keep-going"],
+            &["blocks", "--keep-going", "--bundles", "f"],
+            &["blocks", "--bundles", "--keep-going", "--transfer", "7"],
+        ],
+    )
 }
 
 #[test]
@@ -341,7 +408,7 @@ fn node_ids(rt: HostRuntime) -> Result<(), Fail> {
 }
 
 /// Lines that ask for a help text, and parts of the text.
-const HELP_TEXTS: [(&[&str], &[&str]); 5] = [
+const HELP_TEXTS: [(&[&str], &[&str]); 6] = [
     (
         &["--help"],
         &[
@@ -361,6 +428,16 @@ const HELP_TEXTS: [(&[&str], &[&str]); 5] = [
             "--transfer <ID>",
             "--payload",
             "--keep-going",
+            "Exit status:",
+            "Example:",
+        ],
+    ),
+    (
+        &["blocks", "--help"],
+        &[
+            "--transfer <ID>",
+            "--keep-going",
+            "--bundles",
             "Exit status:",
             "Example:",
         ],
@@ -412,10 +489,11 @@ fn texts_of_help(rt: HostRuntime) -> Result<(), Fail> {
 /// The texts of `help` and `help NAME` are those of `--help` and `NAME --help`.
 #[test]
 fn texts_of_the_command_help(rt: HostRuntime) -> Result<(), Fail> {
-    let lines: [(&[&str], &[&str]); 4] = [
+    let lines: [(&[&str], &[&str]); 5] = [
         (&["help"], &["--help"]),
         (&["help", "list"], &["list", "--help"]),
         (&["help", "unpack"], &["unpack", "--help"]),
+        (&["help", "blocks"], &["blocks", "--help"]),
         (&["help", "pack"], &["pack", "--help"]),
     ];
     for &(line, same) in &lines {
@@ -461,6 +539,9 @@ fn ends_of_the_program(rt: HostRuntime) -> Result<(), Fail> {
     assert!(rt; usage_exit(&UsageFault::Words(text)) == (2, ""));
     assert!(rt;
         usage_exit(&UsageFault::NodeTooLong) == (2, "tcpclkit: node id longer than 1024 bytes")
+    );
+    assert!(rt;
+        usage_exit(&UsageFault::MixedInputs) == (2, "tcpclkit: --bundles goes with no other option")
     );
     assert!(rt; usage_exit(&UsageFault::Memory) == (4, "tcpclkit: out of memory"));
     Ok(())
@@ -578,6 +659,20 @@ fn memory_of_unpack(rt: HostRuntime) -> Result<(), Fail> {
             "f",
         ],
         &Options::Unpack(wanted),
+        Some("f"),
+    )
+}
+
+#[test]
+fn memory_of_blocks(rt: HostRuntime) -> Result<(), Fail> {
+    let options = BlockOptions {
+        only: Some(7),
+        keep_going: true,
+    };
+    asks_for(
+        &rt,
+        &["blocks", "--keep-going", "--transfer", "7", "f"],
+        &Options::Blocks(options),
         Some("f"),
     )
 }

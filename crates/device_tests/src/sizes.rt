@@ -82,6 +82,18 @@ fn pass_all<R: Read>(device: &mut BufferedReader<R>) {
     device.pass_held(count);
 }
 
+/// Passes over all that the device holds, which has to be `there` bytes but `given` of them.
+fn holds_the_rest<R: Read>(
+    rt: &impl Abort,
+    device: &mut BufferedReader<R>,
+    given: usize,
+    there: usize,
+) {
+    assert_eq!(rt; device.held().len().checked_add(given), Some(there));
+    pass_all(device);
+    assert!(rt; device.held().is_empty());
+}
+
 /// A read gives what one call of the reader gave, and holds the rest.
 fn reads_once(rt: &impl Abort, alloc: Global, size: usize) -> Result<(), Fail> {
     let mut reader = reader_of(size, NEVER);
@@ -90,13 +102,9 @@ fn reads_once(rt: &impl Abort, alloc: Global, size: usize) -> Result<(), Fail> {
     let there = size.min(BUFFER);
     let given = size.min(WINDOW);
     assert_eq!(rt; device.read(&mut room), Ok(given));
-    assert_eq!(rt; device.held().len().checked_add(given), Some(there));
-    pass_all(&mut device);
-    assert!(rt; device.held().is_empty());
+    holds_the_rest(rt, &mut device, given, there);
     assert_eq!(rt; device.read_first(&mut room), Ok(1));
-    assert_eq!(rt; device.held().len().checked_add(1), Some(there));
-    pass_all(&mut device);
-    assert!(rt; device.held().is_empty());
+    holds_the_rest(rt, &mut device, 1, there);
     drop(device);
     assert_eq!(rt; reader.calls, 2);
     Ok(())
@@ -104,7 +112,7 @@ fn reads_once(rt: &impl Abort, alloc: Global, size: usize) -> Result<(), Fail> {
 
 #[test]
 fn a_buffered_read_reads_once(rt: HostRuntime) -> Result<(), Fail> {
-    for size in SIZES {
+    for &size in &SIZES {
         reads_once(&rt, rt.alloc(), size)?;
     }
     Ok(())
@@ -115,7 +123,7 @@ fn stops(rt: &impl Abort, alloc: Global, size: usize, first: bool) -> Result<(),
     let mut reader = reader_of(size, 3);
     let mut device = buffered(alloc, BUFFER, &mut reader)?;
     let mut room = [0; WINDOW];
-    for whole in [true, true, false] {
+    for &whole in &[true, true, false] {
         let read = if first {
             device.read_first(&mut room)
         } else {
@@ -132,10 +140,61 @@ fn stops(rt: &impl Abort, alloc: Global, size: usize, first: bool) -> Result<(),
 /// An error of the reader is a failure at once, and the reader is not asked again.
 #[test]
 fn interrupted_buffered_reader(rt: HostRuntime) -> Result<(), Fail> {
-    for size in SIZES {
+    for &size in &SIZES {
         stops(&rt, rt.alloc(), size, false)?;
         stops(&rt, rt.alloc(), size, true)?;
     }
+    Ok(())
+}
+
+/// Each of these sizes is read with one call.
+fn reads_each<R: InDevice>(
+    rt: &impl Abort,
+    device: &mut R,
+    room: &mut [u8],
+    sizes: &[usize],
+) -> Result<(), Fail> {
+    for size in sizes {
+        let bytes = room.get_mut(..*size).ok_or("more than the room")?;
+        assert_eq!(rt; device.read(bytes), Ok(*size));
+    }
+    Ok(())
+}
+
+/// A device over the reader alone calls it once for each of these sizes.
+fn each_read(rt: &impl Abort, room: &mut [u8], sizes: &[usize]) -> Result<(), Fail> {
+    let mut device = Reader::new(reader_of(usize::MAX, NEVER));
+    reads_each(rt, &mut device, room, sizes)?;
+    assert_eq!(rt; device.into_inner().calls, sizes.len());
+    Ok(())
+}
+
+/// So does a device whose buffer has one byte.
+fn each_read_past_a_buffer(
+    rt: &impl Abort,
+    alloc: Global,
+    room: &mut [u8],
+    sizes: &[usize],
+) -> Result<(), Fail> {
+    let mut reader = reader_of(usize::MAX, NEVER);
+    let mut device = buffered(alloc, 1, &mut reader)?;
+    reads_each(rt, &mut device, room, sizes)?;
+    drop(device);
+    assert_eq!(rt; reader.calls, sizes.len());
+    Ok(())
+}
+
+/// A device calls its writer once for each of these sizes.
+fn each_written(rt: &impl Abort, room: &[u8], sizes: &[usize]) -> Result<(), Fail> {
+    let mut device = Writer::new(Takes {
+        writes: 0,
+        flushes: 0,
+    });
+    for size in sizes {
+        let bytes = room.get(..*size).ok_or("more than the room")?;
+        assert_eq!(rt; device.write(bytes), Ok(*size));
+    }
+    assert_eq!(rt; device.into_inner().writes, sizes.len());
     Ok(())
 }
 
@@ -143,24 +202,9 @@ fn interrupted_buffered_reader(rt: HostRuntime) -> Result<(), Fail> {
 fn each_whole(rt: &impl Abort, alloc: Global, sizes: &[usize]) -> Result<(), Fail> {
     let mut room = vec![in alloc; 0u8; 70_000]?;
     let room = room.as_mut_slice();
-    let mut reader = Reader::new(reader_of(usize::MAX, NEVER));
-    let mut unbuffered = reader_of(usize::MAX, NEVER);
-    let mut below = buffered(alloc, 1, &mut unbuffered)?;
-    let mut writer = Writer::new(Takes {
-        writes: 0,
-        flushes: 0,
-    });
-    for size in sizes {
-        let bytes = room.get_mut(..*size).ok_or("more than the room")?;
-        assert_eq!(rt; reader.read(bytes), Ok(*size));
-        assert_eq!(rt; below.read(bytes), Ok(*size));
-        assert_eq!(rt; writer.write(bytes), Ok(*size));
-    }
-    drop(below);
-    assert_eq!(rt; reader.into_inner().calls, sizes.len());
-    assert_eq!(rt; unbuffered.calls, sizes.len());
-    assert_eq!(rt; writer.into_inner().writes, sizes.len());
-    Ok(())
+    each_read(rt, room, sizes)?;
+    each_read_past_a_buffer(rt, alloc, room, sizes)?;
+    each_written(rt, room, sizes)
 }
 
 #[test]

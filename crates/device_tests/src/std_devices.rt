@@ -3,7 +3,7 @@
 //! Each error of a reader or a writer is a failure, `Interrupted` too, and so is a write that takes
 //! no byte. After a failure the device is not called again, even if it would go on.
 
-ghost use Rattle.std.specs.Prelude.{◌≡◌, false};
+ghost use Rattle.std.specs.Prelude.{◌≡◌, ◌<◌, false};
 
 use link_tools::{Status, list, list_run, run_exit};
 use link_wire::{
@@ -16,7 +16,7 @@ use std::process::Abort;
 use std::test::Fail;
 use toolkit_tests::rows::{TRANSFER, TRANSFER_LINES};
 use toolkit_tests::stepping::ended;
-use toolkit_tests::stream::{CONTACT_LINE, joined, text};
+use toolkit_tests::stream::{CONTACT_LINE, joined};
 
 /// A reader of one byte a call, which is interrupted at one call and then goes on.
 ///
@@ -49,7 +49,7 @@ impl Read for Slow<'_> {
 }
 
 /// What a writer does at one call instead of taking a byte.
-#[derive(Clone, Copy, Debug, PartialEq, Eq)]
+#[derive(Clone, Copy)]
 enum Hitch {
     Interrupted,
     TakesNone,
@@ -151,6 +151,22 @@ fn listed<R: InDevice + Drop, W: OutDevice + Drop, E: OutDevice + Drop>(
     Ok((end.reader, end.output, end.report))
 }
 
+/// Checks that these bytes were written.
+fn is_text(rt: &impl Abort, written: &[u8], want: &[u8]) {
+    assert!(rt;
+        written == want,
+        "{} and not {}",
+        written.escape_ascii(),
+        want.escape_ascii()
+    );
+}
+
+/// Checks that a device wrote these bytes in this many calls.
+fn took(rt: &impl Abort, device: &Narrow, calls: usize, want: &[u8]) {
+    assert_eq!(rt; device.calls, calls);
+    is_text(rt, device.written.as_slice(), want);
+}
+
 /// The number of lines that the first `size` bytes of the stream `TRANSFER` determine.
 fn lines_after(size: usize) -> usize {
     match size {
@@ -161,101 +177,147 @@ fn lines_after(size: usize) -> usize {
     }
 }
 
+/// The lines that the first `size` bytes of the stream `TRANSFER` determine.
+fn text_after(alloc: Global, size: usize) -> Result<Vec<u8>, Fail> {
+    let lines = TRANSFER_LINES.get(..lines_after(size));
+    joined(alloc, lines.ok_or("more than the lines")?)
+}
+
+/// The reader of the stream is interrupted after `given` bytes.
+fn reader_stops(rt: &impl Abort, alloc: Global, stream: &[u8], given: usize) -> Result<(), Fail>
+    requires { given < 100 }
+{
+    let (reader, output, report) = listed(
+        rt,
+        reader(stream, given + 1),
+        with_memory(alloc),
+        with_memory(alloc),
+        (4, "tcpclkit: read failed"),
+    )?;
+    assert_eq!(rt; reader.into_inner().calls, given + 1);
+    let want = text_after(alloc, given)?;
+    is_text(rt, output.into_inner().as_slice(), want.as_slice());
+    is_text(rt, report.into_inner().as_slice(), b"");
+    Ok(())
+}
+
 /// The reader is interrupted at each of its calls in turn, also at the one after the last byte.
 #[test]
 fn interrupted_reader(rt: HostRuntime) -> Result<(), Fail> {
     let stream = joined(rt.alloc(), TRANSFER)?;
     for given in 0..=94 {
-        let (reader, output, report) = listed(
-            &rt,
-            reader(&stream, given + 1),
-            with_memory(rt.alloc()),
-            with_memory(rt.alloc()),
-            (4, "tcpclkit: read failed"),
-        )?;
-        assert_eq!(rt; reader.into_inner().calls, given + 1);
-        let lines = TRANSFER_LINES
-            .get(..lines_after(given))
-            .ok_or("more than the lines")?;
-        let want = joined(rt.alloc(), lines)?;
-        let output = output.into_inner();
-        assert_eq!(rt; text(&output)?, text(&want)?);
-        assert!(rt; report.into_inner().is_empty());
+        reader_stops(&rt, rt.alloc(), stream.as_slice(), given)?;
     }
     Ok(())
 }
 
+/// The output has this hitch when it has taken these bytes.
+fn output_stops_after(
+    rt: &impl Abort,
+    alloc: Global,
+    stream: &[u8],
+    hitch: Hitch,
+    want: &[u8],
+) -> Result<(), Fail> {
+    let calls = want.len().saturating_add(1);
+    let (_, output, report) = listed(
+        rt,
+        reader(stream, NEVER),
+        writer(alloc, hitch, calls),
+        with_memory(alloc),
+        (4, "tcpclkit: write failed"),
+    )?;
+    took(rt, &output.into_inner(), calls, want);
+    is_text(rt, report.into_inner().as_slice(), b"");
+    Ok(())
+}
+
 /// The output has this hitch at each of its calls in turn.
-fn output_stops(rt: &(impl Abort + AllocGlobal), hitch: Hitch) -> Result<(), Fail> {
-    let stream = joined(rt.alloc(), TRANSFER)?;
-    let lines = joined(rt.alloc(), TRANSFER_LINES)?;
+fn output_stops(rt: &impl Abort, alloc: Global, hitch: Hitch) -> Result<(), Fail> {
+    let stream = joined(alloc, TRANSFER)?;
+    let lines = joined(alloc, TRANSFER_LINES)?;
     for count in 0..lines.len() {
-        let (_, output, report) = listed(
-            rt,
-            reader(&stream, NEVER),
-            writer(rt.alloc(), hitch, count + 1),
-            with_memory(rt.alloc()),
-            (4, "tcpclkit: write failed"),
-        )?;
-        let output = output.into_inner();
-        assert_eq!(rt; output.calls, count + 1);
-        assert_eq!(rt; text(&output.written)?, text(&lines[..count])?);
-        assert!(rt; report.into_inner().is_empty());
+        output_stops_after(rt, alloc, stream.as_slice(), hitch, &lines[..count])?;
     }
     Ok(())
 }
 
 #[test]
 fn hitching_output(rt: HostRuntime) -> Result<(), Fail> {
-    output_stops(&rt, Hitch::Interrupted)?;
-    output_stops(&rt, Hitch::TakesNone)
+    output_stops(&rt, rt.alloc(), Hitch::Interrupted)?;
+    output_stops(&rt, rt.alloc(), Hitch::TakesNone)
+}
+
+/// The report has this hitch when it has taken these bytes.
+fn report_stops_after(
+    rt: &impl Abort,
+    alloc: Global,
+    stream: &[u8],
+    hitch: Hitch,
+    want: &[u8],
+) -> Result<(), Fail> {
+    let calls = want.len().saturating_add(1);
+    let (_, output, report) = listed(
+        rt,
+        reader(stream, NEVER),
+        with_memory(alloc),
+        writer(alloc, hitch, calls),
+        (4, "tcpclkit: write failed"),
+    )?;
+    took(rt, &report.into_inner(), calls, want);
+    is_text(rt, output.into_inner().as_slice(), CONTACT_LINE);
+    Ok(())
 }
 
 /// The report has this hitch at each of its calls in turn.
-fn report_stops(rt: &(impl Abort + AllocGlobal), hitch: Hitch) -> Result<(), Fail> {
+fn report_stops(rt: &impl Abort, alloc: Global, hitch: Hitch) -> Result<(), Fail> {
     let line = b"tcpclkit: byte 6: truncated\n";
-    let stream = joined(rt.alloc(), TRANSFER)?;
+    let stream = joined(alloc, TRANSFER)?;
     let prefix = stream.get(..7).ok_or("more than the stream")?;
     for count in 0..line.len() {
-        let (_, output, report) = listed(
-            rt,
-            reader(prefix, NEVER),
-            with_memory(rt.alloc()),
-            writer(rt.alloc(), hitch, count + 1),
-            (4, "tcpclkit: write failed"),
-        )?;
-        let report = report.into_inner();
-        assert_eq!(rt; report.calls, count + 1);
-        assert_eq!(rt; text(&report.written)?, text(&line[..count])?);
-        let output = output.into_inner();
-        assert_eq!(rt; text(&output)?, text(CONTACT_LINE)?);
+        report_stops_after(rt, alloc, prefix, hitch, &line[..count])?;
     }
     Ok(())
 }
 
 #[test]
 fn hitching_report(rt: HostRuntime) -> Result<(), Fail> {
-    report_stops(&rt, Hitch::Interrupted)?;
-    report_stops(&rt, Hitch::TakesNone)
+    report_stops(&rt, rt.alloc(), Hitch::Interrupted)?;
+    report_stops(&rt, rt.alloc(), Hitch::TakesNone)
+}
+
+/// Checks that a fill of this buffer returns this.
+fn fills<R: InDevice>(
+    rt: &impl Abort,
+    source: &mut Source<R>,
+    buffer: &mut [u8],
+    want: Result<Filled, IoFault>,
+) {
+    assert_eq!(rt; source.fill(buffer), want);
+}
+
+/// Checks that a source whose reader failed fails at each later call.
+fn stays_failed<R: InDevice>(rt: &impl Abort, source: &mut Source<R>) {
+    let mut buffer = [0; 6];
+    for _ in 0..2 {
+        fills(rt, source, &mut buffer, Err(IoFault::Read));
+        assert_eq!(rt; source.some(&mut buffer), Err(IoFault::Read));
+    }
 }
 
 /// After an interrupt inside a `fill`, the bytes before it are at the start of the slice.
 ///
 /// A second call does not read.
 #[test]
-fn interrupted_fill(rt: HostRuntime) -> Result<(), Fail> {
+fn interrupted_fill(rt: HostRuntime) {
     let mut source = Source::new(reader(b"tcpclkit", 4));
     let mut buffer = [0; 6];
-    assert_eq!(rt; source.fill(&mut buffer[..1]), Ok(Filled::Whole));
-    assert_eq!(rt; source.fill(&mut buffer), Err(IoFault::Read));
-    assert_eq!(rt; &buffer[..2], b"cp".as_slice());
-    for _ in 0..2 {
-        assert_eq!(rt; source.fill(&mut buffer), Err(IoFault::Read));
-        assert_eq!(rt; source.some(&mut buffer), Err(IoFault::Read));
-    }
+    fills(&rt, &mut source, &mut buffer[..1], Ok(Filled::Whole));
+    fills(&rt, &mut source, &mut buffer, Err(IoFault::Read));
+    is_text(&rt, &buffer[..2], b"cp");
+    stays_failed(&rt, &mut source);
     assert_eq!(rt; (source.given(), source.taken()), (3, 3));
     assert_eq!(rt; source.into_reader().into_inner().calls, 4);
-    Ok(())
 }
 
 /// A call that needs bytes reads once, also at the end, and each read asks for a whole window.
@@ -263,7 +325,7 @@ fn interrupted_fill(rt: HostRuntime) -> Result<(), Fail> {
 fn a_read_asks_for_a_whole_window(rt: HostRuntime) {
     let mut source = Source::new(reader(b"tc", NEVER));
     let mut buffer = [0; 8];
-    for (given, taken) in [(1, 1), (1, 2), (0, 2), (0, 2)] {
+    for &(given, taken) in &[(1, 1), (1, 2), (0, 2), (0, 2)] {
         assert_eq!(rt; source.some(&mut buffer), Ok(given));
         assert_eq!(rt; source.taken(), taken);
     }
@@ -271,58 +333,87 @@ fn a_read_asks_for_a_whole_window(rt: HostRuntime) {
     assert_eq!(rt; (reader.calls, reader.asked), (3, 8192));
 }
 
-/// After a hitch inside a `write_whole`, a prefix was written, and nothing after it.
+/// After this hitch inside a `write_whole`, a prefix was written, and nothing after it.
+fn write_stops(rt: &impl Abort, alloc: Global, hitch: Hitch) {
+    let mut out = writer(alloc, hitch, 4);
+    assert_eq!(rt; write_whole(&mut out, b"tcpclkit"), Err(IoFault::Write));
+    assert!(rt; out.failed());
+    took(rt, &out.into_inner(), 4, b"tcp");
+}
+
 #[test]
-fn hitching_write(rt: HostRuntime) -> Result<(), Fail> {
-    for hitch in [Hitch::Interrupted, Hitch::TakesNone] {
-        let mut out = writer(rt.alloc(), hitch, 4);
-        assert_eq!(rt; write_whole(&mut out, b"tcpclkit"), Err(IoFault::Write));
-        assert!(rt; out.failed());
-        let out = out.into_inner();
-        assert_eq!(rt; (text(&out.written)?, out.calls), ("tcp", 4));
-    }
-    Ok(())
+fn hitching_write(rt: HostRuntime) {
+    write_stops(&rt, rt.alloc(), Hitch::Interrupted);
+    write_stops(&rt, rt.alloc(), Hitch::TakesNone);
+}
+
+/// Checks whether a flush of a writer with this hitch fails.
+fn flushes(rt: &impl Abort, alloc: Global, hitch: Hitch, failed: bool) {
+    let mut out = writer(alloc, hitch, NEVER);
+    assert_eq!(rt; out.settle().is_err(), failed);
+    assert_eq!(rt; out.failed(), failed);
+    assert!(rt; out.into_inner().written.is_empty());
 }
 
 /// A flush that fails is a failure of the device, and a flush that does not fail is none.
 #[test]
 fn failed_flush(rt: HostRuntime) {
-    for (hitch, failed) in [(Hitch::TakesNone, false), (Hitch::KeepsBack, true)] {
-        let mut out = writer(rt.alloc(), hitch, NEVER);
-        assert_eq!(rt; out.settle().is_err(), failed);
-        assert_eq!(rt; out.failed(), failed);
-        assert!(rt; out.into_inner().written.is_empty());
-    }
+    flushes(&rt, rt.alloc(), Hitch::TakesNone, false);
+    flushes(&rt, rt.alloc(), Hitch::KeepsBack, true);
 }
 
-/// The program's message for a failure has the failure's own text.
+/// Checks that the program's message for a failure has the failure's own text.
+fn has_its_text(rt: &impl Abort, alloc: Global, fault: IoFault) -> Result<(), Fail> {
+    let answer: Result<Status, IoFault> = Err(fault);
+    let text = format!(in alloc; "tcpclkit: {fault}")?;
+    assert_eq!(rt; text.as_str(), run_exit(&answer).1);
+    Ok(())
+}
+
 #[test]
 fn texts_of_failures(rt: HostRuntime) -> Result<(), Fail> {
-    for fault in [
-        IoFault::Read,
-        IoFault::InputTooLong,
-        IoFault::Write,
-        IoFault::Memory,
-    ] {
-        let answer: Result<Status, IoFault> = Err(fault);
-        let text = format!(in rt.alloc(); "tcpclkit: {fault}")?;
-        assert_eq!(rt; text.as_str(), run_exit(&answer).1);
+    has_its_text(&rt, rt.alloc(), IoFault::Read)?;
+    has_its_text(&rt, rt.alloc(), IoFault::InputTooLong)?;
+    has_its_text(&rt, rt.alloc(), IoFault::Write)?;
+    has_its_text(&rt, rt.alloc(), IoFault::Memory)
+}
+
+/// Checks that a session that has stopped gives no data.
+fn gives_no_data<R: InDevice>(rt: &impl Abort, session: &mut Session<R>) {
+    for _ in 0..2 {
+        assert_eq!(rt; session.data(&mut [0; 4]), Err(Stop::Io(IoFault::Read)));
     }
-    Ok(())
 }
 
 /// A session that is interrupted stops, and does not read on.
 #[test]
 fn interrupted_session(rt: HostRuntime) -> Result<(), Fail> {
     let stream = joined(rt.alloc(), TRANSFER)?;
-    let mut session = Session::new(Source::new(reader(&stream, 8)));
+    let mut session = Session::new(Source::new(reader(stream.as_slice(), 8)));
     assert_eq!(rt; session.open(), Ok(Contact { flags: 0 }));
     assert_eq!(rt; session.next(), Err(Stop::Io(IoFault::Read)));
-    for _ in 0..2 {
-        assert_eq!(rt; session.data(&mut [0; 4]), Err(Stop::Io(IoFault::Read)));
-    }
+    gives_no_data(&rt, &mut session);
     assert_eq!(rt; session.into_source().into_reader().into_inner().calls, 8);
     Ok(())
+}
+
+/// Lists a stream from a slice into vectors, and checks the output.
+fn lists_slices(rt: &impl Abort, alloc: Global, stream: &[u8], want: &[u8]) {
+    let end = list(Reader::new(stream), with_memory(alloc), with_memory(alloc));
+    assert_eq!(rt; run_exit(&end.answer), (0, ""));
+    is_text(rt, end.output.into_inner().as_slice(), want);
+}
+
+/// Lists a stream over devices of one byte a call, and checks the output.
+fn lists_bytes(rt: &impl Abort, alloc: Global, stream: &[u8], want: &[u8]) {
+    let end = list(
+        reader(stream, NEVER),
+        writer(alloc, Hitch::Interrupted, NEVER),
+        writer(alloc, Hitch::TakesNone, NEVER),
+    );
+    assert_eq!(rt; run_exit(&end.answer), (0, ""));
+    is_text(rt, end.output.into_inner().written.as_slice(), want);
+    assert_eq!(rt; end.report.into_inner().calls, 0);
 }
 
 /// Runs over slices and vectors have the same texts as runs over devices of one byte a call.
@@ -330,22 +421,7 @@ fn interrupted_session(rt: HostRuntime) -> Result<(), Fail> {
 fn whole_transfer(rt: HostRuntime) -> Result<(), Fail> {
     let stream = joined(rt.alloc(), TRANSFER)?;
     let want = joined(rt.alloc(), TRANSFER_LINES)?;
-    let end = list(
-        Reader::new(stream.as_slice()),
-        with_memory(rt.alloc()),
-        with_memory(rt.alloc()),
-    );
-    assert_eq!(rt; run_exit(&end.answer), (0, ""));
-    let output = end.output.into_inner();
-    assert_eq!(rt; text(&output)?, text(&want)?);
-    let end = list(
-        reader(&stream, NEVER),
-        writer(rt.alloc(), Hitch::Interrupted, NEVER),
-        writer(rt.alloc(), Hitch::TakesNone, NEVER),
-    );
-    assert_eq!(rt; run_exit(&end.answer), (0, ""));
-    let output = end.output.into_inner();
-    assert_eq!(rt; text(&output.written)?, text(&want)?);
-    assert_eq!(rt; end.report.into_inner().calls, 0);
+    lists_slices(&rt, rt.alloc(), stream.as_slice(), want.as_slice());
+    lists_bytes(&rt, rt.alloc(), stream.as_slice(), want.as_slice());
     Ok(())
 }

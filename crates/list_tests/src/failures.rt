@@ -3,11 +3,12 @@
 use crate::rows::MESSAGES;
 use std::alloc::Global;
 use std::test::Fail;
+use toolkit_tests::checks::{counted, reported, wrote};
 use toolkit_tests::failures::{each_fails, each_fails_at_each_pace, reads_before_failure};
 use toolkit_tests::rows::TRANSFER;
-use toolkit_tests::running::{Tool, ended_over};
+use toolkit_tests::running::{End, Tool, ended_over};
 use toolkit_tests::stream::{
-    CONTACT, CONTACT_LINE, NODE, PARAMETERS, SESSION_WORDS, WHOLE_TRANSFER, joined, text,
+    CONTACT, CONTACT_LINE, NODE, PARAMETERS, SESSION_WORDS, WHOLE_TRANSFER, joined,
 };
 
 #[test]
@@ -41,25 +42,25 @@ fn long_list(alloc: Global) -> Result<Vec<u8>, Fail> {
     Ok(stream)
 }
 
-#[test]
-fn long_list_at_once(rt: HostRuntime) -> Result<(), Fail> {
-    let stream = long_list(rt.alloc())?;
-    let end = ended_over(rt.alloc(), Tool::List, &stream, usize::MAX);
+/// Checks the texts of listing the long list, and how often its reader is called.
+fn long_list_is_listed(alloc: Global, end: &End<'_>) -> Result<(), Fail> {
     let lines: &[&[u8]] = &[
         CONTACT_LINE,
         SESSION_WORDS,
         b" node=ipn:1.0 items=2 item=01:1234:9000 item=00:abcd:9000\n",
         b"18048 xfer-segment flags=03 id=0 items=0 length=5\n",
     ];
-    assert_eq!(rt;
-        text(end.output.written())?,
-        text(&joined(rt.alloc(), lines)?)?
-    );
-    assert_eq!(rt;
-        text(end.report.written())?,
-        "tcpclkit: byte 18075: unknown message type 16\n"
-    );
-    assert_eq!(rt; end.reader.calls(), 3);
+    wrote("a long list", end.output.written(), &joined(alloc, lines)?)?;
+    let fault = b"tcpclkit: byte 18075: unknown message type 16\n";
+    reported("a long list", end.report.written(), fault)?;
+    counted("calls of the reader", end.reader.calls(), 3)
+}
+
+#[test]
+fn long_list_at_once(rt: HostRuntime) -> Result<(), Fail> {
+    let stream = long_list(rt.alloc())?;
+    let end = ended_over(rt.alloc(), Tool::List, &stream, usize::MAX);
+    long_list_is_listed(rt.alloc(), &end)?;
     each_fails(rt.alloc(), Tool::List, &stream, usize::MAX, 1)
 }
 

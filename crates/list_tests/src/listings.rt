@@ -14,19 +14,23 @@ use toolkit_tests::stream::{
     joined,
 };
 
-/// Checks the result of listing for each row, also if the reader holds the stream.
+/// Checks the result of listing for a row, also if the reader holds the stream.
+fn row_given(alloc: Global, row: &Row) -> Result<(), Fail> {
+    let stream = joined(alloc, row.stream)?;
+    let output = joined(alloc, row.output)?;
+    let want = Expected {
+        tool: Tool::List,
+        output: &output,
+        report: row.report,
+        status: row.status,
+    };
+    gives_at_each_pace(alloc, row.name, &stream, &want)?;
+    gives_in_place(alloc, row.name, &stream, &want)
+}
+
 fn all_given(alloc: Global, rows: &[Row]) -> Result<(), Fail> {
     for row in rows {
-        let stream = joined(alloc, row.stream)?;
-        let output = joined(alloc, row.output)?;
-        let want = Expected {
-            tool: Tool::List,
-            output: &output,
-            report: row.report,
-            status: row.status,
-        };
-        gives_at_each_pace(alloc, row.name, &stream, &want)?;
-        gives_in_place(alloc, row.name, &stream, &want)?;
+        row_given(alloc, row)?;
     }
     Ok(())
 }
@@ -56,6 +60,16 @@ fn faults(rt: HostRuntime) -> Result<(), Fail> {
     all_given(rt.alloc(), &FAULTS)
 }
 
+/// The lines of a session whose node ID is as many bytes `ff`.
+fn lines_with_escapes(alloc: Global, node: &[u8]) -> Result<Vec<u8>, Fail> {
+    let mut output = joined(alloc, &[CONTACT_LINE, SESSION_WORDS, b" node="])?;
+    for _ in 0..node.len() {
+        output.extend_from_slice(b"\\xff")?;
+    }
+    output.extend_from_slice(b" items=0\n")?;
+    Ok(output)
+}
+
 /// A node ID of 1,024 bytes, all of them escaped.
 #[test]
 fn longest_node(rt: HostRuntime) -> Result<(), Fail> {
@@ -64,11 +78,7 @@ fn longest_node(rt: HostRuntime) -> Result<(), Fail> {
         rt.alloc(),
         &[CONTACT, PARAMETERS, b"\x04\x00", &node, NO_ITEMS],
     )?;
-    let mut output = joined(rt.alloc(), &[CONTACT_LINE, SESSION_WORDS, b" node="])?;
-    for _ in 0..node.len() {
-        output.extend_from_slice(b"\\xff")?;
-    }
-    output.extend_from_slice(b" items=0\n")?;
+    let output = lines_with_escapes(rt.alloc(), &node)?;
     assert_eq!(rt; output.len(), CONTACT_LINE.len() + 4174);
     let want = listing(&output, b"");
     gives_at_each_pace(rt.alloc(), "the longest node ID", &stream, &want)
@@ -95,39 +105,72 @@ fn cut_at(size: usize) -> Option<usize> {
     }
 }
 
-/// An item that fills the longest extension list, and prefixes of its stream.
-///
-/// The prefixes are those of at most 100 bytes, and the one without the last byte.
+/// A stream with an item that fills the longest extension list.
+fn with_longest_list(alloc: Global) -> Result<Vec<u8>, Fail> {
+    let list = b"\x00\x01\x00\x00\x00\xab\xcd\xff\xfb";
+    let mut stream = joined(alloc, &[CONTACT, PARAMETERS, NODE, list])?;
+    stream.resize(65_574, 0)?;
+    Ok(stream)
+}
+
 #[test]
 fn longest_list(rt: HostRuntime) -> Result<(), Fail> {
-    let list = b"\x00\x01\x00\x00\x00\xab\xcd\xff\xfb";
-    let mut stream = joined(rt.alloc(), &[CONTACT, PARAMETERS, NODE, list])?;
-    stream.resize(65_574, 0)?;
+    let stream = with_longest_list(rt.alloc())?;
     let line = b" node=ipn:1.0 items=1 item=00:abcd:65531\n";
     let output = joined(rt.alloc(), &[CONTACT_LINE, SESSION_WORDS, line])?;
-    let want = listing(&output, b"");
-    gives_at_each_pace(rt.alloc(), "the longest list", &stream, &want)?;
-    for size in (0..=100).chain([65_573]) {
-        let prefix = stream.get(..size).ok_or("more than the stream")?;
-        let report = match cut_at(size) {
-            Some(offset) => format!(in rt.alloc(); "tcpclkit: byte {offset}: truncated\n")?,
-            None => String::new(rt.alloc()),
-        };
-        let output: &[u8] = if size < 6 { b"" } else { CONTACT_LINE };
-        let want = listing(output, report.as_bytes());
-        gives_at_each_pace(rt.alloc(), "a prefix of the longest list", prefix, &want)?;
+    gives_at_each_pace(
+        rt.alloc(),
+        "the longest list",
+        &stream,
+        &listing(&output, b""),
+    )
+}
+
+/// The fault line of a prefix of the stream with the longest list, or no byte if it has none.
+fn report_of_the_cut(alloc: Global, size: usize) -> Result<String, Fail> {
+    match cut_at(size) {
+        Some(offset) => Ok(format!(in alloc; "tcpclkit: byte {offset}: truncated\n")?),
+        None => Ok(String::new(alloc)),
     }
-    Ok(())
+}
+
+/// Checks the result for a prefix of the stream with the longest list.
+fn prefix_given(alloc: Global, prefix: &[u8]) -> Result<(), Fail> {
+    let report = report_of_the_cut(alloc, prefix.len())?;
+    let output: &[u8] = if prefix.len() < 6 { b"" } else { CONTACT_LINE };
+    let want = listing(output, report.as_bytes());
+    gives_at_each_pace(alloc, "a prefix of the longest list", prefix, &want)
+}
+
+/// The prefixes are those of at most 100 bytes, and the one without the last byte.
+#[test]
+fn longest_list_cut(rt: HostRuntime) -> Result<(), Fail> {
+    let stream = with_longest_list(rt.alloc())?;
+    for size in 0..=100 {
+        prefix_given(
+            rt.alloc(),
+            stream.get(..size).ok_or("more than the stream")?,
+        )?;
+    }
+    prefix_given(
+        rt.alloc(),
+        stream.get(..65_573).ok_or("more than the stream")?,
+    )
 }
 
 /// A segment with more data than a run holds at once, and a message after it.
-#[test]
-fn long_segment(rt: HostRuntime) -> Result<(), Fail> {
+fn with_long_segment(alloc: Global) -> Result<Vec<u8>, Fail> {
     let length_9000 = b"\x00\x00\x00\x00\x00\x00\x23\x28";
     let data = [0xa5; 9000];
     let segment: &[&[u8]] = &[WHOLE_TRANSFER, length_9000, &data, b"\x04"];
-    let mut stream = joined(rt.alloc(), &[CONTACT, PARAMETERS, NODE, NO_ITEMS])?;
-    stream.extend_from_slice(&joined(rt.alloc(), segment)?)?;
+    let mut stream = joined(alloc, &[CONTACT, PARAMETERS, NODE, NO_ITEMS])?;
+    stream.extend_from_slice(&joined(alloc, segment)?)?;
+    Ok(stream)
+}
+
+#[test]
+fn long_segment(rt: HostRuntime) -> Result<(), Fail> {
+    let stream = with_long_segment(rt.alloc())?;
     let line = b"38 xfer-segment flags=03 id=0 items=0 length=9000\n";
     let output = joined(
         rt.alloc(),
@@ -154,24 +197,24 @@ fn whole_lines(alloc: Global, size: usize) -> Result<(Vec<u8>, usize), Fail> {
     Ok((lines, end))
 }
 
+/// Checks the result for a prefix of `MESSAGES`.
+///
 /// The lines of the whole messages are listed, and a fault line if a message is cut.
+fn messages_given(alloc: Global, prefix: &[u8]) -> Result<(), Fail> {
+    let (output, start) = whole_lines(alloc, prefix.len())?;
+    let is_whole = prefix.len() > 0 && start == prefix.len();
+    let fault = format!(in alloc; "tcpclkit: byte {start}: truncated\n")?;
+    let report: &[u8] = if is_whole { b"" } else { fault.as_bytes() };
+    let want = listing(&output, report);
+    gives(alloc, "a prefix of every message", prefix, 1, &want)
+}
+
 #[test]
 fn every_prefix(rt: HostRuntime) -> Result<(), Fail> {
     let stream = joined(rt.alloc(), MESSAGES)?;
     assert_eq!(rt; stream.len(), 76);
     for size in 0..=76 {
-        let (output, start) = whole_lines(rt.alloc(), size)?;
-        let is_whole = size > 0 && start == size;
-        let fault = format!(in rt.alloc(); "tcpclkit: byte {start}: truncated\n")?;
-        let report: &[u8] = if is_whole { b"" } else { fault.as_bytes() };
-        let want = listing(&output, report);
-        gives(
-            rt.alloc(),
-            "a prefix of every message",
-            &stream[..size],
-            1,
-            &want,
-        )?;
+        messages_given(rt.alloc(), &stream[..size])?;
     }
     Ok(())
 }
@@ -201,7 +244,7 @@ fn counted_reads(rt: HostRuntime) -> Result<(), Fail> {
     let mut stream = joined(rt.alloc(), TRANSFER)?;
     assert_eq!(rt; reads(rt.alloc(), &stream, usize::MAX), (2, 94));
     assert_eq!(rt; reads(rt.alloc(), &stream, 1), (95, 94));
-    for (size, calls) in [(8191, 2), (8192, 2), (8193, 3), (16_384, 3), (16_385, 4)] {
+    for &(size, calls) in &[(8191, 2), (8192, 2), (8193, 3), (16_384, 3), (16_385, 4)] {
         // keepalives after the transfer
         stream.resize(size, 4)?;
         assert_eq!(rt; reads(rt.alloc(), &stream, usize::MAX), (calls, size));

@@ -2,11 +2,50 @@
 
 ghost use Rattle.std.specs.Prelude.{◌<◌};
 
-use link_wire::{Contact, Items, Message, NodeId, SegmentHead, Session, Source, Stop, WireFault};
+use link_wire::{
+    Contact, InDevice, Items, Message, NodeId, SegmentHead, Session, Source, Stop, WireFault,
+};
+use std::process::Abort;
 use std::test::Fail;
 use toolkit_tests::rows::TRANSFER;
 use toolkit_tests::stream::{BACK, FRONT, joined};
 use toolkit_tests::{Failing, TestReader};
+
+/// The SESS_INIT of `TRANSFER`.
+fn sess_init() -> Result<Message, Fail> {
+    Ok(Message::SessInit {
+        keepalive: 60,
+        segment_mru: 65_536,
+        transfer_mru: 1_048_576,
+        node: NodeId::try_from(b"ipn:1.0".as_slice())?,
+        items: Items::new(),
+    })
+}
+
+/// The head of the segment of `TRANSFER`.
+fn segment() -> Message {
+    Message::Segment(SegmentHead {
+        flags: 3,
+        id: 0,
+        items: Items::new(),
+        length: 34,
+    })
+}
+
+/// Checks what a session gave as its next message, with its offset.
+fn is_message(
+    rt: &impl Abort,
+    given: Result<Option<(u64, Message)>, Stop>,
+    want: Option<(u64, Message)>,
+) {
+    assert_eq!(rt; given, Ok(want));
+}
+
+/// Checks that the data of `TRANSFER` was given.
+fn is_data(rt: &impl Abort, given: Result<usize, Stop>, data: &[u8; 34]) {
+    assert_eq!(rt; given, Ok(34));
+    assert_eq!(rt; data.split_at(17), (FRONT, BACK));
+}
 
 #[test]
 fn message_by_message(rt: HostRuntime) -> Result<(), Fail> {
@@ -14,29 +53,15 @@ fn message_by_message(rt: HostRuntime) -> Result<(), Fail> {
     let reader = TestReader::new(&stream, usize::MAX, Failing::Never);
     let mut session = Session::new(Source::new(reader));
     assert_eq!(rt; session.open(), Ok(Contact { flags: 0 }));
-    let sess_init = Message::SessInit {
-        keepalive: 60,
-        segment_mru: 65_536,
-        transfer_mru: 1_048_576,
-        node: NodeId::try_from(b"ipn:1.0".as_slice())?,
-        items: Items::new(),
-    };
-    assert_eq!(rt; session.next(), Ok(Some((6, sess_init))));
+    is_message(&rt, session.next(), Some((6, sess_init()?)));
     assert_eq!(rt; session.left(), 0);
-    let segment = Message::Segment(SegmentHead {
-        flags: 3,
-        id: 0,
-        items: Items::new(),
-        length: 34,
-    });
-    assert_eq!(rt; session.next(), Ok(Some((38, segment))));
+    is_message(&rt, session.next(), Some((38, segment())));
     assert_eq!(rt; session.left(), 34);
     let mut data = [0; 34];
-    assert_eq!(rt; session.data(&mut data), Ok(34));
-    let bundle = joined(rt.alloc(), &[FRONT, BACK])?;
-    assert_eq!(rt; data.as_slice(), bundle.as_slice());
+    let given = session.data(&mut data);
+    is_data(&rt, given, &data);
     assert_eq!(rt; session.left(), 0);
-    assert_eq!(rt; session.next(), Ok(None));
+    is_message(&rt, session.next(), None);
     let source = session.into_source();
     assert_eq!(rt; (source.given(), source.taken()), (94, 94));
     Ok(())
@@ -64,6 +89,18 @@ fn reads_ahead(rt: HostRuntime) -> Result<(), Fail> {
     Ok(())
 }
 
+/// Checks that a session gives three bytes of data, and then the fault of the cut at each call.
+fn gives_three_bytes<R: InDevice>(rt: &impl Abort, session: &mut Session<R>) {
+    let mut data = [0; 34];
+    assert_eq!(rt; session.data(&mut data), Ok(3));
+    assert_eq!(rt; &data[..3], &FRONT[..3]);
+    assert_eq!(rt; session.left(), 31);
+    for _ in 0..2 {
+        let cut = Err(Stop::Wire(38, WireFault::Truncated));
+        assert_eq!(rt; session.data(&mut data), cut);
+    }
+}
+
 /// The data of a cut segment is given as far as it is there, and then the fault is returned.
 ///
 /// The fault has the offset of the segment. A second call returns it again.
@@ -77,13 +114,6 @@ fn cut_data(rt: HostRuntime) -> Result<(), Fail> {
     assert!(rt; session.next().is_ok());
     assert_eq!(rt; session.left(), 0);
     assert!(rt; session.next().is_ok());
-    let mut data = [0; 34];
-    assert_eq!(rt; session.data(&mut data), Ok(3));
-    assert_eq!(rt; &data[..3], &FRONT[..3]);
-    assert_eq!(rt; session.left(), 31);
-    for _ in 0..2 {
-        let cut = Err(Stop::Wire(38, WireFault::Truncated));
-        assert_eq!(rt; session.data(&mut data), cut);
-    }
+    gives_three_bytes(&rt, &mut session);
     Ok(())
 }

@@ -5,6 +5,7 @@
 use crate::listings::listing;
 use std::alloc::Global;
 use std::test::Fail;
+use toolkit_tests::checks::counted;
 use toolkit_tests::running::{gives, gives_at_each_pace};
 use toolkit_tests::stream::{
     BACK, CONTACT, CONTACT_LINE, EDGE, FIRST_SEGMENT, FRONT, LAST_SEGMENT, LENGTH_17, NODE,
@@ -79,15 +80,24 @@ struct Listed {
 impl Listed {
     /// The stream and its lines with all of `PARTS` after them.
     fn with_parts(&self, alloc: Global) -> Result<Listed, Fail> {
-        let mut stream = joined(alloc, &[&self.stream])?;
-        let mut lines = joined(alloc, &[&self.lines])?;
+        let stream = joined(alloc, &[&self.stream])?;
+        let lines = joined(alloc, &[&self.lines])?;
+        let mut whole = Listed { stream, lines };
         for part in &PARTS {
-            let offset = format!(in alloc; "{}", stream.len())?;
-            lines.extend_from_slice(offset.as_bytes())?;
-            lines.extend_from_slice(part.words)?;
-            stream.extend_from_slice(&joined(alloc, part.bytes)?)?;
+            whole.put(alloc, part)?;
         }
-        Ok(Listed { stream, lines })
+        Ok(whole)
+    }
+
+    /// Appends a part.
+    fn put(&mut self, alloc: Global, part: &Part) -> Result<(), Fail> {
+        let offset = format!(in alloc; "{}", self.stream.len())?;
+        self.lines.extend_from_slice(offset.as_bytes())?;
+        self.lines.extend_from_slice(part.words)?;
+        for piece in part.bytes {
+            self.stream.extend_from_slice(piece)?;
+        }
+        Ok(())
     }
 }
 
@@ -113,6 +123,27 @@ fn after_data(rt: HostRuntime) -> Result<(), Fail> {
     Ok(())
 }
 
+/// A KEEPALIVE.
+const KEEPALIVE: Part = Part {
+    bytes: &[b"\x04"],
+    words: b" keepalive\n",
+};
+
+/// Checks the result for the parts after this stream.
+fn parts_given_after(alloc: Global, before: &Listed) -> Result<(), Fail> {
+    let whole = before.with_parts(alloc)?;
+    let size = before.stream.len().saturating_add(PARTS_SIZE);
+    counted("bytes with the parts", whole.stream.len(), size)?;
+    let want = listing(&whole.lines, b"");
+    gives(
+        alloc,
+        "parts after keepalives",
+        &whole.stream,
+        usize::MAX,
+        &want,
+    )
+}
+
 /// The parts follow keepalives, and the first read ends at each offset of them in turn.
 #[test]
 fn after_keepalives(rt: HostRuntime) -> Result<(), Fail> {
@@ -121,20 +152,9 @@ fn after_keepalives(rt: HostRuntime) -> Result<(), Fail> {
     let mut before = Listed { stream, lines };
     for offset in 6..=EDGE {
         if offset >= EDGE - PARTS_SIZE {
-            let whole = before.with_parts(rt.alloc())?;
-            assert_eq!(rt; whole.stream.len(), offset + PARTS_SIZE);
-            let want = listing(&whole.lines, b"");
-            gives(
-                rt.alloc(),
-                "parts after keepalives",
-                &whole.stream,
-                usize::MAX,
-                &want,
-            )?;
+            parts_given_after(rt.alloc(), &before)?;
         }
-        let line = format!(in rt.alloc(); "{offset} keepalive\n")?;
-        before.stream.push(4)?;
-        before.lines.extend_from_slice(line.as_bytes())?;
+        before.put(rt.alloc(), &KEEPALIVE)?;
     }
     Ok(())
 }

@@ -26,20 +26,23 @@ fn gives_in_steps(
     steps_alike(alloc, want.tool, input, 1)
 }
 
-/// Checks the result of packing for each row, also if the reader holds the input.
+/// Checks the result of packing the input for a row, also if the reader holds the input.
+fn row_given(alloc: Global, row: &Row, input: &[u8]) -> Result<(), Fail> {
+    let output = built(alloc, row.output)?;
+    let report = joined(alloc, row.report)?;
+    let want = Expected {
+        tool: Tool::Pack(row.packing),
+        output: &output,
+        report: &report,
+        status: row.status,
+    };
+    gives_in_steps(alloc, row.name, input, &want)?;
+    gives_in_place(alloc, row.name, input, &want)
+}
+
 fn all_given(alloc: Global, rows: &[Row]) -> Result<(), Fail> {
     for row in rows {
-        let input = joined(alloc, row.input)?;
-        let output = built(alloc, row.output)?;
-        let report = joined(alloc, row.report)?;
-        let want = Expected {
-            tool: Tool::Pack(row.packing),
-            output: &output,
-            report: &report,
-            status: row.status,
-        };
-        gives_in_steps(alloc, row.name, &input, &want)?;
-        gives_in_place(alloc, row.name, &input, &want)?;
+        row_given(alloc, row, &joined(alloc, row.input)?)?;
     }
     Ok(())
 }
@@ -64,6 +67,21 @@ fn bundles_in_place(rt: HostRuntime) -> Result<(), Fail> {
     Ok(())
 }
 
+/// Checks that a prefix of a bundle is a fault, and that only the start of a session is written.
+fn prefix_given(alloc: Global, session: &[u8], prefix: &[u8]) -> Result<(), Fail> {
+    let size = prefix.len();
+    let report = format!(in alloc;
+        "tcpclkit: bundle 0 byte {size}: B1 input ends inside a bundle\n"
+    )?;
+    let want = Expected {
+        tool: Tool::Pack(DEFAULTS),
+        output: session,
+        report: report.as_bytes(),
+        status: 3,
+    };
+    gives_in_steps(alloc, "a prefix of a bundle", prefix, &want)
+}
+
 /// A bundle that is cut after each of its bytes but the last.
 #[test]
 fn every_prefix(rt: HostRuntime) -> Result<(), Fail> {
@@ -71,16 +89,7 @@ fn every_prefix(rt: HostRuntime) -> Result<(), Fail> {
     let session = joined(rt.alloc(), SESSION)?;
     for size in 1..=33 {
         let prefix = bundle.get(..size).ok_or("more than the bundle")?;
-        let report = format!(in rt.alloc();
-            "tcpclkit: bundle 0 byte {size}: B1 input ends inside a bundle\n"
-        )?;
-        let want = Expected {
-            tool: Tool::Pack(DEFAULTS),
-            output: &session,
-            report: report.as_bytes(),
-            status: 3,
-        };
-        gives_in_steps(rt.alloc(), "a prefix of a bundle", prefix, &want)?;
+        prefix_given(rt.alloc(), &session, prefix)?;
     }
     Ok(())
 }
@@ -98,6 +107,21 @@ fn packs_on_for(
     Ok(())
 }
 
+/// Checks a number of steps of a run that goes on: how many bytes of the output and how many lines
+/// of the row's report are written after each of them.
+fn row_goes_on(
+    alloc: Global,
+    run: &mut TestPackRun<'_>,
+    row: &Row,
+    output: &[u8],
+    written: (usize, usize, usize),
+) -> Result<(), Fail> {
+    let (steps, size, lines) = written;
+    let output = output.get(..size).ok_or("more than the output")?;
+    let report = row.report.get(..lines).ok_or("more than the report")?;
+    packs_on_for(run, steps, output, &joined(alloc, report)?)
+}
+
 /// Packs a row's input in steps, over a reader of one byte a call.
 ///
 /// Each entry of `written` is a number of steps, and how many bytes of the output and lines of the
@@ -106,10 +130,8 @@ fn byte_by_byte(alloc: Global, row: &Row, written: &[(usize, usize, usize)]) -> 
     let input = joined(alloc, row.input)?;
     let output = built(alloc, row.output)?;
     let mut run = test_pack_run(alloc, &row.packing, &input)?;
-    for (steps, size, lines) in written {
-        let output = output.get(..*size).ok_or("more than the output")?;
-        let report = row.report.get(..*lines).ok_or("more than the report")?;
-        packs_on_for(&mut run, *steps, output, &joined(alloc, report)?)?;
+    for steps in written {
+        row_goes_on(alloc, &mut run, row, &output, *steps)?;
     }
     is_done(run.step(), row.status)
 }
@@ -202,16 +224,22 @@ fn long_bundle(alloc: Global) -> Result<Vec<u8>, Fail> {
     Ok(bundle)
 }
 
+/// A stream with the bundle in a segment of 65,536 bytes and one with the rest.
+fn with_longest_segment(alloc: Global, bundle: &[u8]) -> Result<Vec<u8>, Fail> {
+    let (first, last) = bundle
+        .split_at_checked(65_536)
+        .ok_or("less than a segment")?;
+    let mut output = joined(alloc, SESSION)?;
+    put_segment(&mut output, 2, 0, &[first])?;
+    put_segment(&mut output, 1, 0, &[last])?;
+    Ok(output)
+}
+
 /// No segment has more than 65,536 bytes of data, whatever the peer takes.
 #[test]
 fn longest_segment(rt: HostRuntime) -> Result<(), Fail> {
     let bundle = long_bundle(rt.alloc())?;
-    let (first, last) = bundle
-        .split_at_checked(65_536)
-        .ok_or("less than a segment")?;
-    let mut output = joined(rt.alloc(), SESSION)?;
-    put_segment(&mut output, 2, 0, &[first])?;
-    put_segment(&mut output, 1, 0, &[last])?;
+    let output = with_longest_segment(rt.alloc(), &bundle)?;
     let packing = Packing {
         peer_segment: u64::MAX,
         ..DEFAULTS

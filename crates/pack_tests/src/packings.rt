@@ -154,7 +154,7 @@ pub const NOT_HELD: Row = Row {
 };
 
 /// Inputs that have only whole bundles.
-pub const WHOLE: [Row; 9] = [
+pub static WHOLE: [Row; 9] = [
     Row {
         name: "nothing",
         packing: DEFAULTS,
@@ -256,7 +256,7 @@ pub const WHOLE: [Row; 9] = [
 ];
 
 /// Inputs with a fault.
-pub const FAULTS: [Row; 10] = [
+pub static FAULTS: [Row; 10] = [
     PAST_LIMIT,
     Row {
         name: "a segment's data past the peer's limit",

@@ -9,7 +9,7 @@ use link_wire::{InDevice, OutDevice};
 use std::alloc::Global;
 use std::test::Fail;
 
-#[derive(Clone, Copy, Debug, PartialEq, Eq)]
+#[derive(Clone, Copy, PartialEq, Eq)]
 enum Device {
     Reader,
     Output,
@@ -100,12 +100,17 @@ fn fails(alloc: Global, trial: &Trial<'_>, whole: &End<'_>) -> Result<bool, Fail
     if end.answer.is_ok() {
         return Ok(false);
     }
+    stops(alloc, trial, whole, &end)?;
+    Ok(true)
+}
+
+/// Checks the end of a run in steps whose device failed.
+fn stops(alloc: Global, trial: &Trial<'_>, whole: &End<'_>, end: &End<'_>) -> Result<(), Fail> {
     exits("a failure", &end.answer, trial.device.exit())?;
-    alike(&end, &trial.run(alloc))?;
+    alike(end, &trial.run(alloc))?;
     is_prefix("output", end.output.written(), whole.output.written())?;
     is_prefix("report", end.report.written(), whole.report.written())?;
-    determined(alloc, trial, &end)?;
-    Ok(true)
+    determined(alloc, trial, end)
 }
 
 /// Checks that these bytes, which were written, are a prefix of the whole text.
@@ -127,13 +132,13 @@ const AT_THE_END: [&[u8]; 3] = [
     b": B1 input ends inside a bundle\n",
 ];
 
-/// A report without the line that only the end of the input determines.
-fn lasting(report: &[u8]) -> &[u8] {
-    match report.split_inclusive(|byte| *byte == b'\n').last() {
+/// A text without the line that only the end of the input determines.
+fn lasting(text: &[u8]) -> &[u8] {
+    match text.split_inclusive(|byte| *byte == b'\n').last() {
         Some(line) if AT_THE_END.iter().any(|end| line.ends_with(end)) => {
-            report.strip_suffix(line).unwrap_or(report)
+            text.strip_suffix(line).unwrap_or(text)
         }
-        _ => report,
+        _ => text,
     }
 }
 
@@ -146,11 +151,22 @@ fn determined(alloc: Global, trial: &Trial<'_>, end: &End<'_>) -> Result<(), Fai
         .stream
         .get(..end.reader.given())
         .ok_or("more than the stream")?;
-    let alone = ended_over(alloc, trial.tool, given, usize::MAX);
+    compared(
+        trial.device,
+        end,
+        &ended_over(alloc, trial.tool, given, usize::MAX),
+    )
+}
+
+/// Compares the texts after a failure of this device with those of the run `alone`.
+fn compared(device: Device, end: &End<'_>, alone: &End<'_>) -> Result<(), Fail> {
     let (output, report) = (alone.output.written(), alone.report.written());
-    if trial.device == Device::Reader {
-        wrote("a failed read", end.output.written(), output)?;
-        reported("a failed read", end.report.written(), lasting(report))
+    if device == Device::Reader {
+        let determined = lasting(report);
+        let is_clean = determined.len() == report.len();
+        let written = if is_clean { lasting(output) } else { output };
+        wrote("a failed read", end.output.written(), written)?;
+        reported("a failed read", end.report.written(), determined)
     } else {
         is_prefix("output", end.output.written(), output)?;
         is_prefix("report", end.report.written(), report)
@@ -202,7 +218,7 @@ pub fn each_fails(
         (Device::Output, whole.output.calls()),
         (Device::Report, whole.report.calls()),
     ];
-    for (device, calls) in calls {
+    for &(device, calls) in &calls {
         let failing = Failing::Never;
         let trial = Trial {
             tool,

@@ -7,7 +7,7 @@ use link_wire::DeviceFault;
 /// When a device fails.
 ///
 /// It fails at each later call too.
-#[derive(Clone, Copy, Debug, PartialEq, Eq)]
+#[derive(Clone, Copy)]
 pub enum Failing {
     Never,
     /// At this call, counted from 1.
@@ -17,7 +17,7 @@ pub enum Failing {
 }
 
 /// The pace of a device, and counts of its calls and bytes.
-#[derive(Debug, Drop)]
+#[derive(Drop)]
 pub struct Pace {
     per_call: usize,
     failing: Failing,

@@ -4,7 +4,7 @@ use link_tools::PackOptions;
 use link_wire::NodeId;
 
 /// The options of a run of `pack`, as numbers and bytes.
-#[derive(Clone, Copy, Debug, PartialEq, Eq)]
+#[derive(Clone, Copy)]
 pub struct Packing {
     pub node: &'static [u8],
     pub keepalive: u16,

@@ -7,7 +7,8 @@ use crate::packing::Packing;
 use crate::stepping::ended;
 use crate::{Failing, HoldingReader, TestReader, TestWriter};
 use link_tools::{
-    RunEnd, Status, Wanted, cutter_for, list, list_run, pack, pack_run, unpack, unpack_run,
+    BlockOptions, RunEnd, Status, Wanted, blocks, blocks_run, bundle_blocks, bundle_blocks_run,
+    cutter_for, list, list_run, pack, pack_run, unpack, unpack_run,
 };
 use link_wire::{InDevice, IoFault, OutDevice};
 use std::alloc::Global;
@@ -17,10 +18,12 @@ use std::test::Fail;
 pub type End<'a> = RunEnd<TestReader<'a>, TestWriter, TestWriter>;
 
 /// A tool with its options.
-#[derive(Clone, Copy, Debug, PartialEq, Eq)]
+#[derive(Clone, Copy)]
 pub enum Tool {
     List,
     Unpack(Wanted),
+    Blocks(BlockOptions),
+    BundleBlocks,
     Pack(Packing),
 }
 
@@ -40,6 +43,8 @@ impl Tool {
         match self {
             Tool::List => list(reader, output, report),
             Tool::Unpack(wanted) => unpack(wanted, reader, output, report),
+            Tool::Blocks(options) => blocks(options, reader, output, report),
+            Tool::BundleBlocks => bundle_blocks(reader, output, report),
             Tool::Pack(packing) => {
                 let options = packing.options();
                 pack(cutter_for(alloc, &options), options, reader, output, report)
@@ -66,28 +71,55 @@ impl Tool {
         match self {
             Tool::List => ended(list_run(reader, output, report), steps),
             Tool::Unpack(wanted) => ended(unpack_run(wanted, reader, output, report), steps),
-            Tool::Pack(packing) => {
-                let options = packing.options();
-                let cutter = cutter_for(alloc, &options)?;
-                let run = pack_run(cutter, options, reader, output, report);
-                ended(run, steps)
-            }
+            Tool::Blocks(options) => ended(blocks_run(options, reader, output, report), steps),
+            Tool::BundleBlocks => ended(bundle_blocks_run(reader, output, report), steps),
+            Tool::Pack(packing) => packed(alloc, packing, steps, reader, output, report),
         }
     }
 }
 
-/// Checks that a run in one call wrote what the run in steps wrote, ended like it, and called no
-/// device more often.
-pub fn alike(in_steps: &End<'_>, whole: &End<'_>) -> Result<(), Fail> {
+/// Runs `pack` in steps. If the memory of its cutter is refused, there is no run.
+fn packed<R: InDevice + Drop, W: OutDevice + Drop, E: OutDevice + Drop>(
+    alloc: Global,
+    packing: Packing,
+    steps: usize,
+    reader: R,
+    output: W,
+    report: E,
+) -> Result<RunEnd<R, W, E>, Fail>
+    requires reader { (R.state reader).failed ≡ false }
+    requires output { (W.state output).failed ≡ false }
+    requires report { (E.state report).failed ≡ false }
+{
+    let options = packing.options();
+    let cutter = cutter_for(alloc, &options)?;
+    ended(pack_run(cutter, options, reader, output, report), steps)
+}
+
+/// Checks that a run in one call ended like the run in steps.
+fn same_answer(in_steps: &End<'_>, whole: &End<'_>) -> Result<(), Fail> {
     let (one, other) = (&in_steps.answer, &whole.answer);
     if one != other {
         return Err(Fail::new(format_args!("answers: {one:?} and {other:?}")));
     }
+    Ok(())
+}
+
+/// Checks that a run in one call called no device more often than the run in steps.
+fn no_more_calls(in_steps: &End<'_>, whole: &End<'_>) -> Result<(), Fail> {
     let (reads, outputs, reports) = calls(in_steps);
     let (whole_reads, whole_outputs, whole_reports) = calls(whole);
     if whole_reads > reads || whole_outputs > outputs || whole_reports > reports {
         return Err(Fail::new(format_args!("calls: {:?} and {:?}", calls(in_steps), calls(whole))));
     }
+    Ok(())
+}
+
+/// Checks that a run in one call wrote what the run in steps wrote, ended like it, and called no
+/// device more often.
+pub fn alike(in_steps: &End<'_>, whole: &End<'_>) -> Result<(), Fail> {
+    same_answer(in_steps, whole)?;
+    no_more_calls(in_steps, whole)?;
     wrote(
         "two runs",
         in_steps.output.written(),

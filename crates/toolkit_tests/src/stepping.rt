@@ -34,13 +34,22 @@ pub fn ended<R: InDevice, W: OutDevice, E: OutDevice, T: Run<R, W, E> + Drop>(
 ) -> Result<RunEnd<R, W, E>, Fail> {
     let mut run = run;
     let answer = stepped(&mut run, steps).ok_or("no end")?;
+    steps_on(&mut run, &answer)?;
+    Ok(run.into_end(answer))
+}
+
+/// Steps a run three times more after its end. Each of these steps returns what the end returned.
+fn steps_on<R: InDevice, W: OutDevice, E: OutDevice, T: Run<R, W, E>>(
+    run: &mut T,
+    answer: &Result<Status, IoFault>,
+) -> Result<(), Fail> {
     for _ in 0..3 {
-        let again = stepped(&mut run, 1).ok_or("more after the end")?;
-        if again != answer {
+        let again = stepped(run, 1).ok_or("more after the end")?;
+        if again != *answer {
             return Err(Fail::new(format_args!("{again:?} after {answer:?}")));
         }
     }
-    Ok(run.into_end(answer))
+    Ok(())
 }
 
 /// Checks what a step of a run returns.

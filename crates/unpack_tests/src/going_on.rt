@@ -4,7 +4,9 @@ use crate::disorder::{
     EACH_FAULT, ENDED, GOING_ON, STRAY_BETWEEN, STRAY_CUT, STRAY_FIRST, TOGETHER,
 };
 use crate::transfers::{PARTS, Row, WHOLE};
-use crate::unpacking::{after_each_step, all_given, row_gives, row_gives_in_place};
+use crate::unpacking::{
+    after_each_step, all_given, row_gives, row_gives_in_place, with_keepalives,
+};
 use link_tools::Wanted;
 use std::alloc::Global;
 use std::test::Fail;
@@ -45,29 +47,36 @@ fn without_a_fault(rt: HostRuntime) -> Result<(), Fail> {
     all_unchanged(rt.alloc(), &PARTS)
 }
 
-/// The first read ends at each offset of three segments in turn. The one between is of no open
+/// A fault line for a segment of no open transfer at this offset, and then the line of the bundle.
+fn stray_report(alloc: Global, fault: usize) -> Result<Vec<u8>, Fail> {
+    let line = format!(in alloc; "tcpclkit: byte {fault}: no such open transfer\n")?;
+    let mut report = joined(alloc, &[line.as_bytes()])?;
+    report.extend_from_slice(&joined(alloc, BUNDLE_REPORT)?)?;
+    Ok(report)
+}
+
+/// Checks the result for three segments that begin at this offset. The one between is of no open
 /// transfer.
+fn stray_is_left_out(alloc: Global, stream: &[u8], offset: usize) -> Result<(), Fail> {
+    let output = joined(alloc, PLAIN)?;
+    let report = stray_report(alloc, offset.saturating_add(39))?;
+    let want = Expected {
+        tool: Tool::Unpack(GOING_ON),
+        output: &output,
+        report: &report,
+        status: 1,
+    };
+    gives_at_each_pace(alloc, "segments after keepalives", stream, &want)
+}
+
+/// The first read ends at each offset of three segments in turn.
 #[test]
 fn after_keepalives(rt: HostRuntime) -> Result<(), Fail> {
     let whole = built(rt.alloc(), STRAY_BETWEEN)?;
     assert_eq!(rt; whole.len(), 164);
-    let (session, segments) = whole.split_at(38);
-    let output = joined(rt.alloc(), PLAIN)?;
-    for size in EDGE - 126..=EDGE {
-        let mut stream = joined(rt.alloc(), &[session])?;
-        stream.resize(size, 4)?;
-        stream.extend_from_slice(segments)?;
-        let fault = size.saturating_add(39);
-        let line = format!(in rt.alloc(); "tcpclkit: byte {fault}: no such open transfer\n")?;
-        let mut report = joined(rt.alloc(), &[line.as_bytes()])?;
-        report.extend_from_slice(&joined(rt.alloc(), BUNDLE_REPORT)?)?;
-        let want = Expected {
-            tool: Tool::Unpack(GOING_ON),
-            output: &output,
-            report: &report,
-            status: 1,
-        };
-        gives_at_each_pace(rt.alloc(), "segments after keepalives", &stream, &want)?;
+    for offset in EDGE - 126..=EDGE {
+        let stream = with_keepalives(rt.alloc(), &whole, offset)?;
+        stray_is_left_out(rt.alloc(), &stream, offset)?;
     }
     Ok(())
 }
@@ -103,8 +112,8 @@ fn long_stray_step_by_step(rt: HostRuntime) -> Result<(), Fail> {
 #[test]
 fn cut_stray(rt: HostRuntime) -> Result<(), Fail> {
     let stream = long_stray(rt.alloc())?;
-    for size in [56, 57, 4151, 4152, 4153, 8191, 8192, 8193, 10_055] {
-        let prefix = stream.get(..size).ok_or("more than the stream")?;
+    for size in &[56, 57, 4151, 4152, 4153, 8191, 8192, 8193, 10_055] {
+        let prefix = stream.get(..*size).ok_or("more than the stream")?;
         row_gives(rt.alloc(), &STRAY_CUT, prefix)?;
         row_gives_in_place(rt.alloc(), &STRAY_CUT, prefix)?;
     }

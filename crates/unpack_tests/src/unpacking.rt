@@ -1,6 +1,6 @@
 //! Tests that unpack the worked streams, at each pace of the devices and step by step.
 
-ghost use Rattle.std.specs.Prelude.{◌<◌};
+ghost use Rattle.std.specs.Prelude.{◌<◌, ◌≤◌, length};
 
 use crate::transfers::{
     ABANDONED, ABANDONING, EMPTY_END, FAULTS, PARTS, PAYLOADS, Row, WHOLE, WHOLE_BUNDLES,
@@ -12,7 +12,7 @@ use toolkit_tests::rows::{ALL, BUNDLE_REPORT, TRANSFER, TWO_BUNDLES};
 use toolkit_tests::running::{
     Expected, Tool, ended_in_place, gives_at_each_pace, gives_held, gives_in_place,
 };
-use toolkit_tests::stepping::{is_done, test_unpack_run, unpacks_on};
+use toolkit_tests::stepping::{TestUnpackRun, is_done, test_unpack_run, unpacks_on};
 use toolkit_tests::stream::{EDGE, PLAIN, SESSION, built, joined, put_segment};
 
 /// The result of unpacking that the row says, in these texts of the row.
@@ -41,6 +41,16 @@ pub fn row_gives_in_place(alloc: Global, row: &Row, stream: &[u8]) -> Result<(),
     gives_in_place(alloc, row.name, stream, &want)
 }
 
+/// Checks that unpacking the stream gives the result of the row, if reads of a window fill it.
+///
+/// The reader holds what follows the window.
+fn row_gives_held(alloc: Global, row: &Row, stream: &[u8]) -> Result<(), Fail> {
+    let output = joined(alloc, row.output)?;
+    let report = joined(alloc, row.report)?;
+    let want = expected(row, &output, &report);
+    gives_held(alloc, row.name, stream, usize::MAX, usize::MAX, &want)
+}
+
 /// Checks the result of unpacking for each row, also if the reader holds the stream.
 pub fn all_given(alloc: Global, rows: &[Row]) -> Result<(), Fail> {
     for row in rows {
@@ -66,16 +76,24 @@ fn faults(rt: HostRuntime) -> Result<(), Fail> {
     all_given(rt.alloc(), &FAULTS)
 }
 
+/// The stream with keepalives after its first 38 bytes, so many that its rest is at this offset.
+pub fn with_keepalives(alloc: Global, whole: &[u8], offset: usize) -> Result<Vec<u8>, Fail>
+    requires { 38 ≤ length whole.now }
+{
+    let (session, rest) = whole.split_at(38);
+    let mut stream = joined(alloc, &[session])?;
+    stream.resize(offset, 4)?;
+    stream.extend_from_slice(rest)?;
+    Ok(stream)
+}
+
 /// Two transfers follow keepalives, and the first read ends at each offset of them in turn.
 #[test]
 fn after_keepalives(rt: HostRuntime) -> Result<(), Fail> {
     let whole = built(rt.alloc(), TWO_BUNDLES)?;
     assert_eq!(rt; whole.len(), 186);
-    let (session, transfers) = whole.split_at(38);
-    for size in EDGE - 148..=EDGE {
-        let mut stream = joined(rt.alloc(), &[session])?;
-        stream.resize(size, 4)?;
-        stream.extend_from_slice(transfers)?;
+    for offset in EDGE - 148..=EDGE {
+        let stream = with_keepalives(rt.alloc(), &whole, offset)?;
         row_gives(rt.alloc(), &WHOLE_BUNDLES, &stream)?;
         row_gives(rt.alloc(), &PAYLOADS, &stream)?;
     }
@@ -87,16 +105,9 @@ fn after_keepalives(rt: HostRuntime) -> Result<(), Fail> {
 fn after_keepalives_in_place(rt: HostRuntime) -> Result<(), Fail> {
     let whole = built(rt.alloc(), TWO_BUNDLES)?;
     assert_eq!(rt; whole.len(), 186);
-    let (session, transfers) = whole.split_at(38);
-    let output = joined(rt.alloc(), WHOLE_BUNDLES.output)?;
-    let report = joined(rt.alloc(), WHOLE_BUNDLES.report)?;
-    let want = expected(&WHOLE_BUNDLES, &output, &report);
-    let name = "two bundles in place";
-    for size in EDGE - 148..=EDGE {
-        let mut stream = joined(rt.alloc(), &[session])?;
-        stream.resize(size, 4)?;
-        stream.extend_from_slice(transfers)?;
-        gives_held(rt.alloc(), name, &stream, usize::MAX, usize::MAX, &want)?;
+    for offset in EDGE - 148..=EDGE {
+        let stream = with_keepalives(rt.alloc(), &whole, offset)?;
+        row_gives_held(rt.alloc(), &WHOLE_BUNDLES, &stream)?;
     }
     Ok(())
 }
@@ -123,18 +134,23 @@ fn gives_the_bundle(alloc: Global, name: &str, stream: &[u8]) -> Result<(), Fail
     gives_at_each_pace(alloc, name, stream, &want)
 }
 
-/// An empty segment, and then each byte in a segment of its own with an empty one after it.
+/// Appends an empty segment, and then each byte in a segment of its own with an empty one after it.
+fn put_bytes(stream: &mut Vec<u8>, bundle: &[u8]) -> Result<(), Fail> {
+    put_segment(stream, 2, 0, &[])?;
+    let mut left = bundle.len();
+    for byte in bundle {
+        left = left.saturating_sub(1);
+        put_segment(stream, 0, 0, &[&[*byte]])?;
+        put_segment(stream, if left == 0 { 1 } else { 0 }, 0, &[])?;
+    }
+    Ok(())
+}
+
 #[test]
 fn byte_segments_and_empty_ones(rt: HostRuntime) -> Result<(), Fail> {
     let bundle = joined(rt.alloc(), PLAIN)?;
     let mut stream = joined(rt.alloc(), SESSION)?;
-    put_segment(&mut stream, 2, 0, &[])?;
-    let mut left = bundle.len();
-    for byte in &bundle {
-        left = left.saturating_sub(1);
-        put_segment(&mut stream, 0, 0, &[&[*byte]])?;
-        put_segment(&mut stream, if left == 0 { 1 } else { 0 }, 0, &[])?;
-    }
+    put_bytes(&mut stream, &bundle)?;
     gives_the_bundle(rt.alloc(), "bytes and empty segments", &stream)
 }
 
@@ -162,21 +178,43 @@ fn segments_of_each_size(rt: HostRuntime) -> Result<(), Fail> {
     Ok(())
 }
 
+/// Checks that unpacking a prefix of `TRANSFER` writes the data that is there, and no line.
+fn cut_data_is_written(alloc: Global, prefix: &[u8]) -> Result<(), Fail> {
+    let want = Expected {
+        tool: Tool::Unpack(ALL),
+        output: prefix.get(60..).ok_or("less than its head")?,
+        report: b"tcpclkit: byte 38: truncated\n",
+        status: 3,
+    };
+    gives_at_each_pace(alloc, "a prefix of one transfer", prefix, &want)
+}
+
 /// The data of a cut segment is written as far as it is there. Its transfer has no line.
 #[test]
 fn cut_data(rt: HostRuntime) -> Result<(), Fail> {
     let stream = joined(rt.alloc(), TRANSFER)?;
     for size in 60..=93 {
-        let prefix = stream.get(..size).ok_or("more than the stream")?;
-        let want = Expected {
-            tool: Tool::Unpack(ALL),
-            output: prefix.get(60..).ok_or("less than its head")?,
-            report: b"tcpclkit: byte 38: truncated\n",
-            status: 3,
-        };
-        gives_at_each_pace(rt.alloc(), "a prefix of one transfer", prefix, &want)?;
+        cut_data_is_written(
+            rt.alloc(),
+            stream.get(..size).ok_or("more than the stream")?,
+        )?;
     }
     Ok(())
+}
+
+/// Steps a run that goes on, and checks the texts after the step: the first pieces of the row's.
+fn row_goes_on(
+    alloc: Global,
+    run: &mut TestUnpackRun<'_>,
+    row: &Row,
+    written: (usize, usize),
+) -> Result<(), Fail> {
+    let (of_output, of_report) = written;
+    let output = row.output.get(..of_output).ok_or("more than the output")?;
+    let report = row.report.get(..of_report).ok_or("more than the report")?;
+    let output = joined(alloc, output)?;
+    let report = joined(alloc, report)?;
+    unpacks_on(run, &output, &report)
 }
 
 /// Steps through a stream with the texts of the row, and checks them after each step but the last.
@@ -190,10 +228,8 @@ pub fn after_each_step(
     written: &[(usize, usize)],
 ) -> Result<(), Fail> {
     let mut run = test_unpack_run(alloc, row.wanted, stream);
-    for (of_output, of_report) in written {
-        let output = row.output.get(..*of_output).ok_or("more than the output")?;
-        let report = row.report.get(..*of_report).ok_or("more than the report")?;
-        unpacks_on(&mut run, &joined(alloc, output)?, &joined(alloc, report)?)?;
+    for pieces in written {
+        row_goes_on(alloc, &mut run, row, *pieces)?;
     }
     is_done(run.step(), row.status)
 }
@@ -239,25 +275,39 @@ fn hundred_segments(alloc: Global) -> Result<(Vec<u8>, Vec<usize>), Fail> {
     Ok((stream, written))
 }
 
+/// Checks that a run goes on for as many steps, with so many bytes of the output after each.
+///
+/// The report is written with the last byte of the output.
+fn goes_on(
+    run: &mut TestUnpackRun<'_>,
+    written: &[usize],
+    want: &Expected<'_>,
+) -> Result<(), Fail> {
+    for size in written {
+        let output = want.output.get(..*size).ok_or("more than the data")?;
+        let is_whole = output.len() == want.output.len();
+        let report = if is_whole { want.report } else { b"" };
+        unpacks_on(run, output, report)?;
+    }
+    is_done(run.step(), want.status)
+}
+
 /// After each step the output is the data given so far. The line is written with the last of it.
 #[test]
 fn long_transfer_step_by_step(rt: HostRuntime) -> Result<(), Fail> {
     let (stream, written) = hundred_segments(rt.alloc())?;
     assert_eq!(rt; written.len(), 213);
-    let mut zeros = Vec::new(rt.alloc());
-    zeros.resize(100_000, 0)?;
+    let zeros = vec![in rt.alloc(); 0u8; 100_000]?;
     let want = Expected {
         tool: Tool::Unpack(ALL),
         output: &zeros,
         report: b"transfer 0 start=0 written=100000 length=100000 bad=B3 byte=0\n",
         status: 1,
     };
-    let mut run = test_unpack_run(rt.alloc(), ALL, &stream);
-    for size in &written {
-        let output = zeros.get(..*size).ok_or("more than the data")?;
-        let report = if *size == 100_000 { want.report } else { b"" };
-        unpacks_on(&mut run, output, report)?;
-    }
-    is_done(run.step(), 1)?;
+    goes_on(
+        &mut test_unpack_run(rt.alloc(), ALL, &stream),
+        &written,
+        &want,
+    )?;
     gives_at_each_pace(rt.alloc(), "100 segments of 1,000 bytes", &stream, &want)
 }

@@ -175,16 +175,19 @@ fn judged_both_ways(
     judged(alloc, PAYLOAD, bundle, payload, verdict)
 }
 
-fn all_judged(alloc: Global, table: &[Changed]) -> Result<(), Fail> {
+/// The bundle with other bytes in place of this range of its bytes.
+fn with_change(alloc: Global, range: [usize; 2], by: &[u8]) -> Result<Vec<u8>, Fail> {
     let plain = joined(alloc, PLAIN)?;
+    let [from, to] = range;
+    let front = plain.get(..from).ok_or("more than the bundle")?;
+    let back = plain.get(to..).ok_or("more than the bundle")?;
+    joined(alloc, &[front, by, back])
+}
+
+fn all_judged(alloc: Global, table: &[Changed]) -> Result<(), Fail> {
     for changed in table {
-        let ([from, to], by, verdict, payload) = *changed;
-        let front = plain.get(..from).ok_or("more than the bundle")?;
-        let back = plain.get(to..).ok_or("more than the bundle")?;
-        let mut bundle = joined(alloc, &[front])?;
-        bundle.extend_from_slice(by)?;
-        bundle.extend_from_slice(back)?;
-        judged_both_ways(alloc, &bundle, verdict, payload)?;
+        let (range, by, verdict, payload) = *changed;
+        judged_both_ways(alloc, &with_change(alloc, range, by)?, verdict, payload)?;
     }
     Ok(())
 }
@@ -211,14 +214,20 @@ fn with_blocks(alloc: Global, blocks: u8) -> Result<Vec<u8>, Fail>
     let plain = joined(alloc, PLAIN)?;
     let mut bundle = joined(alloc, &[plain.get(..22).ok_or("a short bundle")?])?;
     for number in 2..blocks + 2 {
-        bundle.extend_from_slice(b"\x85\x0a")?;
-        if number >= 24 {
-            bundle.push(0x18)?;
-        }
-        bundle.extend_from_slice(&[number, 0x00, 0x00, 0x40])?;
+        put_block(&mut bundle, number)?;
     }
     bundle.extend_from_slice(plain.get(22..).ok_or("a short bundle")?)?;
     Ok(bundle)
+}
+
+/// Appends an extension block of this number, with empty data.
+fn put_block(bundle: &mut Vec<u8>, number: u8) -> Result<(), Fail> {
+    bundle.extend_from_slice(b"\x85\x0a")?;
+    if number >= 24 {
+        bundle.push(0x18)?;
+    }
+    bundle.extend_from_slice(&[number, 0x00, 0x00, 0x40])?;
+    Ok(())
 }
 
 #[test]
