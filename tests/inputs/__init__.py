@@ -6,6 +6,7 @@ with its options.
     spelling   messages and bundles as bytes, with one field changed
     prefixes   every prefix of the examples
     lengths    each length field of a stream, and each head of a bundle, at hostile values
+    block_data the data of blocks, with each head changed and cut at each byte
     limits     counts and sizes at their limits, and past them
     randoms    random streams and bundles
 """

@@ -1,12 +1,12 @@
 """The data of each block whose data is read, with each of its heads changed, and cut at each byte.
 
-A bundle has it in an extension block, or in its payload block if the data is a status report.
+A bundle, alone or as the data of a transfer, has it in an extension block, or in its payload block if the data is a status report.
 """
 
 from .lengths import KINDS, spellings
-from .spelling import canonical, encoded, endpoint, hop_count, primary, security, spelled, status_report, unsigned
+from .spelling import canonical, carried, encoded, endpoint, hop_count, primary, security, spelled, status_report, unsigned
 
-RUNS = [(tool, {"bundles": True}) for tool in ("blocks", "check")]
+RUNS, CARRIED = [("blocks", {"bundles": True})], [("blocks", {})]
 
 SUBJECT = (4, 1, 300)
 
@@ -40,6 +40,7 @@ def of_data(kind, heads):
         contents += [encoded(heads[:number]) + other for other in others]
     for content in dict.fromkeys(contents):
         yield bundle(kind, content), RUNS
+        yield carried(bundle(kind, content)), CARRIED
 
 
 def groups():

@@ -7,16 +7,16 @@ import itertools
 import struct
 
 from .lengths import CHECKED
-from .prefixes import GOES_ON, LISTS, PACKS, UNPACKS, prefixes
+from .prefixes import BLOCKS, BUNDLE_BLOCKS, GOES_ON, LISTS, PACKS, UNPACKS, prefixes
 from .spelling import (
     CONTACT, END, START, array, canonical, carried, item, laid, primary, segment, sess_init, spelled, total, unsigned,
 )
 
-STREAM_RUNS = LISTS + UNPACKS[::2]
-LONG_PACKS = [("pack", {"node": "", **it}) for it in [
+STREAM_RUNS = LISTS + UNPACKS[::2] + BLOCKS[:1]
+LONG_RUNS = [("pack", {"node": "", **it}) for it in [
     {}, {"peer_segment": 2**64 - 1, "announce": 65537}, {"peer_segment": 30000, "announce": 1048576},
     {"peer_segment": 32768, "announce": 65536, "peer_transfer": 65536},
-]]
+]] + BUNDLE_BLOCKS
 
 
 def stream(*pieces):
@@ -76,8 +76,8 @@ def longest_lines():
         for fragment in ((), (number, number)):
             block = primary(*names, names[0], flags=number if fragment else number - 1, stamp=(number, number), fragment=fragment)
             content, _ = spelled([block, canonical(1, 1, b"x")])
-            yield content, PACKS
-            yield carried(content), UNPACKS
+            yield content, PACKS + BUNDLE_BLOCKS
+            yield carried(content), UNPACKS + BLOCKS[:1]
 
 
 def block_counts():
@@ -93,9 +93,9 @@ def block_counts():
 
 
 def both(content):
-    """A bundle packed, and as the data of a transfer."""
-    yield content, PACKS[:1]
-    yield carried(content), UNPACKS[::2]
+    """A bundle alone, and as the data of a transfer."""
+    yield content, PACKS[:1] + BUNDLE_BLOCKS
+    yield carried(content), UNPACKS[::2] + BLOCKS[:1]
 
 
 def block_numbers():
@@ -128,14 +128,14 @@ def block_shapes():
 def damaged():
     """A bundle with each of its bytes changed, in its lowest and in its highest bit.
 
-    It is packed in segments of one byte, and carried in a transfer.
+    It comes alone, and is carried in a transfer.
     """
-    whole, runs = spelled(CHECKED)[0], [("pack", {"node": "", "peer_segment": 1})]
+    whole, runs = spelled(CHECKED)[0], [("pack", {"node": "", "peer_segment": 1})] + BUNDLE_BLOCKS
     for at, byte in enumerate(whole):
         for bit in (0x01, 0x80):
             changed = whole[:at] + bytes([byte ^ bit]) + whole[at + 1:]
             yield changed, runs
-            yield carried(changed), UNPACKS[::2]
+            yield carried(changed), UNPACKS[::2] + BLOCKS[:1]
 
 
 def order():
@@ -147,10 +147,10 @@ def order():
         segment(START | END, 1, whole)[:-1] + [struct.pack(">Q", 99) + whole], segment(END, 0, b"")[:-1] + [struct.pack(">Q", 9)],
     ]]
     for first in messages:
-        yield CONTACT + first, UNPACKS
+        yield CONTACT + first, UNPACKS + BLOCKS
         for second in messages:
             for last in (b"", messages[3], messages[5], messages[7]):
-                yield CONTACT + messages[0] + first + second + last, UNPACKS[:3] + GOES_ON[:1]
+                yield CONTACT + messages[0] + first + second + last, UNPACKS[:3] + GOES_ON[:1] + BLOCKS
 
 
 def going_on():
@@ -166,7 +166,7 @@ def going_on():
     lasts = [b"", *messages[3:8:2], messages[6], messages[3][:-1], messages[7][:-1], b"\x16"]
     for first in itertools.product(messages, repeat=3):
         for last in lasts:
-            yield CONTACT + b"".join(first) + last, GOES_ON[:2]
+            yield CONTACT + b"".join(first) + last, GOES_ON[:2] + BLOCKS[2:]
 
 
 def worked_rows():
@@ -184,7 +184,7 @@ def worked_rows():
     ]]
     for content in streams:
         for it in prefixes(content):
-            yield it, UNPACKS + GOES_ON
+            yield it, UNPACKS + GOES_ON + BLOCKS
 
 
 def refused_and_cut():
@@ -200,9 +200,9 @@ def refused_and_cut():
         (begun + opened, rest), (begun + late, start), (begun + opened + late, start), (begun + start, rest),
     ]:
         for length in range(len(it) + 1):
-            yield before + it[:length], UNPACKS[::2] + GOES_ON[:1]
+            yield before + it[:length], UNPACKS[::2] + GOES_ON[:1] + BLOCKS[2:]
         for at in range(len(it)):
-            yield before + it[:at] + b"\xff" * 4 + it[at + 4:], UNPACKS[::2] + GOES_ON[:1]
+            yield before + it[:at] + b"\xff" * 4 + it[at + 4:], UNPACKS[::2] + GOES_ON[:1] + BLOCKS[2:]
 
 
 def every_byte():
@@ -231,9 +231,9 @@ def long_bundles():
     for length in (65535, 65536, 65537, 131072, 131073):
         short = len(spelled([primary(None, None, None), canonical(1, 1, b"")], widths=lambda value: 8)[0])
         content = spelled([primary(None, None, None), canonical(1, 1, bytes(length - short))], widths=lambda value: 8)[0]
-        yield content, LONG_PACKS
-        yield content[:-1], LONG_PACKS
-        yield content[:-1] + b"\x00", LONG_PACKS
+        yield content, LONG_RUNS
+        yield content[:-1], LONG_RUNS
+        yield content[:-1] + b"\x00", LONG_RUNS
 
 
 def cut_chunks():
@@ -255,14 +255,17 @@ def cut_chunks():
 def option_values():
     """Each option that has a number, with the numbers up to 255 and those around powers of two.
 
-    `--transfer` comes with each choice of the other options of `unpack`.
+    `--transfer` comes with each choice of the other options of its tool.
     """
     whole, _ = spelled([primary((2, 1), (1, 1), None), canonical(1, 1, b"hello")])
+    shown = [{}, {"keep_going": True}]
     flags = [dict.fromkeys(names, True) for count in range(3) for names in itertools.combinations(("payload", "keep_going"), count)]
     limits = {"keepalive": 2**16, "segment_mru": 2**64, "transfer_mru": 2**64, "peer_segment": 2**64, "peer_transfer": 2**64, "announce": 2**20 + 1}
     for value in sorted({*range(256), *[2**bits + more for bits in range(8, 65) for more in (-1, 0, 1)]}):
         if value < 2**64:
-            yield stream(segment(START | END, value, whole)), [("unpack", {**it, "transfer": value}) for it in flags]
+            selected = [("unpack", {**it, "transfer": value}) for it in flags]
+            selected += [("blocks", {**it, "transfer": value}) for it in shown]
+            yield stream(segment(START | END, value, whole)), selected
         names = [name for name, limit in limits.items() if (name == "peer_segment") <= value < limit]
         yield whole, [("pack", {"node": "", name: value}) for name in names]
 

@@ -1,4 +1,4 @@
-"""Every prefix of each recording and bundle under examples/, through the three tools."""
+"""Every prefix of each recording and bundle under examples/, through the tools."""
 
 import ast
 import os
@@ -16,6 +16,8 @@ LISTS = [("list", {})]
 UNPACKS = [("unpack", it) for it in [{}, {"transfer": 0}, {"payload": True}, {"transfer": 0, "payload": True}]]
 # `unpack` that goes on after a fault of the order.
 GOES_ON = [("unpack", {"keep_going": True, **it}) for it in [{}, {"transfer": 0}, {"payload": True}]]
+BLOCKS = [("blocks", it) for it in [{}, {"transfer": 0}, {"keep_going": True}]]
+BUNDLE_BLOCKS = [("blocks", {"bundles": True})]
 PACKS = [("pack", it) for it in [
     {"node": "ipn:1.0"},
     {"node": "", "peer_segment": 1, "peer_transfer": 36, "end": True},
@@ -32,13 +34,15 @@ def prefixes(content):
 def of_file(name):
     """The prefixes of an example, through all tools, with all options of those that are for it.
 
-    Those of a long recording go through `unpack` alone, with and without its going on.
+    Those of a long recording go through `unpack` and `blocks` alone, with and without going on.
     """
-    runs = LISTS + UNPACKS + GOES_ON + PACKS[:1] if name.endswith(RECORDING) else LISTS + UNPACKS[:1] + PACKS
+    of_recording = LISTS + UNPACKS + GOES_ON + BLOCKS + PACKS[:1] + BUNDLE_BLOCKS
+    of_bundles = LISTS + UNPACKS[:1] + BLOCKS[:1] + PACKS + BUNDLE_BLOCKS
+    runs = of_recording if name.endswith(RECORDING) else of_bundles
     with open(f"{EXAMPLES}/{name}", "rb") as it:
         content = it.read()
     for prefix in prefixes(content):
-        yield prefix, runs if len(content) <= LONG else UNPACKS[:1] + GOES_ON[:1]
+        yield prefix, runs if len(content) <= LONG else UNPACKS[:1] + GOES_ON[:1] + BLOCKS[::2]
 
 
 def bundles():
@@ -54,10 +58,10 @@ def bundles():
 
 
 def of_bundle(bundle):
-    """The prefixes of a bundle, packed and as the data of a transfer."""
+    """The prefixes of a bundle, alone and as the data of a transfer."""
     for prefix in prefixes(bundle):
-        yield prefix, PACKS
-        yield carried(prefix), UNPACKS[::2]
+        yield prefix, PACKS + BUNDLE_BLOCKS
+        yield carried(prefix), UNPACKS[::2] + BLOCKS[:1]
 
 
 def groups():

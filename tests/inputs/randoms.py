@@ -198,24 +198,26 @@ def pack_options(rng, length):
 def run_of_stream(rng):
     """A random stream, through a tool that reads streams."""
     options = rng.choice([{"payload": True}, {"transfer": rng.randint(0, 3)}, {"transfer": rng.randint(0, 3), "payload": True}])
-    return stream(rng), [("list", {}), ("unpack", {}), ("unpack", options)]
+    return stream(rng), [("list", {}), ("unpack", {}), ("unpack", options), ("blocks", {})]
 
 
 def run_of_order(rng):
     """A random stream out of order, through `unpack` that stops and that goes on."""
     options = rng.choice([{"payload": True}, {"transfer": rng.randint(0, 2)}, {"transfer": rng.randint(0, 2), "payload": True}])
-    return disordered(rng), [("unpack", {}), ("unpack", {"keep_going": True}), ("unpack", {"keep_going": True, **options})]
+    return disordered(rng), [("unpack", {}), ("unpack", {"keep_going": True}), ("unpack", {"keep_going": True, **options}),
+                            ("blocks", {"keep_going": True, "transfer": rng.randint(0, 2)})]
 
 
 def run_of_bundles(rng):
-    """Random bundles, packed with random options."""
+    """Random bundles, packed with random options, and their blocks."""
     content = bundles(rng)
-    return content, [("pack", pack_options(rng, len(content))) for _ in range(3)]
+    packs = [("pack", pack_options(rng, len(content))) for _ in range(3)]
+    return content, [*packs, ("blocks", {"bundles": True})]
 
 
 def group(seed, runs, make):
     """Inputs of a seed. Each is made from random numbers of its own."""
-    for number in range(runs // 3):
+    for number in range(runs // 4):
         yield make(random.Random(f"{seed} {number}"))
 
 

@@ -12,6 +12,7 @@ return (output, report, status).
     texts           the words and lines
     tools           `list`, `unpack` and `pack`, and the walk over transfers
     blocks          `blocks`
+    table           the tools that the program has
     rules           the rules of `check`, which are in `message_rules`, `transfer_rules` and
                     `bundle_rules`
     checking        `check`

@@ -1,4 +1,4 @@
-"""The three tools. Each takes an input and its options, and returns (output, report, status).
+"""The tools `list`, `unpack` and `pack`. Each takes an input and its options, and returns (output, report, status).
 
 Options have the names and defaults of docs/MANUAL.md, with `_` for `-`.
 """
@@ -274,7 +274,3 @@ def packing(content, node, keepalive=60, segment_mru=65536, transfer_mru=1048576
         report.append(f"bundle {number} segments={len(chunks)} length={len(taken)} {texts.identity(judged.identity)}")
         content, number = content[judged.length:], number + 1
     return output + (b"\x05\x00\x00" if end else b""), texts.lines(report), 0
-
-
-# The tools of the program by their words. The scripts that try the program go by this table.
-TOOLS = {"list": listing, "unpack": unpacking, "pack": packing}

@@ -24,6 +24,7 @@ NO_MESSAGE = b"\x16"
 
 # The offset and the data of each transfer of each example.
 TRANSFERS = {
+    "every-block": [(38, make.EVERY_BLOCK), (209, make.MALFORMED), (306, make.DAMAGED_HOPS)],
     "every-message": [(49, make.BUNDLE)],
     "late-transfers": [(38 + 56 * number + 3 * (number > 12), make.BUNDLE) for number in range(30)],
     "order-faults": [
@@ -41,6 +42,7 @@ TRANSFERS = {
         (305, make.BUNDLE),
     ],
     "session-b": [(123, make.FRAGMENT)],
+    "status-reports": list(zip((38, 140, 235, 301), make.RECORDS)),
     "transfers": [
         (38, make.BUNDLE),
         (126, make.DAMAGED),

@@ -98,7 +98,11 @@ def each_line():
 
 # What is in the place of these words of a form
 PLACES = {
-    **dict.fromkeys(["OFF", "ID", "N"], r"\d+"),
+    **dict.fromkeys(["OFF", "ID", "N", "NUMBER"], r"\d+"),
+    "H": "(?:[0-9a-f]{2})+",
+    "K": "(?:none|crc16|crc32c)",
+    "EID": r"\S+",
+    "WORDS": ".*",
     "HH": "[0-9a-f]{2}",
     "NAME": "[a-z?-]+",
     "CODE": r"B\d+",
@@ -148,7 +152,7 @@ def faults():
 def messages_of_failures():
     """A message of the program about a device or a word has its text in the object."""
     shown = [cells[0].strip("`") for cells in rows_of("MANUAL.md", "| Message | When |")]
-    yield "json: 7 messages", 7, len(shown)
+    yield "json: 8 messages", 8, len(shown)
     wanted = [{"error": it.partition(": ")[2]} for it in shown]
     yield "json: messages", (0, wanted, ""), objects(joined(shown))
 

@@ -30,6 +30,7 @@ REFUSED_TOO, EXTENSION = "refused reason=04/not-acceptable", "refused reason=05/
 # For each example one with answers, what a line says of each, and how many answers belong to no
 # transfer, with the first offset. The last is what is reported of its own order, if anything is.
 PAIRS = {
+    "every-block": ("prelude-and-transfer", [LOST] * 3, None),
     "every-message": ("every-message", [ACKED], (1, 154)),
     "late-transfers": ("every-message", [ACKED, *[LOST] * 29], (1, 154)),
     "order-faults": (
@@ -41,6 +42,7 @@ PAIRS = {
     "prelude-and-transfer": ("session-b", [ACKED], (4, 74)),
     "session-a": ("session-b", [ACKED, ACKED, REFUSED, EXTENSION, REFUSED_TOO], None),
     "session-b": ("session-a", [ACKED], (1, 393)),
+    "status-reports": ("prelude-and-transfer", [LOST] * 4, None),
     "transfers": ("session-b", [ACKED, ACKED, REFUSED, EXTENSION], (1, 112)),
 }
 

@@ -25,7 +25,7 @@ from .common import (
 )
 
 # The examples with a transfer that is not good.
-NOT_GOOD = {"session-a", "transfers"}
+NOT_GOOD = {"every-block", "session-a", "transfers"}
 
 # The examples with a fault of the order: how many transfers are over before the first, and the
 # lines that the transfers have in the report of `unpack --keep-going`.
