@@ -3,7 +3,7 @@
 
 The rows are those of bench/run.sh, over the same kinds of files, which are made here with fewer
 bytes. callgrind (a tool of valgrind) counts the instructions outside the kernel. What a run takes
-from start to end on a contact header, or for `pack` on an empty input, is printed apart. The rest
+from start to end on a contact header, or for bundles on an empty input, is printed apart. The rest
 is printed per byte of the file.
 
 With --other, another program with the same command line is counted beside it. Then the last column
@@ -60,18 +60,19 @@ def measure(programs, folder, only):
     starts = {}
     print("instructions a byte:")
     print("".join(f"{name:>8}" for name in ("program", "other", "ratio")[: 3 * len(programs) - 2]))
-    for tool, content in (("list", make.CONTACT), ("unpack", make.CONTACT), ("pack", b"")):
-        (folder / tool).write_bytes(content)
+    for least, content in (("least.tcpcl", make.CONTACT), ("least.bundles", b"")):
+        (folder / least).write_bytes(content)
     for command, name, what, *_ in MEASURED:
         if only not in f"{command} {name}":
             continue
         words, path = command.split(), folder / name
-        least = folder / words[0]
-        if words[0] not in starts:
-            starts[words[0]] = [counted(it, words, least) for it in programs]
+        least = folder / f"least{path.suffix}"
+        tool = command if words[0] == "blocks" else words[0]
+        if tool not in starts:
+            starts[tool] = [counted(it, words, least) for it in programs]
         counts = [counted(it, words, path) for it in programs]
         size = path.stat().st_size - least.stat().st_size
-        numbers = [(count - start) / size for count, start in zip(counts, starts[words[0]])]
+        numbers = [(count - start) / size for count, start in zip(counts, starts[tool])]
         print(f"{row(numbers)}  {command}, {what}", flush=True)
     print("millions of instructions from start to end:")
     for tool, counts in starts.items():

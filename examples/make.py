@@ -168,6 +168,81 @@ FRAGMENT = bytes.fromhex(
     "ff"
 )
 
+# A bundle with every type of block whose data is read, and one of another type. It goes from ipn:1.1 to ipn:3.1, and asks
+# for reports of its reception and of its deletion to ipn:1.0. 149 bytes.
+EVERY_BLOCK = bytes.fromhex(
+    "9f"
+    "89 07 1a 00 04 40 00 02 82 02 82 03 01 82 02 82 01 01 82 02 82 01 00"
+    "82 1b 00 00 00 bf 0c 0a fc 00 00 1a 00 36 ee 80 44 5f 6f 81 b8"
+    "85 06 02 00 00 45 82 02 82 02 00"
+    "85 07 03 00 00 43 19 03 e8"
+    "86 0a 04 00 02 44 82 18 20 01 44 50 c5 bd b6"
+    "85 0b 05 00 00 50 81 01 01 00 82 02 82 01 00 81 81 82 01 42 5a 5a"
+    "85 0c 06 01 00 50 81 07 22 00 82 01 67 2f 2f 6e 6f 64 65 2f 81 80"
+    "85 18 c0 07 10 00 43 01 02 03"
+    "86 01 01 00 01 45 68 65 6c 6c 6f 42 4b f3"
+    "ff"
+)
+
+# The blocks of these types with data that is malformed: a text for an endpoint ID, a byte after the age, a hop count that is
+# cut, a text for a security context, and a first byte that begins no head.
+MALFORMED = bytes.fromhex(
+    "9f"
+    "88 07 00 00 82 02 82 02 01 82 02 82 01 01 82 01 00 82 00 00 00"
+    "85 06 02 00 00 42 61 78"
+    "85 07 03 00 00 42 05 00"
+    "85 0a 04 00 00 42 82 05"
+    "85 0b 05 00 00 44 81 01 61 78"
+    "85 0c 06 00 00 41 1c"
+    "85 01 01 00 00 45 68 65 6c 6c 6f"
+    "ff"
+)
+
+# A bundle whose hop count was changed after its check was computed. A block without damage is before it.
+DAMAGED_HOPS = bytes.fromhex(
+    "9f"
+    "88 07 00 00 82 02 82 02 01 82 02 82 01 01 82 01 00 82 00 00 00"
+    "85 06 02 00 00 45 82 02 82 02 00"
+    "86 0a 03 00 01 43 82 05 03 42 e5 fd"
+    "85 01 01 00 00 45 68 65 6c 6c 6f"
+    "ff"
+)
+
+# Three transfers with these bundles
+EVERY_BLOCK_SENT = b"".join(
+    [
+        CONTACT,
+        sess_init(),
+        xfer_segment(START | END, 0, EVERY_BLOCK),
+        xfer_segment(START | END, 1, MALFORMED),
+        xfer_segment(START | END, 2, DAMAGED_HOPS),
+    ]
+)
+
+# The primary block of an administrative record (flag 02) from ipn:2.0 to ipn:1.0
+RECORD = "9f 88 07 02 00 82 02 82 01 00 82 02 82 02 00 82 01 00 82 1b 00 00 00 bf 0c 0b 03 d0 00 1a 00 36 ee 80"
+
+# Four such bundles: a status report that ipn:2.0 forwarded EVERY_BLOCK 1,500 ms after it was made; one that it deleted a
+# fragment of 5 bytes from byte 7 on, for its hop limit; a record of another type; and a payload that is no record.
+RECORDS = [
+    bytes.fromhex(RECORD + payload + "ff")
+    for payload in [
+        "85 01 01 00 00 58 26 82 01 84 84 81 f4 82 f5 1b 00 00 00 bf 0c 0b 01 dc 81 f4 81 f4"
+        "00 82 02 82 01 01 82 1b 00 00 00 bf 0c 0a fc 00 00",
+        "85 01 01 00 00 58 1f 82 01 86 84 81 f5 81 f4 81 f4 81 f5"
+        "09 82 02 82 01 02 82 1b 00 00 00 bf 0c 0a fc 00 00 07 05",
+        "85 01 01 00 00 43 82 07 80",
+        "85 01 01 00 00 45 68 65 6c 6c 6f",
+    ]
+]
+STATUS_REPORTS = b"".join(
+    [
+        CONTACT,
+        sess_init(node=b"ipn:2.0"),
+        *[xfer_segment(START | END, number, record) for number, record in enumerate(RECORDS)],
+    ]
+)
+
 # Both sides of a session, packet by packet: who sends it, what, and how many times the capture has it. `a` connects, as
 # ipn:1.0, and sends five transfers; `b` accepts, as ipn:2.0, refuses three of them, and sends one. The second segment of
 # transfer 0 is seen twice, head and data of transfer 1 are in two packets, and a KEEPALIVE and a segment are in one.
@@ -205,6 +280,8 @@ FILES = {
     "transfers.tcpcl": TRANSFERS,
     "order-faults.tcpcl": ORDER_FAULTS,
     "late-transfers.tcpcl": LATE_TRANSFERS,
+    "every-block.tcpcl": EVERY_BLOCK_SENT,
+    "status-reports.tcpcl": STATUS_REPORTS,
     "two.bundles": TWO_BUNDLES,
     "session.pcap": pcap(frames(SESSION)),
     "session-a.tcpcl": stream(SESSION, "a"),

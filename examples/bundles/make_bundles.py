@@ -64,8 +64,8 @@ def made(name, flags, kind, destination, source, report_to, time, sequence, life
     parts = cbor2.load(io.BytesIO(encoded))
     assert parts[0][:8] == primary[:8] and len(parts) == len(blocks), name
     assert parts[-1][4] == payload, name
-    said = dict(name=name, flags=flags, destination=destination, source=source, time=time, sequence=sequence,
-                lifetime=lifetime, fragment=fragment, blocks=len(blocks) - 1, payload=len(payload))
+    said = dict(name=name, flags=flags, destination=destination, source=source, report_to=report_to, time=time,
+                sequence=sequence, lifetime=lifetime, fragment=fragment, blocks=len(blocks) - 1, payload=len(payload))
     return said, encoded
 
 
@@ -107,20 +107,21 @@ def rust_bytes(data):
 
 def rust_eid(eid):
     if eid[0] == 2:
-        return "Text::Ipn(%d, %d)" % tuple(eid[1])
-    return "Text::None" if eid[1] == 0 else "Text::Dtn(%s)" % rust_bytes(eid[1].encode())
+        return "EidView::Ipn(%d, %d)" % tuple(eid[1])
+    return "EidView::DtnNone" if eid[1] == 0 else "EidView::Dtn(%s)" % rust_bytes(eid[1].encode())
 
 
 def rust():
     print("//! Made by examples/bundles/make_bundles.py, with cbor2 and crcmod.")
-    print("use super::{Expected, Text};\n")
-    print("pub const BUNDLES: [Expected; %d] = [" % len(BUNDLES))
+    print("use super::Expected;\nuse link_bundle::EidView;\n")
+    print("pub static BUNDLES: [Expected; %d] = [" % len(BUNDLES))
     for said, data in BUNDLES:
         print("    // %s" % said["name"])
         print("    Expected {")
         print("        bytes: %s," % rust_bytes(data))
         print("        destination: %s," % rust_eid(said["destination"]))
         print("        source: %s," % rust_eid(said["source"]))
+        print("        report_to: %s," % rust_eid(said["report_to"]))
         numbers = [said[key] for key in ("flags", "time", "sequence", "lifetime", "blocks", "payload")]
         print("        numbers: %s," % numbers)
         fragment = said["fragment"]
