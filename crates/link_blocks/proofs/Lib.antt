@@ -5,3 +5,4 @@ mod Judged
 mod Ended
 mod Told
 mod BundleTexts
+mod Statuses

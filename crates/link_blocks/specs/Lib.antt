@@ -4,5 +4,6 @@ pub mod DataReader
 pub mod Piece
 pub mod TransferBlocks
 pub mod Lister
+pub mod Laws
 pub mod Bundles
 pub mod BundleLister

@@ -14,6 +14,7 @@
 
 mod bundles;
 mod data;
+pub mod laws;
 mod lister;
 mod options;
 mod piece;
