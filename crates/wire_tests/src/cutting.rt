@@ -181,26 +181,35 @@ fn in_bytes(rt: &(impl Abort + AllocGlobal), hold: usize, bundle: &[u8]) -> Resu
 /// cut where they lie.
 #[test]
 fn gives_the_chunks(rt: HostRuntime) -> Result<(), Fail> {
-    for length in [1, 3, 4, 5, 7, 8, 9, 12, 13] {
-        let bundle = &BUNDLE[..length];
-        for hold in [0, 1, 3, 4, 5, 7, 8, 9, 11, 12, 13, 14, 1_048_576] {
-            let mut want = wanted(rt.alloc(), bundle, hold)?;
-            want.extend(wanted(rt.alloc(), bundle, hold)?)?;
-            let bytewise = in_bytes(&rt, hold, bundle)?;
-            assert_eq!(rt;
-                bytewise.as_slice(),
-                want.as_slice(),
-                "{length} bytes, hold {hold}"
-            );
-            for at in 0..2 * length {
-                let pieces = in_two(rt.alloc(), hold, bundle, at / 2, at % 2 == 1)?;
-                assert_eq!(rt;
-                    pieces.as_slice(),
-                    want.as_slice(),
-                    "{length} bytes at {at} halves, hold {hold}"
-                );
-            }
+    for &length in &[1, 3, 4, 5, 7, 8, 9, 12, 13] {
+        for &hold in &[0, 1, 3, 4, 5, 7, 8, 9, 11, 12, 13, 14, 1_048_576] {
+            gives_the_chunks_of(&rt, &BUNDLE[..length], hold)?;
         }
     }
     Ok(())
+}
+
+/// Checks the chunks of one bundle under this hold.
+fn gives_the_chunks_of(
+    rt: &(impl Abort + AllocGlobal),
+    bundle: &[u8],
+    hold: usize,
+) -> Result<(), Fail>
+    requires bundle { length bundle.now ≤ 13 }
+    requires hold { hold ≤ 1048576 }
+{
+    let mut want = wanted(rt.alloc(), bundle, hold)?;
+    want.extend(wanted(rt.alloc(), bundle, hold)?)?;
+    let bytewise = in_bytes(rt, hold, bundle)?;
+    is_wanted(rt, &bytewise, &want, bundle, hold);
+    for at in 0..2 * bundle.len() {
+        let pieces = in_two(rt.alloc(), hold, bundle, at / 2, at % 2 == 1)?;
+        is_wanted(rt, &pieces, &want, bundle, hold);
+    }
+    Ok(())
+}
+
+/// Checks that these are the chunks that are wanted of a bundle under this hold.
+fn is_wanted(rt: &impl Abort, given: &[Given], want: &[Given], bundle: &[u8], hold: usize) {
+    assert_eq!(rt; given, want, "{bundle:?}, hold {hold}");
 }

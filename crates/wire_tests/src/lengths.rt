@@ -40,28 +40,31 @@ fn item_of(kind: u16, length: u16) -> Item
     }
 }
 
+/// The types and lengths of items, and what they announce.
+static LISTS: [(&[(u16, u16)], Announced); 12] = [
+    (&[], Announced::Absent),
+    (&[(0x0002, 8)], Announced::Absent),
+    (&[(0x0100, 8), (0xffff, 0)], Announced::Absent),
+    (&[(0x0001, 8)], Announced::Total(35)),
+    (
+        &[(0x0002, 8), (0x0001, 8), (0x0000, 0)],
+        Announced::Total(35),
+    ),
+    (&[(0x0001, 8), (0x0001, 8)], Announced::Malformed),
+    (
+        &[(0x0001, 8), (0x0002, 0), (0x0001, 8), (0x0001, 8)],
+        Announced::Malformed,
+    ),
+    (&[(0x0001, 0)], Announced::Malformed),
+    (&[(0x0001, 7)], Announced::Malformed),
+    (&[(0x0001, 264)], Announced::Malformed),
+    (&[(0x0001, 4), (0x0001, 8)], Announced::Malformed),
+    (&[(0x0001, 8), (0x0001, 4)], Announced::Malformed),
+];
+
 #[test]
 fn announces_one_length(rt: HostRuntime) {
-    for (kinds, want) in [
-        ([].as_slice(), Announced::Absent),
-        (&[(0x0002, 8)], Announced::Absent),
-        (&[(0x0100, 8), (0xffff, 0)], Announced::Absent),
-        (&[(0x0001, 8)], Announced::Total(35)),
-        (
-            &[(0x0002, 8), (0x0001, 8), (0x0000, 0)],
-            Announced::Total(35),
-        ),
-        (&[(0x0001, 8), (0x0001, 8)], Announced::Malformed),
-        (
-            &[(0x0001, 8), (0x0002, 0), (0x0001, 8), (0x0001, 8)],
-            Announced::Malformed,
-        ),
-        (&[(0x0001, 0)], Announced::Malformed),
-        (&[(0x0001, 7)], Announced::Malformed),
-        (&[(0x0001, 264)], Announced::Malformed),
-        (&[(0x0001, 4), (0x0001, 8)], Announced::Malformed),
-        (&[(0x0001, 8), (0x0001, 4)], Announced::Malformed),
-    ] {
-        assert_eq!(rt; announced(&items_of(kinds)), want, "{kinds:?}");
+    for (kinds, want) in &LISTS {
+        assert_eq!(rt; announced(&items_of(kinds)), *want, "{kinds:?}");
     }
 }

@@ -1,12 +1,13 @@
 //! Tests of the bytes that the `put_` calls append, and of what a session reads and waits for.
 
-ghost use Rattle.std.specs.Prelude.{◌≡◌};
+ghost use Rattle.std.specs.Prelude.{◌≡◌, ◌≤◌};
 ghost use Rattle.arrayvec.specs.ArrayVec.{array_vec_len};
 
 use link_wire::{
     Contact, END, HeadBuf, Item, Items, Message, MessageBuffer, NodeId, Reader, START, SegmentHead,
     Session, Source, Stop, put_contact, put_segment_head, put_sess_init, put_sess_term,
 };
+use std::process::Abort;
 use std::test::Fail;
 
 /// Reads the first message of a session that consists of these bytes.
@@ -54,51 +55,65 @@ fn announced(total: u64) -> Item {
     }
 }
 
+/// Checks that a contact header is read as it was put.
+fn put_and_open(rt: &impl Abort, flags: u8) -> Result<(), Fail> {
+    let mut buffer = HeadBuf::new();
+    put_contact(&mut buffer, flags);
+    let mut session = Session::new(Source::new(Reader::new(buffer.as_slice())));
+    assert_eq!(rt; session.open()?, Contact { flags });
+    Ok(())
+}
+
 #[test]
 fn contact_headers(rt: HostRuntime) -> Result<(), Fail> {
-    for flags in [0, 1, 255] {
-        let mut buffer = HeadBuf::new();
-        put_contact(&mut buffer, flags);
-        let mut session = Session::new(Source::new(Reader::new(buffer.as_slice())));
-        assert_eq!(rt; session.open()?, Contact { flags });
-    }
+    put_and_open(&rt, 0)?;
+    put_and_open(&rt, 1)?;
+    put_and_open(&rt, 255)?;
     assert_eq!(rt; opened().as_slice(), b"dtn!\x04\x00".as_slice());
     Ok(())
 }
 
 #[test]
-fn sessions(rt: HostRuntime) -> Result<(), Fail> {
+fn example_of_a_session(rt: HostRuntime) -> Result<(), Fail> {
+    let node = NodeId::try_from(b"ipn:1.0".as_slice())?;
     let mut example = HeadBuf::new();
-    put_sess_init(
-        &mut example,
-        60,
-        65_536,
-        1_048_576,
-        &NodeId::try_from(b"ipn:1.0".as_slice())?,
-    );
+    put_sess_init(&mut example, 60, 65_536, 1_048_576, &node);
     assert_eq!(rt;
         example.as_slice(),
         b"\x07\x00\x3c\x00\x00\x00\x00\x00\x01\x00\x00\x00\x00\x00\x00\x00\x10\x00\x00\x00\x07ipn:1.0\x00\x00\x00\x00".as_slice()
     );
-    let node = [0x64; 1024];
-    for (keepalive, segment_mru, transfer_mru, size) in [
-        (0, 0, 1, 0),
-        (1, 1, u64::MAX, 1),
-        (u16::MAX, u64::MAX, 0, 1024),
-    ] {
-        let mut buffer = opened();
-        let put = NodeId::try_from(&node[..size])?;
-        put_sess_init(&mut buffer, keepalive, segment_mru, transfer_mru, &put);
-        let expected = Message::SessInit {
-            keepalive,
-            segment_mru,
-            transfer_mru,
-            node: put,
-            items: Items::new(),
-        };
-        assert_eq!(rt; read_again(buffer.as_slice())?, Some((6, expected)));
-    }
     Ok(())
+}
+
+/// Checks that a SESS_INIT whose node ID has this size is read as it was put.
+fn put_and_read_session(
+    rt: &impl Abort,
+    keepalive: u16,
+    segment_mru: u64,
+    transfer_mru: u64,
+    size: usize,
+) -> Result<(), Fail>
+    requires { size ≤ 1024 }
+{
+    let node = NodeId::try_from(&[0x64; 1024][..size])?;
+    let mut buffer = opened();
+    put_sess_init(&mut buffer, keepalive, segment_mru, transfer_mru, &node);
+    let expected = Message::SessInit {
+        keepalive,
+        segment_mru,
+        transfer_mru,
+        node,
+        items: Items::new(),
+    };
+    assert_eq!(rt; read_again(buffer.as_slice())?, Some((6, expected)));
+    Ok(())
+}
+
+#[test]
+fn sessions(rt: HostRuntime) -> Result<(), Fail> {
+    put_and_read_session(&rt, 0, 0, 1, 0)?;
+    put_and_read_session(&rt, 1, 1, u64::MAX, 1)?;
+    put_and_read_session(&rt, u16::MAX, u64::MAX, 0, 1024)
 }
 
 #[test]
@@ -109,13 +124,18 @@ fn segments(rt: HostRuntime) -> Result<(), Fail> {
         example.as_slice(),
         b"\x01\x03\x00\x00\x00\x00\x00\x00\x00\x00\x00\x00\x00\x00\x00\x00\x00\x00\x00\x00\x00\x22".as_slice()
     );
-    for number in [0, 1, u64::MAX] {
-        assert!(rt; put_and_read(0, number, 1, &[])?);
-        assert!(rt; put_and_read(END, 0, number, &[])?);
-        assert!(rt; put_and_read(START, number, 0, &[])?);
-        assert!(rt; put_and_read(255, 1, number, &[])?);
-        assert!(rt; put_and_read(START, 1, 2, &[announced(number)])?);
-    }
+    segments_of(&rt, 0)?;
+    segments_of(&rt, 1)?;
+    segments_of(&rt, u64::MAX)
+}
+
+/// Checks segments with this number as their ID, their length or their announced total.
+fn segments_of(rt: &impl Abort, number: u64) -> Result<(), Fail> {
+    assert!(rt; put_and_read(0, number, 1, &[])?);
+    assert!(rt; put_and_read(END, 0, number, &[])?);
+    assert!(rt; put_and_read(START, number, 0, &[])?);
+    assert!(rt; put_and_read(255, 1, number, &[])?);
+    assert!(rt; put_and_read(START, 1, 2, &[announced(number)])?);
     Ok(())
 }
 
@@ -129,13 +149,19 @@ fn announced_total(rt: HostRuntime) {
     );
 }
 
+/// Checks that a SESS_TERM is read as it was put.
+fn put_and_read_termination(rt: &impl Abort, flags: u8, reason: u8) -> Result<(), Fail> {
+    let mut buffer = opened();
+    put_sess_term(&mut buffer, flags, reason);
+    let expected = Message::SessTerm { flags, reason };
+    assert_eq!(rt; read_again(buffer.as_slice())?, Some((6, expected)));
+    Ok(())
+}
+
 #[test]
 fn terminations(rt: HostRuntime) -> Result<(), Fail> {
-    for (flags, reason) in [(0, 3), (1, 3), (255, 3), (1, 0), (1, 1), (1, 255)] {
-        let mut buffer = opened();
-        put_sess_term(&mut buffer, flags, reason);
-        let expected = Message::SessTerm { flags, reason };
-        assert_eq!(rt; read_again(buffer.as_slice())?, Some((6, expected)));
+    for &(flags, reason) in &[(0, 3), (1, 3), (255, 3), (1, 0), (1, 1), (1, 255)] {
+        put_and_read_termination(&rt, flags, reason)?;
     }
     Ok(())
 }
