@@ -1,13 +1,14 @@
 -- Bytes that begin with a bundle, and a scan that takes a whole bundle at once.
 
-use Rattle.std.proofs.Common.{◌≡◌, ℕ, zero, suc, ◌+◌, ◌<◌, ◌≤◌, Bool, true, false, List, [], ◌++◌, length, take, drop, Result, Ok, Err, refl, sym, ap, subst, ◌∙◌, length-append, append-nil, arith}
-use Rattle.std.specs.Prelude.{◌==◌, if◌then◌else◌}
-use Rattle.std.proofs.lemmas.List.{length-take-le, take-append-drop}
+use Rattle.std.proofs.Common.{◌≡◌, ℕ, zero, suc, ◌+◌, ◌<◌, ◌≤◌, ◌&&◌, Bool, true, false, List, [], ◌∷◌, ◌++◌, length, get_or, take, drop, Result, Ok, Err, refl, sym, ap, subst, ◌∙◌, length-append, append-nil, arith}
+use Rattle.std.specs.Prelude.{◌==◌, is_none, if◌then◌else◌}
+use Rattle.std.proofs.lemmas.List.{length-take-le, take-append-drop, take_more}
 use Rattle.std.proofs.lemmas.List.Elements.{All-take}
 use Rattle.link_cbor.specs.Head.{AreBytes}
 use Rattle.link_bundle.specs.Reading.{Stop}
 use Rattle.link_bundle.specs.declared.cursor.Cursor.{Cursor}
 use Rattle.link_bundle.specs.declared.draft.Draft.{Draft}
+use Rattle.link_bundle.specs.declared.scan.BundleScan.{BundleScan}
 use Rattle.link_bundle.specs.declared.stage.CheckType.{CheckType}
 use Rattle.link_bundle.specs.declared.stage.CheckType.TheVariants.{Unread, Is}
 use Rattle.link_bundle.specs.declared.stage.Stage.TheVariants.{Start, Ended}
@@ -16,12 +17,13 @@ use Rattle.link_bundle.specs.Covers.{Covers}
 use Rattle.link_bundle.specs.Bundle.{Bundle, with_blocks, opening_at, bundle_at, bundle_goes, if_alone, judged_bundle}
 use Rattle.link_bundle.specs.Blocks.{Block}
 use Rattle.link_bundle.specs.Left.{bundle_of, stage_left}
-use Rattle.link_bundle.specs.Scan.{HasSeen}
+use Rattle.link_bundle.specs.Scan.{HasSeen, HasScanned, HasTaken}
 use Rattle.link_bundle.proofs.Steady.{EndsCut}
 use Rattle.link_bundle.proofs.Keeping.{Stays, cuts, same, bundle_at-stays, bundle_at-alone}
 use Rattle.link_bundle.proofs.Lengths.{bundle_within}
 use Rattle.link_bundle.proofs.Payloads.{cut_goes-on}
-use Rattle.link_bundle.proofs.Steps.{all_grown}
+use Rattle.link_bundle.proofs.Fields.{before_and, after_and}
+use Rattle.link_bundle.proofs.Steps.{all_grown, at_stage, fits_at}
 
 -- ---- bytes that begin with a bundle
 
@@ -139,3 +141,35 @@ restarted cursor draft after before seen come unread fresh = record {
         (unread_of draft.check unread ∙ sym fresh) come.stands.checks;
   };
 }
+
+unread_at : (scan : BundleScan) → scan.stage ≡ Start → is_unread scan.draft.check ≡ true
+unread_at scan start =
+    let draft = scan.draft in
+    let none = length draft.numbers == 0 in
+    before_and (is_unread draft.check) none (after_and (is_none draft.payload_span)
+    (is_unread draft.check && none) (fits_at scan Start start))
+
+-- what was taken by a scan that has another draft
+pub taken_anew : {old mid new : BundleScan} {run : List ℕ}
+    → old.stage ≡ Start → mid.stage ≡ old.stage → mid.cursor ≡ old.cursor
+    → HasTaken mid new run → HasTaken old new run
+taken_anew {old = old} {mid = mid} {new = new} {run = run} start stage cursor taken =
+    let anew : (seen : List ℕ) → HasScanned old seen → HasScanned mid seen = λ seen come. record {
+      before = come.before;
+      come = rw (stage, start, cursor) (restarted old.cursor old.draft mid.draft come.before seen
+          (at_stage old Start come.before seen start come.come) (unread_at old start)
+          (unread_of mid.draft.check (unread_at mid (stage ∙ start))));
+    } in
+    record {
+      size = taken.size ∙ ap (λ (cursor : Cursor). cursor.count + length run) cursor;
+      seen = λ seen come. taken.seen seen (anew seen come);
+      blocks = λ seen come. taken.blocks seen (anew seen come);
+    }
+
+-- the same of one byte, as the first of a piece
+pub first_taken : {old mid new : BundleScan} (piece : List ℕ)
+    → old.stage ≡ Start → mid.stage ≡ old.stage → mid.cursor ≡ old.cursor → 0 < length piece
+    → HasTaken mid new (get_or piece 0 0 ∷ []) → HasTaken old new (take 1 piece)
+first_taken {old = old} {new = new} piece start stage cursor some taken =
+    subst (λ (run : List ℕ). HasTaken old new run) (sym (take_more piece 0 0 some))
+    (taken_anew start stage cursor taken)

@@ -1,14 +1,12 @@
 -- The blocks before a reading.
 
-use Rattle.std.proofs.Common.{◌≡◌, ℕ, Bool, true, false, List, [], ◌∷◌, ◌++◌, length, Option, None, Some, Result, Ok, Err, refl, ap, append_assoc}
+use Rattle.std.proofs.Common.{◌≡◌, ℕ, Bool, true, false, List, [], ◌∷◌, ◌++◌, length, Option, None, Some, Result, Ok, Err, refl, append_assoc}
 use Rattle.std.specs.Prelude.{◌==◌, if◌then◌else◌}
-use Rattle.link_bundle_types.specs.declared.fault.BundleFault.{BundleFault}
-use Rattle.link_bundle.specs.declared.block.CanonicalBlock.{CanonicalBlock}
 use Rattle.link_bundle.specs.declared.draft.Draft.{Draft}
 use Rattle.link_bundle.specs.declared.stage.Field.{Field}
 use Rattle.link_bundle.specs.Blocks.{Block}
 use Rattle.link_bundle.specs.Reading.{Stop}
-use Rattle.link_bundle.specs.Bundle.{Bundle, with_blocks, if_alone, verdict_by, payload_of, blocks_of, cut_block_of}
+use Rattle.link_bundle.specs.Bundle.{Bundle, with_blocks, verdict_by, payload_of, blocks_of, cut_block_of}
 use Rattle.link_bundle.specs.Left.{read_alone, with_known_payload, follows_block, last_block, block_of, with_last}
 
 pub none_before : (reading : Result Bundle Stop) → with_blocks [] reading ≡ reading

@@ -14,7 +14,7 @@ use Rattle.link_bundle.specs.Primary.{primary_at}
 use Rattle.link_bundle.specs.Canonical.{heads_at, content_at}
 use Rattle.link_bundle.specs.Bundle.{Bundle, with_payload, with_blocks, cut_in, inside as inside_block, info_of, rest_of, payload_at, blocks_at, opening_at, bundle_at, payload_of}
 use Rattle.link_bundle.proofs.Blocks.{payload_of-blocks}
-use Rattle.link_bundle.proofs.Steady.{Onward, Past, Within, EndsCut, Reads, short, whole, row_at-reads, field_at-reads, content_at-reads, heads_at-reads, primary_at-reads, opening_at-reads}
+use Rattle.link_bundle.proofs.Steady.{EndsCut, Reads, short, whole, row_at-reads, field_at-reads, content_at-reads, heads_at-reads, primary_at-reads, opening_at-reads}
 
 -- ---- the offsets of the payload and of the bundle's end
 

@@ -22,3 +22,6 @@ pub mod Items
 pub mod Readings
 pub mod Judgings
 pub mod Pieces
+pub mod Shifting
+pub mod Beginnings
+pub mod Wholes

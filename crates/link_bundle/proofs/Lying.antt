@@ -1,6 +1,6 @@
 -- The data of the whole blocks lies within the bytes.
 
-use Rattle.std.proofs.Common.{◌≡◌, ℕ, zero, suc, ◌+◌, ◌<◌, ◌≤◌, Bool, true, false, List, [], ◌∷◌, ◌++◌, length, Option, Result, Ok, Err, refl, sym, ap, ⊎_elim, ltb}
+use Rattle.std.proofs.Common.{◌≡◌, ℕ, zero, suc, ◌+◌, ◌≤◌, Bool, true, false, List, [], ◌∷◌, ◌++◌, length, Option, Result, Ok, Err, refl, ap, ⊎_elim, ltb}
 use Rattle.std.specs.Prelude.{◌==◌, if◌then◌else◌}
 use Rattle.std.specs.List.{All}
 use Rattle.std.proofs.lemmas.Bool.{cases_lt, lt-ltb}
@@ -9,11 +9,11 @@ use Rattle.link_cbor.specs.declared.check.CheckKind.{CheckKind}
 use Rattle.link_bundle_heads.specs.Rows.{◌>>=◌, block_too_many, closing}
 use Rattle.link_bundle.specs.declared.block.CanonicalBlock.{CanonicalBlock}
 use Rattle.link_bundle.specs.Blocks.{Primary, Block, PrimaryOf, CanonicalOf, ended, LiesWithin}
-use Rattle.link_bundle.specs.Reading.{Stop, ReadAt, stopped, cut_short, row_at, bytes_at}
+use Rattle.link_bundle.specs.Reading.{Stop, ReadAt, cut_short, row_at, bytes_at}
 use Rattle.link_bundle.specs.CheckField.{field_at}
 use Rattle.link_bundle.specs.Primary.{primary_at}
 use Rattle.link_bundle.specs.Canonical.{heads_at, content_at}
-use Rattle.link_bundle.specs.Bundle.{Bundle, with_payload, with_blocks, inside, rest_of, payload_at, blocks_at, opening_at, bundle_at, blocks_of}
+use Rattle.link_bundle.specs.Bundle.{Bundle, with_blocks, inside, rest_of, payload_at, blocks_at, opening_at, bundle_at, blocks_of}
 use Rattle.link_bundle.specs.Laws.{BlocksWithin}
 use Rattle.link_bundle.proofs.Blocks.{blocks_of-blocks}
 use Rattle.link_bundle.proofs.Showing.{blocks_payload, blocks_judged}

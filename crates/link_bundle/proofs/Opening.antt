@@ -61,22 +61,21 @@ other_reads : (draft : Draft) (byte : ℕ) (more : List ℕ) → IsBlank draft �
 unfolding judged_bundle bundle_at opening_at
 other_reads draft byte more blank other = rw (ne_eqb byte 0x9f other, blank.payload) refl
 
--- the first byte, of whatever is read
-first_byte : (seen more : List ℕ) (byte : ℕ) → seen ≡ [] → (seen ++ byte ∷ []) ++ more ≡ byte ∷ more
-first_byte seen more byte nothing =
-    ap (λ (seen : List ℕ). (seen ++ byte ∷ []) ++ more) nothing
+-- the first bytes, of whatever is read
+pub first_run : (seen run more : List ℕ) → seen ≡ [] → (seen ++ run) ++ more ≡ run ++ more
+first_run seen run more nothing = ap (λ (seen : List ℕ). (seen ++ run) ++ more) nothing
 
--- what follows the first byte is the rest after the blocks before, of which there are none
-after_first : (cursor : Cursor) (draft : Draft) (before : List Block) (seen more : List ℕ)
-    (byte : ℕ) (reading : Result Bundle Stop)
-    → HasSeen Start cursor draft before seen → judged_bundle (byte ∷ more) ≡ reading
-    → judged_bundle ((seen ++ byte ∷ []) ++ more) ≡ with_blocks before reading
+-- what follows the first bytes is the rest after the blocks before, of which there are none
+pub after_first : (cursor : Cursor) (draft : Draft) (before : List Block)
+    (seen run more : List ℕ) (reading : Result Bundle Stop)
+    → HasSeen Start cursor draft before seen → judged_bundle (run ++ more) ≡ reading
+    → judged_bundle ((seen ++ run) ++ more) ≡ with_blocks before reading
 unfolding stage_left
-after_first cursor draft before seen more byte reading come is =
-    ap judged_bundle (append_assoc seen (byte ∷ []) more)
-    ∙ come.reads (byte ∷ more)
+after_first cursor draft before seen run more reading come is =
+    ap judged_bundle (append_assoc seen run more)
+    ∙ come.reads (run ++ more)
     ∙ ap (λ (bytes : List ℕ). with_blocks before (judged_bundle bytes))
-    (sym (append_assoc seen (byte ∷ []) more) ∙ first_byte seen more byte come.stands.nothing)
+    (sym (append_assoc seen run more) ∙ first_run seen run more come.stands.nothing)
     ∙ ap (λ (reading : Result Bundle Stop). with_blocks before reading) is
 
 pub opened : (old new : Cursor) (draft : Draft) (before : List Block) (seen : List ℕ) (byte : ℕ)
@@ -95,11 +94,11 @@ opened old new draft before seen byte come fits is counts begins head checks =
       all_bytes = byte_grown seen byte come.all_bytes (omega arith);
       count = counted;
       reads = λ more.
-          after_first old draft before seen more byte
+          after_first old draft before seen (byte ∷ []) more
           (stage_left (Head (field.Primary primary.Block)) draft 1 (0x9f ∷ more) 1) come
           (ap (λ (byte : ℕ). judged_bundle (byte ∷ more)) is
           ∙ open_reads draft more (blank draft fits))
-          ∙ rw (offset, size, first_byte seen more byte come.stands.nothing, is) refl;
+          ∙ rw (offset, size, first_run seen (byte ∷ []) more come.stands.nothing, is) refl;
       stands = begun (field.Primary primary.Block) new draft.check draft.block.start now here head
           (omega (arith, here))
           (rw (nothing_yet new.offset now here) (narrowed draft.check new.checks [] checks));
@@ -114,6 +113,6 @@ not_opened old new draft before seen byte come small fits other counts =
     failed NotABundle 0 new draft before (seen ++ byte ∷ [])
     (byte_grown seen byte come.all_bytes small)
     (count_more old.count new.count seen byte counts come.count)
-    (λ more. after_first old draft before seen more byte
+    (λ more. after_first old draft before seen (byte ∷ []) more
     (with_known_payload draft.payload_span (Err (stopped NotABundle 0))) come
     (other_reads draft byte more (blank draft fits) other))

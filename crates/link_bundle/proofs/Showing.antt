@@ -5,20 +5,17 @@ use Rattle.std.proofs.lemmas.Bool.{false≢true}
 use Rattle.std.proofs.lemmas.List.{append_cancel_left}
 use Rattle.link_cbor.specs.declared.check.CheckKind.{CheckKind}
 use Rattle.std.specs.Prelude.{◌==◌, if◌then◌else◌}
-use Rattle.std.specs.List.{All}
-use Rattle.link_bundle_types.specs.declared.fault.BundleFault.{BundleFault}
-use Rattle.link_bundle_types.specs.declared.fault.BundleFault.TheVariants.{Cut}
 use Rattle.link_bundle_types.specs.Faults.{lasts}
 use Rattle.link_bundle_heads.specs.Rows.{◌>>=◌, block_too_many, closing}
 use Rattle.link_bundle.specs.declared.block.CanonicalBlock.{CanonicalBlock}
 use Rattle.link_bundle.specs.Blocks.{Primary, Block, PrimaryOf, CanonicalOf, ended, next_of}
-use Rattle.link_bundle.specs.Reading.{Stop, ReadAt, stopped, cut_short, row_at}
+use Rattle.link_bundle.specs.Reading.{Stop, ReadAt, stopped, row_at}
 use Rattle.link_bundle.specs.CheckField.{field_at}
 use Rattle.link_bundle.specs.Primary.{primary_at}
 use Rattle.link_bundle.specs.Canonical.{heads_at, content_at}
-use Rattle.link_bundle.specs.Bundle.{Bundle, with_payload, with_blocks, cut_in, inside, info_of, rest_of, payload_at, blocks_at, opening_at, bundle_at, if_alone, judged_bundle, blocks_of, cut_block_of, blocks_in, cut_block_in}
+use Rattle.link_bundle.specs.Bundle.{Bundle, with_payload, with_blocks, inside, payload_at, blocks_at, opening_at, bundle_at, if_alone, judged_bundle, blocks_of, cut_block_of, blocks_in, cut_block_in}
 use Rattle.link_bundle.proofs.Steady.{EndsCut, Reads, short, whole, row_at-reads, field_at-reads, content_at-reads, heads_at-reads, primary_at-reads, opening_at-reads}
-use Rattle.link_bundle.specs.Laws.{BlocksGrow, BlocksEnd, BlocksWithin, BlockPlaced}
+use Rattle.link_bundle.specs.Laws.{BlocksGrow, BlocksEnd, BlockPlaced}
 use Rattle.link_bundle.proofs.Blocks.{blocks_of-blocks, cut_block_of-blocks}
 use Rattle.link_bundle.proofs.Keeping.{Stays, cuts, same, begun-of-either, bundle_at-stays}
 use Rattle.link_bundle.proofs.Payloads.{cut_goes-on}

@@ -1,6 +1,6 @@
 -- The parts that are read from some bytes, and from those bytes with more after them.
 
-use Rattle.std.proofs.Common.{◌≡◌, ℕ, suc, ◌+◌, ◌-◌, ◌<◌, ◌≤◌, Bool, true, false, List, [], ◌∷◌, ◌++◌, length, drop, Option, None, Some, Result, Ok, Err, refl, ⊎_elim, length-append, length-drop, arith, ltb}
+use Rattle.std.proofs.Common.{◌≡◌, ℕ, suc, ◌+◌, ◌-◌, ◌<◌, ◌≤◌, Bool, true, false, List, [], ◌∷◌, ◌++◌, length, drop, Option, None, Some, Result, Ok, Err, refl, ◌⊎◌, inl, inr, ⊎_elim, length-append, length-drop, arith, ltb}
 use Rattle.std.specs.Prelude.{◌==◌, slice_range, if◌then◌else◌}
 use Rattle.std.proofs.lemmas.Bool.{cases_lt, lt-ltb, le-ltb}
 use Rattle.std.proofs.lemmas.List.{drop-append-le, take-append-le}
@@ -132,28 +132,39 @@ reads-from bytes offset start now later before reach (whole is onward within) =
     whole is (onward-from offset start now before onward)
     (within-from bytes offset start now reach within)
 
+pub reads-then-of : {A B : Type 0} (bytes : List ℕ) (offset : ℕ) (now later : ReadAt A)
+    (next next_later : A × ℕ → ReadAt B)
+    → Reads bytes offset now later
+    → ((value : A × ℕ) → (now ≡ Ok value) ⊎ (later ≡ Ok value)
+    → Reads bytes value.1 (next value) (next_later value))
+    → Reads bytes offset (now >>= next) (later >>= next_later)
+reads-then-of bytes offset (Ok value) later next next_later (short cut onward past) each =
+    absurd cut
+reads-then-of bytes offset (Err stop) (Err other) next next_later (short cut onward past) each =
+    short cut onward tt
+reads-then-of bytes offset (Err stop) (Ok (value, end)) next next_later (short cut onward past)
+    each =
+    let on = onward_of bytes end (next (value, end)) (next_later (value, end))
+    (each (value, end) (inr refl)) in
+    short cut (onward-from offset end (next_later (value, end)) onward on)
+    (past-from (length bytes) end (next_later (value, end)) past on)
+reads-then-of bytes offset (Ok (value, end)) later next next_later (whole is onward within) each =
+    let rest = each (value, end) (inl refl) in
+    rw is (reads-from bytes offset end (next (value, end))
+    (next_later (value, end)) onward within rest)
+reads-then-of bytes offset (Err stop) later next next_later (whole is onward within) each =
+    whole (rw is refl) onward tt
+
 pub reads-then : {A B : Type 0} (bytes : List ℕ) (offset : ℕ) (now later : ReadAt A)
     (next next_later : A × ℕ → ReadAt B)
     → Reads bytes offset now later
     → ((value : A × ℕ) → Reads bytes value.1 (next value) (next_later value))
     → Reads bytes offset (now >>= next) (later >>= next_later)
-reads-then bytes offset (Ok value) later next next_later (short cut onward past) each = absurd cut
-reads-then bytes offset (Err stop) (Err other) next next_later (short cut onward past) each =
-    short cut onward tt
-reads-then bytes offset (Err stop) (Ok (value, end)) next next_later (short cut onward past) each =
-    let on = onward_of bytes end (next (value, end)) (next_later (value, end))
-    (each (value, end)) in
-    short cut (onward-from offset end (next_later (value, end)) onward on)
-    (past-from (length bytes) end (next_later (value, end)) past on)
-reads-then bytes offset (Ok (value, end)) later next next_later (whole is onward within) each =
-    let rest = each (value, end) in
-    rw is (reads-from bytes offset end (next (value, end))
-    (next_later (value, end)) onward within rest)
-reads-then bytes offset (Err stop) later next next_later (whole is onward within) each =
-    whole (rw is refl) onward tt
+reads-then bytes offset now later next next_later reads each =
+    reads-then-of bytes offset now later next next_later reads (λ value read. each value)
 
 -- no more bytes are read
-ended : {A : Type 0} (bytes : List ℕ) (value : A) (offset : ℕ)
+pub ended : {A : Type 0} (bytes : List ℕ) (value : A) (offset : ℕ)
     → Reads bytes offset (Ok (value, offset)) (Ok (value, offset))
 ended bytes value offset = whole refl (omega arith) (λ here. here)
 

@@ -38,7 +38,7 @@ use Rattle.link_bundle.proofs.Blocks.{both_before, read_alone-blocks, with_last-
 use Rattle.link_bundle.proofs.Heads.{read_alone-stopped}
 use Rattle.link_bundle.proofs.Stops.{stop_at-bad, field_left-stopped}
 use Rattle.link_bundle.specs.declared.scan.BundleScan.{BundleScan}
-use Rattle.link_bundle.specs.Scan.{HasSeen, HasScanned, HasSeenHead, IsAtStage, IsInHead, IsInside, IsInStored}
+use Rattle.link_bundle.specs.Scan.{HasSeen, HasSeenHead, IsAtStage, IsInHead, IsInside, IsInStored}
 
 -- ---- a scan whose stage is known
 

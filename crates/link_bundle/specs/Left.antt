@@ -3,6 +3,7 @@
 -- `judged_bundle`. The promises need none of them.
 
 use Rattle.std.specs.Prelude.{◌≡◌, ◌≤◌, ℕ, ◌+◌, ◌-◌, ◌==◌, Bool, true, false, List, [], ◌∷◌, ◌++◌, length, replicate, slice_range, drop, unwrap_or, Option, Some, None, Result, Ok, Err, if◌then◌else◌}
+use Rattle.std.specs.Bool.{then_some}
 use Rattle.link_cbor.specs.declared.check.CheckKind.{CheckKind}
 use Rattle.link_cbor.specs.declared.head.Head.{Head as HeadItem}
 use Rattle.link_cbor.specs.Crc.{crc}
@@ -489,6 +490,16 @@ BlockEnds block check old stage new =
     read_alone bytes (with_known_payload old.payload_span
     (with_blocks (block_of block old check next ∷ [])
     (block_end old.payload_span old.numbers (primary_of old) bytes next)))
+    ≡ stage_left stage new next bytes next
+
+-- a canonical block that was read at once
+abbrev pub CanonicalEnds : CanonicalBlock → Draft → Stage → Draft → Type 0
+CanonicalEnds block old stage new =
+    let payload = then_some (block.block_type == 1) (block.data_start, block.data_length) in
+    (bytes : List ℕ) (next : ℕ) →
+    read_alone bytes (with_known_payload payload
+    (with_blocks (CanonicalOf (ended block next) ∷ [])
+    (block_end payload (old.numbers ++ block.number ∷ []) (primary_of old) bytes next)))
     ≡ stage_left stage new next bytes next
 
 abbrev pub FieldsEnd : BlockKind → Draft → Stage → Draft → Type 0

@@ -1,4 +1,5 @@
 //! The blocks of a bundle (RFC 9171 section 4.1).
+ghost use Rattle.std.specs.Prelude.{◌≡◌, ◌+◌, ◌^◌, ◌<◌};
 
 use link_bundle_types::EidView;
 use link_cbor::CheckKind;
@@ -24,6 +25,24 @@ pub struct CanonicalBlock {
     pub data_length: u64,
     /// The offset after the block, if the block is whole.
     pub end: Option<u64>,
+}
+
+impl CanonicalBlock {
+    ghost use Rattle.link_bundle.specs.Whole.{moved};
+
+    /// The block if `count` more bytes come before it.
+    #[inline(always)]
+    pub(crate) fn moved(self, count: u64) -> CanonicalBlock
+        requires start { count + self.start < 2 ^ 64 }
+        requires data { count + self.data_start < 2 ^ 64 }
+        ensures { result ≡ moved count self }
+    {
+        CanonicalBlock {
+            start: count + self.start,
+            data_start: count + self.data_start,
+            ..self
+        }
+    }
 }
 
 /// A whole primary block (RFC 9171 section 4.3.1), which begins at offset 1 of its bundle.

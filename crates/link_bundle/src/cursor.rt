@@ -74,4 +74,14 @@ impl Cursor {
             self.checks = BlockChecks::new();
         }
     }
+
+    /// Passes over a block that was read at once, and prepares the cursor for the next stage.
+    #[inline(always)]
+    pub fn pass(&mut self, size: usize, stage: Stage)
+        requires room { self.old.count + size ≤ 2 ^ 63 - 1 }
+        ensures { Enters stage (record self.old { count = self.old.count + size }) self.new }
+    {
+        self.count += size as u64;
+        self.enter(stage);
+    }
 }

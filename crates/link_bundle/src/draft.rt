@@ -1,5 +1,5 @@
 //! The parts of a bundle that a scan keeps, and how each head changes them.
-ghost use Rattle.std.specs.Prelude.{◌≡◌, ◌≤◌, [], ◌++◌, IsTrue, length};
+ghost use Rattle.std.specs.Prelude.{◌≡◌, ◌<◌, ◌≤◌, [], ◌++◌, IsTrue, None, length};
 
 use crate::block::{BlockView, CanonicalBlock, PrimaryBlock};
 use crate::stage::{BlockKind, CanonicalField, CheckType, Field, Part, PrimaryField, Role, Stage};
@@ -46,7 +46,7 @@ impl Draft {
     ghost use Rattle.link_bundle_types.specs.BundleView.{viewed_info};
     ghost use Rattle.link_bundle_types.specs.ShortNames.{HasShortNames};
     ghost use Rattle.link_bundle.specs.Blocks.{viewed_block, HasShortBlock};
-    ghost use Rattle.link_bundle.specs.Left.{BlockEnds, FieldsEnd, primary_of, span_of, current, kind_block, stage_block, block_of};
+    ghost use Rattle.link_bundle.specs.Left.{BlockEnds, CanonicalEnds, FieldsEnd, primary_of, span_of, current, kind_block, stage_block, block_of};
 
     /// The draft of a bundle before its first byte.
     pub fn new() -> Draft
@@ -193,6 +193,40 @@ impl Draft {
         }
         self.check = CheckType::Unread;
         Stage::Head(Field::Canonical(CanonicalField::Block))
+    }
+
+    /// The stage after the primary block, which was read at once, with its fields in the draft.
+    pub fn end_primary(&mut self, check: Option<CheckKind>) -> Stage
+        ensures reads { BlockEnds BlockKind.Primary check self.old result self.new }
+        ensures fits { IsTrue (stage_fits result self.new) }
+        ensures keeps { KeepsCheck (CheckType.Is None) result self.new.check }
+        ensures start { self.new.block.start ≡ 1 }
+    {
+        self.block.start = 1;
+        // Nothing more of the block is checked.
+        self.check = CheckType::Is(None);
+        self.after_block(BlockKind::Primary, check)
+    }
+
+    /// The stage after a canonical block, which was read at once.
+    ///
+    /// The draft keeps the block.
+    pub fn end_canonical(&mut self, block: CanonicalBlock) -> Stage
+        requires room { length self.old.numbers < 64 }
+        ensures reads { CanonicalEnds block self.old result self.new }
+        ensures fits { IsTrue (stage_fits result self.new) }
+        ensures keeps { KeepsCheck (CheckType.Is None) result self.new.check }
+        ensures start { self.new.block.start ≡ block.start }
+    {
+        self.block = block;
+        self.numbers.push(block.number);
+        self.payload_span = (block.block_type == row::PAYLOAD_TYPE).then_some((
+            block.data_start,
+            block.data_length,
+        ));
+        // Nothing more of the block is checked.
+        self.check = CheckType::Is(None);
+        self.after_block(BlockKind::Canonical, block.check)
     }
 
     /// The stage after those fields of a block of this kind that come before its check field.

@@ -118,7 +118,7 @@ impl BundleScan {
     }
 
     /// Takes the first byte of a bundle.
-    fn open(&mut self, byte: u8)
+    pub(crate) fn open(&mut self, byte: u8)
         requires stage { self.old.stage ≡ Stage.Start }
         requires room { self.old.cursor.count < 2 ^ 63 - 1 }
         ensures { HasTaken self.old self.new (byte ∷ []) }
@@ -359,7 +359,7 @@ impl BundleScan {
 
     /// Takes the first bytes of a head: the whole head if the piece has it, or else one byte.
     #[inline(never)]
-    fn advance_head(&mut self, field: Field, piece: &[u8]) -> usize
+    pub(crate) fn advance_head(&mut self, field: Field, piece: &[u8]) -> usize
         requires stage { self.old.stage ≡ Stage.Head field }
         requires begins { self.old.cursor.offset ≡ self.old.cursor.count }
         requires may_take { MayAdvance self.old piece.now }

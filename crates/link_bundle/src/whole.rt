@@ -15,7 +15,7 @@ ghost use Rattle.link_bundle.specs.Primary.{fragment_at, primary_at};
 ghost use Rattle.link_bundle.specs.Blocks.{Primary, Block};
 ghost use Rattle.link_bundle.specs.Bundle.{blocks_at, bundle_at};
 ghost use Rattle.link_bundle.specs.Left.{primary_of, bundle_of};
-ghost use Rattle.link_bundle.specs.Whole.{bundle_with};
+ghost use Rattle.link_bundle.specs.Whole.{whole_primary, whole_canonical, bundle_with};
 ghost use Rattle.link_bundle_heads.specs.declared.endpoint.Scheme.TheVariants.{Dtn, Ipn};
 
 use crate::block::CanonicalBlock;
@@ -248,6 +248,28 @@ fn heads_at(
     Ok((block, offset))
 }
 
+/// Reads a canonical block with its data and its check field.
+///
+/// `numbers` are the numbers of the blocks before it, and have room for one more. Returns the
+/// offset after the block too.
+#[inline(always)]
+pub fn whole_canonical(
+    numbers: &BlockNumbers,
+    bytes: &[u8],
+    start: usize,
+) -> Result<(CanonicalBlock, usize), BundleFault>
+    ensures room { IfOk result (λ _. length numbers.now < 64) }
+    ensures read { IfOk result (λ read. whole_canonical numbers.now bytes.now start ≡ Ok read) }
+    ensures start { IfOk result (λ read. read.0.start ≡ start) }
+{
+    if numbers.is_full() {
+        return Err(BundleFault::TooManyBlocks);
+    }
+    let (block, offset) = heads_at(numbers.as_slice(), bytes, start)?;
+    let next = content_at(block.data_length, block.check, start, bytes, offset)?;
+    Ok((block, next))
+}
+
 /// Reads the canonical blocks, and the break after the payload block.
 ///
 /// Returns the offset and the length of the payload, and the offset after the break.
@@ -263,17 +285,15 @@ fn blocks_at(
         ≡ Ok (bundle_with primary (length numbers.new) read.0 read.1 blocks))) }
 {
     let mut start = offset;
-    while !numbers.is_full() {
-        let (block, offset) = heads_at(numbers.as_slice(), bytes, start)?;
+    loop {
+        let (block, next) = whole_canonical(numbers, bytes, start)?;
         numbers.push(block.number);
-        let next = content_at(block.data_length, block.check, start, bytes, offset)?;
         if block.block_type == row::PAYLOAD_TYPE {
             let end = closing_at(bytes, next)?;
             return Ok(((block.data_start, block.data_length), end));
         }
         start = next;
     }
-    Err(BundleFault::TooManyBlocks)
 }
 
 impl Draft {
@@ -289,6 +309,8 @@ impl Draft {
         ensures read { IfOk result (λ read. primary_at bytes.now offset
             ≡ Ok ((primary_of self.new, read.0), read.1)) }
         ensures numbers { self.new.numbers ≡ self.old.numbers }
+        ensures payload { self.new.payload_span ≡ self.old.payload_span }
+        ensures check { self.new.check ≡ self.old.check }
     {
         let (head, offset) = small_at(row::ARRAY, bytes, offset)?;
         let count = row::primary_block(head)?;
@@ -316,6 +338,27 @@ impl Draft {
         Ok((check, offset))
     }
 
+    /// Reads the first byte of a bundle and its primary block.
+    ///
+    /// Returns the block's check type, and the offset after the block. After an error, the draft
+    /// has to be restarted before it is used again.
+    #[inline(always)]
+    pub fn whole_primary(&mut self, bytes: &[u8]) -> Result<(Option<CheckKind>, usize), BundleFault>
+        requires some { 0 < length bytes.now }
+        ensures read { IfOk result (λ read. whole_primary bytes.now
+            ≡ Ok ((primary_of self.new, read.0), read.1)) }
+        ensures numbers { self.new.numbers ≡ self.old.numbers }
+        ensures payload { self.new.payload_span ≡ self.old.payload_span }
+        ensures check { self.new.check ≡ self.old.check }
+    {
+        if bytes[0] != OPENING {
+            return Err(BundleFault::NotABundle);
+        }
+        let (check, offset) = self.primary_at(bytes, 1)?;
+        let next = field_at(check, 1, bytes, offset)?;
+        Ok((check, next))
+    }
+
     /// Reads the bundle that the bytes begin with, and returns its length.
     ///
     /// After an error, the draft has to be restarted before it is used again.
@@ -327,11 +370,7 @@ impl Draft {
             × (bundle_at bytes.now ≡ Ok (record (bundle_of self.new size) { blocks = blocks }))) }
         ensures payload { IfOk result (λ _. IsTrue (is_some self.new.payload_span)) }
     {
-        if bytes[0] != OPENING {
-            return Err(BundleFault::NotABundle);
-        }
-        let (check, offset) = self.primary_at(bytes, 1)?;
-        let offset = field_at(check, 1, bytes, offset)?;
+        let (_, offset) = self.whole_primary(bytes)?;
         let (payload, end) = blocks_at(&mut self.numbers, bytes, offset)?;
         self.payload_span = Some(payload);
         Ok(end)

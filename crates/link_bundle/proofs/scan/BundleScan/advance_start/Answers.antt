@@ -1,15 +1,10 @@
-use Rattle.std.proofs.Common.{ℕ, ◌<◌, ◌&&◌, ◌++◌, List, length, refl, ◌+◌, subst, sym, arith, rules}
-use Rattle.std.specs.Prelude.{◌==◌, is_none}
-use Rattle.std.proofs.lemmas.List.{take_more}
+use Rattle.std.proofs.Common.{ℕ, ◌<◌, refl, ◌+◌, arith, rules}
 use Rattle.std.proofs.lemmas.List.Elements.{All-from_get_or}
-use Rattle.link_bundle.specs.declared.stage.Stage.{Stage}
-use Rattle.link_bundle.specs.CheckKinds.{is_unread}
 use Rattle.link_bundle.specs.Left.{bundle_of}
 use Rattle.link_bundle.specs.Bundle.{Bundle}
-use Rattle.link_bundle.specs.Scan.{HasSeen, HasScanned}
-use Rattle.link_bundle.proofs.Alone.{BeginsWith, begins_with, whole_come, goes_in_whole, restarted}
-use Rattle.link_bundle.proofs.Fields.{before_and, after_and}
-use Rattle.link_bundle.proofs.Steps.{at_stage, fits_at}
+use Rattle.link_bundle.proofs.Alone.{BeginsWith, begins_with, whole_come, goes_in_whole, first_taken}
+use Rattle.link_bundle.proofs.Feeding.{as_taken}
+use Rattle.link_bundle.proofs.Steps.{at_stage}
 use Rattle.link_bundle.proofs.scan.BundleScan.advance_start.Goals as goal
 use Rattle.link_bundle.proofs.scan.BundleScan.advance_start.Goals.{In-Ok}
 
@@ -53,26 +48,8 @@ returns-in-Ok c =
     }
 
 pub returns-in-Err : goal.returns-in-Err
-returns-in-Err c = record {
-  some = search rules;
-  within = search rules;
-  size = search rules;
-  seen = λ seen come.
-      let now = c.args.self.now in
-      let piece = c.args.piece.now in
-      let here = at_stage now _ come.before seen c.requires.stage come.come in
-      let fits = fits_at now _ c.requires.stage in
-      let unread = before_and (is_unread now.draft.check) (length now.draft.numbers == 0)
-      (after_and (is_none now.draft.payload_span)
-      (is_unread now.draft.check && (length now.draft.numbers == 0)) fits) in
-      subst (λ (run : List ℕ). HasScanned c.open.new.self (seen ++ run))
-      (sym (take_more piece 0 0 c.requires.may_take.some))
-      (c.open.ensures.seen seen (record {
-        before = come.before;
-        come = subst (λ (stage : Stage). HasSeen stage now.cursor c.restart.new.self come.before seen)
-            (sym c.requires.stage)
-            (restarted now.cursor now.draft c.restart.new.self come.before seen here unread
-            c.restart.ensures.check);
-      }));
-  goes = search rules;
-}
+returns-in-Err c =
+    let piece = c.args.piece.now in
+    let some = c.requires.may_take.some in
+    as_taken (search rules) (search rules) (search rules)
+    (first_taken piece c.requires.stage refl refl some c.open.ensures).seen (search rules)

@@ -1,0 +1,36 @@
+use Rattle.std.proofs.Common.{sym, rules}
+use Rattle.std.proofs.lemmas.List.{length-take-le}
+use Rattle.link_bundle.specs.Whole.{whole_canonical}
+use Rattle.link_bundle.proofs.Beginnings.{Begins, begins_block, read_exactly}
+use Rattle.link_bundle.proofs.Feeding.{as_taken}
+use Rattle.link_bundle.proofs.Steps.{at_stage}
+use Rattle.link_bundle.proofs.Wholes.{goes_in_canonical}
+use Rattle.link_bundle.proofs.scan.BundleScan.advance_canonical.Goals as goal
+use Rattle.link_bundle.proofs.scan.BundleScan.advance_canonical.Goals.{In-Ok}
+
+-- the block that the piece begins with
+begins : (c : In-Ok)
+    → Begins (λ bytes. whole_canonical c.args.self.now.draft.numbers bytes 0) c.in-Ok.block
+    c.in-Ok.size c.args.piece.now
+begins c =
+    begins_block c.args.self.now.draft.numbers c.args.piece.now c.in-Ok.block c.in-Ok.size
+    c.in-Ok.ensures.read
+
+pub slice_bounds-canonical_run-end : goal.slice_bounds-canonical_run-end
+slice_bounds-canonical_run-end c =
+    sym (length-take-le c.in-Ok.size c.args.piece.now
+    (begins (goal.at.slice_bounds-canonical_run-end c).In-Ok).within)
+
+pub canonical_run-requires-clause-whole : goal.canonical_run-requires-clause-whole
+canonical_run-requires-clause-whole c =
+    read_exactly (λ bytes. whole_canonical c.args.self.now.draft.numbers bytes 0) c.in-Ok.block
+    c.in-Ok.size c.args.piece.now (begins (goal.at.canonical_run-requires-clause-whole c).In-Ok)
+
+pub returns-in-Ok-clause-advances : goal.returns-in-Ok-clause-advances
+returns-in-Ok-clause-advances c =
+    let at = begins (goal.at.returns-in-Ok-clause-advances c).In-Ok in
+    as_taken at.some at.within (search rules) (search rules) (λ seen come count below.
+    let now = c.args.self.now in
+    goes_in_canonical now.cursor now.draft come.before seen c.args.piece.now c.in-Ok.block
+    c.in-Ok.size count (at_stage now _ come.before seen c.requires.stage come.come)
+    c.requires.begins c.in-Ok.ensures.room at below)
