@@ -25,3 +25,4 @@ pub mod Pieces
 pub mod Shifting
 pub mod Beginnings
 pub mod Wholes
+pub mod Tiling

@@ -1,7 +1,7 @@
 //! Laws over the definitions alone.
 //!
 //! The functions do nothing when they run. Their contracts are the laws.
-ghost use Rattle.link_bundle.specs.Laws.{FaultLasts, TrailingLasts, PayloadLasts, PayloadPlaced, PayloadEnds, BlocksGrow, BlocksEnd, BlocksWithin, BlockPlaced};
+ghost use Rattle.link_bundle.specs.Laws.{FaultLasts, TrailingLasts, PayloadLasts, PayloadPlaced, PayloadEnds, BlocksGrow, BlocksEnd, BlocksWithin, BlockPlaced, GoodBlocksTile};
 
 /// How the verdict on some bytes lasts when more bytes follow.
 ///
@@ -32,4 +32,17 @@ pub fn blocks_last()
     ensures end { BlocksEnd }
     ensures within { BlocksWithin }
     ensures placed { BlockPlaced }
+{}
+
+/// How the blocks divide a good bundle.
+///
+/// - The bundle is its primary block, and then canonical blocks. The last of these is the payload
+///   block, and no other has type 1.
+/// - The verdict has the fields of the primary block, the number of canonical blocks, and the
+///   length of the payload block's data.
+/// - The first block begins at offset 1, and each other where the one before it ends. The last ends
+///   one byte before the end of the bundle.
+/// - The data of each block lies in it.
+pub fn good_blocks_tile()
+    ensures { GoodBlocksTile }
 {}
