@@ -79,7 +79,7 @@ enum {
   /* A slice that was lent is too small. What was written into it is a prefix of the answer. */
   TCPCLKIT_TOO_SMALL = 5,
   /* A number is out of its range, such as an offset past the end, or slices overlap, or the memory
-   * has no scan. Nothing was written, but tcpclkit_feed_scan may set `*taken` to 0. */
+   * has no scan. Nothing was written, but the calls that feed a scan may set `*taken` to 0. */
   TCPCLKIT_RANGE = 6,
   /* A pointer is null that may not be. Nothing was written. */
   TCPCLKIT_NULL = 7,
@@ -371,6 +371,64 @@ static inline uint32_t tcpclkit_feed_scan(struct tcpclkit_scan *scan, const uint
   uint32_t status = tcpclkit_struct_status(tcpclkit_slice_status(piece, length), scan, taken);
   if (status != TCPCLKIT_OK) return status;
   return tcpclkit_raw_feed_scan(scan->memory, tcpclkit_start(piece), length, taken);
+}
+
+/* The kinds of blocks (RFC 9171 section 4.3). 0 is no block. */
+enum {
+  TCPCLKIT_BLOCK_PRIMARY = 1,
+  TCPCLKIT_BLOCK_CANONICAL = 2
+};
+
+/* The types of check values (RFC 9171 section 4.2.1). */
+enum {
+  TCPCLKIT_CHECK_NONE = 0,
+  TCPCLKIT_CHECK_CRC16 = 1, /* CRC-16/X-25, two bytes */
+  TCPCLKIT_CHECK_CRC32 = 2  /* CRC-32C, four bytes */
+};
+
+/* A whole block of a bundle. A primary block has 0 in the fields of canonical blocks. */
+struct tcpclkit_block {
+  uint64_t kind;
+  uint64_t offset;      /* where the block begins; the primary block begins at 1 */
+  uint64_t length;      /* in bytes */
+  uint64_t block_type;  /* CANONICAL: the block type code; 1 is the payload block, the last one */
+  uint64_t number;      /* CANONICAL: the block number */
+  uint64_t flags;       /* CANONICAL: of the block; PRIMARY: of the bundle */
+  uint64_t check;       /* one of the types above */
+  uint64_t data_offset; /* CANONICAL: where its data begins */
+  uint64_t data_length; /* CANONICAL: in bytes */
+};
+
+/*
+ * Takes the bytes of the next piece up to the end of a block, and gives this block:
+ *
+ *     do {
+ *       status = tcpclkit_next_block(&scan, bytes + at, length - at, &taken, &block);
+ *       at += taken;
+ *       if (block.kind != 0)
+ *         use(bytes + block.data_offset, block.data_length);
+ *     } while (status == TCPCLKIT_TRUNCATED && taken > 0);
+ *
+ * A block that is given ends with the last byte that was taken. If no block ends in the piece, the
+ * call takes what tcpclkit_feed_scan would take, and `kind` is 0. The statuses are those of
+ * tcpclkit_feed_scan, of the bytes that were taken: after the last block the bundle goes on, up to
+ * the break after it. After TCPCLKIT_RANGE `block` is as it was. The calls that feed a scan and
+ * those that give what it has found may be mixed.
+ *
+ * Proved of tcpclkit_raw_next_block: if the scan has seen some bytes, it then has seen these and,
+ * after them, `fed_block` of them and of the piece, which are as many as `*taken` says. The block
+ * is `added_block`: the one that these bytes add to those of `blocks_in`. The status is
+ * `fed_block_status`.
+ */
+uint32_t tcpclkit_raw_next_block(uint64_t *memory, const uint8_t *piece, size_t length,
+                                 uint64_t *taken, struct tcpclkit_block *block);
+static inline uint32_t tcpclkit_next_block(struct tcpclkit_scan *scan, const uint8_t *piece,
+                                           size_t length, uint64_t *taken,
+                                           struct tcpclkit_block *block) {
+  uint32_t status = tcpclkit_struct_status(tcpclkit_slice_status(piece, length), scan, taken);
+  status = tcpclkit_struct_status(status, block, block);
+  if (status != TCPCLKIT_OK) return status;
+  return tcpclkit_raw_next_block(scan->memory, tcpclkit_start(piece), length, taken, block);
 }
 
 /*
@@ -677,6 +735,15 @@ struct tcpclkit_unpack_options {
   uint64_t keep_going; /* 1: a fault of the order has its line, and does not end the run */
 };
 
+/* Which blocks `blocks` shows, and of what. tcpclkit_blocks_defaults fills in the defaults. */
+struct tcpclkit_blocks_options {
+  uint64_t size;       /* sizeof (struct tcpclkit_blocks_options), for later versions */
+  uint64_t only_one;   /* 1: the transfers with the ID `transfer` alone */
+  uint64_t transfer;
+  uint64_t keep_going; /* 1: a fault of the order has its line, and does not end the run */
+  uint64_t bundles;    /* 1: the bytes are bundles, one after another, and no recording */
+};
+
 /* What the stream of `pack` says (docs/MANUAL.md). tcpclkit_pack_defaults fills in the defaults. */
 struct tcpclkit_pack_options {
   uint64_t size;          /* sizeof (struct tcpclkit_pack_options), for later versions */
@@ -691,6 +758,13 @@ struct tcpclkit_pack_options {
 
 static inline uint32_t tcpclkit_unpack_defaults(struct tcpclkit_unpack_options *options) {
   const struct tcpclkit_unpack_options defaults = {sizeof defaults, 0, 0, 0, 0};
+  if (options == NULL) return TCPCLKIT_NULL;
+  *options = defaults;
+  return TCPCLKIT_OK;
+}
+
+static inline uint32_t tcpclkit_blocks_defaults(struct tcpclkit_blocks_options *options) {
+  const struct tcpclkit_blocks_options defaults = {sizeof defaults, 0, 0, 0, 0};
   if (options == NULL) return TCPCLKIT_NULL;
   *options = defaults;
   return TCPCLKIT_OK;
@@ -772,6 +846,35 @@ static inline uint32_t tcpclkit_unpack(const uint8_t *bytes, size_t length,
   status = tcpclkit_options_status(status, (const uint64_t *)options, sizeof *options);
   if (status != TCPCLKIT_OK) return status;
   return tcpclkit_raw_unpack(tcpclkit_start(bytes), length,
+                             (const uint64_t *)options + 1, (size_t)options->size / 8 - 1,
+                             output != NULL, tcpclkit_start(output), output_room,
+                             report != NULL, tcpclkit_start(report), report_room, run);
+}
+
+/*
+ * `tcpclkit blocks`: a line for each block of the bundles of a recording, or of bundles.
+ *
+ * The statuses are those of tcpclkit_list; also TCPCLKIT_RANGE if `only_one`, `keep_going` or
+ * `bundles` is above 1, if `bundles` is 1 beside another of them, or `size` is of no such struct.
+ *
+ * Proved of tcpclkit_raw_blocks: as for tcpclkit_raw_unpack, of `blocks_tool` of the options and
+ * the bytes, or of `bundle_blocks_tool` of the bytes if `bundles` is 1.
+ */
+uint32_t tcpclkit_raw_blocks(const uint8_t *bytes, size_t length,
+                             const uint64_t *options, size_t option_count,
+                             uint64_t wants_output, uint8_t *output, size_t output_room,
+                             uint64_t wants_report, uint8_t *report, size_t report_room,
+                             struct tcpclkit_run *run);
+static inline uint32_t tcpclkit_blocks(const uint8_t *bytes, size_t length,
+                                       const struct tcpclkit_blocks_options *options,
+                                       uint8_t *output, size_t output_room,
+                                       uint8_t *report, size_t report_room,
+                                       struct tcpclkit_run *run) {
+  uint32_t status = tcpclkit_slices_status(bytes, length, output, output_room, report, report_room);
+  status = tcpclkit_struct_status(status, run, run);
+  status = tcpclkit_options_status(status, (const uint64_t *)options, sizeof *options);
+  if (status != TCPCLKIT_OK) return status;
+  return tcpclkit_raw_blocks(tcpclkit_start(bytes), length,
                              (const uint64_t *)options + 1, (size_t)options->size / 8 - 1,
                              output != NULL, tcpclkit_start(output), output_room,
                              report != NULL, tcpclkit_start(report), report_room, run);

@@ -256,6 +256,111 @@ static void scans(void) {
   CHECK(tcpclkit_describe_scan(&scan, NULL, 0, NULL, 0, NULL, 0, NULL) == TCPCLKIT_NULL);
 }
 
+/* The blocks of some bundles, in the order of the fields of struct tcpclkit_block. */
+static const struct tcpclkit_block bundle_blocks[] = {{1, 1, 21, 0, 0, 0, 0, 0, 0},
+                                                      {2, 22, 11, 1, 1, 0, 0, 28, 5}};
+static const struct tcpclkit_block checked_blocks[] = {{1, 1, 37, 0, 0, 1, 2, 0, 0},
+                                                       {2, 38, 12, 1, 1, 0, 0, 44, 6}};
+static const struct tcpclkit_block several_blocks[] = {{1, 1, 21, 0, 0, 4, 0, 0, 0},
+                                                       {2, 22, 10, 7, 2, 16, 1, 28, 1},
+                                                       {2, 32, 9, 10, 3, 0, 0, 38, 3},
+                                                       {2, 41, 13, 1, 1, 1, 2, 47, 2}};
+
+/* Takes the bytes block by block, in pieces of this size, from a scan that was fed the first ones.
+ * Checks that the blocks that end in the others are these, and returns the last status. */
+static uint32_t next_blocks(struct tcpclkit_scan *scan, const uint8_t *bytes, size_t length,
+                            size_t at, size_t size, const struct tcpclkit_block *blocks,
+                            size_t rows) {
+  static const struct tcpclkit_block none = {0, 0, 0, 0, 0, 0, 0, 0, 0};
+  struct tcpclkit_block block;
+  struct tcpclkit_verdict verdict, whole;
+  uint64_t taken;
+  size_t found = 0, piece;
+  uint32_t status;
+  while (found < rows && blocks[found].offset + blocks[found].length <= at)
+    found++;
+  do {
+    piece = length - at < size ? length - at : size;
+    memset(&block, MARK, sizeof block);
+    status = tcpclkit_next_block(scan, bytes + at, piece, &taken, &block);
+    at += (size_t)taken;
+    if (block.kind == 0) {
+      CHECK(memcmp(&block, &none, sizeof block) == 0);
+      CHECK(taken == piece || status != TCPCLKIT_TRUNCATED);
+    } else {
+      CHECK(found < rows && memcmp(&block, &blocks[found], sizeof block) == 0);
+      CHECK(status == TCPCLKIT_TRUNCATED && block.offset + block.length == at);
+      found++;
+    }
+  } while (status == TCPCLKIT_TRUNCATED && taken > 0);
+  CHECK(found == rows && taken <= piece);
+  CHECK(tcpclkit_judge_bundle(bytes, at, &whole) == status);
+  CHECK(tcpclkit_judge_scan(scan, &verdict) == status);
+  CHECK(memcmp(&verdict, &whole, sizeof verdict) == 0);
+  /* After the end and after a fault nothing is taken, and no block is given again. */
+  if (status != TCPCLKIT_TRUNCATED) {
+    CHECK(tcpclkit_next_block(scan, bytes, length, &taken, &block) == status && taken == 0);
+    CHECK(memcmp(&block, &none, sizeof block) == 0);
+  }
+  return status;
+}
+
+/* The same of a scan that was fed no more than these bytes. */
+static uint32_t blocks_after(size_t fed, const uint8_t *bytes, size_t length, size_t size,
+                             const struct tcpclkit_block *blocks, size_t rows) {
+  struct tcpclkit_scan scan;
+  uint64_t taken;
+  CHECK(tcpclkit_start_scan(&scan) == TCPCLKIT_OK);
+  CHECK(tcpclkit_feed_scan(&scan, bytes, fed, &taken) == TCPCLKIT_TRUNCATED && taken == fed);
+  return next_blocks(&scan, bytes, length, fed, size, blocks, rows);
+}
+
+static void blocks_one_by_one(void) {
+  struct tcpclkit_block block;
+  struct tcpclkit_scan scan;
+  struct tcpclkit_bundle info;
+  uint8_t bad[sizeof several], from[4];
+  uint64_t taken = 7;
+  size_t size, at, whole;
+  for (size = 1; size <= sizeof several + 1; size++) {
+    CHECK(blocks_after(0, bundle, sizeof bundle, size, bundle_blocks, 2) == TCPCLKIT_OK);
+    CHECK(blocks_after(0, checked, sizeof checked, size, checked_blocks, 2) == TCPCLKIT_OK);
+    for (at = 0; at < sizeof several; at++) {
+      /* the first bytes in one piece, the first bytes alone, and a byte after the block before */
+      CHECK(blocks_after(at, several, sizeof several, size, several_blocks, 4) == TCPCLKIT_OK);
+      for (whole = 0; whole < 4; whole++)
+        if (several_blocks[whole].offset + several_blocks[whole].length > at)
+          break;
+      CHECK(blocks_after(0, several, at, size, several_blocks, whole) == TCPCLKIT_TRUNCATED);
+    }
+  }
+  /* a check value that differs, in the block before the last one */
+  memcpy(bad, several, sizeof bad);
+  bad[30] ^= 1;
+  CHECK(blocks_after(0, bad, sizeof bad, 9, several_blocks, 1) == TCPCLKIT_FAULT);
+  memcpy(bad, several, sizeof bad);
+  bad[54] = 0;
+  CHECK(blocks_after(0, bad, sizeof bad, 9, several_blocks, 4) == TCPCLKIT_FAULT);
+  /* The first bytes are kept for the fields of the primary block. */
+  CHECK(tcpclkit_start_scan(&scan) == TCPCLKIT_OK);
+  CHECK(tcpclkit_next_block(&scan, checked, 20, &taken, &block) == TCPCLKIT_TRUNCATED);
+  CHECK(taken == 20 && block.kind == 0);
+  CHECK(tcpclkit_next_block(&scan, checked + 20, 31, &taken, &block) == TCPCLKIT_TRUNCATED);
+  CHECK(taken == 18 && block.kind == TCPCLKIT_BLOCK_PRIMARY);
+  CHECK(block.check == TCPCLKIT_CHECK_CRC32);
+  CHECK(tcpclkit_describe_scan(&scan, NULL, 0, from, 4, NULL, 0, &info) == TCPCLKIT_TRUNCATED);
+  CHECK(info.primary_whole == 1 && info.primary_fields == 10 && begins(from, "//x"));
+  CHECK(tcpclkit_next_block(&scan, NULL, 0, &taken, &block) == TCPCLKIT_TRUNCATED);
+  CHECK(taken == 0 && block.kind == 0);
+  /* what a caller may get wrong */
+  memset(&block, MARK, sizeof block);
+  LEAVES(tcpclkit_next_block(NULL, bundle, 1, &taken, &block), TCPCLKIT_NULL, block);
+  LEAVES(tcpclkit_next_block(&scan, NULL, 1, &taken, &block), TCPCLKIT_NULL, block);
+  LEAVES(tcpclkit_next_block(&scan, bundle, 1, NULL, &block), TCPCLKIT_NULL, block);
+  LEAVES(tcpclkit_next_block(&scan, bundle, SIZE_MAX, &taken, &block), TCPCLKIT_RANGE, block);
+  CHECK(tcpclkit_next_block(&scan, bundle, 1, &taken, NULL) == TCPCLKIT_NULL);
+}
+
 static void messages(void) {
   struct tcpclkit_contact contact;
   struct tcpclkit_message message;
@@ -600,6 +705,7 @@ int main(int argc, char **argv) {
   fields_of_cut_bundles();
   fields_of_bad_bundles();
   scans();
+  blocks_one_by_one();
   messages();
   items();
   kinds();

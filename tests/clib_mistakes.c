@@ -142,14 +142,18 @@ static void refuse_scan(const struct tcpclkit_scan *memory) {
   struct tcpclkit_scan scan = *memory;
   struct tcpclkit_verdict verdict;
   struct tcpclkit_bundle info;
+  struct tcpclkit_block block;
   uint8_t to[9], from[9], reports[9];
-  uint64_t taken = 7;
+  uint64_t taken = 7, other = 7;
+  memset(&block, MARK, sizeof block);
   memset(&verdict, MARK, sizeof verdict);
   memset(&info, MARK, sizeof info);
   memset(to, MARK, sizeof to);
   memset(from, MARK, sizeof from);
   memset(reports, MARK, sizeof reports);
   CHECK(tcpclkit_feed_scan(&scan, bundle, BUNDLE_LENGTH, &taken) == TCPCLKIT_RANGE && taken == 0);
+  LEAVES(tcpclkit_next_block(&scan, bundle, BUNDLE_LENGTH, &other, &block), TCPCLKIT_RANGE, block);
+  CHECK(other == 0);
   LEAVES(tcpclkit_judge_scan(&scan, &verdict), TCPCLKIT_RANGE, verdict);
   LEAVES(tcpclkit_describe_scan(&scan, to, 9, from, 9, reports, 9, &info), TCPCLKIT_RANGE, info);
   CHECK(IS_MARKED(to) && IS_MARKED(from) && IS_MARKED(reports));
@@ -236,6 +240,7 @@ static void one_slice_for_both(void) {
   struct tcpclkit_scan scan;
   struct tcpclkit_bundle info;
   struct tcpclkit_unpack_options options;
+  struct tcpclkit_blocks_options blocks;
   struct tcpclkit_pack_options pack;
   struct tcpclkit_run run;
   uint8_t slice[300];
@@ -244,6 +249,7 @@ static void one_slice_for_both(void) {
   memset(&run, MARK, sizeof run);
   memset(slice, MARK, sizeof slice);
   tcpclkit_unpack_defaults(&options);
+  tcpclkit_blocks_defaults(&blocks);
   tcpclkit_pack_defaults(&pack);
   tcpclkit_start_scan(&scan);
   tcpclkit_feed_scan(&scan, named, sizeof named, &written);
@@ -255,6 +261,8 @@ static void one_slice_for_both(void) {
            TCPCLKIT_RANGE, run);
     LEAVES(tcpclkit_list(slice, 100, other, 100, NULL, 0, &run), TCPCLKIT_RANGE, run);
     LEAVES(tcpclkit_unpack(recording, sizeof recording, &options, other, 100, slice, 100, &run),
+           TCPCLKIT_RANGE, run);
+    LEAVES(tcpclkit_blocks(recording, sizeof recording, &blocks, other, 100, slice, 100, &run),
            TCPCLKIT_RANGE, run);
     LEAVES(tcpclkit_pack(bundle, BUNDLE_LENGTH, &pack, slice, 100, NULL, 0, other, 100, &run),
            TCPCLKIT_RANGE, run);

@@ -94,13 +94,21 @@ static void unpacks(void) {
                         sizeof report, &run) == TCPCLKIT_RANGE);
 }
 
+/* The lines of the blocks of the bundle, as the first one of an input. */
+#define BLOCK_LINES                                                                              \
+  "0 primary at=1 length=21 flags=00 check=none destination=ipn:2.1 source=ipn:1.1 "             \
+  "report-to=dtn:none time=0 sequence=0 lifetime=0\n"                                            \
+  "0 block 1 at=22 length=11 type=1/payload flags=00 check=none data-at=28 data-length=5\n"      \
+  "0 end length=34 good\n"
+
 #define EARLY_LINE "tcpclkit: byte 6: segment before session initiation\n"
 
 /* A segment without a SESS_INIT before it. */
 static void goes_on(void) {
   struct tcpclkit_unpack_options options;
+  struct tcpclkit_blocks_options blocks;
   struct tcpclkit_run run;
-  uint8_t early[6 + 56], output[sizeof early], report[200];
+  uint8_t early[6 + 56], output[400], report[200];
   CHECK(tcpclkit_unpack_defaults(&options) == TCPCLKIT_OK);
   memcpy(early, recording, 6);
   memcpy(early + 6, recording + 38, 56);
@@ -115,6 +123,42 @@ static void goes_on(void) {
   CHECK(memcmp(output, bundle, BUNDLE_LENGTH) == 0);
   CHECK(run.report_length == strlen(EARLY_LINE TRANSFER_LINE));
   CHECK(begins(report, EARLY_LINE TRANSFER_LINE));
+  CHECK(tcpclkit_blocks_defaults(&blocks) == TCPCLKIT_OK);
+  CHECK(tcpclkit_blocks(early, sizeof early, &blocks, output, sizeof output, report,
+                        sizeof report, &run) == TCPCLKIT_OK);
+  CHECK(run.exit_status == 3 && run.output_length == 0);
+  blocks.keep_going = 1;
+  CHECK(tcpclkit_blocks(early, sizeof early, &blocks, output, sizeof output, report,
+                        sizeof report, &run) == TCPCLKIT_OK);
+  CHECK(run.exit_status == 1 && run.output_length == strlen(BLOCK_LINES));
+  CHECK(begins(output, BLOCK_LINES) && run.report_length == strlen(EARLY_LINE));
+}
+
+static void shows_blocks(void) {
+  struct tcpclkit_blocks_options usual, options;
+  struct tcpclkit_run run;
+  uint8_t output[400], report[200];
+  CHECK(tcpclkit_blocks_defaults(&usual) == TCPCLKIT_OK);
+  CHECK(tcpclkit_blocks(recording, sizeof recording, &usual, output, sizeof output, report,
+                        sizeof report, &run) == TCPCLKIT_OK);
+  CHECK(run.exit_status == 0 && run.report_length == 0);
+  CHECK(run.output_length == strlen(BLOCK_LINES) && begins(output, BLOCK_LINES));
+  options = usual;
+  options.only_one = 1;
+  options.transfer = 1;
+  CHECK(tcpclkit_blocks(recording, sizeof recording, &options, output, sizeof output, report,
+                        sizeof report, &run) == TCPCLKIT_OK);
+  CHECK(run.exit_status == 0 && run.output_length == 0);
+  options = usual;
+  options.bundles = 1;
+  CHECK(tcpclkit_blocks(bundle, BUNDLE_LENGTH, &options, output, sizeof output, report,
+                        sizeof report, &run) == TCPCLKIT_OK);
+  CHECK(run.exit_status == 0 && run.report_length == 0);
+  CHECK(run.output_length == strlen(BLOCK_LINES) && begins(output, BLOCK_LINES));
+  CHECK(tcpclkit_blocks(recording, sizeof recording, &options, output, sizeof output, report,
+                        sizeof report, &run) == TCPCLKIT_OK);
+  CHECK(run.exit_status == 3 && run.output_length == 0);
+  CHECK(begins(report, "tcpclkit: bundle 0 byte 0: B3 not a bundle\n"));
 }
 
 static uint32_t pack(const struct tcpclkit_pack_options *options, size_t node_length,
@@ -160,17 +204,19 @@ static void packs(void) {
 
 /* What a run of a tool is lent. */
 struct lent {
-  uint8_t output[300];
+  uint8_t output[400];
   uint8_t report[200];
   struct tcpclkit_run run;
 };
 
-/* Runs a tool: 0 is list, 1 is unpack, 2 is pack. The input of pack is the bundle. */
+/* Runs a tool: 0 is list, 1 is unpack, 2 is pack, 3 is blocks. The input of pack is the bundle. */
 static uint32_t run_tool(int tool, struct lent *it, size_t output_room, size_t report_room) {
   struct tcpclkit_pack_options usual;
   struct tcpclkit_unpack_options all;
+  struct tcpclkit_blocks_options blocks;
   tcpclkit_pack_defaults(&usual);
   tcpclkit_unpack_defaults(&all);
+  tcpclkit_blocks_defaults(&blocks);
   memset(it, MARK, sizeof *it);
   if (tool == 0)
     return tcpclkit_list(recording, sizeof recording, it->output, output_room, it->report,
@@ -178,6 +224,9 @@ static uint32_t run_tool(int tool, struct lent *it, size_t output_room, size_t r
   if (tool == 1)
     return tcpclkit_unpack(recording, sizeof recording, &all, it->output, output_room, it->report,
                            report_room, &it->run);
+  if (tool == 3)
+    return tcpclkit_blocks(recording, sizeof recording, &blocks, it->output, output_room,
+                           it->report, report_room, &it->run);
   return tcpclkit_pack(bundle, BUNDLE_LENGTH, &usual, (const uint8_t *)"ipn:1.0", 7, it->output,
                        output_room, it->report, report_room, &it->run);
 }
@@ -216,6 +265,7 @@ static void rooms(int tool) {
 
 static void unwritten_runs(void) {
   struct tcpclkit_unpack_options all, one, payload, going_on, unmade, longer;
+  struct tcpclkit_blocks_options blocks, one_block, on, both, also_one, also_on, unmade_blocks;
   struct tcpclkit_pack_options pack;
   const uint8_t *node = (const uint8_t *)"ipn:1.0";
   const size_t size = sizeof recording;
@@ -223,7 +273,12 @@ static void unwritten_runs(void) {
   uint8_t *to = it.output, *report = it.report;
   tcpclkit_pack_defaults(&pack);
   tcpclkit_unpack_defaults(&all);
+  tcpclkit_blocks_defaults(&blocks);
   one = payload = going_on = unmade = longer = all;
+  one_block = on = both = also_one = also_on = unmade_blocks = blocks;
+  one_block.only_one = on.keep_going = both.bundles = 2;
+  also_one.bundles = also_one.only_one = also_on.bundles = also_on.keep_going = 1;
+  unmade_blocks.size = sizeof blocks - 4;
   pack.peer_segment = 0;
   one.only_one = 2;
   payload.payload = 2;
@@ -232,6 +287,7 @@ static void unwritten_runs(void) {
   longer.size = sizeof longer + 8;
   memset(&it, MARK, sizeof it);
   CHECK(tcpclkit_unpack_defaults(NULL) == TCPCLKIT_NULL);
+  CHECK(tcpclkit_blocks_defaults(NULL) == TCPCLKIT_NULL);
   CHECK(tcpclkit_pack_defaults(NULL) == TCPCLKIT_NULL);
   LEAVES(tcpclkit_unpack(recording, size, &unmade, to, 9, report, 9, &it.run), TCPCLKIT_RANGE, it);
   LEAVES(tcpclkit_unpack(recording, size, &longer, to, 9, report, 9, &it.run), TCPCLKIT_RANGE, it);
@@ -242,6 +298,16 @@ static void unwritten_runs(void) {
          it);
   LEAVES(tcpclkit_unpack(recording, size, NULL, to, 9, report, 9, &it.run), TCPCLKIT_NULL, it);
   LEAVES(tcpclkit_unpack(NULL, 1, &all, to, 9, report, 9, &it.run), TCPCLKIT_NULL, it);
+  LEAVES(tcpclkit_blocks(recording, size, &one_block, to, 9, report, 9, &it.run), TCPCLKIT_RANGE,
+         it);
+  LEAVES(tcpclkit_blocks(recording, size, &on, to, 9, report, 9, &it.run), TCPCLKIT_RANGE, it);
+  LEAVES(tcpclkit_blocks(recording, size, &both, to, 9, report, 9, &it.run), TCPCLKIT_RANGE, it);
+  LEAVES(tcpclkit_blocks(bundle, 9, &also_one, to, 9, report, 9, &it.run), TCPCLKIT_RANGE, it);
+  LEAVES(tcpclkit_blocks(bundle, 9, &also_on, to, 9, report, 9, &it.run), TCPCLKIT_RANGE, it);
+  LEAVES(tcpclkit_blocks(bundle, 9, &unmade_blocks, to, 9, report, 9, &it.run), TCPCLKIT_RANGE,
+         it);
+  LEAVES(tcpclkit_blocks(recording, size, NULL, to, 9, report, 9, &it.run), TCPCLKIT_NULL, it);
+  LEAVES(tcpclkit_blocks(NULL, 1, &blocks, to, 9, report, 9, &it.run), TCPCLKIT_NULL, it);
   LEAVES(tcpclkit_pack(bundle, 9, &pack, node, 7, to, 9, report, 9, &it.run), TCPCLKIT_RANGE, it);
   LEAVES(tcpclkit_pack(bundle, 9, &pack, NULL, 7, to, 9, report, 9, &it.run), TCPCLKIT_NULL, it);
   LEAVES(tcpclkit_pack(bundle, 9, NULL, node, 7, to, 9, report, 9, &it.run), TCPCLKIT_NULL, it);
@@ -263,6 +329,7 @@ static void small_calls(void) {
   static struct tcpclkit_order order;
   static struct tcpclkit_turn turn;
   static struct tcpclkit_scan scan;
+  static struct tcpclkit_block block;
   static const struct tcpclkit_eid eid = {TCPCLKIT_EID_DTN, 0, 0, 0, TCPCLKIT_EID_LIMIT};
   static uint8_t name[TCPCLKIT_EID_LIMIT], reports[TCPCLKIT_EID_LIMIT], text[4100];
   static uint64_t written;
@@ -276,7 +343,8 @@ static void small_calls(void) {
   tcpclkit_judge_order(&order, TCPCLKIT_SESS_INIT, 0, 0, &turn);
   tcpclkit_take_message(&order, TCPCLKIT_XFER_SEGMENT, 0, 7, &turn);
   tcpclkit_start_scan(&scan);
-  tcpclkit_feed_scan(&scan, reported, sizeof reported, &written);
+  tcpclkit_next_block(&scan, reported, sizeof reported, &written, &block);
+  tcpclkit_feed_scan(&scan, reported + written, sizeof reported - (size_t)written, &written);
   tcpclkit_judge_scan(&scan, &info.verdict);
   tcpclkit_describe_scan(&scan, text, sizeof text, name, sizeof name, reports, sizeof reports,
                          &info);
@@ -287,7 +355,7 @@ static void small_calls(void) {
 static void tool_calls(void) {
   static struct lent it;
   int tool;
-  for (tool = 0; tool < 3; tool++)
+  for (tool = 0; tool < 4; tool++)
     run_tool(tool, &it, sizeof it.output, sizeof it.report);
 }
 
@@ -327,7 +395,7 @@ static void refusals(void) {
   static const struct tcpclkit_run zeros = {0, 0, 0};
   struct lent it;
   int tool;
-  for (tool = 0; tool < 3; tool++) {
+  for (tool = 0; tool < 4; tool++) {
     requests = 0;
     CHECK(run_tool(tool, &it, sizeof it.output, sizeof it.report) == TCPCLKIT_OK);
     CHECK(requests == (tool == 2 ? 1 : 0));
@@ -341,7 +409,7 @@ static void refusals(void) {
 }
 #endif
 
-/* Options as a caller of the raw functions has them: fewer numbers than the library knows, or more. */
+/* Options as a caller of the raw functions has them: fewer or more numbers than are known. */
 static void numbers_of_options(void) {
   static const uint64_t more[] = {0, 0, 0, 0, 0, 0}, unknown[] = {0, 0, 0, 0, 1};
   static const uint64_t pack[] = {60, 65536, 1048576, 65536, UINT64_MAX, 0, 0, 0, 7};
@@ -359,6 +427,17 @@ static void numbers_of_options(void) {
   CHECK(tcpclkit_raw_unpack(recording, sizeof recording, unknown, 5, 1, it.output,
                             sizeof it.output, 1, it.report, sizeof it.report, &it.run) ==
         TCPCLKIT_RANGE);
+  CHECK(run_tool(3, &whole, sizeof whole.output, sizeof whole.report) == TCPCLKIT_OK);
+  for (words = 0; words <= 6; words++) {
+    memset(&it, MARK, sizeof it);
+    CHECK(tcpclkit_raw_blocks(recording, sizeof recording, more, words, 1, it.output,
+                              sizeof it.output, 1, it.report, sizeof it.report, &it.run) ==
+          TCPCLKIT_OK);
+    CHECK(memcmp(&it, &whole, sizeof it) == 0);
+  }
+  CHECK(tcpclkit_raw_blocks(recording, sizeof recording, unknown, 5, 1, it.output,
+                            sizeof it.output, 1, it.report, sizeof it.report, &it.run) ==
+        TCPCLKIT_RANGE);
   CHECK(run_tool(2, &whole, sizeof whole.output, sizeof whole.report) == TCPCLKIT_OK);
   for (words = 0; words <= 9; words++) {
     memset(&it, MARK, sizeof it);
@@ -373,10 +452,12 @@ void test_tools(int measures_stacks) {
   lists();
   unpacks();
   goes_on();
+  shows_blocks();
   packs();
   rooms(0);
   rooms(1);
   rooms(2);
+  rooms(3);
   unwritten_runs();
   numbers_of_options();
   if (measures_stacks)

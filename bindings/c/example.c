@@ -2,6 +2,7 @@
  * Examples of how the C library is called, which docs/LIBRARIES.md shows word for word.
  *
  *     example bundle < BUNDLE      writes the endpoint IDs of a bundle, or its fault
+ *     example blocks < BUNDLE      writes the types of its blocks, and the lengths of their data
  *     example payload < BUNDLE     writes the payload of a bundle while it comes
  *     example data < RECORDING     writes the data of a recording
  *     example pack < BUNDLES       writes bundles as the stream of a sender
@@ -46,6 +47,26 @@ static int show_bundle(const uint8_t *bytes, size_t length) {
   show_eid(&bundle.destination, destination);
   printf(": %" PRIu64 " bytes\n", bundle.payload_length);
   return 1;
+}
+
+/* Writes a line for each canonical block. Returns whether the bundle is good. */
+static int show_blocks(const uint8_t *bytes, size_t length) {
+  struct tcpclkit_scan scan;
+  struct tcpclkit_block block;
+  struct tcpclkit_verdict verdict;
+  uint64_t taken, at = 0;
+  uint32_t status;
+  tcpclkit_start_scan(&scan);
+  do {
+    status = tcpclkit_next_block(&scan, bytes + at, length - at, &taken, &block);
+    at += taken;
+    if (block.kind == TCPCLKIT_BLOCK_CANONICAL)
+      printf("type %" PRIu64 ": %" PRIu64 " bytes\n", block.block_type, block.data_length);
+  } while (status == TCPCLKIT_TRUNCATED && taken > 0);
+  tcpclkit_judge_scan(&scan, &verdict);
+  if (status != TCPCLKIT_OK)
+    show_fault(&verdict.fault);
+  return status == TCPCLKIT_OK;
 }
 
 /* Writes the payload of a bundle while it comes. Returns whether the bundle is good. */
@@ -117,6 +138,8 @@ int main(int count, char **words) {
   length = fread(bytes, 1, sizeof bytes, stdin);
   if (count == 2 && strcmp(words[1], "bundle") == 0)
     return !show_bundle(bytes, length);
+  if (count == 2 && strcmp(words[1], "blocks") == 0)
+    return !show_blocks(bytes, length);
   if (count == 2 && strcmp(words[1], "pack") == 0)
     return !pack_bundles(bytes, length, stdout);
   return !copy_data(bytes, length, stdout);

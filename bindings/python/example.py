@@ -1,6 +1,7 @@
 """Examples of how the module is called, which docs/LIBRARIES.md shows word for word.
 
     example.py bundle < BUNDLE      writes the endpoint IDs of a bundle, or its fault
+    example.py blocks < BUNDLE      writes the types of its blocks, and the lengths of their data
     example.py payload < BUNDLE     writes the payload of a bundle while it comes
     example.py data < RECORDING     writes the data of a recording
     example.py pack < BUNDLES       writes bundles as the stream of a sender
@@ -15,6 +16,13 @@ def show_bundle(content):
     """Returns the endpoint IDs and the length of the payload of a good bundle, as a text."""
     it = tcpclkit.bundle(content)
     return f"{it.source} -> {it.destination}: {len(it.payload)} bytes"
+
+
+def show_blocks(content):
+    """Writes a line for each canonical block of a bundle."""
+    for it in tcpclkit.blocks_of(content):
+        if it.block_type is not None:
+            print(f"type {it.block_type}: {len(it.data)} bytes")
 
 
 def copy_payload(source, output):
@@ -52,6 +60,8 @@ def main():
         content = sys.stdin.buffer.read()
         if sys.argv[1:] == ["bundle"]:
             print(show_bundle(content))
+        elif sys.argv[1:] == ["blocks"]:
+            show_blocks(content)
         elif sys.argv[1:] == ["pack"]:
             run = pack_bundles(content)
             sys.stdout.buffer.write(run.output)

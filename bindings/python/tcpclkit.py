@@ -101,6 +101,9 @@ _Bundle = _struct(
     "report_to:_Eid time sequence lifetime is_fragment fragment_offset fragment_total blocks "
     "payload_length",
 )
+_Block = _struct(
+    "_Block", "kind offset length block_type number flags check data_offset data_length"
+)
 _Contact = _struct("_Contact", "fault:_Fault flags")
 _Message = _struct(
     "_Message",
@@ -123,6 +126,7 @@ _PARAMETERS = {
     "describe_bundle": [*_SLICE, *_NAMES, POINTER(_Bundle)],
     "start_scan": [_SCAN],
     "feed_scan": [_SCAN, *_SLICE, POINTER(c_uint64)],
+    "next_block": [_SCAN, *_SLICE, POINTER(c_uint64), POINTER(_Block)],
     "judge_scan": [_SCAN, POINTER(_Verdict)],
     "describe_scan": [_SCAN, *_NAMES, POINTER(_Bundle)],
     "read_contact": [*_SLICE, POINTER(_Contact)],
@@ -134,6 +138,7 @@ _PARAMETERS = {
     "write_eid_text": [POINTER(_Eid), *_SLICE, *_SLICE, POINTER(c_uint64)],
     "list": [*_SLICE, *_TEXT, *_TEXT, POINTER(_Run)],
     "unpack": [*_SLICE, *_SLICE, *_TEXT, *_TEXT, POINTER(_Run)],
+    "blocks": [*_SLICE, *_SLICE, *_TEXT, *_TEXT, POINTER(_Run)],
     "pack": [*_SLICE, *_SLICE, *_SLICE, *_TEXT, *_TEXT, POINTER(_Run)],
 }
 
@@ -184,6 +189,10 @@ class _Lent:
 
     def __getitem__(self, place):
         return self.kept[place]
+
+    def rest(self, offset):
+        """Returns a pointer to the bytes from an offset on, and how many they are."""
+        return ctypes.cast(self.kept, c_void_p).value + offset, len(self.kept) - offset
 
 
 def _number(value):
@@ -422,6 +431,20 @@ class Scan:
             raise ValueError("a bundle has 2^63 bytes")
         return taken.value
 
+    def next_block(self, piece):
+        """Takes the bytes of the next piece up to the end of a block.
+
+        Returns their number, and the Block or None. Its data is a place in the bundle.
+        """
+        lent = _Lent(piece)
+        return self._next_block(*lent.slice)
+
+    def _next_block(self, start, length):
+        taken, it = c_uint64(), _Block()
+        if self._call("next_block", start, length, byref(taken), byref(it)) == RANGE:
+            raise ValueError("a bundle has 2^63 bytes")
+        return taken.value, _block(it)
+
     @property
     def is_going(self):
         """Whether the bundle goes on after the bytes that were taken."""
@@ -439,6 +462,51 @@ class Scan:
     def primary(self):
         """Returns the fields of the primary block, as far as they were taken and accepted."""
         return _primary(*_described(self._call, "describe_scan"))
+
+
+# ---- the blocks of a bundle
+
+
+class Block(NamedTuple):
+    """A whole block of a bundle: the primary block, if `block_type` is None, or a canonical block.
+
+    `flags` are those of the block, or of the bundle if it is the primary block. `check` is the type
+    of the check value: 0 for none, 1 for CRC-16/X-25, and 2 for CRC-32C. The payload block has the
+    type 1 and is the last one. `data` has the bytes, or, of a Scan, their place in the bundle.
+    """
+    offset: int
+    length: int
+    flags: int
+    check: int
+    block_type: Optional[int] = None
+    number: Optional[int] = None
+    data: Optional[Union[bytes, slice]] = None
+
+
+def _block(it):
+    """Returns the block that the library wrote, or None."""
+    block = Block(it.offset, it.length, it.flags, it.check)
+    if it.kind == 2:
+        place = slice(it.data_offset, it.data_offset + it.data_length)
+        return block._replace(block_type=it.block_type, number=it.number, data=place)
+    return block if it.kind == 1 else None
+
+
+def blocks_of(content):
+    """Yields the blocks of the bundle that the bytes begin with.
+
+    A fault is raised after the blocks before it.
+    """
+    lent, scan, at = _Lent(content), Scan(), 0
+    while True:
+        taken, it = scan._next_block(*lent.rest(at))
+        at += taken
+        if it is None:
+            break
+        yield it if it.data is None else it._replace(data=lent[it.data])
+    fault = scan.verdict().fault
+    if fault is not None:
+        raise fault
 
 
 # ---- recordings
@@ -634,6 +702,18 @@ def _options(*numbers):
 def list_messages(content):
     """`tcpclkit list`: a line for the contact header and for each message of a recording."""
     return _run("list", content)
+
+
+def blocks(content, transfer=None, keep_going=False, bundles=False):
+    """`tcpclkit blocks`: a line for each block of the bundles of a recording.
+
+    With `transfer`, only the transfers with this ID are shown. With `keep_going`, a fault of the
+    order does not end the run. With `bundles`, the bytes are bundles, one after another, and no
+    recording; the other options are then a ValueError.
+    """
+    only_one, number = transfer is not None, _number(transfer or 0)
+    options = _options(only_one, number, bool(keep_going), bool(bundles))
+    return _run("blocks", content, *options)
 
 
 def unpack(content, transfer=None, payload=False, keep_going=False):

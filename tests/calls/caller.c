@@ -5,11 +5,12 @@
  * REPORT`, and the bytes of two texts, as long as OUTPUT and REPORT say. Each job but the tools has
  * no number:
  *
+ *   show    the blocks of the bundle that the bytes begin with, and its fault if there is one
  *   judge   the verdict on the bytes, where the payload is, and further fields of a good bundle
  *   read    what `list` writes of a recording, made of its messages
  *   walk    what `unpack` writes of a recording, made of its messages and bundles
- *   list, unpack, pack   the tools; NUMBER.. are the options in the order of their struct. The
- *           bytes of `pack` begin with the node ID, and its last number is the length of that.
+ *   list, unpack, blocks, pack   the tools; NUMBER.. are the options in the order of their struct.
+ *           The bytes of `pack` begin with the node ID, and its last number is the length of that.
  *
  * Reasons are written without their names.
  */
@@ -203,6 +204,52 @@ static int judge(const struct job *job) {
     put(&output, "flags=%" PRIu64 " lifetime=%" PRIu64 " blocks=%" PRIu64 "\n", it.flags,
         it.lifetime, it.blocks);
   put_primary(&output, job);
+  return is_good ? 0 : 1;
+}
+
+/* Appends the line of a block. */
+static void put_block(struct text *text, const struct tcpclkit_block *it) {
+  if (it->kind == TCPCLKIT_BLOCK_PRIMARY)
+    put(text, "primary");
+  else
+    put(text, "block type=%" PRIu64 " number=%" PRIu64 " data-at=%" PRIu64 " data-length=%" PRIu64,
+        it->block_type, it->number, it->data_offset, it->data_length);
+  put(text, " at=%" PRIu64 " length=%" PRIu64 " flags=%" PRIu64 " check=%" PRIu64 "\n", it->offset,
+      it->length, it->flags, it->check);
+}
+
+/* Takes the bytes block by block, in pieces of this size. Returns whether the bundle is good. */
+static int put_blocks(struct text *text, const struct job *job, size_t size) {
+  struct tcpclkit_verdict verdict;
+  struct tcpclkit_block block;
+  struct tcpclkit_scan scan;
+  size_t at = 0;
+  uint64_t taken;
+  uint32_t status;
+  tcpclkit_start_scan(&scan);
+  do {
+    size_t piece = job->length - at < size ? job->length - at : size;
+    status = tcpclkit_next_block(&scan, job->bytes + at, piece, &taken, &block);
+    at += (size_t)taken;
+    if (block.kind != 0)
+      put_block(text, &block);
+  } while (status == TCPCLKIT_TRUNCATED && taken > 0);
+  if (tcpclkit_judge_scan(&scan, &verdict) != status)
+    die("a scan that was taken block by block has another status");
+  if (status != TCPCLKIT_OK) {
+    put_fault(text, &verdict.fault);
+    put(text, "\n");
+  }
+  return status == TCPCLKIT_OK;
+}
+
+static int show(const struct job *job) {
+  struct text same = {NULL, 0, 0};
+  int is_good = put_blocks(&output, job, job->length + 1);
+  if (put_blocks(&same, job, 1 + job->length % 13) != is_good || same.length != output.length ||
+      (same.length > 0 && memcmp(same.bytes, output.bytes, same.length) != 0))
+    die("the blocks in pieces are others");
+  free(same.bytes);
   return is_good ? 0 : 1;
 }
 
@@ -401,6 +448,8 @@ static uint32_t call_tool(const struct job *job, struct tcpclkit_run *run) {
   const uint64_t *numbers = job->numbers;
   struct tcpclkit_unpack_options unpack = {sizeof unpack, numbers[0], numbers[1], numbers[2],
                                            numbers[3]};
+  struct tcpclkit_blocks_options blocks = {sizeof blocks, numbers[0], numbers[1], numbers[2],
+                                           numbers[3]};
   struct tcpclkit_pack_options pack = {sizeof pack, numbers[0], numbers[1], numbers[2],
                                        numbers[3],  numbers[4], numbers[5], numbers[6]};
   size_t node = (size_t)numbers[7];
@@ -409,6 +458,9 @@ static uint32_t call_tool(const struct job *job, struct tcpclkit_run *run) {
                          report.room, run);
   if (strcmp(job->name, "unpack") == 0)
     return tcpclkit_unpack(job->bytes, job->length, &unpack, output.bytes, output.room,
+                           report.bytes, report.room, run);
+  if (strcmp(job->name, "blocks") == 0)
+    return tcpclkit_blocks(job->bytes, job->length, &blocks, output.bytes, output.room,
                            report.bytes, report.room, run);
   return tcpclkit_pack(job->bytes + node, job->length - node, &pack, job->bytes, node,
                        output.bytes, output.room, report.bytes, report.room, run);
@@ -453,6 +505,8 @@ static int read_job(struct job *job, struct text *bytes) {
 static int answer(const struct job *job) {
   if (strcmp(job->name, "judge") == 0)
     return judge(job);
+  if (strcmp(job->name, "show") == 0)
+    return show(job);
   if (strcmp(job->name, "read") == 0)
     return read_messages(job);
   if (strcmp(job->name, "walk") == 0)

@@ -78,6 +78,48 @@ def judge(content):
     return 0 if it else 1, "".join(f"{line}\n" for line in lines).encode(), b""
 
 
+def block_line(it):
+    """Returns the line of a block."""
+    words = "primary"
+    if it.block_type is not None:
+        start, length = it.data.start, it.data.stop - it.data.start
+        words = f"block type={it.block_type} number={it.number}"
+        words += f" data-at={start} data-length={length}"
+    return f"{words} at={it.offset} length={it.length} flags={it.flags} check={it.check}\n"
+
+
+def blocks_in_pieces(content, size):
+    """Returns the blocks of a bundle that comes in pieces of this size, and its fault or None."""
+    scan, blocks, at, taken = tcpclkit.Scan(), [], 0, 1
+    while scan.is_going and taken:
+        taken, it = scan.next_block(content[at:at + size])
+        at += taken
+        blocks += [] if it is None else [it]
+    return blocks, scan.verdict().fault
+
+
+def show(content):
+    """The blocks of the bundle that the bytes begin with, and its fault if there is one."""
+    blocks, fault = blocks_in_pieces(content, 1 + len(content) % 13)
+    whole = []
+    try:
+        whole += tcpclkit.blocks_of(content)
+    except tcpclkit.Fault as found:
+        if found != fault:
+            raise ValueError("the blocks in pieces have another fault") from found
+    # (after a fault, a list has none of the blocks before it)
+    if fault is None and whole != [with_data(it, content) for it in blocks]:
+        raise ValueError("the blocks in pieces are others")
+    lines = [block_line(it) for it in blocks]
+    lines += [] if fault is None else [f"bad={str(fault).split()[0]} byte={fault.offset}\n"]
+    return int(fault is not None), "".join(lines).encode(), b""
+
+
+def with_data(it, content):
+    """Returns a block with the bytes of its data in place of where they are."""
+    return it if it.data is None else it._replace(data=content[it.data])
+
+
 # ---- messages
 
 
@@ -202,6 +244,10 @@ def tool(name, numbers, content):
         only_one, transfer, payload, keep_going = numbers
         wanted = transfer if only_one else None
         run = tcpclkit.unpack(content, wanted, payload == 1, keep_going == 1)
+    elif name == "blocks":
+        only_one, transfer, keep_going, bundles = numbers
+        wanted = transfer if only_one else None
+        run = tcpclkit.blocks(content, wanted, keep_going == 1, bundles == 1)
     else:
         length = numbers[-1]
         run = tcpclkit.pack(content[length:], content[:length], *numbers[:-2], numbers[-2] == 1)
@@ -211,10 +257,11 @@ def tool(name, numbers, content):
 def main():
     """Answers each job."""
     jobs, answers = sys.stdin.buffer, sys.stdout.buffer
+    by_name = {"show": show, "judge": judge, "read": read, "walk": walk, "go-on": go_on}
     for words in iter(jobs.readline, b""):
         name, *numbers, length = words.decode().split()
         content = jobs.read(int(length))
-        by_hand = {"judge": judge, "read": read, "walk": walk, "go-on": go_on}.get(name)
+        by_hand = by_name.get(name)
         answer = by_hand(content) if by_hand else tool(name, [*map(int, numbers)], content)
         status, output, report = answer
         answers.write(b"%d %d %d\n" % (status, len(output), len(report)) + output + report)

@@ -6,9 +6,9 @@ use std::fmt::Write as _;
 use std::io::{BufRead, Read, Write};
 use std::ops::Range;
 use tcpclkit::{
-    bundle, contact, list, messages, pack, primary, unpack, verdict, Bundle, Fault, Fields, Items,
-    Message, Order, PackOptions, Primary, Run, Scan, ToolError, Turn, UnpackOptions,
-    CONTACT_LENGTH, SEGMENT_START,
+    blocks, blocks_of, bundle, contact, list, messages, pack, primary, unpack, verdict, Block,
+    BlockKind, BlocksOptions, Bundle, CheckType, Fault, Fields, Items, Message, Order, PackOptions,
+    Primary, Run, Scan, ToolError, Turn, UnpackOptions, CONTACT_LENGTH, SEGMENT_START,
 };
 
 /// A status and two texts.
@@ -42,15 +42,15 @@ fn judgement(it: &Result<Bundle<&[u8]>, Fault>) -> String {
             }
             text
         }
-        Err(fault) => {
-            let words = fault.to_string();
-            format!(
-                "bad={} byte={}",
-                words.split(' ').next().unwrap_or_default(),
-                fault.offset
-            )
-        }
+        Err(fault) => bad(fault),
     }
+}
+
+/// The words of a fault of a bundle.
+fn bad(fault: &Fault) -> String {
+    let words = fault.to_string();
+    let code = words.split(' ').next().unwrap_or_default();
+    format!("bad={code} byte={}", fault.offset)
 }
 
 /// The line of the fields of a primary block that come before its first fault.
@@ -63,9 +63,15 @@ fn primary_line(it: &Primary) -> String {
         }
     };
     put("flags", it.flags.map(|flags| flags.to_string()));
-    put("destination", it.destination.as_ref().map(|eid| eid.to_string()));
+    put(
+        "destination",
+        it.destination.as_ref().map(|eid| eid.to_string()),
+    );
     put("source", it.source.as_ref().map(|eid| eid.to_string()));
-    put("report-to", it.report_to.as_ref().map(|eid| eid.to_string()));
+    put(
+        "report-to",
+        it.report_to.as_ref().map(|eid| eid.to_string()),
+    );
     let of = |(one, other): (u64, u64)| format!("{one}/{other}");
     put("creation", it.creation.map(of));
     put("lifetime", it.lifetime.map(|lifetime| lifetime.to_string()));
@@ -120,6 +126,87 @@ fn judge(bytes: &[u8]) -> Answer {
     }
     text += &primary_line(&primary(bytes));
     (it.is_err().into(), text.into(), vec![])
+}
+
+/// The line of a block.
+fn block_line(it: &Block<Range<u64>>) -> String {
+    let check = match it.check {
+        CheckType::None => 0,
+        CheckType::Crc16 => 1,
+        CheckType::Crc32 => 2,
+    };
+    let (at, length, flags) = (it.place.start, it.place.end - it.place.start, it.flags);
+    let words = match &it.kind {
+        BlockKind::Primary => "primary".to_string(),
+        BlockKind::Canonical {
+            block_type,
+            number,
+            data,
+        } => {
+            let (start, length) = (data.start, data.end - data.start);
+            format!("block type={block_type} number={number} data-at={start} data-length={length}")
+        }
+    };
+    format!("{words} at={at} length={length} flags={flags} check={check}\n")
+}
+
+/// The line of a block of these bytes, which has its data.
+fn whole_line(it: Block<&[u8]>, bytes: &[u8]) -> String {
+    let kind = match it.kind {
+        BlockKind::Primary => BlockKind::Primary,
+        BlockKind::Canonical {
+            block_type,
+            number,
+            data,
+        } => {
+            let start = data.as_ptr() as u64 - bytes.as_ptr() as u64;
+            BlockKind::Canonical {
+                block_type,
+                number,
+                data: start..start + data.len() as u64,
+            }
+        }
+    };
+    block_line(&Block {
+        place: it.place,
+        flags: it.flags,
+        check: it.check,
+        kind,
+    })
+}
+
+/// The lines of the blocks of a bundle that comes in pieces of this size, and of its fault.
+fn lines_in_pieces(bytes: &[u8], size: usize) -> String {
+    let (mut scan, mut at, mut text) = (Scan::new(), 0, String::new());
+    loop {
+        let end = bytes.len().min(at + size);
+        let (taken, block) = scan.next_block(&bytes[at..end]);
+        at += taken;
+        text.extend(block.as_ref().map(block_line));
+        match scan.verdict().fault {
+            None => return text,
+            Some(fault) if taken == 0 || !fault.is_truncated() => {
+                return text + &bad(&fault) + "\n"
+            }
+            Some(_) => {}
+        }
+    }
+}
+
+/// The blocks of the bundle that the bytes begin with, and its fault if there is one.
+fn show(bytes: &[u8]) -> Answer {
+    let (mut text, mut status) = (String::new(), 0);
+    for block in blocks_of(bytes) {
+        match block {
+            Ok(block) => text += &whole_line(block, bytes),
+            Err(fault) => {
+                text += &(bad(&fault) + "\n");
+                status = 1;
+            }
+        }
+    }
+    assert_eq!(text, lines_in_pieces(bytes, 1 + bytes.len() % 13));
+    (status, text.into(), vec![])
 }
 
 /// The number of extension items and each of them.
@@ -310,9 +397,17 @@ fn walk(bytes: &[u8], goes_on: bool) -> Answer {
 }
 
 /// What a tool writes.
-fn tool(numbers: &[u64], bytes: &[u8]) -> Result<Run, ToolError> {
+fn tool(name: &str, numbers: &[u64], bytes: &[u8]) -> Result<Run, ToolError> {
     match *numbers {
         [] => list(bytes),
+        [only_one, transfer, keep_going, bundles] if name == "blocks" => {
+            let options = BlocksOptions {
+                transfer: (only_one == 1).then_some(transfer),
+                keep_going: keep_going == 1,
+                bundles: bundles == 1,
+            };
+            blocks(bytes, &options)
+        }
         [only_one, transfer, payload, keep_going] => {
             let options = UnpackOptions {
                 transfer: (only_one == 1).then_some(transfer),
@@ -342,12 +437,13 @@ fn tool(numbers: &[u64], bytes: &[u8]) -> Result<Run, ToolError> {
 /// Answers a job.
 fn answer(name: &str, numbers: &[u64], bytes: &[u8]) -> Answer {
     match name {
+        "show" => show(bytes),
         "judge" => judge(bytes),
         "read" => read(bytes),
         "walk" => walk(bytes, false),
         "go-on" => walk(bytes, true),
         _ => {
-            let run = tool(numbers, bytes).expect("the options are in range");
+            let run = tool(name, numbers, bytes).expect("the options are in range");
             (run.exit_status, run.output, run.report)
         }
     }

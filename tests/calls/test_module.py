@@ -9,7 +9,7 @@ import os
 import unittest
 
 import tcpclkit
-from tcpclkit import Code, Dtn, Fault, Ipn, Kind
+from tcpclkit import Block, Code, Dtn, Fault, Ipn, Kind
 
 EXAMPLES = f"{os.path.dirname(os.path.realpath(__file__))}/../../examples"
 NUMBER = 2**64 - 1
@@ -31,6 +31,15 @@ FRAGMENT = bytes.fromhex(
     "9f8b07010282028202018201632f2f78820100820009001a000111701a000222e04469890dbe"
     "8501010000466d6964646c65ff"
 )
+# A block of each check type: a bundle age, a hop count, and the payload `hi`
+SEVERAL = bytes.fromhex(
+    "9f8807040082028202018202820101820100820000008607021001410542"
+    "6dcc850a03000043820401860101010242686944d4a3fe01ff"
+)
+SEVERAL_BLOCKS = [
+    Block(1, 21, 4, 0), Block(22, 10, 16, 1, 7, 2, b"\5"),
+    Block(32, 9, 0, 0, 10, 3, b"\x82\4\1"), Block(41, 13, 1, 2, 1, 1, b"hi"),
+]
 
 
 class Bundles(unittest.TestCase):
@@ -136,6 +145,46 @@ class Scans(unittest.TestCase):
         scan.restart()
         self.assertEqual(scan.feed(bytearray(FRAGMENT)), len(FRAGMENT))
         self.assertEqual(scan.bundle().source, Dtn(b"//x"))
+
+
+class Blocks(unittest.TestCase):
+    """Blocks, one after another."""
+
+    def test_a_good_bundle(self):
+        for content in (SEVERAL, SEVERAL + b"\x9f", bytearray(SEVERAL)):
+            self.assertEqual(list(tcpclkit.blocks_of(content)), SEVERAL_BLOCKS)
+
+    def test_faults(self):
+        wrong = SEVERAL[:30] + b"\0" + SEVERAL[31:]
+        cases = [(SEVERAL[:length], Fault(Code.BUNDLE_CUT, 0, length)) for length in range(55)]
+        for content, fault in [*cases, (wrong, Fault(Code.BUNDLE_CHECK_DIFFERS, 0, 29))]:
+            found = tcpclkit.blocks_of(content)
+            for it in SEVERAL_BLOCKS:
+                if it.offset + it.length <= fault.offset:
+                    self.assertEqual(next(found), it)
+            with self.assertRaises(Fault) as raised:
+                next(found)
+            self.assertEqual(raised.exception, fault)
+
+    def test_each_size_of_pieces(self):
+        for size in range(1, len(SEVERAL) + 1):
+            scan, at, found = tcpclkit.Scan(), 0, []
+            while scan.is_going:
+                taken, it = scan.next_block(SEVERAL[at:at + size])
+                at += taken
+                if it is not None:
+                    self.assertEqual(it.offset + it.length, at)
+                    found.append(it if it.data is None else it._replace(data=SEVERAL[it.data]))
+            self.assertEqual((found, at), (SEVERAL_BLOCKS, len(SEVERAL)))
+            self.assertEqual(scan.next_block(SEVERAL), (0, None))
+
+    def test_a_scan_that_was_fed(self):
+        scan = tcpclkit.Scan()
+        self.assertEqual(scan.feed(SEVERAL[:25]), 25)
+        it = SEVERAL_BLOCKS[1]._replace(data=slice(28, 29))
+        self.assertEqual(scan.next_block(SEVERAL[25:]), (7, it))
+        self.assertEqual(scan.feed(SEVERAL[32:]), 23)
+        self.assertEqual(scan.bundle().blocks, 3)
 
 
 class Recordings(unittest.TestCase):
@@ -264,6 +313,17 @@ class Tools(unittest.TestCase):
         run = tcpclkit.unpack(late, keep_going=True)
         self.assertEqual((len(run.output), run.exit_status), (30 * 34, 1))
         self.assertEqual((run.report.count(b"\n"), run.report.count(b"tcpclkit: ")), (47, 17))
+
+    def test_blocks(self):
+        run = tcpclkit.blocks(example("prelude-and-transfer.tcpcl"))
+        self.assertEqual((run.output.count(b"\n"), run.report, run.exit_status), (3, b"", 0))
+        late = example("late-transfers.tcpcl")
+        self.assertEqual(tcpclkit.blocks(late).exit_status, 3)
+        self.assertEqual(tcpclkit.blocks(late, keep_going=True).exit_status, 1)
+        run = tcpclkit.blocks(2 * SEVERAL, bundles=True)
+        self.assertEqual((run.output.count(b"\n"), run.exit_status), (10, 0))
+        for options in ({"transfer": 0}, {"keep_going": True}):
+            self.assertRaises(ValueError, tcpclkit.blocks, SEVERAL, bundles=True, **options)
 
     def test_ranges(self):
         for options in [

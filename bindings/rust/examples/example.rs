@@ -1,6 +1,7 @@
 //! Examples of how the crate is called, which docs/LIBRARIES.md shows word for word.
 //!
 //!     example bundle < BUNDLE      writes the endpoint IDs of a bundle, or its fault
+//!     example blocks < BUNDLE      writes the types of its blocks, and the lengths of their data
 //!     example payload < BUNDLE     writes the payload of a bundle while it comes
 //!     example data < RECORDING     writes the data of a recording
 //!     example pack < BUNDLES       writes bundles as the stream of a sender
@@ -9,8 +10,8 @@ use std::error::Error;
 use std::io::{self, Read, Write};
 use std::process::ExitCode;
 use tcpclkit::{
-    bundle, contact, messages, pack, Fault, Fields, PackOptions, Run, Scan, ToolError,
-    CONTACT_LENGTH,
+    blocks_of, bundle, contact, messages, pack, BlockKind, Fault, Fields, PackOptions, Run, Scan,
+    ToolError, CONTACT_LENGTH,
 };
 
 /// Returns the endpoint IDs and the length of the payload of a good bundle, as a text.
@@ -21,6 +22,19 @@ fn show_bundle(bytes: &[u8]) -> Result<String, Fault> {
         "{} -> {}: {length} bytes",
         it.source, it.destination
     ))
+}
+
+/// Writes a line for each canonical block of a bundle.
+fn show_blocks(bytes: &[u8]) -> Result<(), Fault> {
+    for block in blocks_of(bytes) {
+        if let BlockKind::Canonical {
+            block_type, data, ..
+        } = block?.kind
+        {
+            println!("type {block_type}: {} bytes", data.len());
+        }
+    }
+    Ok(())
 }
 
 /// Writes the payload of a bundle while it comes.
@@ -76,6 +90,7 @@ fn run() -> Result<u8, Box<dyn Error>> {
     io::stdin().read_to_end(&mut bytes)?;
     match std::env::args().nth(1).as_deref() {
         Some("bundle") => println!("{}", show_bundle(&bytes)?),
+        Some("blocks") => show_blocks(&bytes)?,
         Some("pack") => {
             let run = pack_bundles(&bytes)?;
             io::stdout().write_all(&run.output)?;

@@ -148,7 +148,7 @@ fn described(bytes: &[u8]) -> Described {
 }
 
 /// The bytes at a place that the library wrote.
-fn part(bytes: &[u8], place: Range<u64>) -> &[u8] {
+pub(crate) fn part(bytes: &[u8], place: Range<u64>) -> &[u8] {
     &bytes[place.start as usize..place.end as usize]
 }
 

@@ -17,6 +17,7 @@
 //! The archive `libtcpclkit.a` is linked in. The environment variable `TCPCLKIT_LIB` names its
 //! folder; without it, the archive is looked for in `/usr/local/lib` and `/usr/lib`.
 
+mod block;
 mod bundle;
 mod fault;
 mod order;
@@ -26,6 +27,7 @@ mod scan;
 mod text;
 mod tools;
 
+pub use block::{blocks_of, Block, BlockKind, Blocks, CheckType};
 pub use bundle::{bundle, primary, verdict, Bundle, EndpointId, Fragment, Primary, Verdict};
 pub use fault::{Code, Fault};
 pub use order::{Order, Taken, Turn};
@@ -34,4 +36,6 @@ pub use recording::{
     SEGMENT_END, SEGMENT_START,
 };
 pub use scan::Scan;
-pub use tools::{list, pack, unpack, PackOptions, Run, ToolError, UnpackOptions};
+pub use tools::{
+    blocks, list, pack, unpack, BlocksOptions, PackOptions, Run, ToolError, UnpackOptions,
+};

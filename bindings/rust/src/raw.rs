@@ -23,6 +23,13 @@ pub const EID_IPN: u64 = 3;
 pub const EID_IPN3: u64 = 4;
 pub const EID_LIMIT: usize = 1024;
 
+pub const BLOCK_PRIMARY: u64 = 1;
+pub const BLOCK_CANONICAL: u64 = 2;
+
+pub const CHECK_NONE: u64 = 0;
+pub const CHECK_CRC16: u64 = 1;
+pub const CHECK_CRC32: u64 = 2;
+
 pub const SCAN_WORDS: usize = 1024;
 
 pub const XFER_SEGMENT: u64 = 1;
@@ -55,6 +62,10 @@ structs! {
         verdict: Verdict, primary_fields: u64, primary_whole: u64, flags: u64, destination: Eid,
         source: Eid, report_to: Eid, time: u64, sequence: u64, lifetime: u64, is_fragment: u64,
         fragment_offset: u64, fragment_total: u64, blocks: u64, payload_length: u64,
+    }
+    Block {
+        kind: u64, offset: u64, length: u64, block_type: u64, number: u64, flags: u64, check: u64,
+        data_offset: u64, data_length: u64,
     }
     Contact { fault: Fault, flags: u64 }
     Message {
@@ -93,6 +104,13 @@ extern "C" {
         piece: *const u8,
         length: usize,
         taken: *mut u64,
+    ) -> u32;
+    pub fn tcpclkit_raw_next_block(
+        memory: *mut u64,
+        piece: *const u8,
+        length: usize,
+        taken: *mut u64,
+        block: *mut Block,
     ) -> u32;
     pub fn tcpclkit_raw_judge_scan(memory: *const u64, verdict: *mut Verdict) -> u32;
     pub fn tcpclkit_raw_describe_scan(
@@ -163,6 +181,19 @@ extern "C" {
         run: *mut Run,
     ) -> u32;
     pub fn tcpclkit_raw_unpack(
+        bytes: *const u8,
+        length: usize,
+        options: *const u64,
+        option_count: usize,
+        wants_output: u64,
+        output: *mut u8,
+        output_room: usize,
+        wants_report: u64,
+        report: *mut u8,
+        report_room: usize,
+        run: *mut Run,
+    ) -> u32;
+    pub fn tcpclkit_raw_blocks(
         bytes: *const u8,
         length: usize,
         options: *const u64,

@@ -1,5 +1,6 @@
 //! Bundles that come in pieces.
 
+use crate::block::Block;
 use crate::bundle::{Bundle, Described, Primary, Verdict};
 use crate::fault::Fault;
 use crate::raw;
@@ -70,6 +71,34 @@ impl Scan {
         });
         assert_ne!(status, raw::RANGE, "a bundle of 2^63 bytes");
         taken as usize
+    }
+
+    /// Takes the bytes of the next piece up to the end of a block, and returns their number and the
+    /// block.
+    ///
+    /// The block is `None` if none ends in the piece. The call then has taken what
+    /// [`feed`](Scan::feed) would take.
+    ///
+    /// # Panics
+    ///
+    /// If the pieces have 2^63 bytes or more.
+    pub fn next_block(&mut self, piece: &[u8]) -> (usize, Option<Block<Range<u64>>>) {
+        let mut taken = 0;
+        let (status, block) = raw::answer(|block| {
+            // SAFETY: the memory has a scan, the slice and the struct are valid, and nothing
+            // overlaps.
+            unsafe {
+                raw::tcpclkit_raw_next_block(
+                    self.memory.as_mut_ptr(),
+                    piece.as_ptr(),
+                    piece.len(),
+                    &mut taken,
+                    block,
+                )
+            }
+        });
+        assert_ne!(status, raw::RANGE, "a bundle of 2^63 bytes");
+        (taken as usize, Block::of(&block))
     }
 
     /// The verdict on the bytes that were taken.

@@ -25,6 +25,19 @@ pub struct UnpackOptions {
     pub keep_going: bool,
 }
 
+/// Which blocks `blocks` shows, and where it ends. The default is all blocks of a recording, up to
+/// the first fault.
+#[derive(Clone, Copy, Debug, Default, PartialEq, Eq)]
+pub struct BlocksOptions {
+    /// Only the transfers with this ID.
+    pub transfer: Option<u64>,
+    /// Whether the run goes on after a fault of the order of messages.
+    pub keep_going: bool,
+    /// Whether the bytes are bundles, one after another, and no recording. The other options are
+    /// then not set.
+    pub bundles: bool,
+}
+
 /// What the stream of `pack` says. `docs/MANUAL.md` has each option.
 #[derive(Clone, Copy, Debug, PartialEq, Eq)]
 pub struct PackOptions {
@@ -62,7 +75,8 @@ impl Default for PackOptions {
 /// Why a tool did not run to its end.
 #[derive(Clone, Copy, Debug, PartialEq, Eq, Hash)]
 pub enum ToolError {
-    /// An option of `pack` or the length of its node ID is out of its range.
+    /// An option of `pack` or the length of its node ID is out of its range, or `blocks` was given
+    /// an option for recordings beside `bundles`.
     Range,
     /// The memory that the tool asked for was refused.
     Memory,
@@ -164,6 +178,38 @@ pub fn unpack(bytes: &[u8], options: &UnpackOptions) -> Result<Run, ToolError> {
         // SAFETY: the slices and the structs are valid, and do not overlap.
         unsafe {
             raw::tcpclkit_raw_unpack(
+                bytes.as_ptr(),
+                bytes.len(),
+                lent.as_ptr(),
+                lent.len(),
+                output.wants,
+                output.start,
+                output.room,
+                report.wants,
+                report.start,
+                report.room,
+                run,
+            )
+        }
+    })
+}
+
+/// `tcpclkit blocks`: a line for each block of the bundles of a recording, or of bundles.
+///
+/// # Errors
+///
+/// `bundles` is set beside another option. This tool asks for no memory.
+pub fn blocks(bytes: &[u8], options: &BlocksOptions) -> Result<Run, ToolError> {
+    let lent: [u64; 4] = [
+        options.transfer.is_some().into(),
+        options.transfer.unwrap_or_default(),
+        options.keep_going.into(),
+        options.bundles.into(),
+    ];
+    run(bytes.len() + 4096, |output, report, run| {
+        // SAFETY: the slices and the structs are valid, and do not overlap.
+        unsafe {
+            raw::tcpclkit_raw_blocks(
                 bytes.as_ptr(),
                 bytes.len(),
                 lent.as_ptr(),

@@ -42,7 +42,7 @@ line_grown : (id flags : ℕ) (content more : List ℕ) (block : Block)
 line_grown id flags content more (PrimaryOf primary check end) within = refl
 line_grown id flags content more (CanonicalOf block) within =
     ap (λ (xs : List ℕ). block_text id block (option_map (λ kind. data_of kind xs) (kind_of flags block.block_type)))
-    (data_grown content more block within)
+    (data_grown content more block within.0)
 
 lines_grown : (id flags : ℕ) (content more : List ℕ) (blocks : List Block)
     → All (LiesWithin (length content)) blocks

@@ -145,4 +145,5 @@ pub lies_within : (seen : List ℕ) (earlier : List Block) (block : CanonicalBlo
     → blocks_in seen ≡ earlier ++ CanonicalOf block ∷ []
     → block.data_start + block.data_length ≤ length seen
 lies_within seen earlier block is =
-    last_of (LiesWithin (length seen)) earlier (CanonicalOf block) (rw is at (BlocksWithin-holds seen))
+    (last_of (LiesWithin (length seen)) earlier (CanonicalOf block)
+    (rw is at (BlocksWithin-holds seen))).0

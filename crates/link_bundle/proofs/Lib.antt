@@ -17,6 +17,7 @@ pub mod Showing
 pub mod Lying
 pub mod Feeding
 pub mod Taking
+pub mod Endings
 pub mod Alone
 pub mod Items
 pub mod Readings

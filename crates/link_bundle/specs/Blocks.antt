@@ -1,6 +1,6 @@
 -- The blocks of a bundle (RFC 9171 section 4.1).
 
-use Rattle.std.specs.Prelude.{ℕ, ◌+◌, ◌≤◌, List, [], ◌∷◌, Option, None, Some}
+use Rattle.std.specs.Prelude.{ℕ, ◌+◌, ◌≤◌, List, [], ◌∷◌, Option, None, Some, IfSome}
 use Rattle.link_cbor.specs.declared.check.CheckKind.{CheckKind}
 use Rattle.link_bundle_types.specs.declared.eid.Eid.{Eid}
 use Rattle.link_bundle_types.specs.EidView.{viewed_eid}
@@ -72,7 +72,8 @@ next_of [] cut = cut
 next_of (PrimaryOf primary check end ∷ rest) cut = None
 next_of (CanonicalOf block ∷ rest) cut = Some (record block { end = None })
 
--- the data of a canonical block lies within that many bytes
+-- the block ends within that many bytes, and so does its data
 abbrev pub LiesWithin : ℕ → Block → Type 0
-LiesWithin count (PrimaryOf primary check end) = Unit {0}
-LiesWithin count (CanonicalOf block) = block.data_start + block.data_length ≤ count
+LiesWithin count (PrimaryOf primary check end) = end ≤ count
+LiesWithin count (CanonicalOf block) =
+    (block.data_start + block.data_length ≤ count) × IfSome block.end (λ end. end ≤ count)

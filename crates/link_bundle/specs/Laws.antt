@@ -54,7 +54,7 @@ abbrev pub BlocksEnd : Type 0
 BlocksEnd =
     (bytes more : List ℕ) → bundle_goes bytes ≡ false → blocks_in (bytes ++ more) ≡ blocks_in bytes
 
--- the data of the whole blocks lies within the bytes
+-- the whole blocks lie within the bytes
 abbrev pub BlocksWithin : Type 0
 BlocksWithin = (bytes : List ℕ) → All (LiesWithin (length bytes)) (blocks_in bytes)
 

@@ -1,6 +1,7 @@
 mod Overlays
 pub mod Runs
 mod Scanning
+mod Blocks
 mod Walks
 mod Orders
 mod Lending

@@ -207,6 +207,17 @@ module _ (wants : Wants) (old new : Slices) (output_text report_text : List ℕ)
 
 -- ---- what the exports say of it
 
+-- a run returns no TCPCLKIT_RANGE
+fits_or_not : (fits : Bool) (status : ℕ) → status ≡ (if fits then 0 else 5) → status ≡ 6 → ⊥
+fits_or_not true status is six = omega (arith, is, six)
+fits_or_not false status is six = omega (arith, is, six)
+
+pub in_range : (tool : Option Tool) (bytes : List ℕ) (wants : Wants) (old new : Slices) (run : Run)
+    (status : ℕ) → ReturnsTool tool bytes wants old new run status → status ≡ 6 → ⊥
+in_range (Some tool) bytes wants old new run status gave six =
+    fits_or_not _ status gave.gives six
+in_range None bytes wants old new run status gave six = omega (arith, gave.gives, six)
+
 -- pack has its texts, or it was refused its memory
 pub packed : (options : PackOptions) (memory : Result Cutter AllocError) (bytes : List ℕ)
     (wants : Wants) (old new : Slices) (run : Run) (status : ℕ)

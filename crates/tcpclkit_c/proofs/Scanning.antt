@@ -1,5 +1,5 @@
 -- A scan of a bundle in pieces: a piece that it has taken.
-use Rattle.std.proofs.Common.{◌≡◌, ℕ, zero, suc, ◌+◌, ◌-◌, ◌≤◌, min, true, List, [], ◌∷◌, ◌++◌, length, take, refl, ap, sym, ◌∙◌, arith}
+use Rattle.std.proofs.Common.{◌≡◌, ℕ, zero, suc, ◌+◌, ◌-◌, ◌≤◌, min, Bool, true, List, [], ◌∷◌, ◌++◌, length, take, refl, ap, sym, ◌∙◌, arith}
 use Rattle.std.proofs.lemmas.List.{length-take-le, take_min}
 use Rattle.std.proofs.Math.Seq.{take-append-add}
 use Rattle.link_cbor.specs.PieceLaws.{takes_shortest}
@@ -49,14 +49,15 @@ kept_on room at count buffer new bytes fits within counts is =
     ∙ ap (λ (size : ℕ). take size (kept ++ bytes)) all
 
 -- the bytes that were taken of a piece are kept too
-pub keeps_taken : (room : ℕ) (seen piece kept new : List ℕ) (count : ℕ) → kept ≡ take room seen
-    → count ≡ length (taken bundle_goes seen piece)
+pub keeps_taken : (goes : List ℕ → Bool) (room : ℕ) (seen piece kept new : List ℕ) (count : ℕ)
+    → kept ≡ take room seen
+    → count ≡ length (taken goes seen piece)
     → new ≡ take room (kept ++ take count piece)
-    → new ≡ take room (seen ++ taken bundle_goes seen piece)
-keeps_taken room seen piece kept new count held counts is =
-    let run = taken bundle_goes seen piece in
+    → new ≡ take room (seen ++ taken goes seen piece)
+keeps_taken goes room seen piece kept new count held counts is =
+    let run = taken goes seen piece in
     let run_is : run ≡ take (length run) piece =
-    ((takes_shortest bundle_goes seen piece run).1 refl).is_front in
+    ((takes_shortest goes seen piece run).1 refl).is_front in
     is ∙ ap (λ (bytes : List ℕ). take room (bytes ++ take count piece)) held
     ∙ kept_more room seen (take count piece)
     ∙ ap (λ (bytes : List ℕ). take room (seen ++ bytes))

@@ -1,9 +1,13 @@
 -- The options of the whole tools, as words of a caller. A word that is missing has the default of
 -- the program. A word that this version does not know has to be 0.
-use Rattle.std.specs.Prelude.{◌≡◌, ℕ, ◌^◌, ◌-◌, Bool, not, ◌&&◌, ◌==◌, nat_lt, nat_le, List, drop, get_or, Option, Some, None, if◌then◌else◌}
+use Rattle.std.specs.Prelude.{◌≡◌, ℕ, ◌^◌, ◌-◌, Bool, not, ◌&&◌, ◌||◌, ◌==◌, nat_lt, nat_le, List, drop, get_or, Option, Some, None, if◌then◌else◌}
 use Rattle.std.specs.List.{list_any}
+use Rattle.link_blocks.specs.declared.options.BlockOptions.{BlockOptions}
 use Rattle.link_pack.specs.declared.options.PackOptions.{PackOptions}
+use Rattle.link_tools.specs.declared.options.Job.{Job}
+use Rattle.link_tools.specs.declared.options.Job.TheVariants as job
 use Rattle.link_unpack.specs.declared.wanted.Wanted.{Wanted}
+use Rattle.tcpclkit_c.specs.declared.options.BlocksNumbers.{BlocksNumbers}
 use Rattle.tcpclkit_c.specs.declared.options.PackNumbers.{PackNumbers}
 use Rattle.tcpclkit_c.specs.declared.options.UnpackNumbers.{UnpackNumbers}
 
@@ -26,11 +30,15 @@ abbrev pub unpack_numbers_fit : UnpackNumbers → Bool
 unpack_numbers_fit numbers =
     nat_le numbers.only_one 1 && (nat_le numbers.payload 1 && nat_le numbers.keep_going 1)
 
+-- the ID of the transfers that are wanted, unless all are
+abbrev pub only_of : (only_one transfer : ℕ) → Option ℕ
+only_of only_one transfer = if only_one == 1 then Some transfer else None
+
 -- what is wanted of the recording
 abbrev pub wanted_of : UnpackNumbers → Wanted
 wanted_of numbers =
     record {
-      only = if numbers.only_one == 1 then Some numbers.transfer else None;
+      only = only_of numbers.only_one numbers.transfer;
       payload = numbers.payload == 1;
       keep_going = numbers.keep_going == 1;
     }
@@ -42,6 +50,45 @@ unpack_in_range words =
 
 abbrev pub wanted_in : List ℕ → Option Wanted
 wanted_in words = if unpack_in_range words then Some (wanted_of (unpack_numbers words)) else None
+
+-- ---- blocks
+
+-- the options that the words are
+abbrev pub blocks_numbers : List ℕ → BlocksNumbers
+blocks_numbers words =
+    record {
+      only_one = get_or words 0 0;
+      transfer = get_or words 1 0;
+      keep_going = get_or words 2 0;
+      bundles = get_or words 3 0;
+    }
+
+-- with `bundles`, the options for a recording are not set
+abbrev pub blocks_numbers_fit : BlocksNumbers → Bool
+blocks_numbers_fit numbers =
+    nat_le numbers.only_one 1 && (nat_le numbers.keep_going 1 && (nat_le numbers.bundles 1
+    && (numbers.bundles == 0 || (numbers.only_one == 0 && numbers.keep_going == 0))))
+
+-- the words are in their ranges
+abbrev pub blocks_in_range : List ℕ → Bool
+blocks_in_range words =
+    blocks_numbers_fit (blocks_numbers words) && not (has_nonzero (drop 4 words))
+
+-- what is shown of the recording
+abbrev pub block_options_of : BlocksNumbers → BlockOptions
+block_options_of numbers =
+    record {
+      only = only_of numbers.only_one numbers.transfer;
+      keep_going = numbers.keep_going == 1;
+    }
+
+abbrev pub blocks_job_of : BlocksNumbers → Job
+blocks_job_of numbers =
+    if numbers.bundles == 1 then job.BundleBlocks else job.Blocks (block_options_of numbers)
+
+abbrev pub blocks_job_in : List ℕ → Option Job
+blocks_job_in words =
+    if blocks_in_range words then Some (blocks_job_of (blocks_numbers words)) else None
 
 -- ---- pack
 

@@ -37,10 +37,13 @@ has_room seen piece = nat_le (length seen + length piece) (2 ^ 63 - 1)
 abbrev pub fed : (seen piece : List ℕ) → List ℕ
 fed seen piece = if has_room seen piece then taken bundle_goes seen piece else []
 
--- the status of the bytes that were seen then, or TCPCLKIT_RANGE
+-- the status after these bytes of the piece, or TCPCLKIT_RANGE
+abbrev pub status_after : (seen piece run : List ℕ) → ℕ
+status_after seen piece run =
+    if has_room seen piece then state_status (state_of (verdict (seen ++ run))) else 6
+
 abbrev pub fed_status : (seen piece : List ℕ) → ℕ
-fed_status seen piece =
-    if has_room seen piece then state_status (state_of (verdict (seen ++ fed seen piece))) else 6
+fed_status seen piece = status_after seen piece (fed seen piece)
 
 -- a scan that had seen some bytes has taken its bytes of the next piece
 pub record Feeds (seen piece : List ℕ) (scan : MarkedScan) (taken status : ℕ) : Type 0 where

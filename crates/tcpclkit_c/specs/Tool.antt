@@ -1,11 +1,14 @@
 -- What the exports of whole tools return.
 use Rattle.std.specs.Prelude.{◌≡◌, ℕ, ◌^◌, ◌-◌, ◌==◌, ◌||◌, ◌&&◌, ◌⊎◌, Bool, nat_le, min, List, length, if◌then◌else◌}
+use Rattle.link_blocks.specs.Bundles.{bundle_blocks_tool}
+use Rattle.link_blocks.specs.Showing.{blocks_tool}
 use Rattle.link_pack.specs.Packing.{pack_tool}
 use Rattle.link_pack.specs.declared.options.PackOptions.{PackOptions}
-use Rattle.link_run.specs.Run.{Outcome}
+use Rattle.link_run.specs.Run.{Tool, Outcome}
 use Rattle.link_unpack.specs.Unpacking.{unpack_tool}
-use Rattle.tcpclkit_c.specs.Options.{unpack_numbers, wanted_of, pack_numbers, HasOptions}
+use Rattle.tcpclkit_c.specs.Options.{unpack_numbers, wanted_of, blocks_numbers, block_options_of, pack_numbers, HasOptions}
 use Rattle.tcpclkit_c.specs.Slice.{HoldsFront, KeepsRest}
+use Rattle.tcpclkit_c.specs.declared.options.BlocksNumbers.{BlocksNumbers}
 use Rattle.tcpclkit_c.specs.declared.running.Run.{Run}
 use Rattle.tcpclkit_c.specs.declared.running.Wants.{Wants}
 
@@ -55,6 +58,16 @@ abbrev pub Unpacks : (options bytes : List ℕ) → Wants → (old new : Slices)
 Unpacks options bytes wants old new run status =
     ReturnsTexts ((unpack_tool (wanted_of (unpack_numbers options))).whole bytes)
     wants old new run status
+
+-- the tool that these options of `blocks` ask for
+abbrev pub blocks_tool_of : BlocksNumbers → Tool
+blocks_tool_of numbers =
+    if numbers.bundles == 1 then bundle_blocks_tool else blocks_tool (block_options_of numbers)
+
+-- the blocks were shown with these options
+abbrev pub ShowsBlocks : (options bytes : List ℕ) → Wants → (old new : Slices) → Run → ℕ → Type 0
+ShowsBlocks options bytes wants old new run status =
+    ReturnsTexts ((blocks_tool_of (blocks_numbers options)).whole bytes) wants old new run status
 
 -- The bundles were packed with these options, and the texts are returned as by the other tools. Or
 -- nothing was written, and the status is TCPCLKIT_MEMORY.

@@ -12,6 +12,7 @@
 
 ghost use Rattle.std.specs.Prelude.{◌≡◌};
 
+mod block;
 mod bundle;
 mod device;
 mod fault;

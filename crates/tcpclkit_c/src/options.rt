@@ -1,9 +1,9 @@
 //! The options of the whole tools, as numbers.
 
 ghost use Rattle.std.specs.Prelude.{◌≡◌, true, List, length, drop, get_or};
-ghost use Rattle.tcpclkit_c.specs.Options.{has_nonzero, unpack_numbers, unpack_numbers_fit, wanted_of, wanted_in, pack_numbers, pack_numbers_fit, pack_in_range, HasOptions};
+ghost use Rattle.tcpclkit_c.specs.Options.{has_nonzero, unpack_numbers, unpack_numbers_fit, only_of, wanted_of, wanted_in, blocks_numbers, blocks_numbers_fit, blocks_job_of, blocks_job_in, pack_numbers, pack_numbers_fit, pack_in_range, HasOptions};
 
-use link_tools::{PackOptions, Wanted};
+use link_tools::{BlockOptions, Job, PackOptions, Wanted};
 use link_wire::{MAX_NODE_ID, NodeId};
 
 /// The options of `unpack`, in the order of `struct tcpclkit_unpack_options`.
@@ -17,6 +17,19 @@ pub struct UnpackNumbers {
     pub payload: u64,
     /// 1 if the run goes on after a fault of the order, and else 0.
     pub keep_going: u64,
+}
+
+/// The options of `blocks`, in the order of `struct tcpclkit_blocks_options`.
+#[derive(Clone, Copy, Debug, PartialEq, Eq)]
+pub struct BlocksNumbers {
+    /// 1 for the transfers with one ID alone, and else 0.
+    pub only_one: u64,
+    /// That ID.
+    pub transfer: u64,
+    /// 1 if the run goes on after a fault of the order, and else 0.
+    pub keep_going: u64,
+    /// 1 if the input is bundles, one after another, and 0 if it is a recording.
+    pub bundles: u64,
 }
 
 /// The options of `pack` without the node ID, in the order of `struct tcpclkit_pack_options`.
@@ -88,17 +101,19 @@ fn unpack_numbers_fit(numbers: &UnpackNumbers) -> bool
     numbers.only_one <= 1 && numbers.payload <= 1 && numbers.keep_going <= 1
 }
 
+/// The ID of the transfers that are wanted, or `None` if all are.
+fn only_of(only_one: u64, transfer: u64) -> Option<u64>
+    ensures { result ≡ only_of only_one transfer }
+{
+    if only_one == 1 { Some(transfer) } else { None }
+}
+
 /// What these options of `unpack` want of a recording.
 fn wanted_of(numbers: &UnpackNumbers) -> Wanted
     ensures { result ≡ wanted_of numbers.now }
 {
-    let only = if numbers.only_one == 1 {
-        Some(numbers.transfer)
-    } else {
-        None
-    };
     Wanted {
-        only,
+        only: only_of(numbers.only_one, numbers.transfer),
         payload: numbers.payload == 1,
         keep_going: numbers.keep_going == 1,
     }
@@ -111,6 +126,55 @@ pub fn wanted_in(words: &[u64]) -> Option<Wanted>
     let numbers = unpack_numbers(words);
     if unpack_numbers_fit(&numbers) && !has_nonzero(words_after(words, 4)) {
         Some(wanted_of(&numbers))
+    } else {
+        None
+    }
+}
+
+/// The options of `blocks` that these words are.
+fn blocks_numbers(words: &[u64]) -> BlocksNumbers
+    ensures { result ≡ blocks_numbers words.now }
+{
+    BlocksNumbers {
+        only_one: word(words, 0, 0),
+        transfer: word(words, 1, 0),
+        keep_going: word(words, 2, 0),
+        bundles: word(words, 3, 0),
+    }
+}
+
+/// Whether the options of `blocks` are in their ranges.
+///
+/// Bundles that are no recording have neither transfers nor an order of messages.
+fn blocks_numbers_fit(numbers: &BlocksNumbers) -> bool
+    ensures { result ≡ blocks_numbers_fit numbers.now }
+{
+    numbers.only_one <= 1
+        && numbers.keep_going <= 1
+        && numbers.bundles <= 1
+        && (numbers.bundles == 0 || numbers.only_one == 0 && numbers.keep_going == 0)
+}
+
+/// The job of these options of `blocks`.
+fn blocks_job_of(numbers: &BlocksNumbers) -> Job
+    ensures { result ≡ blocks_job_of numbers.now }
+{
+    if numbers.bundles == 1 {
+        return Job::BundleBlocks;
+    }
+    Job::Blocks(BlockOptions {
+        only: only_of(numbers.only_one, numbers.transfer),
+        keep_going: numbers.keep_going == 1,
+    })
+}
+
+/// The job of `blocks` with the options that the words are, if these are in their ranges.
+pub fn blocks_job_in(words: &[u64]) -> Option<Job>
+    ensures { result ≡ blocks_job_in words.now }
+{
+    let numbers = blocks_numbers(words);
+    if blocks_numbers_fit(&numbers) && !has_nonzero(words_after(words, 4)) {
+        Some(blocks_job_of(&numbers))
     } else {
         None
     }

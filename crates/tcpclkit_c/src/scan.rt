@@ -1,16 +1,20 @@
 //! Exports about a bundle that comes in pieces: a scan in memory that the caller lends.
 
-ghost use Rattle.std.specs.Prelude.{◌≡◌, ℕ, ◌≤◌, List, [], ◌++◌, length};
+ghost use Rattle.std.specs.Prelude.{◌≡◌, ℕ, ◌+◌, ◌-◌, ◌^◌, ◌≤◌, false, List, [], ◌++◌, length};
+ghost use Rattle.std.specs.Bool.{OnTrue};
 ghost use Rattle.std.specs.Borrow.{sem};
 ghost use prog.Memory.{size, align};
 ghost use denote.Memory.{lone};
 ghost use denote.RawPtr.{room_at};
 ghost use Rattle.link_bundle.specs.Bundle.{verdict, payload_seen, state_of};
+ghost use Rattle.link_bundle.specs.Scan.{scan_size};
 ghost use Rattle.link_primary.specs.Fields.{primary_fields};
 ghost use Rattle.tcpclkit_c.specs.Bundle.{verdict_shown, state_status, three_names, ReturnsInfo};
-ghost use Rattle.tcpclkit_c.specs.Scan.{IsScan, HoldsScan, fed, fed_status, FeedsMarked, JudgesMarked, DescribesMarked};
+ghost use Rattle.tcpclkit_c.specs.Scan.{IsScan, HoldsScan, mark, has_room, fed, fed_status, FeedsMarked, JudgesMarked, DescribesMarked};
+ghost use Rattle.tcpclkit_c.specs.NextBlock.{TakesBlock, fed_block, fed_block_status, added_block, FeedsMarkedBlock};
 ghost use Rattle.tcpclkit_c.specs.contracts.scan.MarkedScan.{the_row};
 
+use crate::block::{BlockNumbers, block_numbers};
 use crate::bundle::{Bundle, Verdict, give_info, give_verdict, state_status};
 use crate::kept::Kept;
 use crate::status::{OK, RANGE};
@@ -71,15 +75,21 @@ pub unsafe extern "C" fn tcpclkit_raw_start_scan(memory: *mut u64) -> u32
     OK
 }
 
+/// Whether the memory has a scan, and this may see the piece too.
+fn may_feed(scan: &MarkedScan, piece: &[u8]) -> bool
+    ensures scan { (seen : List ℕ) → IsScan scan.now seen → result ≡ has_room seen piece.now }
+    ensures other { (scan.now.mark ≡ mark → ⊥) → result ≡ false }
+    ensures room { OnTrue result (scan_size scan.now.scan + length piece.now ≤ 2 ^ 63 - 1) }
+{
+    scan.mark == MARK && scan.scan.count().saturating_add(piece.len() as u64) <= INPUT_LIMIT
+}
+
 /// Takes bytes of the piece while more are needed.
 fn feed(scan: &mut MarkedScan, piece: &[u8], taken: &mut u64) -> u32
     ensures { FeedsMarked scan.old piece.now scan.new taken.new result }
 {
     *taken = 0;
-    if scan.mark != MARK {
-        return RANGE;
-    }
-    if scan.scan.count().saturating_add(piece.len() as u64) > INPUT_LIMIT {
+    if !may_feed(scan, piece) {
         return RANGE;
     }
     let count = scan.scan.feed(piece);
@@ -102,6 +112,56 @@ pub unsafe extern "C" fn tcpclkit_raw_feed_scan(
     ensures status { result ≡ fed_status seen piece.now }
 {
     feed(&mut *(memory as *mut MarkedScan), piece, taken)
+}
+
+/// Takes bytes of the piece while more are needed, up to the end of a block.
+fn take_block(scan: &mut BundleScan, piece: &[u8]) -> usize
+    requires { scan_size scan.old + length piece.now ≤ 2 ^ 63 - 1 }
+    ensures { TakesBlock scan.old scan.new piece.now result }
+{
+    if piece.is_empty() || !scan.going() {
+        return 0;
+    }
+    scan.feed_block(piece)
+}
+
+/// Takes bytes of the piece up to the end of a block, and gives this block.
+fn next_block(scan: &mut MarkedScan, piece: &[u8], taken: &mut u64, block: &mut BlockNumbers) -> u32
+    ensures { FeedsMarkedBlock scan.old piece.now block.old scan.new taken.new block.new result }
+{
+    *taken = 0;
+    if !may_feed(scan, piece) {
+        return RANGE;
+    }
+    let count = take_block(&mut scan.scan, piece);
+    scan.kept.extend(&piece[..count]);
+    *taken = count as u64;
+    // A block that ended before this call is not given again.
+    let ended = if count > 0 {
+        scan.scan.ended_block()
+    } else {
+        None
+    };
+    *block = block_numbers(ended);
+    state_status(scan.scan.state())
+}
+
+/// Takes the bytes of the piece up to the end of a block, and gives this block.
+#[unsafe(no_mangle)]
+pub unsafe extern "C" fn tcpclkit_raw_next_block(
+    memory: *mut u64,
+    piece: &[u8],
+    taken: &mut u64,
+    block: &mut BlockNumbers,
+) -> u32
+    ghost seen: { List ℕ }
+    requires* { sem 𝓛 (HoldsScan memory seen) }
+    ensures* scan { sem 𝓛 (HoldsScan memory (seen ++ fed_block seen piece.now)) }
+    ensures taken { taken.new ≡ length (fed_block seen piece.now) }
+    ensures block { block.new ≡ added_block seen piece.now block.old }
+    ensures status { result ≡ fed_block_status seen piece.now }
+{
+    next_block(&mut *(memory as *mut MarkedScan), piece, taken, block)
 }
 
 /// Gives the verdict on the bytes seen.

@@ -1,5 +1,5 @@
-use Rattle.std.proofs.Common.{◌≡◌, ◌++◌, true, arith}
-use Rattle.std.proofs.lemmas.Bool.{le-leb}
+use Rattle.std.proofs.Common.{◌≡◌, ◌++◌, true, sym, ◌∙◌}
+use Rattle.std.proofs.lemmas.Bool.{false≢true}
 use Rattle.link_cbor.specs.Pieces.{taken}
 use Rattle.link_bundle.specs.Bundle.{bundle_goes}
 use Rattle.tcpclkit_c.specs.Scan.{has_room}
@@ -10,15 +10,16 @@ pub returns : goal.returns
 returns c = record {
   scan = λ seen has.
       let room : has_room seen c.args.piece.now ≡ true =
-      le-leb _ _ (omega (arith, c.count.ensures.seen seen has.scanned, c.saturating_add.ensures, c.if-saturating_add-gt-INPUT_LIMIT.false)) in
+      sym (c.may_feed.ensures.scan seen has) ∙ c.if-not-may_feed.false in
       let come = c.feed-count.ensures.seen seen has.scanned in
       feeds seen c.args.piece.now room _ _ _ _ (record {
         marked = has.marked;
         scanned = come;
-        keeps = keeps_taken 3257 seen c.args.piece.now _ _ c.feed-count.result has.keeps
+        keeps = keeps_taken bundle_goes 3257 seen c.args.piece.now _ _ c.feed-count.result has.keeps
             (c.feed-count.ensures.count seen has.scanned) c.extend.ensures;
       })
       (c.feed-count.ensures.count seen has.scanned)
       (c.state.ensures.seen (seen ++ taken bundle_goes seen c.args.piece.now) come) c.state_status.ensures;
-  other = λ not. absurd (not c.if-scan.false);
+  other = λ not. absurd (false≢true
+      (sym (c.may_feed.ensures.other not) ∙ c.if-not-may_feed.false));
 }
