@@ -2,11 +2,11 @@
 ghost use Rattle.std.specs.Prelude.{◌≡◌, ◌≤◌, ◌+◌, true, length};
 ghost use Rattle.link_bundle_types.specs.EidView.{viewed_eid};
 ghost use Rattle.link_bundle_types.specs.ShortNames.{IsShort};
-ghost use Rattle.link_bundle.specs.Blocks.{viewed_primary, HasShortEids};
+ghost use Rattle.link_bundle_blocks.specs.Blocks.{viewed_primary, HasShortEids};
 
 use link_block_data::DataKind;
 use link_block_report::{BlockText, EndText, PrimaryRestText, PrimaryStartText, data_kind};
-use link_bundle::{CanonicalBlock, PrimaryBlock};
+use link_bundle_blocks::{CanonicalBlock, PrimaryBlock};
 use link_bundle_types::{BundleFault, BundleView, EID_LIMIT, EidView};
 use link_cbor::CheckKind;
 use link_report::JudgementView;

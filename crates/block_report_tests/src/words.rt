@@ -6,7 +6,7 @@ ghost use Rattle.link_block_data.specs.DataView.{viewed_data, HasShortName};
 use crate::lines::expect;
 use link_block_data::{Assertion, DataKind, DataScan, DataView, Report};
 use link_block_report::BlockText;
-use link_bundle::CanonicalBlock;
+use link_bundle_blocks::CanonicalBlock;
 use link_bundle_types::EidView;
 use std::process::Abort;
 use std::test::Fail;

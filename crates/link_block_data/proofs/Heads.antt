@@ -11,9 +11,9 @@ use Rattle.link_bundle_types.specs.declared.fault.BundleFault.{BundleFault}
 use Rattle.link_bundle_heads.specs.declared.endpoint.Scheme.{Scheme}
 use Rattle.link_bundle_heads.specs.declared.endpoint.Scheme.TheVariants as scheme_
 use Rattle.link_bundle_heads.specs.Rows.{◌>>=◌, unsigned, array, pair, scheme, dtn_part, ipn_part}
-use Rattle.link_bundle.specs.Reading.{ReadAt, Stop, stopped, head_at, outcome_at, row_at}
-use Rattle.link_bundle.specs.EndpointId.{dtn_at, ipn_at, specific_at, eid_at}
-use Rattle.link_bundle.specs.Primary.{fragment_at}
+use Rattle.link_bundle_blocks.specs.Reading.{ReadAt, Stop, stopped, head_at, outcome_at, row_at}
+use Rattle.link_bundle_blocks.specs.EndpointId.{dtn_at, ipn_at, specific_at, eid_at}
+use Rattle.link_bundle_blocks.specs.Primary.{fragment_at}
 use Rattle.link_bundle.specs.Left.{numbered, scheme_left, node_left, service_left, name_left}
 use Rattle.link_block_data.specs.declared.values.Assertion.{Assertion}
 use Rattle.link_block_data.specs.declared.values.Assertion.TheVariants.{No, Yes, YesAt}

@@ -7,9 +7,9 @@ use Rattle.link_bundle_types.specs.declared.eid.Eid.{Eid}
 use Rattle.link_bundle_types.specs.declared.eid.Eid.TheVariants.{Dtn}
 use Rattle.link_bundle_types.specs.KeptEid.{name_of}
 use Rattle.link_bundle_heads.specs.Rows.{◌>>=◌}
-use Rattle.link_bundle.specs.Reading.{ReadAt, Stop, bytes_at}
+use Rattle.link_bundle_blocks.specs.Reading.{ReadAt, Stop, bytes_at}
 use Rattle.link_bundle.specs.Left.{name_left}
-use Rattle.link_bundle.proofs.Runs.{with_run, bytes_at-none, bytes_at-run, run_within}
+use Rattle.link_bundle_blocks.proofs.Runs.{with_run, bytes_at-none, bytes_at-run, run_within}
 use Rattle.link_block_data.specs.declared.due.Owner.{Owner}
 use Rattle.link_block_data.specs.declared.due.Owner.TheVariants as owner
 use Rattle.link_block_data.specs.declared.due.Stage.TheVariants.{Name}

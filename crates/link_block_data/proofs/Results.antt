@@ -4,9 +4,9 @@ use Rattle.std.proofs.Common.{◌≡◌, ◌++◌, ℕ, ◌<◌, Bool, true, fal
 use Rattle.std.specs.Prelude.{◌==◌, ◌||◌, IsTrue, if◌then◌else◌}
 use Rattle.link_cbor.specs.declared.head_scan.HeadScan.{HeadScan}
 use Rattle.link_bundle_types.specs.declared.fault.BundleFault.TheVariants.{Cut}
-use Rattle.link_bundle.specs.Reading.{stopped}
+use Rattle.link_bundle_blocks.specs.Reading.{stopped}
 use Rattle.link_bundle.specs.Left.{name_left}
-use Rattle.link_bundle.proofs.Runs.{bytes_at-cut}
+use Rattle.link_bundle_blocks.proofs.Runs.{bytes_at-cut}
 use Rattle.link_bundle.proofs.Verdicts.{head_at-cut}
 use Rattle.link_block_data.specs.declared.kind.DataKind.{DataKind}
 use Rattle.link_block_data.specs.declared.due.Due.{Due}

@@ -14,7 +14,7 @@ use Rattle.link_cbor.specs.HeadScan.{HasScannedHead}
 use Rattle.link_cbor.proofs.HeadLaws.{whole_stays, ill_formed_stays}
 use Rattle.link_bundle_types.specs.declared.fault.BundleFault.{BundleFault}
 use Rattle.link_bundle_types.specs.declared.fault.BundleFault.TheVariants.{BadHead}
-use Rattle.link_bundle.specs.Reading.{stopped, head_at}
+use Rattle.link_bundle_blocks.specs.Reading.{stopped, head_at}
 use Rattle.link_block_data.specs.declared.kind.DataKind.{DataKind}
 use Rattle.link_block_data.specs.declared.due.Due.{Due}
 use Rattle.link_block_data.specs.declared.due.Owner.{Owner}

@@ -5,8 +5,8 @@ use Rattle.std.specs.Prelude.{Result}
 use Rattle.link_cbor.specs.declared.head.Head.{Head}
 use Rattle.link_bundle_types.specs.declared.fault.BundleFault.{BundleFault}
 use Rattle.link_bundle_heads.specs.Rows.{unsigned, array, pair, scheme, dtn_part, ipn_part}
-use Rattle.link_bundle.specs.Reading.{Stop, head_at, row_at}
-use Rattle.link_bundle.specs.EndpointId.{specific_at}
+use Rattle.link_bundle_blocks.specs.Reading.{Stop, head_at, row_at}
+use Rattle.link_bundle_blocks.specs.EndpointId.{specific_at}
 use Rattle.link_bundle.specs.Left.{scheme_left}
 use Rattle.link_block_data.specs.declared.due.Due.{Due}
 use Rattle.link_block_data.specs.declared.due.Due.TheVariants as due

@@ -6,9 +6,9 @@ use Rattle.std.specs.List.{list_any}
 use Rattle.link_bundle_types.specs.declared.eid.Eid.{Eid}
 use Rattle.link_bundle_types.specs.declared.fault.BundleFault.TheVariants.{Trailing}
 use Rattle.link_bundle_heads.specs.Rows.{◌>>=◌, unsigned, array, pair}
-use Rattle.link_bundle.specs.Reading.{ReadAt, Stop, stopped, head_at, outcome_at, row_at}
-use Rattle.link_bundle.specs.EndpointId.{eid_at}
-use Rattle.link_bundle.specs.Primary.{fragment_at}
+use Rattle.link_bundle_blocks.specs.Reading.{ReadAt, Stop, stopped, head_at, outcome_at, row_at}
+use Rattle.link_bundle_blocks.specs.EndpointId.{eid_at}
+use Rattle.link_bundle_blocks.specs.Primary.{fragment_at}
 use Rattle.link_block_data.specs.declared.kind.DataKind.{DataKind}
 use Rattle.link_block_data.specs.declared.kind.DataKind.TheVariants as kind
 use Rattle.link_block_data.specs.declared.values.Assertion.{Assertion}

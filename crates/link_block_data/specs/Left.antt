@@ -9,9 +9,9 @@ use Rattle.link_bundle_types.specs.declared.fault.BundleFault.{BundleFault}
 use Rattle.link_bundle_types.specs.KeptEid.{name_of}
 use Rattle.link_bundle_heads.specs.declared.endpoint.Scheme.TheVariants.{Dtn, Ipn}
 use Rattle.link_bundle_heads.specs.Rows.{◌>>=◌, unsigned, array, pair}
-use Rattle.link_bundle.specs.Reading.{ReadAt, Stop, head_at, outcome_at, row_at}
-use Rattle.link_bundle.specs.EndpointId.{specific_at, eid_at}
-use Rattle.link_bundle.specs.Primary.{fragment_at}
+use Rattle.link_bundle_blocks.specs.Reading.{ReadAt, Stop, head_at, outcome_at, row_at}
+use Rattle.link_bundle_blocks.specs.EndpointId.{specific_at, eid_at}
+use Rattle.link_bundle_blocks.specs.Primary.{fragment_at}
 use Rattle.link_bundle.specs.Left.{numbered, scheme_left, node_left, service_left, name_left}
 use Rattle.link_block_data.specs.declared.values.Assertion.{Assertion}
 use Rattle.link_block_data.specs.declared.values.Assertion.TheVariants.{No, Yes, YesAt}

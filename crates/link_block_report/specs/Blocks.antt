@@ -3,8 +3,8 @@
 
 use Rattle.std.specs.Prelude.{ℕ, ◌-◌, List, ◌++◌, codes, decimal, Option, Result}
 use Rattle.link_cbor.specs.declared.check.CheckKind.{CheckKind}
-use Rattle.link_bundle.specs.Blocks.{Primary}
-use Rattle.link_bundle.specs.declared.block.CanonicalBlock.{CanonicalBlock}
+use Rattle.link_bundle_blocks.specs.Blocks.{Primary}
+use Rattle.link_bundle_blocks.specs.declared.block.CanonicalBlock.{CanonicalBlock}
 use Rattle.link_block_data.specs.BlockData.{BlockData}
 use Rattle.link_report.specs.Eid.{eid_text}
 use Rattle.link_report.specs.Identity.{fragment_text}

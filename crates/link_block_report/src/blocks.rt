@@ -1,7 +1,7 @@
 //! The lines of blocks, and of the end of a transfer, as texts.
 
 ghost use Rattle.std.specs.Prelude.{◌≡◌, ◌+◌, ◌≤◌, ◌++◌, length, take, codes, decimal, option_map};
-ghost use Rattle.link_bundle.specs.Blocks.{viewed_primary, HasShortEids};
+ghost use Rattle.link_bundle_blocks.specs.Blocks.{viewed_primary, HasShortEids};
 ghost use Rattle.link_block_data.specs.DataView.{viewed_result};
 ghost use Rattle.link_report.specs.Judgement.{viewed_judgement};
 ghost use Rattle.link_block_report.specs.Blocks.{primary_start_text, primary_rest_text, fields_text, block_text, end_text};
@@ -10,7 +10,7 @@ ghost use Rattle.link_block_report.specs.Fits.{HasShortEids-prop, HasFittingWord
 use crate::fields::{CONTROL_MAX, TYPE_MAX, length_to, write_control, write_type};
 use crate::words::write_words;
 use link_block_data::DataView;
-use link_bundle::{CanonicalBlock, PrimaryBlock};
+use link_bundle_blocks::{CanonicalBlock, PrimaryBlock};
 use link_report::{
     JudgementView, write_bytes, write_decimal, write_eid, write_fragment, write_number,
     write_outcome,
@@ -163,7 +163,7 @@ fn write_end(page: &mut [u8], at: usize, line: &EndText<'_>) -> usize
 }
 
 impl<'a> Text for PrimaryStartText<'a> {
-    ghost use Rattle.link_bundle.specs.Blocks.{viewed_primary, HasShortEids};
+    ghost use Rattle.link_bundle_blocks.specs.Blocks.{viewed_primary, HasShortEids};
     ghost use Rattle.link_block_report.specs.Blocks.{primary_start_text};
 
     ghost text = { λ line. primary_start_text line.id (viewed_primary line.block.now) line.block.now.check line.block.now.end };
@@ -175,7 +175,7 @@ impl<'a> Text for PrimaryStartText<'a> {
 }
 
 impl<'a> Text for PrimaryRestText<'a> {
-    ghost use Rattle.link_bundle.specs.Blocks.{viewed_primary, HasShortEids};
+    ghost use Rattle.link_bundle_blocks.specs.Blocks.{viewed_primary, HasShortEids};
     ghost use Rattle.link_block_report.specs.Blocks.{primary_rest_text};
 
     ghost text = { λ line. primary_rest_text (viewed_primary line.block.now) };

@@ -6,12 +6,12 @@ use Rattle.link_bundle_types.specs.declared.fault.BundleFault.{BundleFault}
 use Rattle.link_bundle_types.specs.declared.info.BundleInfo.{BundleInfo}
 use Rattle.link_bundle_types.specs.declared.fault.State.TheVariants as state
 use Rattle.link_bundle_types.specs.Faults.{lasts}
-use Rattle.link_bundle.specs.Blocks.{Block, PrimaryOf, CanonicalOf, LiesWithin}
-use Rattle.link_bundle.specs.Bundle.{judged_bundle, bundle_at, opening_at, verdict, state_of, is_going, bundle_goes, blocks_in}
-use Rattle.link_bundle.specs.declared.block.CanonicalBlock.{CanonicalBlock}
-use Rattle.link_bundle.proofs.Lengths.{FaultLasts-holds, TrailingLasts-holds}
-use Rattle.link_bundle.proofs.Lying.{BlocksWithin-holds}
-use Rattle.link_bundle.proofs.Showing.{BlocksGrow-holds, BlocksEnd-holds}
+use Rattle.link_bundle_blocks.specs.Blocks.{Block, PrimaryOf, CanonicalOf, LiesWithin}
+use Rattle.link_bundle_blocks.specs.Bundle.{judged_bundle, bundle_at, opening_at, verdict, state_of, is_going, bundle_goes, blocks_in}
+use Rattle.link_bundle_blocks.specs.declared.block.CanonicalBlock.{CanonicalBlock}
+use Rattle.link_bundle_blocks.proofs.Lengths.{FaultLasts-holds, TrailingLasts-holds}
+use Rattle.link_bundle_blocks.proofs.Lying.{BlocksWithin-holds}
+use Rattle.link_bundle_blocks.proofs.Showing.{BlocksGrow-holds, BlocksEnd-holds}
 use Rattle.link_block_data.specs.BlockData.{data_of}
 use Rattle.link_block_report.specs.Blocks.{block_text}
 use Rattle.link_block_report.specs.Kinds.{kind_of}

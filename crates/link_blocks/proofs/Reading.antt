@@ -2,11 +2,11 @@
 use Rattle.std.proofs.Common.{◌≡◌, ℕ, ◌+◌, ◌<◌, ◌≤◌, false, true, Bool, ◌==◌, List, [], ◌∷◌, ◌++◌, length, Option, Some, None, fold, All, refl, ap, sym, ◌∙◌, ⊎_elim, if◌then◌else◌, arith}
 use Rattle.std.proofs.lemmas.Bool.{false≢true}
 use Rattle.std.proofs.lemmas.Grind.{fold-append}
-use Rattle.link_bundle.specs.Blocks.{Block, CanonicalOf, LiesWithin, next_of}
-use Rattle.link_bundle.specs.Bundle.{judged_bundle, bundle_at, opening_at, bundle_goes, blocks_in, cut_block_in}
+use Rattle.link_bundle_blocks.specs.Blocks.{Block, CanonicalOf, LiesWithin, next_of}
+use Rattle.link_bundle_blocks.specs.Bundle.{judged_bundle, bundle_at, opening_at, bundle_goes, blocks_in, cut_block_in}
 use Rattle.link_bundle.specs.Left.{block_of, field_block, follows_block, stage_block, stage_follows, stage_last}
 use Rattle.link_bundle.specs.Scan.{HasScanned, ending_at, ending}
-use Rattle.link_bundle.specs.declared.block.CanonicalBlock.{CanonicalBlock}
+use Rattle.link_bundle_blocks.specs.declared.block.CanonicalBlock.{CanonicalBlock}
 use Rattle.link_bundle.specs.declared.cursor.Cursor.{Cursor}
 use Rattle.link_bundle.specs.declared.draft.Draft.{Draft}
 use Rattle.link_bundle.specs.declared.scan.BundleScan.{BundleScan}
@@ -14,8 +14,8 @@ use Rattle.link_bundle.specs.declared.stage.Field.{Field}
 use Rattle.link_bundle.specs.declared.stage.Field.TheVariants as field
 use Rattle.link_bundle.specs.declared.stage.Stage.{Stage}
 use Rattle.link_bundle.specs.declared.stage.Stage.TheVariants.{Start, Head, Name, Content, Stored, Ended, Failed}
-use Rattle.link_bundle.proofs.Lying.{BlocksWithin-holds}
-use Rattle.link_bundle.proofs.Showing.{BlocksEnd-holds, BlockPlaced-holds}
+use Rattle.link_bundle_blocks.proofs.Lying.{BlocksWithin-holds}
+use Rattle.link_bundle_blocks.proofs.Showing.{BlocksEnd-holds, BlockPlaced-holds}
 use Rattle.link_bundle.proofs.Verdicts.{cut_block_of-seen}
 use Rattle.link_blocks.specs.BlockLines.{flags_after}
 use Rattle.link_blocks.specs.DataReader.{IsReading, IsReadingBlock}

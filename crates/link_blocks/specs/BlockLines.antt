@@ -1,8 +1,8 @@
 -- The lines of the blocks of a bundle.
 use Rattle.std.specs.Prelude.{ℕ, List, [], ◌∷◌, ◌++◌, take, drop, Option, option_map, Result}
-use Rattle.link_bundle.specs.Blocks.{Block, PrimaryOf, CanonicalOf}
-use Rattle.link_bundle.specs.Bundle.{blocks_in}
-use Rattle.link_bundle.specs.declared.block.CanonicalBlock.{CanonicalBlock}
+use Rattle.link_bundle_blocks.specs.Blocks.{Block, PrimaryOf, CanonicalOf}
+use Rattle.link_bundle_blocks.specs.Bundle.{blocks_in}
+use Rattle.link_bundle_blocks.specs.declared.block.CanonicalBlock.{CanonicalBlock}
 use Rattle.link_block_data.specs.BlockData.{BlockData, data_of}
 use Rattle.link_block_report.specs.Blocks.{primary_text, block_text}
 use Rattle.link_block_report.specs.Kinds.{kind_of}

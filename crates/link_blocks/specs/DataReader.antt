@@ -1,8 +1,8 @@
 -- What a reader of block data has read.
 use Rattle.std.specs.Prelude.{◌≡◌, ℕ, true, List, Option, Some, None}
 use Rattle.std.specs.List.{fold}
-use Rattle.link_bundle.specs.Bundle.{blocks_in, cut_block_in, bundle_goes}
-use Rattle.link_bundle.specs.declared.block.CanonicalBlock.{CanonicalBlock}
+use Rattle.link_bundle_blocks.specs.Bundle.{blocks_in, cut_block_in, bundle_goes}
+use Rattle.link_bundle_blocks.specs.declared.block.CanonicalBlock.{CanonicalBlock}
 use Rattle.link_block_data.specs.Scan.{HasScanned, scan_size}
 use Rattle.link_block_data.specs.declared.kind.DataKind.{DataKind}
 use Rattle.link_block_data.specs.declared.scan.DataScan.{DataScan}

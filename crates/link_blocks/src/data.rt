@@ -1,7 +1,7 @@
 //! The data of the blocks of a bundle, read as it comes.
 
 ghost use Rattle.std.specs.Prelude.{◌≡◌, ◌+◌, ◌^◌, ◌≤◌, ◌<◌, [], ◌++◌, Some, List, ℕ, length, option_map};
-ghost use Rattle.link_bundle.specs.declared.block.CanonicalBlock.{CanonicalBlock};
+ghost use Rattle.link_bundle_blocks.specs.declared.block.CanonicalBlock.{CanonicalBlock};
 ghost use Rattle.link_block_data.specs.DataView.{viewed_result};
 ghost use Rattle.link_block_data.specs.Scan.{HasScanned};
 ghost use Rattle.link_block_data.specs.declared.kind.DataKind.{DataKind};

@@ -1,8 +1,8 @@
 //! The blocks that a piece of a bundle completes.
 
 ghost use Rattle.std.specs.Prelude.{◌≡◌, ◌+◌, ◌^◌, ◌≤◌, ◌<◌, ◌++◌, true, List, ℕ, length, OnOk};
-ghost use Rattle.link_bundle.specs.Bundle.{blocks_in, bundle_goes};
-ghost use Rattle.link_bundle.specs.Blocks.{viewed_primary, HasShortEids};
+ghost use Rattle.link_bundle_blocks.specs.Bundle.{blocks_in, bundle_goes};
+ghost use Rattle.link_bundle_blocks.specs.Blocks.{viewed_primary, HasShortEids};
 ghost use Rattle.link_bundle.specs.Scan.{HasScanned, HasJudged, ending, scan_size};
 ghost use Rattle.link_block_report.specs.Blocks.{primary_text, block_text};
 ghost use Rattle.link_run.specs.Writers.{AfterWrite, on_output};

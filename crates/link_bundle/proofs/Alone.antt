@@ -5,7 +5,7 @@ use Rattle.std.specs.Prelude.{◌==◌, is_none, if◌then◌else◌}
 use Rattle.std.proofs.lemmas.List.{length-take-le, take-append-drop, take_more}
 use Rattle.std.proofs.lemmas.List.Elements.{All-take}
 use Rattle.link_cbor.specs.Head.{AreBytes}
-use Rattle.link_bundle.specs.Reading.{Stop}
+use Rattle.link_bundle_blocks.specs.Reading.{Stop}
 use Rattle.link_bundle.specs.declared.cursor.Cursor.{Cursor}
 use Rattle.link_bundle.specs.declared.draft.Draft.{Draft}
 use Rattle.link_bundle.specs.declared.scan.BundleScan.{BundleScan}
@@ -14,14 +14,14 @@ use Rattle.link_bundle.specs.declared.stage.CheckType.TheVariants.{Unread, Is}
 use Rattle.link_bundle.specs.declared.stage.Stage.TheVariants.{Start, Ended}
 use Rattle.link_bundle.specs.CheckKinds.{is_unread}
 use Rattle.link_bundle.specs.Covers.{Covers}
-use Rattle.link_bundle.specs.Bundle.{Bundle, with_blocks, opening_at, bundle_at, bundle_goes, if_alone, judged_bundle}
-use Rattle.link_bundle.specs.Blocks.{Block}
+use Rattle.link_bundle_blocks.specs.Bundle.{Bundle, with_blocks, opening_at, bundle_at, bundle_goes, if_alone, judged_bundle}
+use Rattle.link_bundle_blocks.specs.Blocks.{Block}
 use Rattle.link_bundle.specs.Left.{bundle_of, stage_left}
 use Rattle.link_bundle.specs.Scan.{HasSeen, HasScanned, HasTaken}
-use Rattle.link_bundle.proofs.Steady.{EndsCut}
-use Rattle.link_bundle.proofs.Keeping.{Stays, cuts, same, bundle_at-stays, bundle_at-alone}
-use Rattle.link_bundle.proofs.Lengths.{bundle_within}
-use Rattle.link_bundle.proofs.Payloads.{cut_goes-on}
+use Rattle.link_bundle_blocks.proofs.Steady.{EndsCut}
+use Rattle.link_bundle_blocks.proofs.Keeping.{Stays, cuts, same, bundle_at-stays, bundle_at-alone}
+use Rattle.link_bundle_blocks.proofs.Lengths.{bundle_within}
+use Rattle.link_bundle_blocks.proofs.Payloads.{cut_goes-on}
 use Rattle.link_bundle.proofs.Fields.{before_and, after_and}
 use Rattle.link_bundle.proofs.Steps.{all_grown, at_stage, fits_at}
 

@@ -4,19 +4,10 @@ use Rattle.std.proofs.Common.{◌≡◌, ℕ, Bool, true, false, List, [], ◌�
 use Rattle.std.specs.Prelude.{◌==◌, if◌then◌else◌}
 use Rattle.link_bundle.specs.declared.draft.Draft.{Draft}
 use Rattle.link_bundle.specs.declared.stage.Field.{Field}
-use Rattle.link_bundle.specs.Blocks.{Block}
-use Rattle.link_bundle.specs.Reading.{Stop}
-use Rattle.link_bundle.specs.Bundle.{Bundle, with_blocks, verdict_by, payload_of, blocks_of, cut_block_of}
+use Rattle.link_bundle_blocks.specs.Blocks.{Block}
+use Rattle.link_bundle_blocks.specs.Reading.{Stop}
+use Rattle.link_bundle_blocks.specs.Bundle.{Bundle, with_blocks, verdict_by, payload_of, blocks_of, cut_block_of}
 use Rattle.link_bundle.specs.Left.{read_alone, with_known_payload, follows_block, last_block, block_of, with_last}
-
-pub none_before : (reading : Result Bundle Stop) → with_blocks [] reading ≡ reading
-none_before (Ok bundle) = refl
-none_before (Err stop) = refl
-
-pub both_before : (first second : List Block) (reading : Result Bundle Stop)
-    → with_blocks first (with_blocks second reading) ≡ with_blocks (first ++ second) reading
-both_before first second (Ok bundle) = rw (append_assoc first second bundle.blocks) refl
-both_before first second (Err stop) = rw (append_assoc first second stop.blocks) refl
 
 chosen : (test : Bool) (blocks : List Block) (bundle : Bundle) (stop : Stop)
     → (if test then Ok (record bundle { blocks = blocks ++ bundle.blocks })
@@ -36,26 +27,6 @@ read_alone-blocks (Some payload) bytes blocks (Ok bundle) =
     chosen (bundle.length == length bytes) blocks bundle _
 read_alone-blocks None bytes blocks (Err stop) = refl
 read_alone-blocks (Some payload) bytes blocks (Err stop) = refl
-
-pub verdict_by-blocks : (blocks : List Block) (reading : Result Bundle Stop)
-    → verdict_by (with_blocks blocks reading) ≡ verdict_by reading
-verdict_by-blocks blocks (Ok bundle) = refl
-verdict_by-blocks blocks (Err stop) = refl
-
-pub payload_of-blocks : (blocks : List Block) (reading : Result Bundle Stop)
-    → payload_of (with_blocks blocks reading) ≡ payload_of reading
-payload_of-blocks blocks (Ok bundle) = refl
-payload_of-blocks blocks (Err stop) = refl
-
-pub blocks_of-blocks : (blocks : List Block) (reading : Result Bundle Stop)
-    → blocks_of (with_blocks blocks reading) ≡ blocks ++ blocks_of reading
-blocks_of-blocks blocks (Ok bundle) = refl
-blocks_of-blocks blocks (Err stop) = refl
-
-pub cut_block_of-blocks : (blocks : List Block) (reading : Result Bundle Stop)
-    → cut_block_of (with_blocks blocks reading) ≡ cut_block_of reading
-cut_block_of-blocks blocks (Ok bundle) = refl
-cut_block_of-blocks blocks (Err stop) = refl
 
 last_chosen : (test : Bool) (block : Block) (reading : Result Bundle Stop)
     → (if test then with_blocks (block ∷ []) reading else reading)

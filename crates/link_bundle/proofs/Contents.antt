@@ -21,18 +21,18 @@ use Rattle.link_bundle.specs.Covers.{Covers}
 use Rattle.link_bundle.specs.Moves.{TakesRun, Enters}
 use Rattle.link_bundle.specs.Fits.{KeepsCheck}
 use Rattle.link_bundle_heads.specs.Rows.{◌>>=◌}
-use Rattle.link_bundle.specs.Reading.{Stop, stopped, ReadAt, bytes_at}
-use Rattle.link_bundle.specs.CheckField.{field_at}
-use Rattle.link_bundle.specs.Canonical.{content_at}
+use Rattle.link_bundle_blocks.specs.Reading.{Stop, stopped, ReadAt, bytes_at}
+use Rattle.link_bundle_blocks.specs.CheckField.{field_at}
+use Rattle.link_bundle_blocks.specs.Canonical.{content_at}
 use Rattle.link_bundle.specs.declared.stage.BlockKind.{BlockKind}
 use Rattle.link_bundle.specs.declared.stage.BlockKind.TheVariants.{Primary, Canonical}
-use Rattle.link_bundle.specs.Blocks.{Block}
-use Rattle.link_bundle.specs.Bundle.{Bundle, with_blocks, if_alone, judged_bundle}
+use Rattle.link_bundle_blocks.specs.Blocks.{Block}
+use Rattle.link_bundle_blocks.specs.Bundle.{Bundle, with_blocks, if_alone, judged_bundle}
 use Rattle.link_bundle.specs.Left.{primary_of, block_of, block_end, span_of, bundle_of, read_alone, with_known_payload, after_field, zeroed_check, stored_left, stage_left, BlockEnds, FieldsEnd, NameGoesOn}
 use Rattle.link_bundle.specs.Scan.{HasSeen, IsInside, IsInStored}
 use Rattle.link_bundle.proofs.Fields.{stored_left-step, stored_left-last}
 use Rattle.link_bundle.proofs.Heads.{no_content, refused_in}
-use Rattle.link_bundle.proofs.Runs.{with_run, bytes_at-run, run_within}
+use Rattle.link_bundle_blocks.proofs.Runs.{with_run, bytes_at-run, run_within}
 use Rattle.link_bundle.proofs.Steps.{entered, regrown, all_grown, byte_grown, count_more, failed, next_run}
 
 -- the bundle, by the check field of its current block

@@ -10,13 +10,13 @@ use Rattle.link_bundle.specs.declared.draft.Draft.{Draft}
 use Rattle.link_bundle.specs.declared.scan.BundleScan.{BundleScan}
 use Rattle.link_bundle.specs.declared.stage.BlockKind.{BlockKind}
 use Rattle.link_bundle.specs.declared.stage.BlockKind.TheVariants.{Primary as PrimaryKind, Canonical}
-use Rattle.link_bundle.specs.Blocks.{Block, PrimaryOf, CanonicalOf, LiesWithin}
-use Rattle.link_bundle.specs.Bundle.{blocks_in}
+use Rattle.link_bundle_blocks.specs.Blocks.{Block, PrimaryOf, CanonicalOf, LiesWithin}
+use Rattle.link_bundle_blocks.specs.Bundle.{blocks_in}
 use Rattle.link_bundle.specs.Left.{block_of, stage_follows}
 use Rattle.link_bundle.specs.Scan.{HasScanned, Advances, AddsBlock, ending, scan_size}
-use Rattle.link_bundle.proofs.Feeding.{joined_run}
-use Rattle.link_bundle.proofs.Lying.{BlocksWithin-holds}
-use Rattle.link_bundle.proofs.Showing.{BlocksGrow-holds}
+use Rattle.link_bundle_blocks.proofs.Rests.{joined_run}
+use Rattle.link_bundle_blocks.proofs.Lying.{BlocksWithin-holds}
+use Rattle.link_bundle_blocks.proofs.Showing.{BlocksGrow-holds}
 
 -- the block ends at this offset
 abbrev EndsAt : ℕ → Block → Type 0

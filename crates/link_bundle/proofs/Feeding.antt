@@ -14,14 +14,15 @@ use Rattle.link_bundle_types.specs.declared.fault.BundleFault.TheVariants.{Cut}
 use Rattle.link_bundle.specs.declared.stage.Field.{Field}
 use Rattle.link_bundle.specs.declared.stage.Role.{Role}
 use Rattle.link_bundle.specs.declared.stage.Stage.TheVariants.{Head, Name, Content}
-use Rattle.link_bundle.specs.Reading.{Stop, stopped}
+use Rattle.link_bundle_blocks.specs.Reading.{Stop, stopped}
 use Rattle.link_bundle_types.specs.declared.fault.BundleFault.{BundleFault}
 use Rattle.link_bundle_types.specs.declared.info.BundleInfo.{BundleInfo}
 use Rattle.link_bundle.specs.CheckKinds.{kind_of}
-use Rattle.link_bundle.specs.Blocks.{Block}
-use Rattle.link_bundle.specs.Bundle.{Bundle, with_blocks, judged_bundle, verdict_by, verdict, state_of, is_going, bundle_goes}
+use Rattle.link_bundle_blocks.specs.Blocks.{Block}
+use Rattle.link_bundle_blocks.specs.Bundle.{Bundle, with_blocks, judged_bundle, verdict_by, verdict, state_of, is_going, bundle_goes}
 use Rattle.link_bundle.specs.Left.{last_block, with_known_payload, stage_left}
-use Rattle.link_bundle.proofs.Blocks.{verdict_by-blocks}
+use Rattle.link_bundle_blocks.proofs.Blocks.{verdict_by-blocks}
+use Rattle.link_bundle_blocks.proofs.Rests.{joined_run}
 use Rattle.link_bundle.specs.Scan.{HasSeen, HasScanned, Advances, scan_size}
 use Rattle.link_bundle.specs.declared.scan.BundleScan.{BundleScan}
 use Rattle.link_bundle.proofs.Heads.{read_alone-stopped}
@@ -74,20 +75,6 @@ pub record TakenInAll (seen bytes : List ℕ) (count : ℕ) : Type 0 where
 pub none_taken : (seen bytes : List ℕ) → TakenSoFar seen bytes 0
 none_taken seen bytes =
     record { splits = ap (λ (seen : List ℕ). taken bundle_goes seen bytes) (sym (append-nil seen)) }
-
--- the bytes from an offset on, as the code takes them
-pub the_rest : (bytes : List ℕ) (count : ℕ)
-    → take (length bytes - count) (drop count bytes) ≡ drop count bytes
-the_rest bytes count =
-    ap (λ (size : ℕ). take size (drop count bytes)) (sym (length-drop count bytes))
-    ∙ take-length (drop count bytes)
-
--- a history and the first bytes of a piece, with one more run
-pub joined_run : (seen bytes : List ℕ) (count more : ℕ)
-    → (seen ++ take count bytes) ++ take more (drop count bytes) ≡ seen ++ take (count + more) bytes
-joined_run seen bytes count more =
-    append_assoc seen (take count bytes) (take more (drop count bytes))
-    ∙ ap (λ (run : List ℕ). seen ++ run) (sym (take-add count more bytes))
 
 pub taken_more : (seen bytes : List ℕ) (count more : ℕ) → more ≤ length (drop count bytes)
     → ((size : ℕ) → size < more

@@ -12,11 +12,11 @@ use Rattle.link_bundle.specs.declared.stage.CheckType.{CheckType}
 use Rattle.link_bundle.specs.declared.stage.CheckType.TheVariants.{Unread, Is}
 use Rattle.link_bundle.specs.CheckKinds.{kind_of, is_kind}
 use Rattle.link_bundle_heads.specs.Rows.{◌>>=◌, check_width, check_field}
-use Rattle.link_bundle.specs.Reading.{stopped, ReadAt, head_at, bytes_at}
-use Rattle.link_bundle.specs.CheckField.{number_from, check_of, field_at}
+use Rattle.link_bundle_blocks.specs.Reading.{stopped, ReadAt, head_at, bytes_at}
+use Rattle.link_bundle_blocks.specs.CheckField.{number_from, check_of, field_at}
 use Rattle.link_bundle.specs.Left.{zeroed_check, stored_left}
-use Rattle.link_bundle.proofs.Heads.{row_at-accepted}
-use Rattle.link_bundle.proofs.Runs.{with_run, bytes_at-step, bytes_at-last}
+use Rattle.link_bundle_blocks.proofs.Heads.{row_at-accepted}
+use Rattle.link_bundle_blocks.proofs.Runs.{with_run, bytes_at-step, bytes_at-last}
 
 -- the check type that was read is that of the check field
 pub same_check : (check : CheckType) (kind : CheckKind) → IsTrue (is_kind (kind_of check) kind)

@@ -7,12 +7,12 @@ use Rattle.link_bundle_types.specs.declared.eid.Eid.TheVariants.{Dtn}
 use Rattle.link_bundle.specs.declared.stage.Role.{Role}
 use Rattle.link_bundle.specs.declared.stage.Role.TheVariants.{Destination, Source, ReportTo}
 use Rattle.link_bundle.specs.declared.stage.Stage.TheVariants.{Name}
-use Rattle.link_bundle.specs.Bundle.{Bundle}
+use Rattle.link_bundle_blocks.specs.Bundle.{Bundle}
 use Rattle.link_bundle_heads.specs.Rows.{◌>>=◌}
-use Rattle.link_bundle.specs.Reading.{ReadAt, Stop, bytes_at}
+use Rattle.link_bundle_blocks.specs.Reading.{ReadAt, Stop, bytes_at}
 use Rattle.link_bundle.specs.Left.{with_eid, after_eid, after_primary, read_alone, with_known_payload, kept_name, name_left, field_left, stage_left, source_left, report_to_left, timestamp_left, time_left, sequence_left, lifetime_left}
 use Rattle.link_bundle.specs.Stages.{stage_after}
-use Rattle.link_bundle.proofs.Runs.{with_run, bytes_at-none, bytes_at-run, run_within}
+use Rattle.link_bundle_blocks.proofs.Runs.{with_run, bytes_at-none, bytes_at-run, run_within}
 
 -- the reading of the whole bundle, by the reading of an endpoint ID
 abbrev pub by_eid : Role → Draft → List ℕ → ReadAt Eid → Result Bundle Stop

@@ -15,10 +15,10 @@ use Rattle.link_bundle.specs.Fits.{stage_fits}
 use Rattle.link_bundle.specs.declared.stage.CheckType.TheVariants.{Unread}
 use Rattle.link_bundle.specs.Covers.{Covers}
 use Rattle.link_cbor.specs.HeadScan.{HasScannedHead}
-use Rattle.link_bundle.specs.Blocks.{Block}
-use Rattle.link_bundle.specs.Reading.{Stop, stopped}
-use Rattle.link_bundle.specs.Primary.{primary_at}
-use Rattle.link_bundle.specs.Bundle.{Bundle, with_blocks, opening_at, bundle_at, judged_bundle}
+use Rattle.link_bundle_blocks.specs.Blocks.{Block}
+use Rattle.link_bundle_blocks.specs.Reading.{Stop, stopped}
+use Rattle.link_bundle_blocks.specs.Primary.{primary_at}
+use Rattle.link_bundle_blocks.specs.Bundle.{Bundle, with_blocks, opening_at, bundle_at, judged_bundle}
 use Rattle.link_bundle.specs.Left.{field_left, stage_left, with_known_payload, primary_block_left, version_left, flags_left, check_type_left, destination_left, source_left, report_to_left, timestamp_left, time_left, sequence_left, lifetime_left}
 use Rattle.link_bundle.specs.Scan.{HasSeen}
 use Rattle.link_bundle.proofs.Fields.{before_and, after_and}

@@ -11,10 +11,10 @@ use Rattle.link_bundle_types.specs.declared.fault.State.{State}
 use Rattle.link_bundle_types.specs.declared.fault.State.TheVariants as state
 use Rattle.link_bundle_types.specs.declared.info.BundleInfo.{BundleInfo}
 use Rattle.link_bundle_types.specs.Faults.{lasts}
-use Rattle.link_bundle.specs.Bundle.{Bundle, judged_bundle, verdict_by, verdict, payload_of, payload_in, spanned, payload_seen, state_of, is_going, bundle_goes}
-use Rattle.link_bundle.specs.Blocks.{Block}
+use Rattle.link_bundle_blocks.specs.Bundle.{Bundle, judged_bundle, verdict_by, verdict, payload_of, payload_in, spanned, payload_seen, state_of, is_going, bundle_goes}
+use Rattle.link_bundle_blocks.specs.Blocks.{Block}
 use Rattle.link_bundle.specs.Left.{stage_left}
-use Rattle.link_bundle.specs.Reading.{Stop}
+use Rattle.link_bundle_blocks.specs.Reading.{Stop}
 use Rattle.link_bundle.specs.Scan.{HasSeen, HasScanned, HasJudged, may_scan}
 use Rattle.link_bundle.specs.Stages.{stage_state, takes_bytes}
 use Rattle.link_bundle.specs.declared.cursor.Cursor.{Cursor}
@@ -22,8 +22,8 @@ use Rattle.link_bundle.specs.declared.draft.Draft.{Draft}
 use Rattle.link_bundle.specs.declared.scan.BundleScan.{BundleScan}
 use Rattle.link_bundle.specs.declared.stage.Stage.{Stage}
 use Rattle.link_bundle.specs.declared.stage.Stage.TheVariants.{Start, Head, Name, Content, Stored, Ended, Failed}
-use Rattle.link_bundle.proofs.Lengths.{TrailingLasts-holds}
-use Rattle.link_bundle.proofs.Payloads.{PayloadEnds-holds}
+use Rattle.link_bundle_blocks.proofs.Lengths.{TrailingLasts-holds}
+use Rattle.link_bundle_blocks.proofs.Payloads.{PayloadEnds-holds}
 use Rattle.link_bundle.proofs.Verdicts.{state_of-seen}
 
 -- ---- the state

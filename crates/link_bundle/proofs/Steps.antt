@@ -30,11 +30,12 @@ use Rattle.link_bundle.specs.CheckKinds.{is_unread}
 use Rattle.link_bundle.specs.Covers.{Covers}
 use Rattle.link_bundle.specs.Fits.{is_block, scan_fits, KeepsCheck}
 use Rattle.link_bundle.specs.Moves.{TakesRun, Enters}
-use Rattle.link_bundle.specs.Blocks.{Block}
-use Rattle.link_bundle.specs.Bundle.{Bundle, with_blocks, judged_bundle}
-use Rattle.link_bundle.specs.Reading.{Stop, stopped, head_at}
+use Rattle.link_bundle_blocks.specs.Blocks.{Block}
+use Rattle.link_bundle_blocks.specs.Bundle.{Bundle, with_blocks, judged_bundle}
+use Rattle.link_bundle_blocks.specs.Reading.{Stop, stopped, head_at}
 use Rattle.link_bundle.specs.Left.{block_start, field_left, last_block, with_last, read_alone, with_known_payload, stage_left, goes_on, AsReadFrom}
-use Rattle.link_bundle.proofs.Blocks.{both_before, read_alone-blocks, with_last-is}
+use Rattle.link_bundle_blocks.proofs.Blocks.{both_before}
+use Rattle.link_bundle.proofs.Blocks.{read_alone-blocks, with_last-is}
 use Rattle.link_bundle.proofs.Heads.{read_alone-stopped}
 use Rattle.link_bundle.proofs.Stops.{stop_at-bad, field_left-stopped}
 use Rattle.link_bundle.specs.declared.scan.BundleScan.{BundleScan}

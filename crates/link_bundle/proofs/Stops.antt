@@ -12,13 +12,13 @@ use Rattle.link_bundle.specs.declared.stage.Part.TheVariants as part
 use Rattle.link_bundle_heads.specs.declared.endpoint.Scheme.TheVariants.{Dtn, Ipn}
 use Rattle.std.specs.Prelude.{Result}
 use Rattle.link_bundle_heads.specs.Rows.{unsigned, byte_string, pair, scheme, dtn_part, ipn_part, version, primary_block, primary_check_type, block, block_too_many, block_number, block_check_type, check_field, closing}
-use Rattle.link_bundle.specs.Reading.{Stop, stopped, head_at, row_at}
-use Rattle.link_bundle.specs.EndpointId.{eid_at, specific_at}
-use Rattle.link_bundle.specs.CheckField.{field_at}
-use Rattle.link_bundle.specs.Primary.{fragment_at}
-use Rattle.link_bundle.specs.Blocks.{Primary}
-use Rattle.link_bundle.specs.Bundle.{cut_in, blocks_at}
-use Rattle.link_bundle.specs.Canonical.{heads_at}
+use Rattle.link_bundle_blocks.specs.Reading.{Stop, stopped, head_at, row_at}
+use Rattle.link_bundle_blocks.specs.EndpointId.{eid_at, specific_at}
+use Rattle.link_bundle_blocks.specs.CheckField.{field_at}
+use Rattle.link_bundle_blocks.specs.Primary.{fragment_at}
+use Rattle.link_bundle_blocks.specs.Blocks.{Primary}
+use Rattle.link_bundle_blocks.specs.Bundle.{cut_in, blocks_at}
+use Rattle.link_bundle_blocks.specs.Canonical.{heads_at}
 use Rattle.link_bundle.specs.declared.stage.BlockKind.TheVariants.{Primary as PrimaryKind, Canonical}
 use Rattle.link_bundle_types.specs.declared.fault.BundleFault.TheVariants.{Cut, BadHead}
 use Rattle.link_bundle.specs.Left.{current, field_block, field_left, primary_of, primary_block_left, version_left, flags_left, check_type_left, timestamp_left, time_left, sequence_left, lifetime_left, offset_left, total_left, scheme_left, allocator_left, node_left, service_left, type_left, number_left, block_flags_left, block_check_left, data_left}

@@ -8,11 +8,11 @@ use Rattle.link_bundle.specs.declared.draft.Draft.{Draft}
 use Rattle.link_bundle.specs.declared.scan.BundleScan.{BundleScan}
 use Rattle.link_bundle.specs.declared.stage.Stage.{Stage}
 use Rattle.link_bundle.specs.declared.stage.Stage.TheVariants.{Ended}
-use Rattle.link_bundle.specs.Blocks.{Block}
-use Rattle.link_bundle.specs.Bundle.{blocks_in, bundle_goes}
+use Rattle.link_bundle_blocks.specs.Blocks.{Block}
+use Rattle.link_bundle_blocks.specs.Bundle.{blocks_in, bundle_goes}
 use Rattle.link_bundle.specs.Left.{block_of, stage_follows, stage_last}
 use Rattle.link_bundle.specs.Scan.{HasSeen, HasScanned, HasTaken, Advances, AddsBlock, ending_at, ending, scan_size}
-use Rattle.link_bundle.proofs.Feeding.{joined_run}
+use Rattle.link_bundle_blocks.proofs.Rests.{joined_run}
 use Rattle.link_bundle.proofs.Verdicts.{blocks_of-seen}
 
 -- the block that ended before the stage of a scan

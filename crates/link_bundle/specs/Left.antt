@@ -20,7 +20,7 @@ use Rattle.link_bundle.specs.declared.stage.CanonicalField.{CanonicalField}
 use Rattle.link_bundle.specs.declared.stage.CanonicalField.TheVariants as canonical
 use Rattle.link_bundle.specs.declared.stage.BlockKind.{BlockKind}
 use Rattle.link_bundle.specs.declared.stage.BlockKind.TheVariants.{Primary as PrimaryKind, Canonical}
-use Rattle.link_bundle.specs.declared.block.CanonicalBlock.{CanonicalBlock}
+use Rattle.link_bundle_blocks.specs.declared.block.CanonicalBlock.{CanonicalBlock}
 use Rattle.link_bundle.specs.declared.stage.Role.{Role}
 use Rattle.link_bundle.specs.declared.stage.Role.TheVariants.{Destination, Source, ReportTo}
 use Rattle.link_bundle.specs.declared.stage.Part.{Part}
@@ -30,14 +30,14 @@ use Rattle.link_bundle_types.specs.declared.fault.BundleFault.{BundleFault}
 use Rattle.link_bundle_types.specs.declared.fault.BundleFault.TheVariants.{CheckDiffers}
 use Rattle.link_bundle.specs.CheckKinds.{kind_of}
 use Rattle.link_bundle_heads.specs.Rows.{◌>>=◌, unsigned, byte_string, pair, scheme, version, is_fragment, primary_block, primary_check_type, block_number, block_check_type, closing}
-use Rattle.link_bundle.specs.Reading.{Stop, stopped, ReadAt, head_at, row_at, bytes_at}
-use Rattle.link_bundle.specs.EndpointId.{specific_at, eid_at}
+use Rattle.link_bundle_blocks.specs.Reading.{Stop, stopped, ReadAt, head_at, row_at, bytes_at}
+use Rattle.link_bundle_blocks.specs.EndpointId.{specific_at, eid_at}
 use Rattle.link_bundle_types.specs.KeptEid.{name_of}
-use Rattle.link_bundle.specs.CheckField.{number_from, field_at}
-use Rattle.link_bundle.specs.Primary.{fragment_at}
-use Rattle.link_bundle.specs.Blocks.{Primary, Block, PrimaryOf, CanonicalOf, ended}
-use Rattle.link_bundle.specs.Canonical.{content_at}
-use Rattle.link_bundle.specs.Bundle.{Bundle, with_payload, with_blocks, inside, info_of, rest_of, payload_at, blocks_at, if_alone, judged_bundle}
+use Rattle.link_bundle_blocks.specs.CheckField.{number_from, field_at}
+use Rattle.link_bundle_blocks.specs.Primary.{fragment_at}
+use Rattle.link_bundle_blocks.specs.Blocks.{Primary, Block, PrimaryOf, CanonicalOf, ended}
+use Rattle.link_bundle_blocks.specs.Canonical.{content_at}
+use Rattle.link_bundle_blocks.specs.Bundle.{Bundle, with_payload, with_blocks, inside, info_of, rest_of, payload_at, blocks_at, if_alone, judged_bundle}
 
 abbrev pub primary_of : Draft → Primary
 primary_of draft =

@@ -1,10 +1,3 @@
-pub mod Blocks
-pub mod Reading
-pub mod EndpointId
-pub mod CheckField
-pub mod Primary
-pub mod Canonical
-pub mod Bundle
 pub mod CheckKinds
 pub mod Left
 pub mod Fits
@@ -12,6 +5,4 @@ pub mod Covers
 pub mod Moves
 pub mod Stages
 pub mod Scan
-pub mod Laws
 pub mod Judged
-pub mod Whole

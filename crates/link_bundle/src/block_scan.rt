@@ -1,17 +1,16 @@
 //! The blocks of a bundle that is being scanned, one after another.
 ghost use Rattle.std.specs.Prelude.{◌≡◌, ℕ, ◌+◌, ◌-◌, ◌^◌, ◌<◌, ◌≤◌, Ok, ◌==◌, ◌&&◌, false, IsTrue, IfSome, List, [], ◌++◌, length, take};
 
-use crate::block::{BlockView, CanonicalBlock};
 use crate::scan::BundleScan;
 use crate::stage::{CanonicalField, Field, Stage};
-use crate::whole::whole_canonical;
+use link_bundle_blocks::{BlockView, CanonicalBlock, whole_canonical};
 use link_cbor::{CheckKind, Piecewise};
 
 impl BundleScan {
-    ghost use Rattle.link_bundle.specs.Blocks.{viewed_blocks, viewed_block, HasShortBlock};
+    ghost use Rattle.link_bundle_blocks.specs.Blocks.{viewed_blocks, viewed_block, HasShortBlock};
     ghost use Rattle.link_bundle.specs.Left.{primary_of, stage_follows};
-    ghost use Rattle.link_bundle.specs.Bundle.{cut_block_in, bundle_goes};
-    ghost use Rattle.link_bundle.specs.Whole.{whole_primary, whole_canonical};
+    ghost use Rattle.link_bundle_blocks.specs.Bundle.{cut_block_in, bundle_goes};
+    ghost use Rattle.link_bundle_blocks.specs.Whole.{whole_primary, whole_canonical};
     ghost use Rattle.link_bundle.specs.Scan.{HasScanned, HasTaken, MayAdvance, Advances, AddsBlock, ending, may_scan};
 
     /// Takes the next bytes of a piece, until a block ends or no more bytes are needed.

@@ -1,8 +1,8 @@
 //! The parts of a bundle that a scan keeps, and how each head changes them.
 ghost use Rattle.std.specs.Prelude.{◌≡◌, ◌<◌, ◌≤◌, [], ◌++◌, IsTrue, None, length};
 
-use crate::block::{BlockView, CanonicalBlock, PrimaryBlock};
 use crate::stage::{BlockKind, CanonicalField, CheckType, Field, Part, PrimaryField, Role, Stage};
+use link_bundle_blocks::{BlockView, CanonicalBlock, PrimaryBlock};
 use link_bundle_heads::{Scheme, row};
 use link_bundle_types::{BlockNumbers, BundleFault, BundleView, EidForm, KeptEid};
 use link_cbor::{CheckKind, Head};
@@ -42,10 +42,10 @@ pub(crate) struct Draft {
 
 impl Draft {
     ghost use Rattle.link_bundle.specs.Fits.{stage_fits, KeepsCheck};
-    ghost use Rattle.link_bundle.specs.Bundle.{info_of};
+    ghost use Rattle.link_bundle_blocks.specs.Bundle.{info_of};
     ghost use Rattle.link_bundle_types.specs.BundleView.{viewed_info};
     ghost use Rattle.link_bundle_types.specs.ShortNames.{HasShortNames};
-    ghost use Rattle.link_bundle.specs.Blocks.{viewed_block, HasShortBlock};
+    ghost use Rattle.link_bundle_blocks.specs.Blocks.{viewed_block, HasShortBlock};
     ghost use Rattle.link_bundle.specs.Left.{BlockEnds, CanonicalEnds, FieldsEnd, primary_of, span_of, current, kind_block, stage_block, block_of};
 
     /// The draft of a bundle before its first byte.
@@ -230,7 +230,7 @@ impl Draft {
     }
 
     /// The stage after those fields of a block of this kind that come before its check field.
-    #[tactic(auto, unfolding(crate::specs::Left::stage_left, crate::specs::Left::field_left, crate::specs::CheckField::field_at))]
+    #[tactic(auto, unfolding(crate::specs::Left::stage_left, crate::specs::Left::field_left, link_bundle_blocks::specs::CheckField::field_at))]
     pub fn after_fields(&mut self, block: BlockKind) -> Stage
         ensures reads { FieldsEnd block self.old result self.new }
         ensures fits { IsTrue (stage_fits result self.new) }
@@ -273,7 +273,7 @@ impl Draft {
         }
     }
 
-    #[tactic(auto, using(crate::proofs::Heads::heads), unfolding(crate::specs::Left::field_left, crate::specs::Left::stage_left, crate::specs::Left::primary_block_left))]
+    #[tactic(auto, using(link_bundle_blocks::proofs::Heads::heads), unfolding(crate::specs::Left::field_left, crate::specs::Left::stage_left, crate::specs::Left::primary_block_left))]
     fn primary_block(&mut self, head: Head, offset: u64) -> Result<Stage, BundleFault>
         requires { IsTrue (stage_fits (Stage.Head (Field.Primary PrimaryField.Block)) self.old) }
         ensures { JudgedAfter offset (Field.Primary PrimaryField.Block)
@@ -284,7 +284,7 @@ impl Draft {
         Ok(Stage::Head(Field::Primary(PrimaryField::Version)))
     }
 
-    #[tactic(auto, using(crate::proofs::Heads::heads), unfolding(crate::specs::Left::field_left, crate::specs::Left::stage_left, crate::specs::Left::version_left))]
+    #[tactic(auto, using(link_bundle_blocks::proofs::Heads::heads), unfolding(crate::specs::Left::field_left, crate::specs::Left::stage_left, crate::specs::Left::version_left))]
     fn version(&mut self, head: Head) -> Result<Stage, BundleFault>
         requires { IsTrue (stage_fits (Stage.Head (Field.Primary PrimaryField.Version)) self.old) }
         ensures { Judged (Field.Primary PrimaryField.Version) self.old head result self.new }
@@ -293,7 +293,7 @@ impl Draft {
         Ok(Stage::Head(Field::Primary(PrimaryField::Flags)))
     }
 
-    #[tactic(auto, using(crate::proofs::Heads::heads), unfolding(crate::specs::Left::field_left, crate::specs::Left::stage_left, crate::specs::Left::flags_left))]
+    #[tactic(auto, using(link_bundle_blocks::proofs::Heads::heads), unfolding(crate::specs::Left::field_left, crate::specs::Left::stage_left, crate::specs::Left::flags_left))]
     fn flags(&mut self, head: Head) -> Result<Stage, BundleFault>
         requires { IsTrue (stage_fits (Stage.Head (Field.Primary PrimaryField.Flags)) self.old) }
         ensures { Judged (Field.Primary PrimaryField.Flags) self.old head result self.new }
@@ -302,7 +302,7 @@ impl Draft {
         Ok(Stage::Head(Field::Primary(PrimaryField::CheckType)))
     }
 
-    #[tactic(auto, using(crate::proofs::Heads::heads), unfolding(crate::specs::Left::field_left, crate::specs::Left::stage_left, crate::specs::Left::check_type_left, crate::specs::Left::destination_left))]
+    #[tactic(auto, using(link_bundle_blocks::proofs::Heads::heads), unfolding(crate::specs::Left::field_left, crate::specs::Left::stage_left, crate::specs::Left::check_type_left, crate::specs::Left::destination_left))]
     fn primary_check_type(&mut self, head: Head) -> Result<Stage, BundleFault>
         requires { IsTrue (stage_fits (Stage.Head (Field.Primary PrimaryField.CheckType))
             self.old) }
@@ -312,7 +312,7 @@ impl Draft {
         Ok(Stage::Head(Field::Endpoint(Role::Destination, Part::Array)))
     }
 
-    #[tactic(auto, using(crate::proofs::Heads::heads), unfolding(crate::specs::Left::field_left, crate::specs::Left::stage_left, crate::specs::Left::timestamp_left))]
+    #[tactic(auto, using(link_bundle_blocks::proofs::Heads::heads), unfolding(crate::specs::Left::field_left, crate::specs::Left::stage_left, crate::specs::Left::timestamp_left))]
     fn timestamp(&mut self, head: Head) -> Result<Stage, BundleFault>
         ensures { Judged (Field.Primary PrimaryField.Timestamp) self.old head result self.new }
     {
@@ -320,7 +320,7 @@ impl Draft {
         Ok(Stage::Head(Field::Primary(PrimaryField::Time)))
     }
 
-    #[tactic(auto, using(crate::proofs::Heads::heads), unfolding(crate::specs::Left::field_left, crate::specs::Left::stage_left, crate::specs::Left::time_left))]
+    #[tactic(auto, using(link_bundle_blocks::proofs::Heads::heads), unfolding(crate::specs::Left::field_left, crate::specs::Left::stage_left, crate::specs::Left::time_left))]
     fn time(&mut self, head: Head) -> Result<Stage, BundleFault>
         ensures { Judged (Field.Primary PrimaryField.Time) self.old head result self.new }
     {
@@ -328,7 +328,7 @@ impl Draft {
         Ok(Stage::Head(Field::Primary(PrimaryField::Sequence)))
     }
 
-    #[tactic(auto, using(crate::proofs::Heads::heads), unfolding(crate::specs::Left::field_left, crate::specs::Left::stage_left, crate::specs::Left::sequence_left))]
+    #[tactic(auto, using(link_bundle_blocks::proofs::Heads::heads), unfolding(crate::specs::Left::field_left, crate::specs::Left::stage_left, crate::specs::Left::sequence_left))]
     fn sequence(&mut self, head: Head) -> Result<Stage, BundleFault>
         ensures { Judged (Field.Primary PrimaryField.Sequence) self.old head result self.new }
     {
@@ -336,7 +336,7 @@ impl Draft {
         Ok(Stage::Head(Field::Primary(PrimaryField::Lifetime)))
     }
 
-    #[tactic(auto, using(crate::proofs::Heads::heads), unfolding(crate::specs::Left::field_left, crate::specs::Left::stage_left, crate::specs::Left::lifetime_left, crate::specs::Left::offset_left, crate::specs::Primary::fragment_at))]
+    #[tactic(auto, using(link_bundle_blocks::proofs::Heads::heads), unfolding(crate::specs::Left::field_left, crate::specs::Left::stage_left, crate::specs::Left::lifetime_left, crate::specs::Left::offset_left, link_bundle_blocks::specs::Primary::fragment_at))]
     fn lifetime(&mut self, head: Head) -> Result<Stage, BundleFault>
         ensures { Judged (Field.Primary PrimaryField.Lifetime) self.old head result self.new }
     {
@@ -348,7 +348,7 @@ impl Draft {
         Ok(self.after_fields(BlockKind::Primary))
     }
 
-    #[tactic(auto, using(crate::proofs::Heads::heads), unfolding(crate::specs::Left::field_left, crate::specs::Left::stage_left, crate::specs::Left::offset_left, crate::specs::Left::total_left, crate::specs::Primary::fragment_at))]
+    #[tactic(auto, using(link_bundle_blocks::proofs::Heads::heads), unfolding(crate::specs::Left::field_left, crate::specs::Left::stage_left, crate::specs::Left::offset_left, crate::specs::Left::total_left, link_bundle_blocks::specs::Primary::fragment_at))]
     fn fragment_offset(&mut self, head: Head) -> Result<Stage, BundleFault>
         ensures { Judged (Field.Primary PrimaryField.FragmentOffset) self.old head result self.new }
     {
@@ -356,7 +356,7 @@ impl Draft {
         Ok(Stage::Head(Field::Primary(PrimaryField::TotalLength)))
     }
 
-    #[tactic(auto, using(crate::proofs::Heads::heads), unfolding(crate::specs::Left::field_left, crate::specs::Left::stage_left, crate::specs::Left::total_left))]
+    #[tactic(auto, using(link_bundle_blocks::proofs::Heads::heads), unfolding(crate::specs::Left::field_left, crate::specs::Left::stage_left, crate::specs::Left::total_left))]
     fn total_length(&mut self, head: Head) -> Result<Stage, BundleFault>
         ensures { Judged (Field.Primary PrimaryField.TotalLength) self.old head result self.new }
     {
@@ -389,7 +389,7 @@ impl Draft {
         }
     }
 
-    #[tactic(auto, using(crate::proofs::Heads::heads), unfolding(crate::specs::Left::field_left, crate::specs::Left::stage_left, crate::specs::EndpointId::eid_at, crate::specs::Left::scheme_left))]
+    #[tactic(auto, using(link_bundle_blocks::proofs::Heads::heads), unfolding(crate::specs::Left::field_left, crate::specs::Left::stage_left, link_bundle_blocks::specs::EndpointId::eid_at, crate::specs::Left::scheme_left))]
     fn eid(&mut self, role: Role, head: Head) -> Result<Stage, BundleFault>
         ensures { Judged (Field.Endpoint role Part.Array) self.old head result self.new }
     {
@@ -397,7 +397,7 @@ impl Draft {
         Ok(Stage::Head(Field::Endpoint(role, Part::Scheme)))
     }
 
-    #[tactic(auto, using(crate::proofs::Heads::heads), unfolding(crate::specs::Left::field_left, crate::specs::Left::stage_left, crate::specs::Left::scheme_left))]
+    #[tactic(auto, using(link_bundle_blocks::proofs::Heads::heads), unfolding(crate::specs::Left::field_left, crate::specs::Left::stage_left, crate::specs::Left::scheme_left))]
     fn scheme(&mut self, role: Role, head: Head) -> Result<Stage, BundleFault>
         ensures { Judged (Field.Endpoint role Part.Scheme) self.old head result self.new }
     {
@@ -405,7 +405,7 @@ impl Draft {
         Ok(Stage::Head(Field::Endpoint(role, Part::Specific(scheme))))
     }
 
-    #[tactic(auto, using(crate::proofs::Heads::heads), unfolding(crate::specs::Left::field_left, crate::specs::Left::stage_left, crate::specs::EndpointId::specific_at))]
+    #[tactic(auto, using(link_bundle_blocks::proofs::Heads::heads), unfolding(crate::specs::Left::field_left, crate::specs::Left::stage_left, link_bundle_blocks::specs::EndpointId::specific_at))]
     fn dtn(&mut self, role: Role, head: Head) -> Result<Stage, BundleFault>
         ensures { Judged (Field.Endpoint role (Part.Specific Scheme.Dtn))
             self.old head result self.new }
@@ -416,7 +416,7 @@ impl Draft {
         }
     }
 
-    #[tactic(auto, using(crate::proofs::Heads::heads), unfolding(crate::specs::Left::field_left, crate::specs::Left::stage_left, crate::specs::EndpointId::specific_at, crate::specs::EndpointId::ipn_at, crate::specs::Left::allocator_left, crate::specs::Left::node_left, crate::specs::Left::service_left))]
+    #[tactic(auto, using(link_bundle_blocks::proofs::Heads::heads), unfolding(crate::specs::Left::field_left, crate::specs::Left::stage_left, link_bundle_blocks::specs::EndpointId::specific_at, link_bundle_blocks::specs::EndpointId::ipn_at, crate::specs::Left::allocator_left, crate::specs::Left::node_left, crate::specs::Left::service_left))]
     fn ipn(&mut self, role: Role, head: Head) -> Result<Stage, BundleFault>
         ensures { Judged (Field.Endpoint role (Part.Specific Scheme.Ipn))
             self.old head result self.new }
@@ -431,7 +431,7 @@ impl Draft {
         Ok(Stage::Head(Field::Endpoint(role, part)))
     }
 
-    #[tactic(auto, using(crate::proofs::Heads::heads), unfolding(crate::specs::Left::field_left, crate::specs::Left::stage_left, crate::specs::Left::allocator_left))]
+    #[tactic(auto, using(link_bundle_blocks::proofs::Heads::heads), unfolding(crate::specs::Left::field_left, crate::specs::Left::stage_left, crate::specs::Left::allocator_left))]
     fn allocator(&mut self, role: Role, head: Head) -> Result<Stage, BundleFault>
         ensures { Judged (Field.Endpoint role Part.Allocator) self.old head result self.new }
     {
@@ -439,7 +439,7 @@ impl Draft {
         Ok(Stage::Head(Field::Endpoint(role, Part::Node)))
     }
 
-    #[tactic(auto, using(crate::proofs::Heads::heads), unfolding(crate::specs::Left::field_left, crate::specs::Left::stage_left, crate::specs::Left::node_left))]
+    #[tactic(auto, using(link_bundle_blocks::proofs::Heads::heads), unfolding(crate::specs::Left::field_left, crate::specs::Left::stage_left, crate::specs::Left::node_left))]
     fn node(&mut self, role: Role, head: Head) -> Result<Stage, BundleFault>
         ensures { Judged (Field.Endpoint role Part.Node) self.old head result self.new }
     {
@@ -447,7 +447,7 @@ impl Draft {
         Ok(Stage::Head(Field::Endpoint(role, Part::Service)))
     }
 
-    #[tactic(auto, using(crate::proofs::Heads::heads), unfolding(crate::specs::Left::field_left, crate::specs::Left::stage_left, crate::specs::Left::service_left))]
+    #[tactic(auto, using(link_bundle_blocks::proofs::Heads::heads), unfolding(crate::specs::Left::field_left, crate::specs::Left::stage_left, crate::specs::Left::service_left))]
     fn service(&mut self, role: Role, head: Head) -> Result<Stage, BundleFault>
         ensures { Judged (Field.Endpoint role Part.Service) self.old head result self.new }
     {
@@ -553,7 +553,7 @@ impl Draft {
         }
     }
 
-    #[tactic(auto, using(crate::proofs::Heads::heads), unfolding(crate::specs::Left::field_left, crate::specs::Left::stage_left))]
+    #[tactic(auto, using(link_bundle_blocks::proofs::Heads::heads), unfolding(crate::specs::Left::field_left, crate::specs::Left::stage_left))]
     fn block(&mut self, head: Head, offset: u64) -> Result<Stage, BundleFault>
         requires { IsTrue (stage_fits (Stage.Head (Field.Canonical CanonicalField.Block))
             self.old) }
@@ -568,7 +568,7 @@ impl Draft {
         Ok(Stage::Head(Field::Canonical(CanonicalField::Type)))
     }
 
-    #[tactic(auto, using(crate::proofs::Heads::heads), unfolding(crate::specs::Left::field_left, crate::specs::Left::stage_left, crate::specs::Left::type_left))]
+    #[tactic(auto, using(link_bundle_blocks::proofs::Heads::heads), unfolding(crate::specs::Left::field_left, crate::specs::Left::stage_left, crate::specs::Left::type_left))]
     fn block_type(&mut self, head: Head) -> Result<Stage, BundleFault>
         requires { IsTrue (stage_fits (Stage.Head (Field.Canonical CanonicalField.Type)) self.old) }
         ensures { Judged (Field.Canonical CanonicalField.Type) self.old head result self.new }
@@ -577,7 +577,7 @@ impl Draft {
         Ok(Stage::Head(Field::Canonical(CanonicalField::Number)))
     }
 
-    #[tactic(auto, using(crate::proofs::Heads::heads), unfolding(crate::specs::Left::field_left, crate::specs::Left::stage_left, crate::specs::Left::number_left))]
+    #[tactic(auto, using(link_bundle_blocks::proofs::Heads::heads), unfolding(crate::specs::Left::field_left, crate::specs::Left::stage_left, crate::specs::Left::number_left))]
     fn block_number(&mut self, head: Head) -> Result<Stage, BundleFault>
         requires { IsTrue (stage_fits (Stage.Head (Field.Canonical CanonicalField.Number))
             self.old) }
@@ -588,7 +588,7 @@ impl Draft {
         Ok(Stage::Head(Field::Canonical(CanonicalField::Flags)))
     }
 
-    #[tactic(auto, using(crate::proofs::Heads::heads), unfolding(crate::specs::Left::field_left, crate::specs::Left::stage_left, crate::specs::Left::block_flags_left))]
+    #[tactic(auto, using(link_bundle_blocks::proofs::Heads::heads), unfolding(crate::specs::Left::field_left, crate::specs::Left::stage_left, crate::specs::Left::block_flags_left))]
     fn block_flags(&mut self, head: Head) -> Result<Stage, BundleFault>
         requires { IsTrue (stage_fits (Stage.Head (Field.Canonical CanonicalField.Flags))
             self.old) }
@@ -598,7 +598,7 @@ impl Draft {
         Ok(Stage::Head(Field::Canonical(CanonicalField::CheckType)))
     }
 
-    #[tactic(auto, using(crate::proofs::Heads::heads), unfolding(crate::specs::Left::field_left, crate::specs::Left::stage_left, crate::specs::Left::block_check_left))]
+    #[tactic(auto, using(link_bundle_blocks::proofs::Heads::heads), unfolding(crate::specs::Left::field_left, crate::specs::Left::stage_left, crate::specs::Left::block_check_left))]
     fn block_check_type(&mut self, head: Head) -> Result<Stage, BundleFault>
         requires { IsTrue (stage_fits (Stage.Head (Field.Canonical CanonicalField.CheckType))
             self.old) }
@@ -608,7 +608,7 @@ impl Draft {
         Ok(Stage::Head(Field::Canonical(CanonicalField::Data)))
     }
 
-    #[tactic(auto, using(crate::proofs::Heads::heads), unfolding(crate::specs::Left::field_left, crate::specs::Left::stage_left, crate::specs::Left::data_left))]
+    #[tactic(auto, using(link_bundle_blocks::proofs::Heads::heads), unfolding(crate::specs::Left::field_left, crate::specs::Left::stage_left, crate::specs::Left::data_left))]
     fn data(&mut self, head: Head, next: u64) -> Result<Stage, BundleFault>
         requires { IsTrue (stage_fits (Stage.Head (Field.Canonical CanonicalField.Data)) self.old) }
         ensures { JudgedAt next (Field.Canonical CanonicalField.Data)

@@ -3,7 +3,7 @@ ghost use Rattle.std.specs.Prelude.{◌≡◌, ℕ, IsTrue, List, ◌++◌, leng
 ghost use Rattle.link_cbor.specs.Head.{Whole, head_front};
 ghost use Rattle.link_bundle.specs.Fits.{scan_fits, stage_fits};
 ghost use Rattle.link_bundle.specs.Judged.{JudgedFrom};
-ghost use Rattle.link_bundle.specs.Blocks.{Block};
+ghost use Rattle.link_bundle_blocks.specs.Blocks.{Block};
 ghost use Rattle.link_bundle.specs.Left.{last_block, stage_last};
 ghost use Rattle.link_bundle.specs.Scan.{ending_at};
 ghost use Rattle.link_bundle.specs.Scan.{HasSeen, HasSeenHead};
@@ -16,7 +16,7 @@ use link_bundle_types::BundleFault;
 use link_cbor::Head;
 
 /// Judges a complete head at a field, and returns the next stage or the fault.
-#[tactic(auto, using(crate::proofs::Heads::heads), unfolding(crate::specs::Left::field_left, crate::specs::Left::stage_left))]
+#[tactic(auto, using(link_bundle_blocks::proofs::Heads::heads), unfolding(crate::specs::Left::field_left, crate::specs::Left::stage_left))]
 fn judge(draft: &mut Draft, cursor: &Cursor, field: Field, head: Head) -> Result<Stage, BundleFault>
     requires { IsTrue (stage_fits (Stage.Head field) draft.old) }
     ensures { JudgedFrom cursor.now.offset cursor.now.count field draft.old head result draft.new }

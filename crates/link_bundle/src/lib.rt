@@ -26,23 +26,20 @@
 //! ```
 //!
 //! The verdict depends only on the bytes, however they are cut into pieces. It is the definition
-//! `verdict` of specs/Bundle.antt. The crate `link_bundle_types` has the types, and
+//! `verdict` of link_bundle_blocks. The crate `link_bundle_types` has the types, and
 //! `link_bundle_heads` judges the heads.
 #![tactic(auto)]
 
-mod block;
 mod block_scan;
 mod checks;
 mod cursor;
 mod draft;
-mod item;
 mod judging;
-pub mod laws;
 mod scan;
 mod stage;
 mod whole;
 
-pub use block::{BlockView, CanonicalBlock, PrimaryBlock};
+pub use link_bundle_blocks::{BlockView, CanonicalBlock, PrimaryBlock};
 pub use link_bundle_types::{
     BLOCK_LIMIT, BundleFault, BundleInfo, BundleView, EID_LIMIT, Eid, EidView, State,
 };

@@ -36,7 +36,7 @@ fn first_of(piece: &[u8], left: u64) -> &[u8]
 }
 
 impl BundleScan {
-    ghost use Rattle.link_bundle.specs.Bundle.{verdict, state_of, payload_seen};
+    ghost use Rattle.link_bundle_blocks.specs.Bundle.{verdict, state_of, payload_seen};
     ghost use Rattle.link_bundle_types.specs.BundleView.{viewed_info, viewed_verdict};
     ghost use Rattle.link_bundle_types.specs.ShortNames.{HasShortNames};
     ghost use Rattle.link_bundle.specs.Scan.{HasScanned, scan_size, may_scan, HasTaken};
@@ -267,7 +267,7 @@ impl BundleScan {
 
 impl BundleScan {
     ghost use Rattle.link_cbor.specs.Pieces.{taken};
-    ghost use Rattle.link_bundle.specs.Bundle.{bundle_goes};
+    ghost use Rattle.link_bundle_blocks.specs.Bundle.{bundle_goes};
     ghost use Rattle.link_bundle.specs.Scan.{HasScanned, scan_size, may_scan, MayAdvance, Advances, AddsBlock};
 
     /// Takes the bytes of a piece while more are needed, and returns how many.
@@ -410,7 +410,7 @@ impl fmt::Debug for BundleScan {
 }
 
 impl Piecewise for BundleScan {
-    ghost use Rattle.link_bundle.specs.Bundle.{bundle_goes};
+    ghost use Rattle.link_bundle_blocks.specs.Bundle.{bundle_goes};
     ghost use Rattle.link_bundle.specs.Scan.{HasScanned, scan_size, may_scan};
 
     ghost has_seen = { HasScanned };

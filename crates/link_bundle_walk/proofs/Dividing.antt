@@ -10,7 +10,7 @@ use Rattle.link_bundle_types.specs.declared.fault.BundleFault.{BundleFault}
 use Rattle.link_bundle_types.specs.declared.fault.BundleFault.TheVariants.{Cut}
 use Rattle.link_bundle_types.specs.declared.fault.State.TheVariants as state
 use Rattle.link_bundle_types.specs.declared.info.BundleInfo.{BundleInfo}
-use Rattle.link_bundle.specs.Bundle.{opening_at, bundle_at, judged_bundle, verdict, state_of, is_going, bundle_goes}
+use Rattle.link_bundle_blocks.specs.Bundle.{opening_at, bundle_at, judged_bundle, verdict, state_of, is_going, bundle_goes}
 use Rattle.link_bundle_walk.specs.Bundles.{Packed, Refusal, Longer, Faulty, Divided, IsOpen, bundle_prefix, refused_by, judged_front, with_bundle, divided_by, divided_in, divided}
 use Rattle.link_bundle.specs.Scan.{HasScanned}
 use Rattle.link_report.specs.declared.fault.Fault.TheVariants.{TooLong}

@@ -7,7 +7,7 @@ use Rattle.link_bundle_types.specs.Faults.{lasts}
 use Rattle.link_bundle_types.specs.declared.fault.BundleFault.{BundleFault}
 use Rattle.link_bundle_types.specs.declared.info.BundleInfo.{BundleInfo}
 use Rattle.link_bundle_types.specs.declared.fault.State.TheVariants as state
-use Rattle.link_bundle.specs.Bundle.{verdict, state_of, is_going, bundle_goes}
+use Rattle.link_bundle_blocks.specs.Bundle.{verdict, state_of, is_going, bundle_goes}
 use Rattle.link_bundle_walk.specs.Bundles.{Packed, Refusal, Longer, Faulty, IsOpen, bundle_prefix, with_bundle, divided, with_bundles}
 use Rattle.link_bundle_walk.proofs.Dividing.{prefix_again, none_open, some_stopped, refused_so, divided_whole, divided_longer, divided_faulty}
 

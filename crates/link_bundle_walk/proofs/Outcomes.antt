@@ -1,7 +1,7 @@
 -- What is made of an input, from its bundles and the bytes of the next one.
 use Rattle.std.proofs.Common.{◌≡◌, ℕ, ◌<◌, false, List, [], ◌∷◌, ◌++◌, length, Option, Some, None, Result, Ok, Err, ⊎_elim, refl, ap, sym, ◌∙◌, append-nil, arith}
 use Rattle.std.proofs.lemmas.Bool.{false≢true}
-use Rattle.link_bundle.specs.Bundle.{verdict}
+use Rattle.link_bundle_blocks.specs.Bundle.{verdict}
 use Rattle.link_bundle_types.specs.declared.fault.BundleFault.{BundleFault}
 use Rattle.link_bundle_types.specs.declared.info.BundleInfo.{BundleInfo}
 use Rattle.link_run.specs.Made.{Made, IsLasting, whole_by, shows_fault}

@@ -4,7 +4,7 @@ use Rattle.link_wire.specs.Device.{Input as Seen, Output}
 use Rattle.link_wire.specs.Source.{window_of, IsSourceAt, IsLive}
 use Rattle.link_wire.specs.declared.IoFault.{IoFault}
 use Rattle.link_wire.specs.declared.Source.{Source}
-use Rattle.link_bundle.specs.Bundle.{verdict}
+use Rattle.link_bundle_blocks.specs.Bundle.{verdict}
 use Rattle.link_bundle.specs.Scan.{HasScanned}
 use Rattle.link_bundle_types.specs.declared.fault.State.{State}
 use Rattle.link_bundle_types.specs.declared.fault.State.TheVariants as state

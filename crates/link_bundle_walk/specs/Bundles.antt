@@ -4,7 +4,7 @@ use Rattle.link_cbor.specs.Pieces.{taken}
 use Rattle.link_bundle_types.specs.Faults.{lasts}
 use Rattle.link_bundle_types.specs.declared.fault.BundleFault.{BundleFault}
 use Rattle.link_bundle_types.specs.declared.info.BundleInfo.{BundleInfo}
-use Rattle.link_bundle.specs.Bundle.{verdict, bundle_goes}
+use Rattle.link_bundle_blocks.specs.Bundle.{verdict, bundle_goes}
 
 -- Why bytes do not begin with a bundle that the peer takes: the bundle has more bytes than this
 -- limit, or it has this fault.

@@ -30,7 +30,7 @@ pub struct Current {
 
 impl Current {
     ghost use Rattle.std.specs.Prelude.{◌+◌, ◌-◌, ◌++◌, min, ◌^◌, ◌<◌, ◌≤◌, IfSome, Ok, List, ℕ, [], length, take};
-    ghost use Rattle.link_bundle.specs.Bundle.{verdict, state_of};
+    ghost use Rattle.link_bundle_blocks.specs.Bundle.{verdict, state_of};
     ghost use Rattle.link_bundle.specs.Scan.{HasScanned, scan_size};
     ghost use Rattle.link_bundle_types.specs.BundleView.{viewed_info};
     ghost use Rattle.link_bundle_types.specs.declared.info.BundleInfo.{BundleInfo};

@@ -9,7 +9,7 @@ use Rattle.link_wire.specs.Bytes.{IsByte, AreBytes}
 use Rattle.link_bundle_types.specs.Faults.{lasts}
 use Rattle.link_bundle_types.specs.declared.fault.BundleFault.{BundleFault}
 use Rattle.link_bundle_types.specs.declared.info.BundleInfo.{BundleInfo}
-use Rattle.link_bundle.specs.Bundle.{verdict, bundle_goes}
+use Rattle.link_bundle_blocks.specs.Bundle.{verdict, bundle_goes}
 use Rattle.link_bundle_walk.specs.Bundles.{Packed, Refusal, Longer, Faulty, Rest, Divided, bundle_prefix, refused_by, judged_front, accepted_by, divided_by, divided_in, divided}
 use Rattle.link_bundle_walk.proofs.Dividing.{whole_stops, none_goes}
 

@@ -1,7 +1,7 @@
 -- Unpacking a packed stream returns the bundles.
 use Rattle.std.proofs.Common.{◌≡◌, ℕ, suc, ◌+◌, inl, inr, ◌⊎◌, true, false, ◌&&◌, List, [], ◌∷◌, ◌++◌, length, Result, Ok, if◌then◌else◌, refl, ap, ap₂, sym, ◌∙◌, append-nil, append_assoc, length-append}
 use Rattle.std.proofs.lemmas.Bool.{eq-eqb}
-use Rattle.link_bundle.specs.Bundle.{verdict}
+use Rattle.link_bundle_blocks.specs.Bundle.{verdict}
 use Rattle.link_bundle_types.specs.declared.fault.BundleFault.{BundleFault}
 use Rattle.link_bundle_types.specs.declared.info.BundleInfo.{BundleInfo}
 use Rattle.link_wire.specs.Spelling.{announced}

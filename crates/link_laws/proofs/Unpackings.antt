@@ -3,7 +3,7 @@ use Rattle.std.proofs.Common.{ℕ, Bool, true, false, List, [], ◌∷◌, ◌++
 use Rattle.std.proofs.lemmas.Bool.{cases_Bool}
 use Rattle.link_wire.specs.Codes.{is_start}
 use Rattle.link_wire.specs.declared.message.Message.{Message}
-use Rattle.link_bundle.specs.Bundle.{payload_in}
+use Rattle.link_bundle_blocks.specs.Bundle.{payload_in}
 use Rattle.link_transfer.specs.declared.joiner.Turn.{Turn}
 use Rattle.link_run.specs.Run.{Texts}
 use Rattle.link_walk.specs.Walk.{WalkEvent, ContactHeader, MessageHead, Data, Whole, LeftOpen}

@@ -11,9 +11,9 @@ use Rattle.link_cbor.specs.Head.{HeadFront, Cut, IllFormed, Whole, head_front, w
 use Rattle.link_cbor.specs.declared.head.Head.{Head}
 use Rattle.link_bundle_types.specs.declared.fault.BundleFault.{BundleFault}
 use Rattle.link_bundle_heads.specs.Rows.{◌>>=◌, check_width, check_field}
-use Rattle.link_bundle.specs.Reading.{Stop, ReadAt, head_by, head_at, row_at, bytes_at}
-use Rattle.link_bundle.specs.CheckField.{number_from, check_of, field_at}
-use Rattle.link_bundle.specs.Bundle.{opening_at}
+use Rattle.link_bundle_blocks.specs.Reading.{Stop, ReadAt, head_by, head_at, row_at, bytes_at}
+use Rattle.link_bundle_blocks.specs.CheckField.{number_from, check_of, field_at}
+use Rattle.link_bundle_blocks.specs.Bundle.{opening_at}
 use Rattle.link_primary.specs.Accepted.{accepted}
 use Rattle.link_primary.specs.Fields.{PrimaryFields, no_fields, or_before, block_fields, fields_of, primary_fields}
 

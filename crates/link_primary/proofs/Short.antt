@@ -14,10 +14,10 @@ use Rattle.link_bundle_types.specs.declared.fault.BundleFault.TheVariants.{Check
 use Rattle.link_bundle_heads.specs.declared.endpoint.Scheme.{Scheme}
 use Rattle.link_bundle_heads.specs.declared.endpoint.Scheme.TheVariants.{Dtn, Ipn}
 use Rattle.link_bundle_heads.specs.Rows.{◌>>=◌, wanted, unsigned, pair, scheme, dtn_by, dtn_part, ipn_part, version, is_fragment, primary_block, primary_check_type, check_width, check_field}
-use Rattle.link_bundle.specs.Reading.{ReadAt, stopped, head_by, outcome_at, head_at, row_at, bytes_at}
-use Rattle.link_bundle.specs.EndpointId.{dtn_at, ipn_at, specific_at, eid_at}
-use Rattle.link_bundle.specs.CheckField.{number_from, check_of, field_at}
-use Rattle.link_bundle.specs.Bundle.{opening_at}
+use Rattle.link_bundle_blocks.specs.Reading.{ReadAt, stopped, head_by, outcome_at, head_at, row_at, bytes_at}
+use Rattle.link_bundle_blocks.specs.EndpointId.{dtn_at, ipn_at, specific_at, eid_at}
+use Rattle.link_bundle_blocks.specs.CheckField.{number_from, check_of, field_at}
+use Rattle.link_bundle_blocks.specs.Bundle.{opening_at}
 use Rattle.link_primary.specs.Accepted.{accepted}
 use Rattle.link_primary.specs.Fields.{PrimaryFields, no_fields, or_before, first_fields, endpoint_fields, time_fields, fragment_fields, last_field, block_fields, fields_of, primary_fields}
 use Rattle.link_primary.proofs.Heads.{take-take, AtMost, head-same, head-most}

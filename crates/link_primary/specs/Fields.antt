@@ -4,10 +4,10 @@ use Rattle.std.specs.Prelude.{ℕ, Bool, true, false, List, Option, Some, None, 
 use Rattle.link_cbor.specs.declared.check.CheckKind.{CheckKind}
 use Rattle.link_bundle_types.specs.declared.eid.Eid.{Eid}
 use Rattle.link_bundle_heads.specs.Rows.{◌>>=◌, unsigned, pair, primary_block, version, is_fragment, primary_check_type}
-use Rattle.link_bundle.specs.Reading.{ReadAt, row_at}
-use Rattle.link_bundle.specs.EndpointId.{eid_at}
-use Rattle.link_bundle.specs.CheckField.{field_at}
-use Rattle.link_bundle.specs.Bundle.{opening_at}
+use Rattle.link_bundle_blocks.specs.Reading.{ReadAt, row_at}
+use Rattle.link_bundle_blocks.specs.EndpointId.{eid_at}
+use Rattle.link_bundle_blocks.specs.CheckField.{field_at}
+use Rattle.link_bundle_blocks.specs.Bundle.{opening_at}
 use Rattle.link_primary.specs.Accepted.{accepted}
 
 pub record PrimaryFields : Type 0 where

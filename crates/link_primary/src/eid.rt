@@ -1,6 +1,6 @@
 //! Reads an endpoint ID (RFC 9171 section 4.2.5.1).
 ghost use Rattle.std.specs.Prelude.{◌≡◌};
-ghost use Rattle.link_bundle.specs.EndpointId.{specific_at, eid_at};
+ghost use Rattle.link_bundle_blocks.specs.EndpointId.{specific_at, eid_at};
 ghost use Rattle.link_bundle_heads.specs.declared.endpoint.Scheme.TheVariants.{Dtn, Ipn};
 ghost use Rattle.link_primary.specs.Accepted.{accepted};
 ghost use Rattle.link_primary.specs.View.{viewed_part};
@@ -10,7 +10,7 @@ use link_bundle_heads::Scheme;
 use link_bundle_types::EidView;
 
 /// Reads an endpoint ID.
-#[tactic(auto, using(crate::proofs::Known::steps), unfolding(link_bundle::specs::EndpointId::eid_at))]
+#[tactic(auto, using(crate::proofs::Known::steps), unfolding(link_bundle_blocks::specs::EndpointId::eid_at))]
 pub fn eid_at(bytes: &[u8], offset: usize) -> Option<(EidView<'_>, usize)>
     ensures { viewed_part result ≡ accepted (eid_at bytes.now offset) }
 {
@@ -23,7 +23,7 @@ pub fn eid_at(bytes: &[u8], offset: usize) -> Option<(EidView<'_>, usize)>
 }
 
 /// Reads the specific part of scheme dtn.
-#[tactic(auto, using(crate::proofs::Known::steps), unfolding(link_bundle::specs::EndpointId::specific_at, link_bundle::specs::EndpointId::dtn_at))]
+#[tactic(auto, using(crate::proofs::Known::steps), unfolding(link_bundle_blocks::specs::EndpointId::specific_at, link_bundle_blocks::specs::EndpointId::dtn_at))]
 fn dtn_at(bytes: &[u8], offset: usize) -> Option<(EidView<'_>, usize)>
     ensures { viewed_part result ≡ accepted (specific_at Dtn bytes.now offset) }
 {
@@ -38,7 +38,7 @@ fn dtn_at(bytes: &[u8], offset: usize) -> Option<(EidView<'_>, usize)>
 }
 
 /// Reads the specific part of scheme ipn.
-#[tactic(auto, using(crate::proofs::Known::steps), unfolding(link_bundle::specs::EndpointId::specific_at, link_bundle::specs::EndpointId::ipn_at))]
+#[tactic(auto, using(crate::proofs::Known::steps), unfolding(link_bundle_blocks::specs::EndpointId::specific_at, link_bundle_blocks::specs::EndpointId::ipn_at))]
 fn ipn_at(bytes: &[u8], offset: usize) -> Option<(EidView<'_>, usize)>
     ensures { viewed_part result ≡ accepted (specific_at Ipn bytes.now offset) }
 {

@@ -4,7 +4,7 @@
 //! them, or as an error the fields before the first fault.
 ghost use Rattle.std.specs.Prelude.{◌≡◌, true};
 ghost use Rattle.std.specs.Bool.{then_some};
-ghost use Rattle.link_bundle.specs.Bundle.{opening_at};
+ghost use Rattle.link_bundle_blocks.specs.Bundle.{opening_at};
 ghost use Rattle.link_primary.specs.Accepted.{accepted};
 ghost use Rattle.link_primary.specs.Fields.{first_fields, endpoint_fields, time_fields, fragment_fields, last_field, block_fields, primary_fields};
 ghost use Rattle.link_primary.specs.View.{viewed_fields, viewed_first, viewed_reading, viewed_block};

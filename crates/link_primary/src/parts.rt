@@ -2,7 +2,7 @@
 //!
 //! Each function returns the part and the offset after it, or `None` if the part is cut or refused.
 ghost use Rattle.std.specs.Prelude.{◌≡◌, ◌+◌, ◌<◌, ◌≤◌, IfSome, length, option_map};
-ghost use Rattle.link_bundle.specs.Reading.{head_at, row_at, bytes_at};
+ghost use Rattle.link_bundle_blocks.specs.Reading.{head_at, row_at, bytes_at};
 ghost use Rattle.link_bundle_heads.specs.Rows as row;
 ghost use Rattle.link_primary.specs.Accepted.{accepted};
 
@@ -109,7 +109,7 @@ pub fn check_field_at(kind: CheckKind, bytes: &[u8], offset: usize) -> Option<(u
 }
 
 /// Reads that many bytes.
-#[tactic(auto, unfolding(link_bundle::specs::Reading::bytes_at))]
+#[tactic(auto, unfolding(link_bundle_blocks::specs::Reading::bytes_at))]
 pub fn bytes_at(size: u64, bytes: &[u8], offset: usize) -> Option<(&[u8], usize)>
     ensures read { option_map (λ read. (read.0.now, read.1)) result
         ≡ accepted (bytes_at size bytes.now offset) }

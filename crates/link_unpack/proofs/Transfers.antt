@@ -4,7 +4,7 @@ use Rattle.std.specs.Prelude.{if◌then◌else◌}
 use Rattle.arrayvec.specs.ArrayVec.{ArrayVec}
 use Rattle.link_bundle_types.specs.declared.fault.BundleFault.{BundleFault}
 use Rattle.link_bundle_types.specs.declared.info.BundleInfo.{BundleInfo}
-use Rattle.link_bundle.specs.Bundle.{judged_bundle as judged_bytes, bundle_at, opening_at, verdict, payload_in}
+use Rattle.link_bundle_blocks.specs.Bundle.{judged_bundle as judged_bytes, bundle_at, opening_at, verdict, payload_in}
 use Rattle.link_bundle.specs.Scan.{HasScanned}
 use Rattle.link_bundle.proofs.Pieces.{verdict_judged}
 use Rattle.link_report.specs.Judgement.{judged_transfer}

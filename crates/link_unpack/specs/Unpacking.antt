@@ -3,7 +3,7 @@
 use Rattle.std.specs.Prelude.{ℕ, Bool, true, false, not, ◌&&◌, ◌==◌, is_some, List, [], ◌∷◌, ◌++◌, length, Option, Some, None, if◌then◌else◌}
 use Rattle.std.specs.List.{fold}
 use Rattle.link_wire.specs.declared.message.Message.{Message}
-use Rattle.link_bundle.specs.Bundle.{verdict, payload_in}
+use Rattle.link_bundle_blocks.specs.Bundle.{verdict, payload_in}
 use Rattle.link_transfer.specs.Announced.{announced_of}
 use Rattle.link_transfer.specs.declared.fault.OrderFault.{OrderFault}
 use Rattle.link_transfer.specs.declared.joiner.Turn.{Turn}

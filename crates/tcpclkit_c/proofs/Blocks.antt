@@ -7,8 +7,8 @@ use Rattle.std.proofs.Math.Seq.{drop-append_seam}
 use Rattle.link_cbor.specs.PieceLaws.{takes_shortest, taken-idle, taken-nil}
 use Rattle.link_cbor.specs.Pieces.{taken, IsShortestFront}
 use Rattle.link_bundle.specs.declared.scan.BundleScan.{BundleScan}
-use Rattle.link_bundle.specs.Blocks.{Block}
-use Rattle.link_bundle.specs.Bundle.{verdict, state_of, bundle_goes, blocks_in}
+use Rattle.link_bundle_blocks.specs.Blocks.{Block}
+use Rattle.link_bundle_blocks.specs.Bundle.{verdict, state_of, bundle_goes, blocks_in}
 use Rattle.link_bundle.specs.Scan.{HasScanned, Advances, AddsBlock, ending}
 use Rattle.link_bundle_types.specs.declared.fault.State.{State}
 use Rattle.tcpclkit_c.specs.Block.{first_shown}

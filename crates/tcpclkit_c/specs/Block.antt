@@ -2,7 +2,7 @@
 use Rattle.std.specs.Prelude.{ℕ, ◌-◌, List, [], ◌∷◌, Option, None, Some, unwrap_or}
 use Rattle.link_cbor.specs.declared.check.CheckKind.{CheckKind}
 use Rattle.link_cbor.specs.declared.check.CheckKind.TheVariants.{Crc16, Crc32}
-use Rattle.link_bundle.specs.Blocks.{Block, PrimaryOf, CanonicalOf}
+use Rattle.link_bundle_blocks.specs.Blocks.{Block, PrimaryOf, CanonicalOf}
 use Rattle.tcpclkit_c.specs.declared.block.BlockNumbers.{BlockNumbers}
 
 -- the check type code (RFC 9171 section 4.2.1)

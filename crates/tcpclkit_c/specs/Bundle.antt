@@ -6,7 +6,7 @@ use Rattle.link_bundle_types.specs.declared.eid.Eid.TheVariants.{DtnNone, Dtn, I
 use Rattle.link_bundle_types.specs.declared.fault.State.{State}
 use Rattle.link_bundle_types.specs.declared.fault.State.TheVariants.{Going, Ended, Failed}
 use Rattle.link_bundle_types.specs.declared.info.BundleInfo.{BundleInfo}
-use Rattle.link_bundle.specs.Bundle.{verdict, payload_seen, state_of}
+use Rattle.link_bundle_blocks.specs.Bundle.{verdict, payload_seen, state_of}
 use Rattle.link_bundle_heads.specs.Rows.{is_fragment}
 use Rattle.link_primary.specs.Fields.{PrimaryFields}
 use Rattle.tcpclkit_c.specs.Slice.{HoldsFront, KeepsRest}

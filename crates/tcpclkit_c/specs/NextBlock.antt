@@ -1,8 +1,8 @@
 -- A scan that takes a bundle block by block.
 use Rattle.std.specs.Prelude.{◌≡◌, ℕ, ◌≤◌, ◌&&◌, ◌==◌, nat_lt, Bool, List, [], ◌++◌, length, drop, if◌then◌else◌}
 use Rattle.link_cbor.specs.Pieces.{taken}
-use Rattle.link_bundle.specs.Blocks.{Block}
-use Rattle.link_bundle.specs.Bundle.{bundle_goes, blocks_in}
+use Rattle.link_bundle_blocks.specs.Blocks.{Block}
+use Rattle.link_bundle_blocks.specs.Bundle.{bundle_goes, blocks_in}
 use Rattle.link_bundle.specs.Scan.{HasScanned, ending}
 use Rattle.link_bundle.specs.declared.scan.BundleScan.{BundleScan}
 use Rattle.tcpclkit_c.specs.Block.{first_shown}

@@ -4,7 +4,7 @@ use base.Fml.{Fml, fex, fsep, ftrue}
 use base.Fraction.{full_share}
 use denote.RawPtr.{Ptr, lies_at}
 use Rattle.link_cbor.specs.Pieces.{taken}
-use Rattle.link_bundle.specs.Bundle.{verdict, payload_seen, state_of, bundle_goes}
+use Rattle.link_bundle_blocks.specs.Bundle.{verdict, payload_seen, state_of, bundle_goes}
 use Rattle.link_bundle.specs.Scan.{HasScanned}
 use Rattle.link_primary.specs.Fields.{primary_fields}
 use Rattle.tcpclkit_c.specs.Bundle.{state_status, Names, ReturnsVerdict, ReturnsInfo}

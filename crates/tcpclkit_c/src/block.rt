@@ -1,7 +1,7 @@
 //! A block of a bundle as numbers.
 
 ghost use Rattle.std.specs.Prelude.{◌≡◌};
-ghost use Rattle.link_bundle.specs.Blocks.{viewed_primary, viewed_blocks, PrimaryOf, CanonicalOf};
+ghost use Rattle.link_bundle_blocks.specs.Blocks.{viewed_primary, viewed_blocks, PrimaryOf, CanonicalOf};
 ghost use Rattle.tcpclkit_c.specs.Block.{check_type, no_block, block_shown, first_shown};
 
 use link_bundle::{BlockView, CanonicalBlock, PrimaryBlock};

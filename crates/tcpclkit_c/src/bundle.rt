@@ -3,7 +3,7 @@
 ghost use Rattle.std.specs.Prelude.{◌≡◌, ℕ, List, [], length, Option, option_map, if◌then◌else◌};
 ghost use Rattle.link_bundle_types.specs.BundleView.{viewed_info, viewed_verdict};
 ghost use Rattle.link_bundle_types.specs.EidView.{viewed_eid};
-ghost use Rattle.link_bundle.specs.Bundle.{verdict, payload_seen, state_of};
+ghost use Rattle.link_bundle_blocks.specs.Bundle.{verdict, payload_seen, state_of};
 ghost use Rattle.link_bundle.specs.Scan.{HasJudged};
 ghost use Rattle.link_primary.specs.Fields.{primary_fields};
 ghost use Rattle.link_primary.specs.View.{viewed_fields};

@@ -6,7 +6,7 @@ ghost use Rattle.std.specs.Borrow.{sem};
 ghost use prog.Memory.{size, align};
 ghost use denote.Memory.{lone};
 ghost use denote.RawPtr.{room_at};
-ghost use Rattle.link_bundle.specs.Bundle.{verdict, payload_seen, state_of};
+ghost use Rattle.link_bundle_blocks.specs.Bundle.{verdict, payload_seen, state_of};
 ghost use Rattle.link_bundle.specs.Scan.{scan_size};
 ghost use Rattle.link_primary.specs.Fields.{primary_fields};
 ghost use Rattle.tcpclkit_c.specs.Bundle.{verdict_shown, state_status, three_names, ReturnsInfo};

@@ -1,8 +1,8 @@
 use Rattle.std.proofs.Common.{◌≡◌, ℕ, true, List, [], ◌∷◌, ◌++◌, length, None, Some, Option, refl, sym, ap, ◌∙◌, append-nil, length-append, arith}
-use Rattle.link_bundle.specs.Blocks.{CanonicalOf, PrimaryOf, viewed_primary, viewed_block, next_of}
-use Rattle.link_bundle.specs.Bundle.{bundle_goes, blocks_in, cut_block_in}
+use Rattle.link_bundle_blocks.specs.Blocks.{CanonicalOf, PrimaryOf, viewed_primary, viewed_block, next_of}
+use Rattle.link_bundle_blocks.specs.Bundle.{bundle_goes, blocks_in, cut_block_in}
 use Rattle.link_bundle.specs.Scan.{ending}
-use Rattle.link_bundle.specs.declared.block.CanonicalBlock.{CanonicalBlock}
+use Rattle.link_bundle_blocks.specs.declared.block.CanonicalBlock.{CanonicalBlock}
 use Rattle.link_block_report.specs.Blocks.{block_text}
 use Rattle.link_blocks.specs.BlockLines.{found_in}
 use Rattle.link_blocks.specs.DataReader.{IsReading, IsReadingBlock}

@@ -1,8 +1,8 @@
 use Rattle.std.proofs.Common.{◌≡◌, ℕ, ◌+◌, ◌⊎◌, inl, inr, true, false, List, [], ◌++◌, length, take, drop, Result, ap, sym, ◌∙◌, subst, length-append, length-take, length-drop, append_assoc, arith}
 use Rattle.std.proofs.lemmas.List.{drop_all, length-take-le}
-use Rattle.link_bundle.specs.Bundle.{bundle_goes, blocks_in}
+use Rattle.link_bundle_blocks.specs.Bundle.{bundle_goes, blocks_in}
 use Rattle.link_bundle.specs.Scan.{HasScanned, HasJudged, ending}
-use Rattle.link_bundle.proofs.Feeding.{the_rest, joined_run}
+use Rattle.link_bundle_blocks.proofs.Rests.{the_rest, joined_run}
 use Rattle.link_bundle.proofs.Pieces.{all_judged}
 use Rattle.link_wire.specs.declared.IoFault.{IoFault}
 use Rattle.link_run.specs.Writers.{on_output, AfterWrite}

@@ -1,5 +1,5 @@
 use Rattle.std.proofs.Common.{arith}
-use Rattle.link_bundle.specs.Blocks.{viewed_primary}
+use Rattle.link_bundle_blocks.specs.Blocks.{viewed_primary}
 use Rattle.link_block_report.specs.Blocks.{primary_start_text, primary_rest_text, primary_text}
 use Rattle.link_run.specs.Writers.{on_output}
 use Rattle.link_run.proofs.Runs.{outputs_then, part_of_more}

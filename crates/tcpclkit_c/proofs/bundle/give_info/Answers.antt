@@ -3,7 +3,7 @@ use Rattle.link_bundle_types.specs.BundleView.{viewed_info, viewed_verdict}
 use Rattle.link_bundle_types.specs.declared.fault.BundleFault.{BundleFault}
 use Rattle.link_bundle_types.specs.declared.fault.State.{State}
 use Rattle.link_bundle_types.specs.declared.info.BundleInfo.{BundleInfo}
-use Rattle.link_bundle.specs.Bundle.{verdict, payload_seen, state_of}
+use Rattle.link_bundle_blocks.specs.Bundle.{verdict, payload_seen, state_of}
 use Rattle.link_primary.specs.Fields.{PrimaryFields}
 use Rattle.link_primary.specs.View.{viewed_fields}
 use Rattle.tcpclkit_c.specs.Bundle.{Names, verdict_shown, ReturnsBundle, ReturnsStop, ReturnsInfo}

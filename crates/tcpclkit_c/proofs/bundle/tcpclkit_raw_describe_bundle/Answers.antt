@@ -1,5 +1,5 @@
 use Rattle.std.proofs.Common.{subst}
-use Rattle.link_bundle.specs.Bundle.{verdict, payload_seen}
+use Rattle.link_bundle_blocks.specs.Bundle.{verdict, payload_seen}
 use Rattle.link_primary.specs.Fields.{PrimaryFields}
 use Rattle.tcpclkit_c.specs.Bundle.{Names, three_names, ReturnsInfo}
 use Rattle.tcpclkit_c.proofs.bundle.tcpclkit_raw_describe_bundle.Goals as goal

@@ -1,5 +1,5 @@
 use Rattle.std.proofs.Common.{ap, ◌∙◌, subst}
-use Rattle.link_bundle.specs.Bundle.{verdict, payload_seen}
+use Rattle.link_bundle_blocks.specs.Bundle.{verdict, payload_seen}
 use Rattle.link_bundle.proofs.Pieces.{all_judged}
 use Rattle.link_primary.specs.Fields.{PrimaryFields, primary_fields}
 use Rattle.link_primary.proofs.Short.{primary-short}

@@ -1,7 +1,7 @@
 use Rattle.std.proofs.Common.{◌≡◌, ◌++◌, true, sym, ◌∙◌}
 use Rattle.std.proofs.lemmas.Bool.{false≢true}
 use Rattle.link_cbor.specs.Pieces.{taken}
-use Rattle.link_bundle.specs.Bundle.{bundle_goes}
+use Rattle.link_bundle_blocks.specs.Bundle.{bundle_goes}
 use Rattle.tcpclkit_c.specs.Scan.{has_room}
 use Rattle.tcpclkit_c.proofs.Scanning.{feeds, keeps_taken}
 use Rattle.tcpclkit_c.proofs.scan.feed.Goals as goal

@@ -2,7 +2,7 @@ use Rattle.std.proofs.Common.{◌≡◌, ◌++◌, [], true, refl, sym, ap, ◌�
 use Rattle.std.specs.Prelude.{nat_lt, if◌then◌else◌}
 use Rattle.std.proofs.lemmas.Bool.{false≢true, lt-ltb, le-ltb}
 use Rattle.link_cbor.specs.Pieces.{taken}
-use Rattle.link_bundle.specs.Blocks.{viewed_blocks}
+use Rattle.link_bundle_blocks.specs.Blocks.{viewed_blocks}
 use Rattle.link_bundle.specs.Scan.{ending}
 use Rattle.tcpclkit_c.specs.Block.{first_shown}
 use Rattle.tcpclkit_c.specs.NextBlock.{goes_in_block}

@@ -3,7 +3,7 @@ use Rattle.tcpclkit_c.proofs.Walks.{ℕ, [], ◌∷◌, ◌++◌, length, refl, 
 use prog.Wp.{WpFn}
 use Rattle.tcpclkit_c.specs.declared.scan.MarkedScan.{MarkedScan}
 use Rattle.tcpclkit_c.specs.contracts.scan.MarkedScan.{the_row as R}
-use Rattle.link_bundle.specs.Bundle.{verdict, payload_seen}
+use Rattle.link_bundle_blocks.specs.Bundle.{verdict, payload_seen}
 use Rattle.link_primary.specs.Fields.{primary_fields}
 use Rattle.tcpclkit_c.specs.Bundle.{Names, three_names, ReturnsInfo}
 use Rattle.tcpclkit_c.specs.Scan.{HoldsScan, DescribesMarked}

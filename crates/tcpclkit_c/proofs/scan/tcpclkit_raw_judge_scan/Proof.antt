@@ -3,7 +3,7 @@ use Rattle.tcpclkit_c.proofs.Walks.{◌≡◌, ℕ, [], ◌∷◌, ◌++◌, ref
 use prog.Wp.{WpFn}
 use Rattle.tcpclkit_c.specs.declared.scan.MarkedScan.{MarkedScan}
 use Rattle.tcpclkit_c.specs.contracts.scan.MarkedScan.{the_row as R}
-use Rattle.link_bundle.specs.Bundle.{verdict, payload_seen, state_of}
+use Rattle.link_bundle_blocks.specs.Bundle.{verdict, payload_seen, state_of}
 use Rattle.tcpclkit_c.specs.Bundle.{state_status, verdict_shown}
 use Rattle.tcpclkit_c.specs.Scan.{HoldsScan, JudgesMarked}
 use Rattle.tcpclkit_c.proofs.Lending.{lent_scan, lends_scan, held_scan}

@@ -1,5 +1,5 @@
 use Rattle.std.proofs.Common.{[], take, drop, length-drop, subst, List, ℕ, arith}
-use Rattle.link_bundle.proofs.Feeding.{the_rest, joined_run}
+use Rattle.link_bundle_blocks.proofs.Rests.{the_rest, joined_run}
 use Rattle.link_block_data.specs.Scan.{HasTaken}
 use Rattle.link_block_data.proofs.Steps.{taken_then}
 use Rattle.link_block_data.proofs.scan.DataScan.take.Goals as goal

@@ -1,7 +1,7 @@
 use Rattle.std.proofs.Common.{List, ℕ, ◌∙◌, refl, sym, ap, rules}
 use Rattle.link_bundle.specs.Left.{field_left, stage_left, number_left}
 use Rattle.link_bundle_heads.specs.Rows.{block_number}
-use Rattle.link_bundle.proofs.Heads.{row_at-accepted}
+use Rattle.link_bundle_blocks.proofs.Heads.{row_at-accepted}
 use Rattle.link_bundle.proofs.Judgings.{as_judged}
 use Rattle.link_bundle.proofs.draft.Draft.block_number.Goals as goal
 

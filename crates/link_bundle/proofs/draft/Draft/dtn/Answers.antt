@@ -1,8 +1,8 @@
 use Rattle.std.proofs.Common.{◌∙◌, sym, ap, None, Some, Ok, rules}
 use Rattle.link_bundle.specs.Left.{field_left, stage_left, name_left}
-use Rattle.link_bundle.specs.EndpointId.{specific_at, dtn_at}
+use Rattle.link_bundle_blocks.specs.EndpointId.{specific_at, dtn_at}
 use Rattle.link_bundle_heads.specs.Rows.{dtn_part}
-use Rattle.link_bundle.proofs.Heads.{row_at-accepted}
+use Rattle.link_bundle_blocks.proofs.Heads.{row_at-accepted}
 use Rattle.link_bundle.proofs.Judgings.{as_judged}
 use Rattle.link_bundle.proofs.draft.Draft.dtn.Goals as goal
 

@@ -2,9 +2,9 @@ use Rattle.std.proofs.Common.{◌≡◌, ◌∙◌, sym, refl, ap, None, Ok, fal
 use Rattle.std.specs.Prelude.{◌==◌}
 use Rattle.std.proofs.lemmas.Bool.{ne_eqb}
 use Rattle.link_bundle.specs.Left.{field_left, stage_left, allocator_left, node_left, service_left}
-use Rattle.link_bundle.specs.EndpointId.{specific_at, ipn_at}
+use Rattle.link_bundle_blocks.specs.EndpointId.{specific_at, ipn_at}
 use Rattle.link_bundle_heads.specs.Rows.{ipn_part}
-use Rattle.link_bundle.proofs.Heads.{row_at-accepted}
+use Rattle.link_bundle_blocks.proofs.Heads.{row_at-accepted}
 use Rattle.link_bundle.proofs.Names.{by_eid-numbered}
 use Rattle.link_bundle.proofs.Judgings.{as_judged}
 use Rattle.link_bundle.proofs.draft.Draft.ipn.Goals as goal

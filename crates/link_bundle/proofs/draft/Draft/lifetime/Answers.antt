@@ -1,8 +1,8 @@
 use Rattle.std.proofs.Common.{◌∙◌, sym, refl, rules}
 use Rattle.link_bundle.specs.Left.{field_left, stage_left, lifetime_left, offset_left}
-use Rattle.link_bundle.specs.Primary.{fragment_at}
+use Rattle.link_bundle_blocks.specs.Primary.{fragment_at}
 use Rattle.link_bundle_heads.specs.Rows.{unsigned}
-use Rattle.link_bundle.proofs.Heads.{row_at-accepted}
+use Rattle.link_bundle_blocks.proofs.Heads.{row_at-accepted}
 use Rattle.link_bundle.proofs.Judgings.{as_judged}
 use Rattle.link_bundle.proofs.draft.Draft.lifetime.Goals as goal
 

@@ -1,7 +1,7 @@
 use Rattle.std.proofs.Common.{◌≡◌, Bool, Ok, refl, sym, ◌∙◌, subst}
 use Rattle.link_bundle_heads.specs.Rows.{primary_block, version, primary_check_type}
-use Rattle.link_bundle.specs.Primary.{fragment_at, primary_at}
-use Rattle.link_bundle.proofs.Heads.{row_at-accepted}
+use Rattle.link_bundle_blocks.specs.Primary.{fragment_at, primary_at}
+use Rattle.link_bundle_blocks.proofs.Heads.{row_at-accepted}
 use Rattle.link_bundle.proofs.draft.Draft.primary_at.Goals as goal
 
 pub returns-clause-read : goal.returns-clause-read

@@ -5,7 +5,7 @@ use Rattle.link_bundle.specs.declared.stage.Part.TheVariants as part
 use Rattle.link_bundle.specs.declared.stage.Stage.{Stage}
 use Rattle.link_bundle.specs.Left.{field_left, stage_left, service_left, numbered, AsReadFrom, EidEnds}
 use Rattle.link_bundle_heads.specs.Rows.{unsigned}
-use Rattle.link_bundle.proofs.Heads.{row_at-accepted}
+use Rattle.link_bundle_blocks.proofs.Heads.{row_at-accepted}
 use Rattle.link_bundle.proofs.Names.{by_eid}
 use Rattle.link_bundle.proofs.Judgings.{as_judged}
 use Rattle.link_bundle.proofs.draft.Draft.service.Goals as goal

@@ -1,7 +1,7 @@
 use Rattle.std.proofs.Common.{◌∷◌, ◌∙◌, refl}
-use Rattle.link_bundle.specs.Blocks.{PrimaryOf}
+use Rattle.link_bundle_blocks.specs.Blocks.{PrimaryOf}
 use Rattle.link_bundle.specs.Left.{primary_of}
-use Rattle.link_bundle.proofs.Readings.{primary_read}
+use Rattle.link_bundle_blocks.proofs.Readings.{primary_read}
 use Rattle.link_bundle.proofs.draft.Draft.whole.Goals as goal
 
 pub returns-clause-read : goal.returns-clause-read

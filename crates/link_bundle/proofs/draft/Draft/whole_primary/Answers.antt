@@ -1,6 +1,6 @@
 use Rattle.std.proofs.Common.{refl}
-use Rattle.link_bundle.specs.Whole.{whole_primary}
-use Rattle.link_bundle.proofs.Readings.{opens}
+use Rattle.link_bundle_blocks.specs.Whole.{whole_primary}
+use Rattle.link_bundle_blocks.proofs.Readings.{opens}
 use Rattle.link_bundle.proofs.draft.Draft.whole_primary.Goals as goal
 
 pub returns-clause-read : goal.returns-clause-read

@@ -1,7 +1,7 @@
 use Rattle.std.proofs.Common.{sym, rules}
 use Rattle.std.proofs.lemmas.List.{length-take-le}
-use Rattle.link_bundle.specs.Whole.{whole_canonical}
-use Rattle.link_bundle.proofs.Beginnings.{Begins, begins_block, read_exactly}
+use Rattle.link_bundle_blocks.specs.Whole.{whole_canonical}
+use Rattle.link_bundle_blocks.proofs.Beginnings.{Begins, begins_block, read_exactly}
 use Rattle.link_bundle.proofs.Feeding.{as_taken}
 use Rattle.link_bundle.proofs.Steps.{at_stage}
 use Rattle.link_bundle.proofs.Wholes.{goes_in_canonical}

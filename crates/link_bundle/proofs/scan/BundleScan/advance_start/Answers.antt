@@ -1,7 +1,7 @@
 use Rattle.std.proofs.Common.{ℕ, ◌<◌, refl, ◌+◌, arith, rules}
 use Rattle.std.proofs.lemmas.List.Elements.{All-from_get_or}
 use Rattle.link_bundle.specs.Left.{bundle_of}
-use Rattle.link_bundle.specs.Bundle.{Bundle}
+use Rattle.link_bundle_blocks.specs.Bundle.{Bundle}
 use Rattle.link_bundle.proofs.Alone.{BeginsWith, begins_with, whole_come, goes_in_whole, first_taken}
 use Rattle.link_bundle.proofs.Feeding.{as_taken}
 use Rattle.link_bundle.proofs.Steps.{at_stage}

@@ -3,11 +3,11 @@ use Rattle.std.specs.Prelude.{is_none}
 use Rattle.std.proofs.lemmas.List.Elements.{All-from_get_or}
 use Rattle.link_cbor.specs.HeadScan.{may_scan_head}
 use Rattle.link_bundle.specs.declared.stage.Stage.{Stage}
-use Rattle.link_bundle.specs.Blocks.{Block}
+use Rattle.link_bundle_blocks.specs.Blocks.{Block}
 use Rattle.link_bundle.specs.CheckKinds.{is_unread}
 use Rattle.link_bundle.specs.Left.{stage_last}
 use Rattle.link_bundle.specs.Scan.{HasSeen}
-use Rattle.link_bundle.proofs.Beginnings.{data_begins}
+use Rattle.link_bundle_blocks.proofs.Beginnings.{data_begins}
 use Rattle.link_bundle.proofs.Fields.{before_and, after_and}
 use Rattle.link_bundle.proofs.Steps.{at_stage, fits_at}
 use Rattle.link_bundle.proofs.Taking.{takes_on, ends_here}

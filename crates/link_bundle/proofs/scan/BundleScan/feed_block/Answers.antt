@@ -1,5 +1,5 @@
 use Rattle.std.proofs.Common.{sym, ◌∙◌, length-drop, arith}
-use Rattle.link_bundle.proofs.Feeding.{the_rest}
+use Rattle.link_bundle_blocks.proofs.Rests.{the_rest}
 use Rattle.link_bundle.proofs.Taking.{advances_on, adds_on, no_ending}
 use Rattle.link_bundle.proofs.scan.BundleScan.feed_block.Goals as goal
 

@@ -1,6 +1,7 @@
 use Rattle.std.proofs.Common.{ℕ, List, ◌++◌, take, sym, ◌∙◌, length-drop, arith}
 use Rattle.link_bundle.specs.Scan.{HasScanned}
-use Rattle.link_bundle.proofs.Feeding.{TakenInAll, the_rest, joined_run, taken_more, taken_stop, taken_all}
+use Rattle.link_bundle_blocks.proofs.Rests.{the_rest, joined_run}
+use Rattle.link_bundle.proofs.Feeding.{TakenInAll, taken_more, taken_stop, taken_all}
 use Rattle.link_bundle.proofs.scan.BundleScan.feed_on.Goals as goal
 use Rattle.link_bundle.proofs.scan.BundleScan.feed_on.Goals.{Else-going, After-loop-taken}
 

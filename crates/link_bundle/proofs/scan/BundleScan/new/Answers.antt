@@ -4,7 +4,7 @@ use Rattle.link_bundle.specs.Covers.{Covers}
 use Rattle.std.proofs.lemmas.List.Elements.{All-nil}
 use Rattle.std.specs.Prelude.{◌<◌}
 use Rattle.link_bundle.specs.Left.{stage_left}
-use Rattle.link_bundle.proofs.Blocks.{none_before}
+use Rattle.link_bundle_blocks.proofs.Blocks.{none_before}
 use Rattle.link_bundle.proofs.scan.BundleScan.new.Goals as goal
 
 pub invariant_of-result : goal.invariant_of-result

@@ -1,5 +1,5 @@
 use Rattle.std.proofs.Common.{◌≡◌, ◌<◌, ◌-◌, ◌^◌, ◌++◌, true, length, sym, ap, ◌∙◌, length-append, arith}
-use Rattle.link_bundle.specs.Bundle.{payload_in}
+use Rattle.link_bundle_blocks.specs.Bundle.{payload_in}
 use Rattle.link_unpack.specs.Pieces.{part_in}
 use Rattle.link_unpack.specs.Unpacking.{is_selected}
 use Rattle.link_unpack.proofs.Payloads.{part_some, part_none}

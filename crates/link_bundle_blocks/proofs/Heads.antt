@@ -1,0 +1,33 @@
+-- A whole head that is judged by its row.
+
+use Rattle.std.proofs.Common.{◌≡◌, ℕ, ◌+◌, ◌-◌, ◌≤◌, Bool, true, false, List, [], ◌∷◌, ◌++◌, length, length-append, arith, Option, None, Some, Result, Ok, Err, refl, is_some}
+use Rattle.std.specs.Prelude.{is_none, if◌then◌else◌}
+use Rattle.std.specs.Bool.{then_some}
+use Rattle.link_bundle_blocks.proofs.Runs.{bytes_at-none}
+use Rattle.link_cbor.specs.declared.check.CheckKind.{CheckKind}
+use Rattle.link_cbor.specs.declared.head.Head.{Head}
+use Rattle.link_bundle_types.specs.declared.fault.BundleFault.{BundleFault}
+use Rattle.link_bundle_heads.specs.Rows.{◌>>=◌, closing}
+use Rattle.link_bundle_blocks.specs.Reading.{Stop, stopped, head_at, row_at}
+use Rattle.link_bundle_blocks.specs.CheckField.{field_at}
+use Rattle.link_bundle_blocks.specs.declared.block.CanonicalBlock.{CanonicalBlock}
+use Rattle.link_bundle_blocks.specs.Blocks.{Primary, CanonicalOf, ended}
+use Rattle.link_bundle_blocks.specs.Canonical.{content_at}
+use Rattle.link_bundle_blocks.specs.Bundle.{info_of, with_blocks, rest_of, payload_at, blocks_at}
+use Rattle.link_bundle_types.specs.Faults.{lasts}
+
+pub row_at-accepted : {A : Type 0} (row : Head → Result A BundleFault) (bytes : List ℕ)
+    (offset next : ℕ) (head : Head) (value : A)
+    → head_at bytes offset ≡ Ok (head, next) → row head ≡ Ok value
+    → row_at row bytes offset ≡ Ok (value, next)
+unfolding row_at
+row_at-accepted row bytes offset next head value outcome judged = rw (outcome, judged) refl
+
+pub row_at-refused : {A : Type 0} (row : Head → Result A BundleFault) (bytes : List ℕ)
+    (offset next : ℕ) (head : Head) (fault : BundleFault)
+    → head_at bytes offset ≡ Ok (head, next) → row head ≡ Err fault
+    → row_at row bytes offset ≡ Err (stopped fault offset)
+unfolding row_at
+row_at-refused row bytes offset next head fault outcome judged = rw (outcome, judged) refl
+
+pub ruleset heads = (row_at-accepted, row_at-refused)

@@ -1,0 +1,15 @@
+pub mod Rests
+pub mod Blocks
+pub mod Heads
+pub mod Runs
+pub mod Readings
+pub mod Items
+pub mod Steady
+pub mod Keeping
+pub mod Lengths
+pub mod Payloads
+pub mod Showing
+pub mod Lying
+pub mod Tiling
+pub mod Shifting
+pub mod Beginnings

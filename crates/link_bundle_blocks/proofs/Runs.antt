@@ -1,0 +1,78 @@
+-- That many bytes from an offset on, taken in runs.
+
+use Rattle.std.proofs.Common.{◌≡◌, ℕ, ◌+◌, ◌-◌, ◌<◌, ◌≤◌, Bool, true, false, List, [], ◌∷◌, ◌++◌, length, take, drop, Ok, refl, sym, ap, ◌∙◌, arith, add-zero, ltb, length-append, length-drop}
+use Rattle.std.specs.Prelude.{if◌then◌else◌}
+use Rattle.std.proofs.lemmas.Bool.{le-ltb, lt-ltb}
+use Rattle.std.proofs.lemmas.List.{drop-drop}
+use Rattle.std.proofs.Math.Seq.{drop-append_seam, take-append-add}
+use Rattle.link_bundle_heads.specs.Rows.{◌>>=◌}
+use Rattle.link_bundle_blocks.specs.Reading.{ReadAt, cut_short, bytes_at}
+
+pub bytes_at-none : (bytes : List ℕ) (offset : ℕ) → offset ≤ length bytes
+    → bytes_at 0 bytes offset ≡ Ok ([], offset)
+unfolding bytes_at
+bytes_at-none bytes offset within =
+    let enough : ltb (length bytes) (offset + 0) ≡ false =
+    le-ltb (length bytes) (offset + 0) (omega arith) in
+    rw enough (rw add-zero refl)
+
+-- more bytes are needed if the bytes end before
+pub bytes_at-cut : (left : ℕ) (bytes : List ℕ) (offset : ℕ) → length bytes < offset + left
+    → bytes_at left bytes offset ≡ cut_short bytes
+unfolding bytes_at
+bytes_at-cut left bytes offset ends = rw (lt-ltb (length bytes) (offset + left) ends) refl
+
+pub drop-run : (bytes more run : List ℕ) (offset : ℕ) → drop offset bytes ≡ run ++ more
+    → drop (offset + length run) bytes ≡ more
+drop-run bytes more run offset here =
+    sym (drop-drop (length run) offset bytes) ∙ ap (λ (rest : List ℕ). drop (length run) rest) here
+    ∙ drop-append_seam run more
+
+-- a run lies within the bytes
+pub run_within : (bytes more run : List ℕ) (offset : ℕ) → drop offset bytes ≡ run ++ more
+    → 0 < length run → offset + length run ≤ length bytes
+run_within bytes more run offset here some =
+    omega (arith, length-drop offset bytes, ap length here, length-append run more)
+
+abbrev pub with_run : List ℕ → ReadAt (List ℕ) → ReadAt (List ℕ)
+with_run run reading = reading >>= λ (bytes, offset). Ok (run ++ bytes, offset)
+
+with_run-chosen : (short : Bool) (next : ℕ) (bytes run rest : List ℕ)
+    → (if short then cut_short bytes else Ok (run ++ rest, next))
+    ≡ with_run run (if short then cut_short bytes else Ok (rest, next))
+with_run-chosen true next bytes run rest = refl
+with_run-chosen false next bytes run rest = refl
+
+-- the bytes of a run, and then the others
+pub bytes_at-run : (left : ℕ) (bytes more run : List ℕ) (offset : ℕ)
+    → drop offset bytes ≡ run ++ more → length run ≤ left
+    → bytes_at left bytes offset
+    ≡ with_run run (bytes_at (left - length run) bytes (offset + length run))
+unfolding bytes_at
+bytes_at-run left bytes more run offset here fits =
+    let all : left ≡ length run + (left - length run) = omega arith in
+    let end : offset + left ≡ offset + length run + (left - length run) = omega arith in
+    let split : take left (drop offset bytes) ≡ run ++ take (left - length run) more =
+    ap (λ (rest : List ℕ). take left rest) here
+    ∙ ap (λ (count : ℕ). take count (run ++ more)) all
+    ∙ take-append-add run more (left - length run) in
+    rw (end, split, drop-run bytes more run offset here)
+    (with_run-chosen (ltb (length bytes) (offset + length run + (left - length run)))
+    (offset + length run + (left - length run)) bytes run (take (left - length run) more))
+
+-- a run of one byte
+pub bytes_at-step : (left : ℕ) (bytes more : List ℕ) (byte offset : ℕ)
+    → drop offset bytes ≡ byte ∷ more → 0 < left
+    → bytes_at left bytes offset ≡ with_run (byte ∷ []) (bytes_at (left - 1) bytes (offset + 1))
+bytes_at-step left bytes more byte offset here some =
+    bytes_at-run left bytes more (byte ∷ []) offset here (omega arith)
+
+-- the last byte
+pub bytes_at-last : (bytes more : List ℕ) (byte offset : ℕ) → drop offset bytes ≡ byte ∷ more
+    → bytes_at 1 bytes offset ≡ Ok (byte ∷ [], offset + 1)
+bytes_at-last bytes more byte offset here =
+    let within : offset + 1 ≤ length bytes =
+    omega (arith, length-drop offset bytes, ap length here) in
+    bytes_at-step 1 bytes more byte offset here (omega arith)
+    ∙ ap (λ (reading : ReadAt (List ℕ)). with_run (byte ∷ []) reading)
+    (bytes_at-none bytes (offset + 1) within)

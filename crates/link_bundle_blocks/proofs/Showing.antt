@@ -1,0 +1,377 @@
+-- The blocks among some bytes, and among those bytes with more after them.
+
+use Rattle.std.proofs.Common.{◌≡◌, ℕ, zero, suc, ◌+◌, ◌<◌, ◌≤◌, ◌⊎◌, inl, inr, Bool, true, false, List, [], ◌∷◌, ◌++◌, length, Option, None, Some, Result, Ok, Err, refl, sym, ap, ◌∙◌, append_assoc, arith}
+use Rattle.std.proofs.lemmas.Bool.{false≢true}
+use Rattle.std.proofs.lemmas.List.{append_cancel_left}
+use Rattle.link_cbor.specs.declared.check.CheckKind.{CheckKind}
+use Rattle.std.specs.Prelude.{◌==◌, if◌then◌else◌}
+use Rattle.link_bundle_types.specs.Faults.{lasts}
+use Rattle.link_bundle_heads.specs.Rows.{◌>>=◌, block_too_many, closing}
+use Rattle.link_bundle_blocks.specs.declared.block.CanonicalBlock.{CanonicalBlock}
+use Rattle.link_bundle_blocks.specs.Blocks.{Primary, Block, PrimaryOf, CanonicalOf, ended, next_of}
+use Rattle.link_bundle_blocks.specs.Reading.{Stop, ReadAt, stopped, row_at}
+use Rattle.link_bundle_blocks.specs.CheckField.{field_at}
+use Rattle.link_bundle_blocks.specs.Primary.{primary_at}
+use Rattle.link_bundle_blocks.specs.Canonical.{heads_at, content_at}
+use Rattle.link_bundle_blocks.specs.Bundle.{Bundle, with_payload, with_blocks, inside, payload_at, blocks_at, opening_at, bundle_at, if_alone, judged_bundle, blocks_of, cut_block_of, blocks_in, cut_block_in}
+use Rattle.link_bundle_blocks.proofs.Steady.{EndsCut, Reads, short, whole, row_at-reads, field_at-reads, content_at-reads, heads_at-reads, primary_at-reads, opening_at-reads}
+use Rattle.link_bundle_blocks.specs.Laws.{BlocksGrow, BlocksEnd, BlockPlaced}
+use Rattle.link_bundle_blocks.proofs.Blocks.{blocks_of-blocks, cut_block_of-blocks}
+use Rattle.link_bundle_blocks.proofs.Keeping.{Stays, cuts, same, begun-of-either, bundle_at-stays}
+use Rattle.link_bundle_blocks.proofs.Payloads.{cut_goes-on}
+
+-- The blocks of a bundle that is read from an offset on: more bytes add some. The canonical block
+-- that comes next is the one that the first bytes cut, or its data begins after them.
+pub record Shows (bytes : List ℕ) (offset : ℕ) (now later : Result Bundle Stop) : Type 0 where
+  pub new : List Block
+  pub grows : blocks_of later ≡ blocks_of now ++ new
+  pub placed : (block : CanonicalBlock) → next_of new (cut_block_of later) ≡ Some block
+      → (cut_block_of now ≡ Some block) ⊎ (length bytes ≤ block.data_start)
+  pub from : (block : CanonicalBlock)
+      → next_of (blocks_of later) (cut_block_of later) ≡ Some block → offset ≤ block.data_start
+
+-- a stop outside the data of blocks
+no_blocks : (stop : Stop) → stop ≡ stopped stop.fault stop.offset → stop.blocks ≡ []
+no_blocks stop plain = ap (λ (stop : Stop). stop.blocks) plain
+
+no_cut : (stop : Stop) → stop ≡ stopped stop.fault stop.offset → stop.cut_block ≡ None
+no_cut stop plain = ap (λ (stop : Stop). stop.cut_block) plain
+
+-- two stops before the next block is whole
+both_stop : (bytes : List ℕ) (offset : ℕ) (stop other : Stop)
+    → stop.blocks ≡ [] → other.blocks ≡ []
+    → ((block : CanonicalBlock) → other.cut_block ≡ Some block
+    → (stop.cut_block ≡ Some block) × (offset ≤ block.data_start))
+    → Shows bytes offset (Err stop) (Err other)
+both_stop bytes offset stop other none other_none known = record {
+  new = [];
+  grows = other_none ∙ sym (ap (λ (blocks : List Block). blocks ++ []) none);
+  placed = λ block is. inl (known block is).0;
+  from = λ block is. (known block (rw other_none at is)).1;
+}
+
+-- a stop before the next block is whole, and a bundle that goes on after the bytes
+goes_after : (bytes : List ℕ) (offset end : ℕ) (stop : Stop) (rest : Result Bundle Stop)
+    → stop.blocks ≡ [] → offset ≤ end → length bytes < end
+    → ((block : CanonicalBlock) → next_of (blocks_of rest) (cut_block_of rest) ≡ Some block
+    → end ≤ block.data_start)
+    → Shows bytes offset (Err stop) rest
+goes_after bytes offset end stop rest none onward past from = record {
+  new = blocks_of rest;
+  grows = sym (ap (λ (blocks : List Block). blocks ++ blocks_of rest) none);
+  placed = λ block is. inr (omega (arith, from block is));
+  from = λ block is. omega (arith, from block is);
+}
+
+sooner : (bytes : List ℕ) (offset start : ℕ) (now later : Result Bundle Stop) → offset ≤ start
+    → Shows bytes start now later → Shows bytes offset now later
+sooner bytes offset start now later lower shows = record {
+  new = shows.new;
+  grows = shows.grows;
+  placed = shows.placed;
+  from = λ block is. omega (arith, shows.from block is);
+}
+
+shows-then-of : {A : Type 0} (bytes : List ℕ) (offset : ℕ) (now later : ReadAt A)
+    (next next_later : A × ℕ → Result Bundle Stop) → Reads bytes offset now later
+    → ((value : A × ℕ) → (now ≡ Ok value) ⊎ (later ≡ Ok value)
+    → Shows bytes value.1 (next value) (next_later value))
+    → Shows bytes offset (now >>= next) (later >>= next_later)
+shows-then-of bytes offset (Ok value) later next next_later (short cut onward past) each = absurd cut
+shows-then-of bytes offset (Err stop) (Err other) next next_later (short cut onward past) each =
+    both_stop bytes offset stop other (ap (λ (stop : Stop). stop.blocks) cut) (no_blocks other onward)
+    (λ block is. absurd (let none : None ≡ Some block = sym (no_cut other onward) ∙ is in cc))
+shows-then-of bytes offset (Err stop) (Ok (value, end)) next next_later (short cut onward past) each =
+    goes_after bytes offset end stop (next_later (value, end))
+    (ap (λ (stop : Stop). stop.blocks) cut) onward past (each (value, end) (inr refl)).from
+shows-then-of bytes offset (Ok (value, end)) later next next_later (whole is onward within) each =
+    rw is (sooner bytes offset end (next (value, end)) (next_later (value, end)) onward
+    (each (value, end) (inl refl)))
+shows-then-of bytes offset (Err stop) later next next_later (whole is onward within) each =
+    rw is (both_stop bytes offset stop stop (no_blocks stop onward) (no_blocks stop onward)
+    (λ block cuts. absurd (let none : None ≡ Some block = sym (no_cut stop onward) ∙ cuts in cc)))
+
+shows-then : {A : Type 0} (bytes : List ℕ) (offset : ℕ) (now later : ReadAt A)
+    (next next_later : A × ℕ → Result Bundle Stop) → Reads bytes offset now later
+    → ((value : A × ℕ) → Shows bytes value.1 (next value) (next_later value))
+    → Shows bytes offset (now >>= next) (later >>= next_later)
+shows-then bytes offset now later next next_later reads each =
+    shows-then-of bytes offset now later next next_later reads (λ value read. each value)
+
+shows-if : (test : Bool) (bytes : List ℕ) (offset : ℕ)
+    (now later other other_later : Result Bundle Stop)
+    → Shows bytes offset now later → Shows bytes offset other other_later
+    → Shows bytes offset (if test then now else other) (if test then later else other_later)
+shows-if true bytes offset now later other other_later taken passed = taken
+shows-if false bytes offset now later other other_later taken passed = passed
+
+-- the same blocks at both
+shows-same : (bytes : List ℕ) (offset : ℕ) (now later : Result Bundle Stop)
+    → blocks_of now ≡ [] → blocks_of later ≡ [] → cut_block_of later ≡ None
+    → Shows bytes offset now later
+shows-same bytes offset now later none later_none no_cut = record {
+  new = [];
+  grows = later_none ∙ sym (ap (λ (blocks : List Block). blocks ++ []) none);
+  placed = λ block is. absurd (let other : None ≡ Some block = sym no_cut ∙ is in cc);
+  from = λ block is. absurd (let other : None ≡ Some block = rw (later_none, no_cut) at is in cc);
+}
+
+-- ---- a canonical block, and what follows it
+
+-- a block before what is read
+abbrev after_block : CanonicalBlock → (ℕ → Result Bundle Stop) → Bool × ℕ → Result Bundle Stop
+after_block block rest (read, end) = with_blocks (CanonicalOf (ended block end) ∷ []) (rest end)
+
+next_after : (block : CanonicalBlock) (end : ℕ) (reading : Result Bundle Stop) (found : CanonicalBlock)
+    → block.end ≡ None
+    → next_of (blocks_of (with_blocks (CanonicalOf (ended block end) ∷ []) reading))
+    (cut_block_of (with_blocks (CanonicalOf (ended block end) ∷ []) reading)) ≡ Some found
+    → block ≡ found
+next_after block end (Ok bundle) found none is =
+    ap (λ (end : Option ℕ). record block { end = end }) none ∙ some_is _ _ is
+  where
+    some_is : (one other : CanonicalBlock) → Some one ≡ Some other → one ≡ other
+    some_is one other is = cc
+next_after block end (Err stop) found none is =
+    ap (λ (end : Option ℕ). record block { end = end }) none ∙ some_is _ _ is
+  where
+    some_is : (one other : CanonicalBlock) → Some one ≡ Some other → one ≡ other
+    some_is one other is = cc
+
+placed_at : (offset : ℕ) (block found : CanonicalBlock) → offset ≤ block.data_start → block ≡ found
+    → offset ≤ found.data_start
+placed_at offset block found lower is =
+    omega (arith, lower, ap (λ (block : CanonicalBlock). block.data_start) is)
+
+-- the block that a stop inside it cuts
+cut_is : (test : Bool) (block found : CanonicalBlock)
+    → (if test then None else Some block) ≡ Some found → block ≡ found
+cut_is true block found is = cc
+cut_is false block found is = cc
+
+grown_after : (blocks new : List Block) (now later : Result Bundle Stop)
+    → blocks_of later ≡ blocks_of now ++ new
+    → blocks_of (with_blocks blocks later) ≡ blocks_of (with_blocks blocks now) ++ new
+grown_after blocks new now later is =
+    blocks_of-blocks blocks later
+    ∙ ap (λ (more : List Block). blocks ++ more) is
+    ∙ sym (append_assoc blocks (blocks_of now) new)
+    ∙ ap (λ (all : List Block). all ++ new) (sym (blocks_of-blocks blocks now))
+
+shows-inside : (block : CanonicalBlock) → block.end ≡ None
+    → (bytes : List ℕ) (now later : ReadAt Bool) (rest rest_later : ℕ → Result Bundle Stop)
+    → Reads bytes block.data_start now later
+    → ((end : ℕ) → Shows bytes end (rest end) (rest_later end))
+    → Shows bytes block.data_start (inside block now >>= after_block block rest)
+    (inside block later >>= after_block block rest_later)
+shows-inside block whole_end bytes (Ok value) later rest rest_later (short cut onward past) each =
+    absurd cut
+shows-inside block whole_end bytes (Err stop) (Err other) rest rest_later (short cut onward past)
+    each =
+    both_stop bytes block.data_start _ _ (ap (λ (stop : Stop). stop.blocks) cut)
+    (no_blocks other onward)
+    (λ found is.
+    let same = cut_is (lasts other.fault) block found is in (
+      rw (ap (λ (stop : Stop). stop.fault) cut) (ap Some same),
+      placed_at block.data_start block found (omega arith) same,
+    ))
+shows-inside block whole_end bytes (Err stop) (Ok (read, end)) rest rest_later
+    (short cut onward past) each =
+    let later = with_blocks (CanonicalOf (ended block end) ∷ []) (rest_later end) in
+    record {
+      new = blocks_of later;
+      grows = sym (ap (λ (blocks : List Block). blocks ++ blocks_of later)
+          (ap (λ (stop : Stop). stop.blocks) cut));
+      placed = λ found is.
+          let same = next_after block end (rest_later end) found whole_end is in
+          inl (rw (ap (λ (stop : Stop). stop.fault) cut) (ap Some same));
+      from = λ found is. placed_at block.data_start block found (omega arith)
+          (next_after block end (rest_later end) found whole_end is);
+    }
+shows-inside block whole_end bytes (Ok (read, end)) later rest rest_later
+    (whole is onward within) each =
+    let last = CanonicalOf (ended block end) ∷ [] in
+    let shows = each end in
+    rw is (record {
+      new = shows.new;
+      grows = grown_after last shows.new (rest end) (rest_later end) shows.grows;
+      placed = λ found comes.
+          rw (cut_block_of-blocks last (rest end))
+          (shows.placed found (rw (cut_block_of-blocks last (rest_later end)) at comes));
+      from = λ found comes. placed_at block.data_start block found (omega arith)
+          (next_after block end (rest_later end) found whole_end comes);
+    })
+shows-inside block whole_end bytes (Err stop) later rest rest_later (whole is onward within) each =
+    rw is (both_stop bytes block.data_start _ _ (no_blocks stop onward) (no_blocks stop onward)
+    (λ found cuts. (
+      cuts,
+      placed_at block.data_start block found (omega arith)
+          (cut_is (lasts stop.fault) block found cuts),
+    )))
+
+-- a payload that is known makes no difference
+pub blocks_payload : (payload : ℕ × ℕ) (reading : Result Bundle Stop)
+    → blocks_of (with_payload payload reading) ≡ blocks_of reading
+blocks_payload payload (Ok bundle) = refl
+blocks_payload payload (Err stop) = refl
+
+cut_payload : (payload : ℕ × ℕ) (reading : Result Bundle Stop)
+    → cut_block_of (with_payload payload reading) ≡ cut_block_of reading
+cut_payload payload (Ok bundle) = refl
+cut_payload payload (Err stop) = refl
+
+shows-payload : (payload : ℕ × ℕ) (bytes : List ℕ) (offset : ℕ) (now later : Result Bundle Stop)
+    → Shows bytes offset now later
+    → Shows bytes offset (with_payload payload now) (with_payload payload later)
+shows-payload payload bytes offset now later shows = record {
+  new = shows.new;
+  grows = rw (blocks_payload payload later, blocks_payload payload now) shows.grows;
+  placed = λ block is.
+      rw (cut_payload payload now) (shows.placed block (rw (cut_payload payload later) at is));
+  from = λ block is.
+      shows.from block (rw (blocks_payload payload later, cut_payload payload later) at is);
+}
+
+payload_at-shows : (primary : Primary) (blocks : ℕ) (block : CanonicalBlock) → block.end ≡ None
+    → (bytes more : List ℕ)
+    → Shows bytes block.data_start (payload_at primary blocks block bytes)
+    (payload_at primary blocks block (bytes ++ more))
+unfolding payload_at
+payload_at-shows primary blocks block whole_end bytes more =
+    shows-payload (block.data_start, block.data_length) bytes block.data_start _ _
+    (shows-inside block whole_end bytes
+    (content_at block.data_length block.check block.start bytes block.data_start)
+    (content_at block.data_length block.check block.start (bytes ++ more) block.data_start) _ _
+    (content_at-reads block.data_length block.check block.start bytes more block.data_start)
+    (λ end. shows-then bytes end (row_at closing bytes end) (row_at closing (bytes ++ more) end) _ _
+    (row_at-reads closing bytes more end)
+    (λ (_, last). shows-same bytes last _ _ refl refl refl)))
+
+blocks_at-shows : (left : ℕ) (numbers : List ℕ) (primary : Primary)
+    (bytes more : List ℕ) (start : ℕ)
+    → Shows bytes start (blocks_at left numbers primary bytes start)
+    (blocks_at left numbers primary (bytes ++ more) start)
+unfolding blocks_at
+blocks_at-shows zero numbers primary bytes more start =
+    shows-then bytes start (row_at block_too_many bytes start)
+    (row_at block_too_many (bytes ++ more) start) _ _
+    (row_at-reads block_too_many bytes more start)
+    (λ (_, offset). shows-same bytes offset _ _ refl refl refl)
+blocks_at-shows (suc left) numbers primary bytes more start =
+    shows-then-of bytes start (heads_at numbers bytes start)
+    (heads_at numbers (bytes ++ more) start) _ _
+    (heads_at-reads numbers bytes more start)
+    (λ (block, next) read.
+    let begun = begun-of-either numbers bytes more start block next read in
+    rw begun.place
+    (shows-if (block.block_type == 1) bytes block.data_start _ _ _ _
+    (payload_at-shows primary (length numbers + 1) block begun.end bytes more)
+    (shows-inside block begun.end bytes
+    (content_at block.data_length block.check block.start bytes block.data_start)
+    (content_at block.data_length block.check block.start (bytes ++ more) block.data_start) _ _
+    (content_at-reads block.data_length block.check block.start bytes more block.data_start)
+    (λ end. blocks_at-shows left (numbers ++ block.number ∷ []) primary bytes more end))))
+
+-- ---- the primary block before them
+
+next_primary : (block : Block) (primary : Primary) (check : Option CheckKind) (end : ℕ)
+    (reading : Result Bundle Stop) (found : CanonicalBlock) → block ≡ PrimaryOf primary check end
+    → next_of (blocks_of (with_blocks (block ∷ []) reading))
+    (cut_block_of (with_blocks (block ∷ []) reading)) ≡ Some found → ⊥
+next_primary block primary check end (Ok bundle) found is comes =
+    let none : None ≡ Some found = rw is at comes in cc
+next_primary block primary check end (Err stop) found is comes =
+    let none : None ≡ Some found = rw is at comes in cc
+
+shows-primary : (primary : Primary) (check : Option CheckKind) (end : ℕ)
+    (bytes : List ℕ) (now later : Result Bundle Stop)
+    → Shows bytes end now later
+    → Shows bytes end (with_blocks (PrimaryOf primary check end ∷ []) now)
+    (with_blocks (PrimaryOf primary check end ∷ []) later)
+shows-primary primary check end bytes now later shows =
+    let first = PrimaryOf primary check end in
+    record {
+      new = shows.new;
+      grows = grown_after (first ∷ []) shows.new now later shows.grows;
+      placed = λ block is.
+          rw (cut_block_of-blocks (first ∷ []) now)
+          (shows.placed block (rw (cut_block_of-blocks (first ∷ []) later) at is));
+      from = λ block is. absurd (next_primary first primary check end later block refl is);
+    }
+
+bundle_at-shows : (bytes more : List ℕ)
+    → Shows bytes 0 (bundle_at bytes) (bundle_at (bytes ++ more))
+unfolding bundle_at
+bundle_at-shows bytes more =
+    shows-then bytes 0 (opening_at bytes) (opening_at (bytes ++ more)) _ _
+    (opening_at-reads bytes more)
+    (λ (_, start). shows-then bytes start (primary_at bytes start)
+    (primary_at (bytes ++ more) start) _ _
+    (primary_at-reads bytes more start)
+    (λ ((primary, check), offset). shows-then bytes offset (field_at check start bytes offset)
+    (field_at check start (bytes ++ more) offset) _ _
+    (field_at-reads check start bytes more offset)
+    (λ (_, end). shows-primary primary check end bytes _ _
+    (blocks_at-shows 64 [] primary bytes more end))))
+
+-- ---- all of the bytes
+
+alone_blocks : (test : Bool) (bundle : Bundle) (stop : Stop) → stop.blocks ≡ bundle.blocks
+    → blocks_of (if test then Ok bundle else Err stop) ≡ bundle.blocks
+alone_blocks true bundle stop is = refl
+alone_blocks false bundle stop is = is
+
+alone_cut : (test : Bool) (bundle : Bundle) (stop : Stop) → stop.cut_block ≡ None
+    → cut_block_of (if test then Ok bundle else Err stop) ≡ None
+alone_cut true bundle stop none = refl
+alone_cut false bundle stop none = none
+
+blocks_alone : (bytes : List ℕ) (reading : Result Bundle Stop)
+    → blocks_of (reading >>= λ bundle. if_alone bytes bundle) ≡ blocks_of reading
+blocks_alone bytes (Ok bundle) = alone_blocks (bundle.length == length bytes) bundle _ refl
+blocks_alone bytes (Err stop) = refl
+
+cut_alone : (bytes : List ℕ) (reading : Result Bundle Stop)
+    → cut_block_of (reading >>= λ bundle. if_alone bytes bundle) ≡ cut_block_of reading
+cut_alone bytes (Ok bundle) = alone_cut (bundle.length == length bytes) bundle _ refl
+cut_alone bytes (Err stop) = refl
+
+pub blocks_judged : (bytes : List ℕ) → blocks_in bytes ≡ blocks_of (bundle_at bytes)
+unfolding blocks_in judged_bundle
+blocks_judged bytes = blocks_alone bytes (bundle_at bytes)
+
+pub cut_judged : (bytes : List ℕ) → cut_block_in bytes ≡ cut_block_of (bundle_at bytes)
+unfolding cut_block_in judged_bundle
+cut_judged bytes = cut_alone bytes (bundle_at bytes)
+
+-- ---- the laws
+
+pub BlocksGrow-holds : BlocksGrow
+BlocksGrow-holds bytes more =
+    let shows = bundle_at-shows bytes more in (
+      shows.new,
+      blocks_judged (bytes ++ more) ∙ shows.grows
+          ∙ ap (λ (blocks : List Block). blocks ++ shows.new) (sym (blocks_judged bytes)),
+    )
+
+stays_blocks : (bytes : List ℕ) (now later : Result Bundle Stop) → Stays now later
+    → (EndsCut now → ⊥) → blocks_of later ≡ blocks_of now
+stays_blocks bytes now later (cuts cut) other = absurd (other cut)
+stays_blocks bytes now later (same is) other = ap blocks_of is
+
+pub BlocksEnd-holds : BlocksEnd
+BlocksEnd-holds bytes more stops =
+    blocks_judged (bytes ++ more)
+    ∙ stays_blocks bytes (bundle_at bytes) (bundle_at (bytes ++ more)) (bundle_at-stays bytes more)
+    (λ cut. false≢true (sym stops ∙ cut_goes-on bytes cut))
+    ∙ sym (blocks_judged bytes)
+
+pub BlockPlaced-holds : BlockPlaced
+BlockPlaced-holds bytes more new block grown comes =
+    let shows = bundle_at-shows bytes more in
+    let same : new ≡ shows.new =
+    append_cancel_left (blocks_in bytes) new shows.new
+    (sym grown ∙ blocks_judged (bytes ++ more) ∙ shows.grows
+    ∙ ap (λ (blocks : List Block). blocks ++ shows.new) (sym (blocks_judged bytes))) in
+    rw (cut_judged bytes)
+    (shows.placed block (rw (same, cut_judged (bytes ++ more)) at comes))

@@ -1,0 +1,396 @@
+-- The blocks of a good bundle have all bytes between its first byte and its last.
+
+use Rattle.std.proofs.Common.{◌≡◌, ℕ, zero, suc, ◌+◌, ◌/◌, ◌%◌, ◌≤◌, ◌≢◌, Bool, true, false, ◌&&◌, ◌||◌, List, [], ◌∷◌, ◌++◌, map, length, drop, Option, Result, Ok, Err, refl, sym, ap, ◌∙◌, ⊎_elim, zero-add, length-append, arith}
+use Rattle.std.specs.Prelude.{◌==◌, nat_lt, if◌then◌else◌}
+use Rattle.std.specs.List.{All}
+use Rattle.std.proofs.lemmas.Bool.{cases_Bool, eqb-true, eqb-false}
+use Rattle.std.proofs.lemmas.List.Elements.{All-nil, All-cons}
+use Rattle.link_cbor.specs.declared.check.CheckKind.{CheckKind}
+use Rattle.link_cbor.specs.declared.head.Head.{Head}
+use Rattle.link_cbor.specs.Head.{HeadFront, Cut as CutHead, IllFormed, Whole, with_argument, argument_front, no_argument, front_by, head_front}
+use Rattle.link_bundle_types.specs.declared.fault.BundleFault.{BundleFault}
+use Rattle.link_bundle_types.specs.declared.info.BundleInfo.{BundleInfo}
+use Rattle.link_bundle_heads.specs.Rows.{◌>>=◌, block, unsigned, block_number, block_check_type, byte_string, is_absent, is_break, block_too_many, closing}
+use Rattle.link_bundle_blocks.specs.declared.block.CanonicalBlock.{CanonicalBlock}
+use Rattle.link_bundle_blocks.specs.Blocks.{Primary, PrimaryOf, CanonicalOf, ended}
+use Rattle.link_bundle_blocks.specs.Reading.{Stop, ReadAt, head_by, outcome_at, head_at, row_at, bytes_at}
+use Rattle.link_bundle_blocks.specs.CheckField.{field_at}
+use Rattle.link_bundle_blocks.specs.Primary.{primary_at}
+use Rattle.link_bundle_blocks.specs.Canonical.{heads_at, content_at}
+use Rattle.link_bundle_blocks.specs.Bundle.{Bundle, with_payload, with_blocks, inside, info_of, rest_of, payload_at, blocks_at, opening_at, bundle_at, if_alone, judged_bundle, verdict_by, verdict, blocks_in, blocks_of}
+use Rattle.link_bundle_blocks.specs.Laws.{Fills, Tiles, IsTiled, GoodBlocksTile}
+use Rattle.link_bundle_blocks.proofs.Showing.{blocks_judged}
+use Rattle.link_bundle_blocks.proofs.Steady.{Reads, short, whole, row_at-reads, field_at-reads, primary_at-reads}
+
+-- ---- what holds of a part that is read
+
+abbrev IfRead : {A : Type 0} → (A × ℕ → Type 0) → ReadAt A → Type 0
+IfRead holds (Ok value) = holds value
+IfRead holds (Err stop) = Unit {0}
+
+then-read : {A B : Type 0} (holds : B × ℕ → Type 0) (now : ReadAt A) (next : A × ℕ → ReadAt B)
+    → ((value : A × ℕ) → now ≡ Ok value → IfRead holds (next value)) → IfRead holds (now >>= next)
+then-read holds (Ok value) next each = each value refl
+then-read holds (Err stop) next each = tt
+
+was-read : {A : Type 0} (holds : A × ℕ → Type 0) (now : ReadAt A) (value : A × ℕ) → IfRead holds now
+    → now ≡ Ok value → holds value
+was-read holds now value read is = rw is at read
+
+-- a part that is read ends where it begins or after it
+on_by : {A : Type 0} (bytes : List ℕ) (offset : ℕ) (now later : ReadAt A)
+    → Reads bytes offset now later → IfRead (λ value. offset ≤ value.1) now
+on_by bytes offset (Ok (value, end)) later (short cut onward past) = absurd cut
+on_by bytes offset (Ok (value, end)) later (whole is onward within) = onward
+on_by bytes offset (Err stop) later reads = tt
+
+-- ---- the break
+
+-- a whole head without a value has one byte
+abbrev IsShortIfBare : HeadFront → Type 0
+IsShortIfBare CutHead = Unit {0}
+IsShortIfBare IllFormed = Unit {0}
+IsShortIfBare (Whole head size) = is_absent head.value ≡ true → size ≡ 1
+
+bare-with : (major size argument : ℕ) → IsShortIfBare (with_argument major size argument)
+unfolding with_argument
+bare-with major size argument =
+    ⊎_elim (λ simple. rw simple tt) (λ plain. rw plain (λ bare. cc))
+    (cases_Bool ((major == 7) && ((size == 1) && nat_lt argument 32)))
+
+bare-argument : (major size : ℕ) (rest : List ℕ) → IsShortIfBare (argument_front major size rest)
+unfolding argument_front
+bare-argument major size rest =
+    ⊎_elim (λ missing. rw missing tt) (λ there. rw there (bare-with major size _))
+    (cases_Bool (nat_lt (length rest) size))
+
+bare-none : (major : ℕ) → IsShortIfBare (no_argument major)
+unfolding no_argument
+bare-none major =
+    ⊎_elim (λ wrong. rw wrong tt) (λ right. rw right (λ bare. refl))
+    (cases_Bool (nat_lt major 2 || (major == 6)))
+
+bare-by : (major information : ℕ) (rest : List ℕ) → IsShortIfBare (front_by major information rest)
+unfolding front_by
+bare-by major information rest =
+    ⊎_elim (λ small. rw small (λ bare. cc))
+    (λ more. rw more
+    (⊎_elim (λ argument. rw argument (bare-argument major _ rest))
+    (λ more. rw more
+    (⊎_elim (λ reserved. rw reserved tt) (λ none. rw none (bare-none major))
+    (cases_Bool (nat_lt information 31))))
+    (cases_Bool (nat_lt information 28))))
+    (cases_Bool (nat_lt information 24))
+
+bare-front : (bytes : List ℕ) → IsShortIfBare (head_front bytes)
+unfolding head_front
+bare-front [] = tt
+bare-front (first ∷ rest) = bare-by (first / 32) (first % 32) rest
+
+absent_of : (head : Head) → is_break head ≡ true → is_absent head.value ≡ true
+unfolding is_break
+absent_of head is = and_true_right (head.major == 7) (is_absent head.value) is
+  where
+    and_true_right : (one other : Bool) → (one && other) ≡ true → other ≡ true
+    and_true_right true other is = is
+    and_true_right false other is = cc
+
+closing_end : (start next size : ℕ) (head : Head) → next ≡ start + size
+    → (is_absent head.value ≡ true → size ≡ 1)
+    → IfRead (λ value. value.1 ≡ start + 1) (outcome_at start next (closing head))
+unfolding closing
+closing_end start next size head is bare =
+    ⊎_elim
+    (λ break. rw break (is ∙ ap (λ n. start + n) (bare (absent_of head break))))
+    (λ other. rw other tt)
+    (cases_Bool (is_break head))
+
+closing_by : (bytes : List ℕ) (start : ℕ) (front : HeadFront) → IsShortIfBare front
+    → IfRead (λ value. value.1 ≡ start + 1)
+    (head_by bytes start front >>= λ (head, next). outcome_at start next (closing head))
+closing_by bytes start CutHead bare = tt
+closing_by bytes start IllFormed bare = tt
+closing_by bytes start (Whole head size) bare =
+    closing_end start (start + size) size head refl bare
+
+-- the break after the payload block has one byte
+closing_one : (bytes : List ℕ) (start : ℕ)
+    → IfRead (λ value. value.1 ≡ start + 1) (row_at closing bytes start)
+unfolding row_at head_at
+closing_one bytes start =
+    closing_by bytes start (head_front (drop start bytes)) (bare-front (drop start bytes))
+
+-- ---- a canonical block
+
+-- the heads of a block that begins at `start`
+abbrev BeginsAt : ℕ → CanonicalBlock × ℕ → Type 0
+BeginsAt start (block, next) = (block.start ≡ start) × (start ≤ block.data_start)
+
+row_on : {A : Type 0} (row : Head → Result A BundleFault) (bytes : List ℕ) (offset : ℕ)
+    (value : A × ℕ) → row_at row bytes offset ≡ Ok value → offset ≤ value.1
+row_on row bytes offset value is =
+    was-read (λ value. offset ≤ value.1) (row_at row bytes offset) value
+    (on_by bytes offset _ _ (row_at-reads row bytes [] offset)) is
+
+heads_begin : (numbers bytes : List ℕ) (start : ℕ)
+    → IfRead (BeginsAt start) (heads_at numbers bytes start)
+unfolding heads_at
+heads_begin numbers bytes start =
+    then-read (BeginsAt start) (row_at block bytes start) _
+    (λ (count, one) is1. then-read (BeginsAt start) (row_at unsigned bytes one) _
+    (λ (type, two) is2. then-read (BeginsAt start) (row_at (block_number type numbers) bytes two) _
+    (λ (number, three) is3. then-read (BeginsAt start) (row_at unsigned bytes three) _
+    (λ (flags, four) is4. then-read (BeginsAt start) (row_at (block_check_type count) bytes four) _
+    (λ (check, five) is5. then-read (BeginsAt start) (row_at byte_string bytes five) _
+    (λ (size, six) is6. (
+      refl,
+      omega (
+        arith,
+        row_on block bytes _ _ is1,
+        row_on unsigned bytes _ _ is2,
+        row_on (block_number type numbers) bytes _ _ is3,
+        row_on unsigned bytes _ _ is4,
+        row_on (block_check_type count) bytes _ _ is5,
+        row_on byte_string bytes _ _ is6,
+      ),
+    )))))))
+
+-- the data of a block lies before the end of its check field
+data_before : (size : ℕ) (check : Option CheckKind) (start : ℕ) (bytes : List ℕ) (offset : ℕ)
+    → IfRead (λ value. offset + size ≤ value.1) (content_at size check start bytes offset)
+unfolding content_at bytes_at
+data_before size check start bytes offset =
+    ⊎_elim
+    (λ missing. rw missing tt)
+    (λ there. rw there
+    (on_by bytes (offset + size) _ _ (field_at-reads check start bytes [] (offset + size))))
+    (cases_Bool (nat_lt (length bytes) (offset + size)))
+
+inside_before : (block : CanonicalBlock) (limit : ℕ) (reading : ReadAt Bool)
+    → IfRead (λ value. limit ≤ value.1) reading
+    → IfRead (λ value. limit ≤ value.1) (inside block reading)
+inside_before block limit (Ok value) read = read
+inside_before block limit (Err stop) read = tt
+
+block_fills : (block : CanonicalBlock) (start : ℕ) (bytes : List ℕ) (value : Bool × ℕ)
+    → (block.start ≡ start) × (start ≤ block.data_start)
+    → rest_of block bytes ≡ Ok value → Fills (CanonicalOf (ended block value.1)) start value.1
+block_fills block start bytes value begins is =
+    let limit = block.data_start + block.data_length in
+    let reading = content_at block.data_length block.check block.start bytes block.data_start in (
+      begins.0,
+      begins.1,
+      was-read (λ value. limit ≤ value.1) (rest_of block bytes) value
+          (inside_before block limit reading
+          (data_before block.data_length block.check block.start bytes block.data_start)) is,
+      refl,
+    )
+
+-- ---- the canonical blocks
+
+abbrev IfWhole : (Bundle → Type 0) → Result Bundle Stop → Type 0
+IfWhole holds (Ok bundle) = holds bundle
+IfWhole holds (Err stop) = Unit {0}
+
+then-whole : {A : Type 0} (holds : Bundle → Type 0) (now : ReadAt A)
+    (next : A × ℕ → Result Bundle Stop)
+    → ((value : A × ℕ) → now ≡ Ok value → IfWhole holds (next value)) → IfWhole holds (now >>= next)
+then-whole holds (Ok value) next each = each value refl
+then-whole holds (Err stop) next each = tt
+
+if-whole : (test : Bool) (holds : Bundle → Type 0) (one other : Result Bundle Stop)
+    → (test ≡ true → IfWhole holds one) → (test ≡ false → IfWhole holds other)
+    → IfWhole holds (if test then one else other)
+if-whole true holds one other taken passed = taken refl
+if-whole false holds one other taken passed = passed refl
+
+-- what is read from `start` on, after that many canonical blocks
+record IsRest (primary : Primary) (count start : ℕ) (bundle : Bundle) : Type 0 where
+  pub others : List CanonicalBlock
+  pub payload : CanonicalBlock
+  pub blocks : bundle.blocks ≡ map CanonicalOf (others ++ payload ∷ [])
+  pub fields : bundle.info
+      ≡ info_of primary (count + length (others ++ payload ∷ [])) payload.data_length
+  pub payload_type : payload.block_type ≡ 1
+  pub other_types : All (λ block. block.block_type ≢ 1) others
+  pub last : ℕ
+  pub tiles : Tiles start bundle.blocks last
+  pub size : bundle.length ≡ last + 1
+
+kept_payload : (span : ℕ × ℕ) (holds : Bundle → Type 0) (reading : Result Bundle Stop)
+    → IfWhole holds reading → IfWhole holds (with_payload span reading)
+kept_payload span holds (Ok bundle) held = held
+kept_payload span holds (Err stop) held = tt
+
+-- one more block before what is read
+more_rest : (primary : Primary) (count start end : ℕ) (block : CanonicalBlock)
+    (reading : Result Bundle Stop)
+    → block.block_type ≢ 1 → Fills (CanonicalOf block) start end
+    → IfWhole (IsRest primary (suc count) end) reading
+    → IfWhole (IsRest primary count start) (with_blocks (CanonicalOf block ∷ []) reading)
+more_rest primary count start end block (Ok bundle) other fills rest = record {
+  others = block ∷ rest.others;
+  payload = rest.payload;
+  blocks = ap (λ blocks. CanonicalOf block ∷ blocks) rest.blocks;
+  fields = rest.fields
+      ∙ ap (λ n. info_of primary n rest.payload.data_length)
+      {y = count + suc (length (rest.others ++ rest.payload ∷ []))} (omega arith);
+  payload_type = rest.payload_type;
+  other_types = All-cons (λ block. block.block_type ≢ 1) block rest.others other rest.other_types;
+  last = rest.last;
+  tiles = (end, fills, rest.tiles);
+  size = rest.size;
+}
+more_rest primary count start end block (Err stop) other fills rest = tt
+
+payload_rest : (primary : Primary) (count start : ℕ) (block : CanonicalBlock) (bytes : List ℕ)
+    → block.block_type ≡ 1 → (block.start ≡ start) × (start ≤ block.data_start)
+    → IfWhole (IsRest primary count start) (payload_at primary (count + 1) block bytes)
+unfolding payload_at
+payload_rest primary count start block bytes type begins =
+    kept_payload (block.data_start, block.data_length) (IsRest primary count start) _
+    (then-whole (IsRest primary count start) (rest_of block bytes) _
+    (λ (read, end) is. closed end (block_fills block start bytes (read, end) begins is)
+    (row_at closing bytes end) (closing_one bytes end)))
+  where
+    closed : (end : ℕ) → Fills (CanonicalOf (ended block end)) start end → (reading : ReadAt Bool)
+        → IfRead (λ value. value.1 ≡ end + 1) reading
+        → IfWhole (IsRest primary count start)
+        (with_blocks (CanonicalOf (ended block end) ∷ []) (reading >>= λ (_, end). Ok (record {
+          info = info_of primary (count + 1) block.data_length;
+          length = end;
+          payload_span = (block.data_start, block.data_length);
+          blocks = [];
+        })))
+    closed end fills (Err stop) one = tt
+    closed end fills (Ok (read, next)) one = record {
+      others = [];
+      payload = ended block end;
+      blocks = refl;
+      fields = refl;
+      payload_type = type;
+      other_types = All-nil (λ block. block.block_type ≢ 1);
+      last = end;
+      tiles = (end, fills, refl);
+      size = one;
+    }
+
+blocks_rest : (left : ℕ) (numbers : List ℕ) (primary : Primary) (bytes : List ℕ) (start : ℕ)
+    → IfWhole (IsRest primary (length numbers) start) (blocks_at left numbers primary bytes start)
+unfolding blocks_at
+blocks_rest zero numbers primary bytes start =
+    then-whole (IsRest primary (length numbers) start) (row_at block_too_many bytes start) _
+    (λ value is. tt)
+blocks_rest (suc left) numbers primary bytes start =
+    let holds = IsRest primary (length numbers) start in
+    then-whole holds (heads_at numbers bytes start) _
+    (λ (block, next) begun.
+    let begins : (block.start ≡ start) × (start ≤ block.data_start) =
+    was-read (BeginsAt start) (heads_at numbers bytes start) (block, next)
+    (heads_begin numbers bytes start) begun in
+    if-whole (block.block_type == 1) holds _ _
+    (λ one. payload_rest primary (length numbers) start block bytes
+    (eqb-true block.block_type 1 one) begins)
+    (λ other. then-whole holds (rest_of block bytes) _
+    (λ (read, end) is.
+    more_rest primary (length numbers) start end (ended block end) _
+    (eqb-false block.block_type 1 other)
+    (block_fills block start bytes (read, end) begins is)
+    (rw (← pushed block.number)
+    (blocks_rest left (numbers ++ block.number ∷ []) primary bytes end)))))
+  where
+    pushed : (number : ℕ) → length (numbers ++ number ∷ []) ≡ suc (length numbers)
+    pushed number = omega (arith, length-append numbers (number ∷ []))
+
+-- ---- the primary block before them, and the whole
+
+-- what is read of a bundle, but for what follows it
+record IsDivided (bundle : Bundle) : Type 0 where
+  pub primary : Primary
+  pub check : Option CheckKind
+  pub end : ℕ
+  pub rest : Bundle
+  pub after : IsRest primary 0 end rest
+  pub late : 1 ≤ end
+  pub is : bundle ≡ record rest { blocks = PrimaryOf primary check end ∷ rest.blocks }
+
+primary_before : (primary : Primary) (check : Option CheckKind) (end : ℕ)
+    (reading : Result Bundle Stop) → 1 ≤ end → IfWhole (IsRest primary 0 end) reading
+    → IfWhole IsDivided (with_blocks (PrimaryOf primary check end ∷ []) reading)
+primary_before primary check end (Ok bundle) late rest = record {
+  primary = primary;
+  check = check;
+  end = end;
+  rest = bundle;
+  after = rest;
+  late = late;
+  is = refl;
+}
+primary_before primary check end (Err stop) late rest = tt
+
+opens_at : (bytes : List ℕ) → IfRead (λ value. value.1 ≡ 1) (opening_at bytes)
+unfolding opening_at
+opens_at [] = tt
+opens_at (first ∷ rest) =
+    ⊎_elim (λ is. rw is refl) (λ other. rw other tt) (cases_Bool (first == 0x9f))
+
+bundle_divided : (bytes : List ℕ) → IfWhole IsDivided (bundle_at bytes)
+unfolding bundle_at
+bundle_divided bytes =
+    then-whole IsDivided (opening_at bytes) _
+    (λ (_, start) opened. then-whole IsDivided (primary_at bytes start) _
+    (λ ((primary, check), offset) read. then-whole IsDivided (field_at check start bytes offset) _
+    (λ (_, end) checked.
+    let one : start ≡ 1 =
+    was-read (λ value. value.1 ≡ 1) (opening_at bytes) (_, start) (opens_at bytes) opened in
+    let two : start ≤ offset =
+    was-read (λ value. start ≤ value.1) (primary_at bytes start) ((primary, check), offset)
+    (on_by bytes start _ _ (primary_at-reads bytes [] start)) read in
+    let three : offset ≤ end =
+    was-read (λ value. offset ≤ value.1) (field_at check start bytes offset) (_, end)
+    (on_by bytes offset _ _ (field_at-reads check start bytes [] offset)) checked in
+    primary_before primary check end _ (omega arith) (blocks_rest 64 [] primary bytes end))))
+
+tiled_by : (bytes : List ℕ) (info : BundleInfo) (reading : Result Bundle Stop)
+    → IfWhole IsDivided reading
+    → verdict_by (reading >>= λ bundle. if_alone bytes bundle) ≡ Ok info
+    → blocks_in bytes ≡ blocks_of reading → IsTiled bytes info
+tiled_by bytes info (Err stop) divided good blocks = absurd (cc)
+tiled_by bytes info (Ok bundle) divided good blocks =
+    ⊎_elim
+    (λ alone.
+    let after = divided.after in
+    let first = PrimaryOf divided.primary divided.check divided.end in
+    let same : blocks_in bytes ≡ first ∷ divided.rest.blocks =
+    blocks ∙ ap (λ (b : Bundle). b.blocks) divided.is in
+    record {
+      primary = divided.primary;
+      check = divided.check;
+      end = divided.end;
+      others = after.others;
+      payload = after.payload;
+      blocks = same ∙ ap (λ blocks. first ∷ blocks) after.blocks;
+      fields = info_is (rw alone at good)
+          ∙ ap (λ (b : Bundle). b.info) divided.is
+          ∙ after.fields
+          ∙ ap (λ n. info_of divided.primary n after.payload.data_length)
+          (zero-add (length (after.others ++ after.payload ∷ [])));
+      payload_type = after.payload_type;
+      other_types = after.other_types;
+      last = after.last;
+      tiles = rw same (divided.end, (refl, divided.late, refl), after.tiles);
+      size = sym (eqb-true bundle.length (length bytes) alone)
+          ∙ ap (λ (b : Bundle). b.length) divided.is
+          ∙ after.size;
+    })
+    (λ other. absurd (let never = rw other at good in cc))
+    (cases_Bool (bundle.length == length bytes))
+  where
+    info_is : ◌≡◌ {A = Result BundleInfo (BundleFault × ℕ)} (Ok bundle.info) (Ok info)
+        → info ≡ bundle.info
+    info_is is = cc
+
+pub GoodBlocksTile-holds : GoodBlocksTile
+unfolding verdict judged_bundle
+GoodBlocksTile-holds bytes info good =
+    tiled_by bytes info (bundle_at bytes) (bundle_divided bytes) good (blocks_judged bytes)

@@ -1,0 +1,22 @@
+use Rattle.std.proofs.Common.{ℕ, ◌+◌, List, ap, ◌∙◌, arith}
+use Rattle.byteorder.specs.Endian.{big_from}
+use Rattle.link_bundle_blocks.proofs.Rests.{the_rest}
+use Rattle.link_bundle_blocks.proofs.Items.{head_at-small, head_at-argument}
+use Rattle.link_bundle_blocks.proofs.item.item_at.Goals as goal
+
+pub returns-then-information-lt24 : goal.returns-then-information-lt24
+returns-then-information-lt24 c =
+    rw c.from.ensures
+    (head_at-small c.args.major c.in_ok-information.information c.args.bytes.now c.args.offset
+    c.in_ok-information.ensures.within (c.in_ok-information.ensures.first (omega arith))
+    (omega arith))
+
+pub returns : goal.returns
+returns c =
+    head_at-argument c.args.major c.in_ok-information.information c.in_ok-size.size
+    c.read_u64.result c.args.bytes.now c.args.offset c.requires
+    (omega arith) (c.in_ok-information.ensures.first (omega arith))
+    c.in_ok-size.ensures.least c.in_ok-size.ensures.below c.in_ok-size.ensures.size
+    (λ (index : ℕ). omega (arith, c.type_inv.bytes index))
+    (c.read_u64.ensures ∙ ap (λ (rest : List ℕ). big_from 0 8 rest)
+    (the_rest c.args.bytes.now (c.args.offset + 1)))

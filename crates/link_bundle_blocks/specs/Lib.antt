@@ -1,0 +1,9 @@
+pub mod Reading
+pub mod EndpointId
+pub mod CheckField
+pub mod Canonical
+pub mod Primary
+pub mod Blocks
+pub mod Bundle
+pub mod Laws
+pub mod Whole

@@ -1,0 +1,48 @@
+//! Laws over the definitions alone.
+//!
+//! The functions do nothing when they run. Their contracts are the laws.
+ghost use Rattle.link_bundle_blocks.specs.Laws.{FaultLasts, TrailingLasts, PayloadLasts, PayloadPlaced, PayloadEnds, BlocksGrow, BlocksEnd, BlocksWithin, BlockPlaced, GoodBlocksTile};
+
+/// How the verdict on some bytes lasts when more bytes follow.
+///
+/// - A fault stays the same, at the same offset, unless it is that the bytes end inside the bundle.
+/// - A bundle with a byte after it is the fault of trailing bytes, at the bundle's length, whatever
+///   follows.
+/// - Once the offset of the payload and its length by its head are known, they stay the same.
+/// - This offset and this length also determine which bytes of the payload a prefix of the bytes
+///   has.
+/// - Once the bytes do not end inside the bundle, no more bytes of the payload come.
+pub fn verdict_lasts()
+    ensures fault { FaultLasts }
+    ensures trailing { TrailingLasts }
+    ensures payload { PayloadLasts }
+    ensures placed { PayloadPlaced }
+    ensures ends { PayloadEnds }
+{}
+
+/// How the blocks among some bytes last when more bytes follow.
+///
+/// - More bytes leave the whole blocks as they are, and may add some.
+/// - Once the bytes do not end inside a bundle, no more blocks come.
+/// - The whole blocks lie within the bytes.
+/// - The canonical block that comes next is the one that the bytes cut, or its data begins after
+///   them.
+pub fn blocks_last()
+    ensures grow { BlocksGrow }
+    ensures end { BlocksEnd }
+    ensures within { BlocksWithin }
+    ensures placed { BlockPlaced }
+{}
+
+/// How the blocks divide a good bundle.
+///
+/// - The bundle is its primary block, and then canonical blocks. The last of these is the payload
+///   block, and no other has type 1.
+/// - The verdict has the fields of the primary block, the number of canonical blocks, and the
+///   length of the payload block's data.
+/// - The first block begins at offset 1, and each other where the one before it ends. The last ends
+///   one byte before the end of the bundle.
+/// - The data of each block lies in it.
+pub fn good_blocks_tile()
+    ensures { GoodBlocksTile }
+{}

@@ -1,0 +1,16 @@
+//! The blocks of a bundle (RFC 9171 section 4): what they are, and how they are read from a slice.
+//!
+//! specs/Bundle.antt defines the bundle that some bytes are, and the verdict on bytes that are
+//! none. The functions with names in `_at` read the parts of a bundle where they lie. Each has the
+//! name of its definition. An error of one means only that nothing was read: the part is cut or has
+//! a fault, or a head in it is spelled at greater length than it has to be.
+#![tactic(auto)]
+
+mod block;
+mod item;
+pub mod laws;
+mod whole;
+
+pub use block::{BlockView, CanonicalBlock, PrimaryBlock};
+pub use item::{pair_at, small_at, unsigned_at};
+pub use whole::{blocks_at, check_of, eid_at, field_at, fragment_at, number_of, whole_canonical};
