@@ -31,7 +31,7 @@ lines_of_push number n (first ∷ bundles) bundle is =
     ∙ sym (append_assoc (whole_lines number first) _ _)
 
 -- between two bundles, the lines are those of the whole ones
-between_lines : (bundles : List Packed)
+pub between_lines : (bundles : List Packed)
     → bundle_lines 0 bundles ++ block_lines (length bundles) [] ≡ bundle_lines 0 bundles
 between_lines bundles =
     ap (λ (lines : List ℕ). bundle_lines 0 bundles ++ lines) (no_lines (length bundles))
@@ -44,6 +44,47 @@ holds_if (Err fault) holds = tt
 none_lines : bundle_lines 0 [] ≡ []
 unfolding bundle_lines
 none_lines = refl
+
+-- ---- what is said with more bytes
+
+module _ (before : SoFar) (run : List ℕ) (number : ℕ)
+    (numbered : number ≡ length before.bundles) where
+  abbrev whole : List ℕ
+  whole = bundle_lines 0 before.bundles
+
+  -- the bundle goes on
+  pub on_said : (lines : List ℕ)
+      → block_lines number (before.begun ++ run) ≡ block_lines number before.begun ++ lines
+      → bundle_blocks_telling.texts before then on_output lines
+      ≡ bundle_blocks_telling.texts (with_run before run None)
+  on_said lines are = texts_as
+      (append_assoc whole (block_lines (length before.bundles) before.begun) lines
+      ∙ ap (λ (lines : List ℕ). whole ++ lines)
+      (ap (λ n. block_lines n before.begun ++ lines) (sym numbered)
+      ∙ sym are ∙ ap (λ n. block_lines n (before.begun ++ run)) numbered))
+      refl
+
+  -- the bundle is whole, and has the line of its end
+  module _ (bundle : Packed) (is : bundle.bytes ≡ before.begun ++ run) where
+    abbrev pub last : List ℕ
+    last = end_text number (length bundle.bytes) (Good bundle.info)
+
+    pub whole_said : (lines : List ℕ)
+        → block_lines number (before.begun ++ run) ≡ block_lines number before.begun ++ lines
+        → bundle_blocks_telling.texts before then on_output (lines ++ last)
+        ≡ bundle_blocks_telling.texts (between (before.bundles ++ bundle ∷ []))
+    whole_said lines are = texts_as
+        (append_assoc whole (block_lines (length before.bundles) before.begun) (lines ++ last)
+        ∙ ap (λ (rest : List ℕ). whole ++ rest)
+        (ap (λ n. block_lines n before.begun ++ (lines ++ last)) (sym numbered)
+        ∙ sym (append_assoc (block_lines number before.begun) lines last)
+        ∙ ap (λ (rest : List ℕ). rest ++ last) (sym are)
+        ∙ ap (λ (bytes : List ℕ). block_lines number bytes ++ last) (sym is))
+        ∙ sym (lines_of_push 0 number before.bundles bundle (omega arith))
+        ∙ sym (between_lines (before.bundles ++ bundle ∷ [])))
+        refl
+
+-- ---- what is written
 
 module _ {W E : Type 0} (out_look : W → Output) (report_look : E → Output) (lister : BundleLister) where
   -- of what is said of `now`, all that was not said of `before` was written
@@ -76,9 +117,6 @@ module _ {W E : Type 0} (out_look : W → Output) (report_look : E → Output) (
 
   module _ (before : SoFar) (run : List ℕ) (number : ℕ)
       (numbered : number ≡ length before.bundles) where
-    abbrev whole : List ℕ
-    whole = bundle_lines 0 before.bundles
-
     -- the bundle goes on
     pub told_on : (old new : Writers W E) (result : Result (Unit {0}) IoFault)
         → ShowsMore out_look report_look number before.begun run old new result
@@ -86,12 +124,7 @@ module _ {W E : Type 0} (out_look : W → Output) (report_look : E → Output) (
         → TellsRun before (with_run before run None) old new result
     told_on old new result shows listing = record {
       texts = on_output shows.lines;
-      said = texts_as
-          (append_assoc whole (block_lines (length before.bundles) before.begun) shows.lines
-          ∙ ap (λ (lines : List ℕ). whole ++ lines)
-          (ap (λ n. block_lines n before.begun ++ shows.lines) (sym numbered)
-          ∙ sym shows.are ∙ ap (λ n. block_lines n (before.begun ++ run)) numbered))
-          refl;
+      said = on_said before run number numbered shows.lines shows.are;
       wrote = shows.wrote;
       known = listing;
     }
@@ -101,31 +134,16 @@ module _ {W E : Type 0} (out_look : W → Output) (report_look : E → Output) (
       abbrev ended : SoFar
       ended = between (before.bundles ++ bundle ∷ [])
 
-      abbrev last : List ℕ
-      last = end_text number (length bundle.bytes) (Good bundle.info)
-
-      whole_said : (lines : List ℕ)
-          → block_lines number (before.begun ++ run) ≡ block_lines number before.begun ++ lines
-          → bundle_blocks_telling.texts before then on_output (lines ++ last)
-          ≡ bundle_blocks_telling.texts ended
-      whole_said lines are = texts_as
-          (append_assoc whole (block_lines (length before.bundles) before.begun) (lines ++ last)
-          ∙ ap (λ (rest : List ℕ). whole ++ rest)
-          (ap (λ n. block_lines n before.begun ++ (lines ++ last)) (sym numbered)
-          ∙ sym (append_assoc (block_lines number before.begun) lines last)
-          ∙ ap (λ (rest : List ℕ). rest ++ last) (sym are)
-          ∙ ap (λ (bytes : List ℕ). block_lines number bytes ++ last) (sym is))
-          ∙ sym (lines_of_push 0 number before.bundles bundle (omega arith))
-          ∙ sym (between_lines (before.bundles ++ bundle ∷ [])))
-          refl
+      abbrev end : List ℕ
+      end = last before run number numbered bundle is
 
       tells_ended : (old new : Writers W E) (result : Result (Unit {0}) IoFault) (lines : List ℕ)
           → block_lines number (before.begun ++ run) ≡ block_lines number before.begun ++ lines
-          → AfterWrite out_look report_look old new (on_output (lines ++ last)) result
+          → AfterWrite out_look report_look old new (on_output (lines ++ end)) result
           → OnOk result (IsListing lister []) → TellsRun before ended old new result
       tells_ended old new result lines are wrote listing = record {
-        texts = on_output (lines ++ last);
-        said = whole_said lines are;
+        texts = on_output (lines ++ end);
+        said = whole_said before run number numbered bundle is lines are;
         wrote = wrote;
         known = listing;
       }
@@ -136,7 +154,7 @@ module _ {W E : Type 0} (out_look : W → Output) (report_look : E → Output) (
           → TellsRun before ended old new (Err fault)
       told_lost old new fault shows =
           tells_ended old new (Err fault) shows.lines shows.are
-          (part_of_more out_look report_look old new (on_output shows.lines) (on_output last) fault
+          (part_of_more out_look report_look old new (on_output shows.lines) (on_output end) fault
           (λ none. absurd (omega arith)) shows.wrote)
           tt
 
@@ -149,6 +167,6 @@ module _ {W E : Type 0} (out_look : W → Output) (report_look : E → Output) (
           → IsListing lister [] → TellsRun before ended old new result
       told_whole size sized old mid new done result shows wrote listing =
           tells_ended old new result shows.lines shows.are
-          (outputs_then out_look report_look old mid new shows.lines last result shows.wrote
+          (outputs_then out_look report_look old mid new shows.lines end result shows.wrote
           (rw (sym sized) wrote))
           (holds_if result listing)

@@ -64,7 +64,7 @@ module _ (only : Option ℕ) where
       (none_added (is_selected only head.id) (block_lines head.id []) (no_lines head.id))
       ∙ append-nil (lines_of only false earlier)
 
-  continued_lines : (transfers : List Transfer) (closed : Bool)
+  pub continued_lines : (transfers : List Transfer) (closed : Bool)
       → lines_of only true (continued transfers [] closed) ≡ lines_of only true transfers
   continued_lines [] closed = refl
   continued_lines (latest ∷ earlier) closed =

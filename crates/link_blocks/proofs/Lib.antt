@@ -1,8 +1,8 @@
-mod Lines
+pub mod Lines
 mod Reading
 mod Runs
 mod Judged
-mod Ended
+pub mod Ended
 mod Told
-mod BundleTexts
+pub mod BundleTexts
 mod Statuses

@@ -3,7 +3,7 @@
 use Rattle.std.proofs.Common.{◌≡◌, ℕ, zero, suc, ◌+◌, ◌/◌, ◌%◌, ◌≤◌, ◌≢◌, Bool, true, false, ◌&&◌, ◌||◌, List, [], ◌∷◌, ◌++◌, map, length, drop, Option, Result, Ok, Err, refl, sym, ap, ◌∙◌, ⊎_elim, zero-add, length-append, arith}
 use Rattle.std.specs.Prelude.{◌==◌, nat_lt, if◌then◌else◌}
 use Rattle.std.specs.List.{All}
-use Rattle.std.proofs.lemmas.Bool.{cases_Bool, eqb-true, eqb-false}
+use Rattle.std.proofs.lemmas.Bool.{cases_Bool, and_parts, eqb-true, eqb-false}
 use Rattle.std.proofs.lemmas.List.Elements.{All-nil, All-cons}
 use Rattle.link_cbor.specs.declared.check.CheckKind.{CheckKind}
 use Rattle.link_cbor.specs.declared.head.Head.{Head}
@@ -89,11 +89,7 @@ bare-front (first ∷ rest) = bare-by (first / 32) (first % 32) rest
 
 absent_of : (head : Head) → is_break head ≡ true → is_absent head.value ≡ true
 unfolding is_break
-absent_of head is = and_true_right (head.major == 7) (is_absent head.value) is
-  where
-    and_true_right : (one other : Bool) → (one && other) ≡ true → other ≡ true
-    and_true_right true other is = is
-    and_true_right false other is = cc
+absent_of head is = (and_parts (head.major == 7) (is_absent head.value) is).1
 
 closing_end : (start next size : ℕ) (head : Head) → next ≡ start + size
     → (is_absent head.value ≡ true → size ≡ 1)

@@ -26,7 +26,7 @@ pub record StaysDivided (limit : ℕ) (bytes : List ℕ) : Type 0 where
   pub last : IsRefused limit begun ⊎ IsOpen limit begun
 
 -- a fault that stops the scan lasts
-stopped_lasts : (stays : Bool) (fault : BundleFault) (place : ℕ)
+pub stopped_lasts : (stays : Bool) (fault : BundleFault) (place : ℕ)
     → is_going (if stays then state.Failed fault place else state.Going) ≡ false → stays ≡ true
 stopped_lasts true fault place stops = refl
 stopped_lasts false fault place stops = absurd (cc)

@@ -1,6 +1,6 @@
 -- Texts that are prefixes of others.
 use Rattle.std.proofs.Common.{◌≡◌, List, [], ◌++◌, refl, ap, sym, ◌∙◌, append-nil, append_assoc}
-use Rattle.link_run.specs.Run.{Texts}
+use Rattle.link_run.specs.Run.{Texts, ◌then◌}
 use Rattle.link_laws.specs.Prefix.{IsFrontOf}
 
 -- as `IsFrontOf`, of any lists
@@ -47,4 +47,11 @@ pub fronts_trans : (texts mid whole : Texts) → AreFronts texts mid → AreFron
 fronts_trans texts mid whole first second = record {
   output = front_trans _ _ _ first.output second.output;
   report = front_trans _ _ _ first.report second.report;
+}
+
+-- texts are a prefix of these texts and more
+pub fronts_then : (texts more whole : Texts) → texts then more ≡ whole → AreFronts texts whole
+fronts_then texts more whole is = record {
+  output = (more.output, ap (λ (t : Texts). t.output) (sym is));
+  report = (more.report, ap (λ (t : Texts). t.report) (sym is));
 }

@@ -14,6 +14,7 @@ mod Limits
 mod Listed
 mod Fronts
 mod Prefixes
+mod BundleWalks
 mod Packings
 mod Listings
 mod Payloads
@@ -22,8 +23,13 @@ mod Telling
 mod OneHead
 mod InOrder
 mod Same
+mod Following
 mod Walks
 mod Unpackings
+mod BlockTexts
+mod DataSize
+mod GoodBundles
+mod SameLines
 mod GivenBack
 mod EveryByte
 mod Cut

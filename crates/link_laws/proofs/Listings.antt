@@ -44,6 +44,6 @@ list_prefix bytes more =
         output = lines_on (reading_of bytes) (reading_of (bytes ++ more)) on;
         report = front_same _ _ refl;
       };
-      ended = fronts_same _ _ refl;
+      ended = λ none. fronts_same _ _ refl;
       stays = λ shown. ap listing_by (on.stays shown);
     })

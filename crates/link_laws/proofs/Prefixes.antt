@@ -9,13 +9,15 @@ use Rattle.link_laws.proofs.Fronts.{front_same, front_first, AreFronts, fronts_s
 -- what is made of some bytes, and of these bytes and more
 pub record MadeOn (before after : Made) : Type 0 where
   pub texts : AreFronts before.texts after.texts
-  pub ended : AreFronts after.texts after.ended
+  -- where there is no fault at which the bytes stop
+  pub ended : after.stop ≡ None → AreFronts after.texts after.ended
   -- where a fault is shown, more bytes change nothing
   pub stays : shows_fault before.stop ≡ true → after ≡ before
 
-texts_first : (stop : Option StreamStop) (made : Made) → AreFronts made.texts made.ended
+texts_first : (stop : Option StreamStop) (made : Made)
+    → (stop ≡ None → AreFronts made.texts made.ended)
     → AreFronts made.texts (whole_by stop made).texts
-texts_first None made ended = ended
+texts_first None made ended = ended refl
 texts_first (Some stop) made ended =
     record { output = front_same _ _ refl; report = front_first _ _ }
 

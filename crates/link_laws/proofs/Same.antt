@@ -170,7 +170,7 @@ same_parts one other same None is =
     rw (← same.stop, is, same.texts, clean.0, clean.1) refl
 same_parts one other same (Some stop) is = rw (← same.stop, is, same.texts) refl
 
-clean_end : (end : End) → stop_of end ≡ None → cut_heads end ≡ []
+pub clean_end : (end : End) → stop_of end ≡ None → cut_heads end ≡ []
 clean_end Clean none = refl
 clean_end (Cut offset sent content) none = absurd (cc)
 clean_end (Fault offset fault) none = refl
@@ -280,6 +280,17 @@ module _ (wanted : Wanted) where
         (all_in_order heads none)
         ∙ ap (λ r. ended_at r (walked_of (manner true) reading.contact heads))
         (sym (unrefused _ _ tells))
+
+    -- all that is said of a stream that ends without a fault
+    pub clean_told : (walked_of (manner false) reading.contact heads).refused ≡ None
+        → stop_of reading.end ≡ None
+        → (let was = walked_of (manner false) reading.contact heads in
+        told_after wanted (was.events ++ end_events was.taken) ≡ at_end (unpacked_of wanted heads))
+    clean_told unrefused none =
+        let ordered_all : order.refused ≡ None =
+        ap (λ (w : Walked). w.refused) (sym walked_ordered) ∙ unrefused in
+        rw (walked_same ordered_all)
+        (end_told _ _ (heads_tell wanted reading.contact heads reads.heads) (whole_heads none))
 
     abbrev made_at : Option (ℕ × OrderFault) → List Entry → Made
     made_at refused taken =

@@ -17,7 +17,7 @@ use Rattle.link_unpack.proofs.Texts.{parts_more}
 use Rattle.link_laws.specs.Prefix.{IsFrontOf, IsPrefixed}
 use Rattle.link_laws.proofs.Fronts.{IsFront, front_same, front_first, front_then, front_after, front_none, AreFronts, fronts_same, fronts_trans}
 use Rattle.link_laws.proofs.Payloads.{payload_front}
-use Rattle.link_laws.proofs.Walks.{told_prefix}
+use Rattle.link_laws.proofs.Walks.{Adds, told_prefix}
 
 chosen_front : (selected payload : Bool) (content piece : List ℕ)
     → IsFrontOf (if selected then (if payload then payload_in content else content) else [])
@@ -81,17 +81,9 @@ module _ (wanted : Wanted) where
   }
   event_front told LeftOpen = record { output = front_same _ _ refl; report = front_first _ _ }
 
-  events_front : (events : List WalkEvent) (told : Told)
-      → AreFronts (text_of told) (text_of (told_then wanted told events))
-  events_front [] told = fronts_same _ _ refl
-  events_front (event ∷ more) told =
-      fronts_trans _ _ _ (event_front told event) (events_front more (told_event wanted told event))
-
-  -- what is said of some events begins what is said of more
-  said_front : (first more : List WalkEvent) → IsFront first more
-      → AreFronts (text_of (told_after wanted first)) (text_of (told_after wanted more))
-  said_front first more front =
-      rw (front.1, told_push wanted first front.0) (events_front front.0 (told_after wanted first))
+  said_front : Adds (unpack_telling wanted)
+  said_front before event follows =
+      rw (told_push wanted before (event ∷ [])) (event_front (told_after wanted before) event)
 
   pub unpack_prefix : (bytes more : List ℕ) → IsPrefixed (unpack_tool wanted) bytes more
   unpack_prefix bytes more = told_prefix (unpack_telling wanted) said_front bytes more

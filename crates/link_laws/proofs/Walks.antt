@@ -14,12 +14,14 @@ use Rattle.link_transfer.specs.declared.joiner.Turn.{Turn}
 use Rattle.link_transfer.specs.declared.joiner.Turn.TheVariants as turn
 use Rattle.link_run.proofs.Continued.{entry, LastGoesOn, ReadingGoesOn, reading_on}
 use Rattle.link_run.specs.Made.{tool_of}
-use Rattle.link_walk.specs.Walk.{WalkEvent, Data, Whole, data_events, Walked, content_events, taken_with, with_entry_unless, with_next, none_walked, walked_of, walked, Telling, told_of}
+use Rattle.link_walk.specs.Walk.{WalkEvent, Data, Whole, data_events, Walked, content_events, taken_with, with_entry_unless, with_next, none_walked, walked_of, walked, end_events, Telling, told_of}
 use Rattle.link_walk.specs.declared.consumer.Manner.{Manner}
 use Rattle.link_walk.proofs.Texts.{made_stays, unread}
 use Rattle.link_laws.specs.Prefix.{IsPrefixed}
-use Rattle.link_laws.proofs.Fronts.{IsFront, AreFronts, front_same, front_first, front_after, front_none, front_trans}
+use Rattle.link_laws.proofs.Following.{Follows, AllFollow, follow_rest, Told, reading_told, end_follows}
+use Rattle.link_laws.proofs.Fronts.{IsFront, AreFronts, front_same, front_first, front_after, front_none, front_trans, fronts_same, fronts_trans}
 use Rattle.link_laws.proofs.Prefixes.{prefixed}
+use Rattle.link_laws.proofs.Whole.{reading_read}
 
 -- ---- more data of a segment
 
@@ -131,16 +133,39 @@ module _ (manner : Manner) where
       reading_grows (reading_of bytes) (reading_of (bytes ++ more)) (reading_on bytes more)
       (unread bytes)
 
--- If what a tool over transfers says of some events begins what it says of more, then so do its
--- texts for some bytes and for more.
-pub told_prefix : (telling : Telling)
-    → ((first more : List WalkEvent) → IsFront first more
-    → AreFronts (telling.texts first) (telling.texts more))
-    → (bytes more : List ℕ) → IsPrefixed (tool_of (told_of telling)) bytes more
-unfolding told_of
-told_prefix telling grows bytes more =
-    prefixed (told_of telling) bytes more (record {
-      texts = grows _ _ (events_grow telling.manner bytes more);
-      ended = grows _ _ (front_first (walked telling.manner (reading_of (bytes ++ more))).events _);
-      stays = made_stays telling bytes more;
-    })
+-- ---- what a tool says of them
+
+-- what a tool says of some events begins what it says with one more event
+abbrev pub Adds : Telling → Type 0
+Adds telling =
+    (before : List WalkEvent) (event : WalkEvent) → Follows before event
+    → AreFronts (telling.texts before) (telling.texts (before ++ event ∷ []))
+
+module _ (telling : Telling) (adds : Adds telling) where
+  added : (before more : List WalkEvent) → AllFollow before more
+      → AreFronts (telling.texts before) (telling.texts (before ++ more))
+  added before [] follow = fronts_same _ _ (ap telling.texts (sym (append-nil before)))
+  added before (event ∷ more) follow =
+      fronts_trans _ _ _ (adds before event follow.0)
+      (rw (← append_assoc before (event ∷ []) more)
+      (added (before ++ event ∷ []) more follow.1))
+
+  reading_added : (before after : Walked) → IsFront before.events after.events → Told after
+      → AreFronts (telling.texts before.events) (telling.texts after.events)
+  reading_added before after front told =
+      rw front.1 (added before.events front.0
+      (follow_rest [] before.events front.0 (rw front.1 at told.follow)))
+
+  -- So its texts for some bytes begin those for more.
+  pub told_prefix : (bytes more : List ℕ) → IsPrefixed (tool_of (told_of telling)) bytes more
+  unfolding told_of
+  told_prefix bytes more =
+      let manner = telling.manner in
+      let after = walked manner (reading_of (bytes ++ more)) in
+      let told = reading_told manner (reading_of (bytes ++ more)) (reading_read (bytes ++ more)) in
+      prefixed (told_of telling) bytes more (record {
+        texts = reading_added (walked manner (reading_of bytes)) after
+            (events_grow manner bytes more) told;
+        ended = λ none. added after.events (end_events after.taken) (end_follows after told);
+        stays = made_stays telling bytes more;
+      })

@@ -1,4 +1,5 @@
 pub mod Prefix
+pub mod SameLines
 pub mod Transfers
 pub mod PackedStream
 pub mod Ranges

@@ -9,6 +9,9 @@ ghost use Rattle.link_list.specs.Listing.{list_tool};
 ghost use Rattle.link_run.specs.Made.{tool_of};
 ghost use Rattle.link_unpack.specs.Unpacking.{unpack_tool};
 ghost use Rattle.link_unpack.specs.declared.wanted.Wanted.{Wanted};
+ghost use Rattle.link_blocks.specs.Bundles.{bundle_blocks_tool};
+ghost use Rattle.link_blocks.specs.Showing.{blocks_tool};
+ghost use Rattle.link_blocks.specs.declared.options.BlockOptions.{BlockOptions};
 ghost use Rattle.link_pack.specs.Packing.{pack_tool};
 ghost use Rattle.link_pack.specs.declared.options.PackOptions.{PackOptions};
 ghost use Rattle.link_laws.specs.Cuts.{going_on, stopping, HasEveryByte, HasEveryTakenByte, CutsOutput, CutsOutputOn, IsSameInOrder};
@@ -16,7 +19,8 @@ ghost use Rattle.link_laws.specs.Listed.{IsListed};
 ghost use Rattle.link_laws.specs.PackedStream.{KeepsLimits};
 ghost use Rattle.link_laws.specs.Prefix.{IsPrefixed};
 ghost use Rattle.link_laws.specs.Ranges.{OptionsFit, InputFits};
-ghost use Rattle.link_laws.specs.RoundTrip.{GivesBack};
+ghost use Rattle.link_laws.specs.RoundTrip.{all, GivesBack};
+ghost use Rattle.link_laws.specs.SameLines.{HasSameLines};
 ghost use Rattle.link_laws.specs.Transfers.{by_transfers};
 
 use link_pack::PackOptions;
@@ -31,6 +35,9 @@ pub fn sofar_is_prefix()
     ensures list { (bytes more : List ℕ) → IsPrefixed list_tool bytes more }
     ensures unpack { (wanted : Wanted) (bytes more : List ℕ)
         → IsPrefixed (unpack_tool wanted) bytes more }
+    ensures blocks { (options : BlockOptions) (bytes more : List ℕ)
+        → IsPrefixed (blocks_tool options) bytes more }
+    ensures bundle_blocks { (bytes more : List ℕ) → IsPrefixed bundle_blocks_tool bytes more }
     ensures pack { (options : PackOptions) (bytes more : List ℕ)
         → IsPrefixed (pack_tool options) bytes more }
 {}
@@ -72,6 +79,21 @@ pub fn list_of_pack(options: &PackOptions, bytes: &[u8])
         → IsListed options.now bytes.now ((pack_tool options.now).whole bytes.now).texts.output }
 {
     options_fit(options);
+    input_fits(bytes);
+    exactly_one_reading();
+}
+
+/// The bundles that `unpack` joins have the same lines as in the recording, but for the
+/// first word of each.
+///
+/// Let every transfer of a recording be over and good, and let there be no fault: `unpack` without
+/// options has status 0. Then its output is the bundles of the transfers, one after another.
+/// `blocks` writes the lines of these bundles, each under the ID of its transfer.
+/// `blocks --bundles`, for the output of `unpack`, writes the same lines under the numbers from 0.
+/// Both have status 0.
+pub fn bundles_of_unpack(bytes: &[u8])
+    ensures { ((unpack_tool all).whole bytes.now).status ≡ 0 → HasSameLines bytes.now }
+{
     input_fits(bytes);
     exactly_one_reading();
 }

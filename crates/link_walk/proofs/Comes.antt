@@ -190,14 +190,14 @@ with_comes telling joiner reading offset sent content left {events} was same has
 -- ---- the head of a message
 
 -- a plain head that is no event leaves the same transfer open
-plain_open : (all in_order : Bool) (effect : Option Turn) (closing was : Bool)
+pub plain_open : (all in_order : Bool) (effect : Option Turn) (closing was : Bool)
     → ((last : Bool) → effect ≡ Some (turn.Continue last) → was ≡ true)
     → (all || not (in_order && (not (is_beginning effect) && not closing))) ≡ false
     → was ≡ open_with effect closing was
 plain_open false true (Some (turn.Continue last)) false was continues is = continues last refl
 plain_open all in_order effect closing was continues is = cc
 
-open_if : (told : Bool) (head : Head) (was : Bool)
+pub open_if : (told : Bool) (head : Head) (was : Bool)
     → (told ≡ false → was ≡ open_with head.turn (closes head) was)
     → fold open_after_event was (if told then MessageHead head ∷ [] else [])
     ≡ open_with head.turn (closes head) was

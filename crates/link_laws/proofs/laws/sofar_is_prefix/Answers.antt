@@ -1,13 +1,20 @@
+use Rattle.link_laws.proofs.BlockTexts.{blocks_prefix, bundle_blocks_prefix}
+use Rattle.link_laws.proofs.Listings.{list_prefix}
+use Rattle.link_laws.proofs.Packings.{pack_prefix}
 use Rattle.link_laws.proofs.Unpackings.{unpack_prefix}
 use Rattle.link_laws.proofs.laws.sofar_is_prefix.Goals as goal
-use Rattle.link_laws.proofs.Packings.{pack_prefix}
-use Rattle.link_laws.proofs.Listings.{list_prefix}
 
 pub returns-clause-list : goal.returns-clause-list
 returns-clause-list c = list_prefix
 
 pub returns-clause-unpack : goal.returns-clause-unpack
 returns-clause-unpack c = unpack_prefix
+
+pub returns-clause-blocks : goal.returns-clause-blocks
+returns-clause-blocks c = blocks_prefix
+
+pub returns-clause-bundle_blocks : goal.returns-clause-bundle_blocks
+returns-clause-bundle_blocks c = bundle_blocks_prefix
 
 pub returns-clause-pack : goal.returns-clause-pack
 returns-clause-pack c = pack_prefix

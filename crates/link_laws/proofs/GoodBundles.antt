@@ -1,0 +1,185 @@
+-- Good bundles, one after another: how they are divided, and the lines of their blocks.
+use Rattle.std.proofs.Common.{◌≡◌, ℕ, suc, ◌+◌, ◌≤◌, ◌<◌, inl, inr, Bool, true, false, ◌&&◌, not, ◌==◌, List, [], ◌∷◌, ◌++◌, length, drop, map, None, Result, Ok, Err, if◌then◌else◌, refl, ap, sym, ◌∙◌, ⊎_elim, append-nil, append_assoc, length-append, arith}
+use Rattle.std.specs.List.{All, flat_map, list_all}
+use Rattle.std.proofs.lemmas.Bool.{cases_Bool, and_parts}
+use Rattle.std.proofs.lemmas.Grind.{flat_map-append}
+use Rattle.std.proofs.lemmas.List.{take-append-drop}
+use Rattle.std.proofs.lemmas.List.Elements.{All-nil, All-cons, All-append, All-head, All-tail}
+use Rattle.link_cbor.specs.PieceLaws.{takes_shortest}
+use Rattle.link_bundle_types.specs.Faults.{lasts}
+use Rattle.link_bundle_types.specs.declared.fault.BundleFault.{BundleFault}
+use Rattle.link_bundle_types.specs.declared.fault.State.TheVariants as state
+use Rattle.link_bundle_types.specs.declared.info.BundleInfo.{BundleInfo}
+use Rattle.link_bundle_blocks.specs.Bundle.{verdict, state_of, is_going, bundle_goes}
+use Rattle.link_bundle_blocks.proofs.Lengths.{FaultLasts-holds, TrailingLasts-holds}
+use Rattle.link_transfer.specs.Announced.{announced_of}
+use Rattle.link_transfer.specs.declared.announcement.Announced.{Announced}
+use Rattle.link_transfer.specs.declared.announcement.Announced.TheVariants.{Absent, Total, Malformed}
+use Rattle.link_report.specs.Judgement.{judged_transfer, judged_length, judged_data}
+use Rattle.link_report.specs.declared.judgement.Judgement.{Judgement}
+use Rattle.link_report.specs.declared.judgement.Judgement.TheVariants.{Good}
+use Rattle.link_run.specs.Run.{Outcome}
+use Rattle.link_run.specs.Made.{Made, whole_by}
+use Rattle.link_run.specs.Writers.{on_output}
+use Rattle.link_unpack.specs.Transfers.{Transfer}
+use Rattle.link_unpack.specs.Unpacking.{parts_of, judgement_of, is_good}
+use Rattle.link_bundle_walk.specs.Bundles.{Packed, bundle_prefix, with_bundle, divided}
+use Rattle.link_bundle_walk.specs.Telling.{told_by, told_of}
+use Rattle.link_bundle_walk.proofs.Dividing.{divided_none, divided_whole}
+use Rattle.link_bundle_walk.proofs.Divisions.{stopped_lasts}
+use Rattle.link_bundle_walk.proofs.Outcomes.{told_as}
+use Rattle.link_blocks.specs.BlockLines.{block_lines}
+use Rattle.link_blocks.specs.Bundles.{whole_lines, bundle_lines, bundle_limit, bundle_blocks_telling, bundle_blocks_tool}
+use Rattle.link_blocks.specs.Showing.{end_line, lines_of}
+use Rattle.link_block_report.specs.Blocks.{end_text}
+use Rattle.link_laws.specs.RoundTrip.{all}
+use Rattle.link_laws.specs.SameLines.{lines_under, renumbered}
+use Rattle.link_laws.specs.Transfers.{are_good}
+
+-- a bundle under a number
+abbrev pub Numbered : Type 0
+Numbered = ℕ × Packed
+
+abbrev pub IsGood : Numbered → Type 0
+IsGood numbered = verdict numbered.1.bytes ≡ Ok numbered.1.info
+
+abbrev pub bytes_in : Numbered → List ℕ
+bytes_in numbered = numbered.1.bytes
+
+-- ---- a good bundle is its own shortest prefix
+
+-- no byte comes after a prefix that needs no more bytes
+no_more : (front rest : List ℕ) (info : BundleInfo) (said : Result BundleInfo (BundleFault × ℕ))
+    → verdict front ≡ said → is_going (state_of said) ≡ false → verdict (front ++ rest) ≡ Ok info
+    → rest ≡ []
+no_more front [] info said is stops good = refl
+no_more front (byte ∷ more) info (Ok other) is stops good =
+    absurd (let fault = TrailingLasts-holds front more byte other is in cc)
+no_more front (byte ∷ more) info (Err (fault, place)) is stops good =
+    let stays = stopped_lasts (lasts fault) fault place stops in
+    absurd (let lasting = FaultLasts-holds front (byte ∷ more) fault place stays is in cc)
+
+good_prefix : (bytes : List ℕ) (info : BundleInfo) → verdict bytes ≡ Ok info
+    → bundle_prefix bytes ≡ bytes
+good_prefix bytes info good =
+    let front = bundle_prefix bytes in
+    let rest = drop (length front) bytes in
+    let shortest = (takes_shortest bundle_goes [] bytes front).1 refl in
+    let parts : bytes ≡ front ++ rest = sym (take-append-drop (length front) bytes)
+    ∙ ap (λ (xs : List ℕ). xs ++ rest) (sym shortest.is_front) in
+    ⊎_elim
+    (λ stops.
+    let none = no_more front rest info (verdict front) refl stops (ap verdict (sym parts) ∙ good) in
+    sym (append-nil front) ∙ ap (λ (xs : List ℕ). front ++ xs) (sym none) ∙ sym parts)
+    (λ same. same)
+    shortest.stops
+
+-- ---- good bundles, one after another
+
+divided_all : (limit : ℕ) (bundles : List Numbered) → All IsGood bundles
+    → length (flat_map bytes_in bundles) ≤ limit
+    → divided limit (flat_map bytes_in bundles)
+    ≡ record { bundles = map (λ numbered. numbered.1) bundles; rest = None }
+divided_all limit [] good few = divided_none limit
+divided_all limit ((id, bundle) ∷ more) good few =
+    let first = All-head IsGood (id, bundle) more good in
+    let rest = flat_map bytes_in more in
+    let size = length-append bundle.bytes rest in
+    divided_whole limit bundle.bytes rest bundle.info (good_prefix bundle.bytes bundle.info first)
+    first (omega arith)
+    ∙ ap (with_bundle bundle)
+    (divided_all limit more (All-tail IsGood (id, bundle) more good) (omega arith))
+
+lines_renumbered : (from : ℕ) (bundles : List Numbered)
+    → bundle_lines from (map (λ numbered. numbered.1) bundles)
+    ≡ lines_under (renumbered from bundles)
+unfolding bundle_lines renumbered
+lines_renumbered from [] = refl
+lines_renumbered from ((id, bundle) ∷ more) =
+    ap (λ (lines : List ℕ). whole_lines from bundle ++ lines) (lines_renumbered (suc from) more)
+
+pub joined_lines : (bytes : List ℕ) (bundles : List Numbered) → All IsGood bundles
+    → bytes ≡ flat_map bytes_in bundles → length bytes ≤ bundle_limit
+    → bundle_blocks_tool.whole bytes
+    ≡ record { texts = on_output (lines_under (renumbered 0 bundles)); status = 0 }
+joined_lines bytes bundles good is few =
+    let divides : divided bundle_limit bytes ≡ record {
+      bundles = map (λ numbered. numbered.1) bundles;
+      rest = None;
+    } =
+    ap (divided bundle_limit) is
+    ∙ divided_all bundle_limit bundles good (rw (← is) few) in
+    ap (λ (made : Made). whole_by made.stop made) (told_as bundle_blocks_telling bytes _ divides)
+    ∙ ap (λ (lines : List ℕ). record { texts = on_output lines; status = 0 })
+    (lines_renumbered 0 bundles)
+
+-- ---- good transfers
+
+-- what a good judgement says
+data_good : (said : Result BundleInfo (BundleFault × ℕ)) → is_good (judged_data said) ≡ true
+    → (info : BundleInfo) × (said ≡ Ok info) × (judged_data said ≡ Good info)
+data_good (Ok info) good = (info, refl, refl)
+data_good (Err (fault, place)) good = absurd (cc)
+
+length_good : (announced : Announced) (size : ℕ) (said : Result BundleInfo (BundleFault × ℕ))
+    → is_good (judged_length announced size said) ≡ true
+    → (info : BundleInfo) × (said ≡ Ok info) × (judged_length announced size said ≡ Good info)
+length_good Absent size said good = data_good said good
+length_good Malformed size said good = absurd (cc)
+length_good (Total total) size said good =
+    ⊎_elim (λ same. let holds = rw same at good in rw same (data_good said holds))
+    (λ differs. absurd (let never = rw differs at good in cc))
+    (cases_Bool (total == size))
+
+transfer_good : (abandoned : Bool) (announced : Announced) (size : ℕ)
+    (said : Result BundleInfo (BundleFault × ℕ))
+    → is_good (judged_transfer abandoned announced size said) ≡ true
+    → (info : BundleInfo) × (said ≡ Ok info)
+    × (judged_transfer abandoned announced size said ≡ Good info)
+transfer_good true announced size said good = absurd (cc)
+transfer_good false announced size said good = length_good announced size said good
+
+-- These transfers are these bundles, each under its ID. The latest transfer comes first in its list
+-- and last in the other.
+pub record Carries (transfers : List Transfer) : Type 0 where
+  pub bundles : List Numbered
+  pub good : All IsGood bundles
+  pub lines : lines_of None false transfers ≡ lines_under bundles
+  pub parts : parts_of all transfers ≡ flat_map bytes_in bundles
+
+one_more : (latest : Transfer) (earlier : List Transfer) (info : BundleInfo)
+    → verdict latest.content ≡ Ok info → judgement_of latest ≡ Good info → Carries earlier
+    → Carries (latest ∷ earlier)
+unfolding lines_of parts_of
+one_more latest earlier info is judged before =
+    let id = latest.first.id in
+    let bundle : Packed = record { bytes = latest.content; info = info } in
+    let one : List Numbered = (id, bundle) ∷ [] in
+    record {
+      bundles = before.bundles ++ one;
+      good = All-append IsGood before.bundles one before.good
+          (All-cons IsGood (id, bundle) [] is (All-nil IsGood));
+      lines =
+          ap (λ (lines : List ℕ). lines ++ (block_lines id latest.content ++ end_line latest))
+          before.lines
+          ∙ ap (λ judgement. lines_under before.bundles
+          ++ (block_lines id latest.content ++ end_text id (length latest.content) judgement))
+          judged
+          ∙ ap (λ (lines : List ℕ). lines_under before.bundles ++ lines)
+          (sym (append-nil (whole_lines id bundle)))
+          ∙ sym (flat_map-append (λ (n : Numbered). whole_lines n.0 n.1) before.bundles one);
+      parts =
+          ap (λ (bytes : List ℕ). bytes ++ latest.content) before.parts
+          ∙ ap (λ (bytes : List ℕ). flat_map bytes_in before.bundles ++ bytes)
+          (sym (append-nil latest.content))
+          ∙ sym (flat_map-append bytes_in before.bundles one);
+    }
+
+pub carries : (transfers : List Transfer) → are_good transfers ≡ true → Carries transfers
+unfolding are_good lines_of parts_of
+carries [] good = record { bundles = []; good = All-nil IsGood; lines = refl; parts = refl }
+carries (latest ∷ earlier) good =
+    let both = and_parts (is_good (judgement_of latest)) (are_good earlier) good in
+    let judged = transfer_good (not latest.closed) (announced_of latest.first.items.items)
+    (length latest.content) (verdict latest.content) both.0 in
+    one_more latest earlier judged.0 judged.1 judged.2 (carries earlier both.1)
