@@ -5,7 +5,7 @@
  * Each call is made twice, into structs and slices that were filled with other bytes, and both
  * answers have to be the same. A call is made again of a prefix of the bytes, of the bytes from an
  * offset on, or with less room, and the answers have to agree. A bundle is also handed over in
- * pieces.
+ * pieces, and block by block.
  *
  * The archive has no instruments of its own. So each slice that is lent ends at a page that may not
  * be touched, and begins after bytes that are compared afterwards. What the library returned is
@@ -258,11 +258,17 @@ static void compare_scan(uint64_t *scan, const uint8_t *bytes, size_t length, ui
 static void ask_no_scan(const uint8_t *bytes, size_t length) {
   static uint64_t other[TCPCLKIT_SCAN_WORDS], before[TCPCLKIT_SCAN_WORDS];
   struct tcpclkit_verdict verdict;
+  struct tcpclkit_block block, same;
   struct tcpclkit_bundle info;
   uint64_t taken;
   memcpy(other, bytes, least(length, sizeof other));
   memcpy(before, other, sizeof other);
   CHECK(tcpclkit_raw_feed_scan(other, bytes, length, &taken) == TCPCLKIT_RANGE && taken == 0);
+  memset(&block, 0x11, sizeof block);
+  same = block;
+  CHECK(tcpclkit_raw_next_block(other, bytes, length, &taken, &block) == TCPCLKIT_RANGE);
+  CHECK(taken == 0);
+  SAME(block, same);
   CHECK(tcpclkit_raw_judge_scan(other, &verdict) == TCPCLKIT_RANGE);
   CHECK(tcpclkit_raw_describe_scan(other, ends[FIRST], 0, ends[SECOND], 0, ends[THIRD], 0,
                                    &info) == TCPCLKIT_RANGE);
@@ -295,6 +301,60 @@ static void ask_scan(const uint8_t *bytes, size_t length, size_t size, int fill)
     compare_scan(scan, bytes, at, status);
   }
   give_back(MEMORY, room);
+}
+
+/* -- block by block */
+
+/* A primary block and at most 64 canonical blocks. */
+#define BLOCKS 65
+
+struct blocks {
+  struct tcpclkit_block each[BLOCKS];
+  size_t count;
+};
+
+/* Keeps a block that ends at an offset, after those before it. */
+static void keep_block(struct blocks *it, const struct tcpclkit_block *block, size_t end) {
+  const struct tcpclkit_block *before = it->count > 0 ? &it->each[it->count - 1] : NULL;
+  CHECK(it->count < BLOCKS);
+  CHECK(block->kind == (before ? TCPCLKIT_BLOCK_CANONICAL : TCPCLKIT_BLOCK_PRIMARY));
+  CHECK(block->offset == (before ? before->offset + before->length : 1));
+  CHECK(block->offset + block->length == end && block->check <= TCPCLKIT_CHECK_CRC32);
+  if (before)
+    CHECK(block->data_offset > block->offset && block->data_offset + block->data_length <= end);
+  count(21, it->count, block->block_type & 15, block->data_length);
+  it->each[it->count++] = *block;
+}
+
+/* Takes a bundle block by block, in pieces of this size. */
+static void take_blocks(const uint8_t *bytes, size_t length, size_t size, int fill,
+                        struct blocks *it) {
+  size_t room = tcpclkit_raw_scan_size(), at = 0, piece;
+  uint64_t *scan = (uint64_t *)(void *)lend(MEMORY, room, fill), taken;
+  struct tcpclkit_block block;
+  uint32_t status;
+  memset(it, 0, sizeof *it);
+  CHECK(tcpclkit_raw_start_scan(scan) == TCPCLKIT_OK);
+  do {
+    memset(&block, fill, sizeof block);
+    piece = least(length - at, size);
+    status = tcpclkit_raw_next_block(scan, bytes + at, piece, &taken, &block);
+    at += taken;
+    if (block.kind != 0)
+      keep_block(it, &block, at);
+    CHECK(taken == piece ||
+          (taken < piece && (block.kind != 0 || status != TCPCLKIT_TRUNCATED)));
+  } while (status == TCPCLKIT_TRUNCATED && taken > 0);
+  compare_scan(scan, bytes, at, status);
+  give_back(MEMORY, room);
+}
+
+/* The pieces make no difference to the blocks. */
+static void ask_blocks(const uint8_t *bytes, size_t length, size_t size) {
+  static struct blocks whole, pieces;
+  take_blocks(bytes, length, length + 1, 0x11, &whole);
+  take_blocks(bytes, length, size, 0xee, &pieces);
+  SAME(whole, pieces);
 }
 
 /* -- texts */
@@ -525,15 +585,20 @@ static uint32_t call_tool(const uint8_t *bytes, size_t length, const uint64_t *n
                           struct texts *it) {
   struct tcpclkit_unpack_options unpack = {sizeof unpack - numbers[5] % 6 * 8, numbers[1] % 3,
                                            numbers[2] % 5, numbers[3] % 3, numbers[4] % 3};
+  struct tcpclkit_blocks_options blocks = {sizeof blocks - numbers[5] % 6 * 8, numbers[1] % 3,
+                                           numbers[2] % 5, numbers[3] % 3, numbers[4] % 3};
   struct tcpclkit_pack_options pack = {
       sizeof pack - numbers[5] % 9 * 8, numbers[1] % 65537, numbers[2],           numbers[3],
       numbers[4] % 4096,                numbers[5],         numbers[1] % 1048577, numbers[2] % 3};
   size_t node = least(numbers[3] % 1026, length);
-  if (numbers[0] % 3 == 0)
+  if (numbers[0] % 4 == 0)
     return tcpclkit_list(bytes, length, it->bytes[0], it->rooms[0], it->bytes[1], it->rooms[1],
                          &it->run);
-  if (numbers[0] % 3 == 1)
+  if (numbers[0] % 4 == 1)
     return tcpclkit_unpack(bytes, length, &unpack, it->bytes[0], it->rooms[0], it->bytes[1],
+                           it->rooms[1], &it->run);
+  if (numbers[0] % 4 == 2)
+    return tcpclkit_blocks(bytes, length, &blocks, it->bytes[0], it->rooms[0], it->bytes[1],
                            it->rooms[1], &it->run);
   return tcpclkit_pack(bytes, length, &pack, bytes, node, it->bytes[0], it->rooms[0], it->bytes[1],
                        it->rooms[1], &it->run);
@@ -577,7 +642,7 @@ static void ask_tool(const uint8_t *bytes, size_t length, const uint64_t *number
   CHECK(memcmp(kept[0], cut.bytes[0], least(it.run.output_length, cut.rooms[0])) == 0);
   CHECK(memcmp(kept[1], cut.bytes[1], least(it.run.report_length, cut.rooms[1])) == 0);
   if (status == TCPCLKIT_OK)
-    count(12 + numbers[0] % 3, it.run.exit_status, it.run.report_length, it.run.output_length);
+    count(17 + numbers[0] % 4, it.run.exit_status, it.run.report_length, it.run.output_length);
 }
 
 /* -- any numbers */
@@ -617,6 +682,7 @@ int LLVMFuzzerTestOneInput(const uint8_t *data, size_t size) {
   ask_scan(bytes, length, length + 1, 0x11);
   ask_no_scan(bytes, length);
   ask_scan(bytes, length, 1 + numbers[1] % 64, 0xee);
+  ask_blocks(bytes, length, 1 + numbers[1] % 64);
   ask_contact(bytes, length, cut);
   ask_recording(bytes, length, TCPCLKIT_CONTACT_LENGTH, cut, none);
   ask_recording(bytes, length, 0, cut, begun);

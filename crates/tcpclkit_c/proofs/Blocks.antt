@@ -1,11 +1,11 @@
 -- A scan of a bundle that is taken block by block: the bytes taken, and the block that they add.
-use Rattle.std.proofs.Common.{◌≡◌, ℕ, suc, ◌+◌, ◌<◌, ◌≤◌, inl, inr, Bool, true, false, List, [], ◌∷◌, ◌++◌, length, take, drop, refl, sym, ap, ◌∙◌, subst, ⊎_elim, append-nil, length-append, length-take-le, arith}
+use Rattle.std.proofs.Common.{◌≡◌, ℕ, suc, ◌+◌, ◌<◌, inl, inr, Bool, true, false, List, [], ◌∷◌, ◌++◌, length, take, drop, refl, sym, ap, ◌∙◌, subst, ⊎_elim, append-nil, length-append, length-take-le, arith}
 use Rattle.std.specs.Prelude.{◌&&◌, ◌==◌, ◌⊎◌}
 use Rattle.std.proofs.lemmas.Bool.{cases_lt, lt-ltb, eq-eqb, ne_eqb}
 use Rattle.std.proofs.lemmas.List.{take-take, take_all}
 use Rattle.std.proofs.Math.Seq.{drop-append_seam}
 use Rattle.link_cbor.specs.PieceLaws.{takes_shortest, taken-idle, taken-nil}
-use Rattle.link_cbor.specs.Pieces.{taken, IsShortestFront}
+use Rattle.link_cbor.specs.Pieces.{taken}
 use Rattle.link_bundle.specs.declared.scan.BundleScan.{BundleScan}
 use Rattle.link_bundle_blocks.specs.Blocks.{Block}
 use Rattle.link_bundle_blocks.specs.Bundle.{verdict, state_of, bundle_goes, blocks_in}

@@ -15,8 +15,8 @@ abbrev pub goes_in_block : (seen bytes : List ℕ) → Bool
 goes_in_block seen bytes =
     bundle_goes bytes && (length (blocks_in bytes) == length (blocks_in seen))
 
--- the bytes that a scan takes of the next piece: those up to the end of a block, of the bundle or
--- at its first fault
+-- the bytes that a scan takes of the next piece: those up to the end of a block or of the bundle,
+-- or up to its first fault
 abbrev pub fed_block : (seen piece : List ℕ) → List ℕ
 fed_block seen piece = if has_room seen piece then taken (goes_in_block seen) seen piece else []
 
