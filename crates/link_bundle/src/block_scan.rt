@@ -66,7 +66,6 @@ impl BundleScan {
                 size
             }
             Err(_) => {
-                self.draft.restart();
                 self.open(piece[0]);
                 1
             }

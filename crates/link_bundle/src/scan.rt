@@ -186,9 +186,12 @@ impl BundleScan {
         ensures { HasTaken self.old self.new run.now }
     {
         self.cursor.content_run(self.draft.check, run);
-        let left = left - run.len() as u64;
-        if left > 0 {
-            self.stage = Stage::Content(left);
+        let rest = left - run.len() as u64;
+        if rest > 0 {
+            // A new stage would be written whole, padding included, after each short piece.
+            if let Stage::Content(left) = &mut self.stage {
+                *left = rest;
+            }
         } else {
             let stage = self.draft.after_fields(BlockKind::Canonical);
             self.cursor.enter(stage);

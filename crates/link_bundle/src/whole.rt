@@ -71,7 +71,7 @@ impl Draft {
     /// Reads the first byte of a bundle and its primary block.
     ///
     /// Returns the block's check type, and the offset after the block. After an error, the draft
-    /// has to be restarted before it is used again.
+    /// may have some of the block's fields.
     #[inline(always)]
     pub fn whole_primary(&mut self, bytes: &[u8]) -> Result<(Option<CheckKind>, usize), BundleFault>
         requires some { 0 < length bytes.now }

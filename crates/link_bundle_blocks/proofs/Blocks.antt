@@ -1,7 +1,6 @@
 -- The blocks before a reading.
 
-use Rattle.std.proofs.Common.{◌≡◌, ℕ, Bool, true, false, List, [], ◌∷◌, ◌++◌, length, Option, None, Some, Result, Ok, Err, refl, append_assoc}
-use Rattle.std.specs.Prelude.{◌==◌, if◌then◌else◌}
+use Rattle.std.proofs.Common.{◌≡◌, List, [], ◌++◌, Result, Ok, Err, refl, append_assoc}
 use Rattle.link_bundle_blocks.specs.Blocks.{Block}
 use Rattle.link_bundle_blocks.specs.Reading.{Stop}
 use Rattle.link_bundle_blocks.specs.Bundle.{Bundle, with_blocks, verdict_by, payload_of, blocks_of, cut_block_of}

@@ -1,20 +1,9 @@
 -- A whole head that is judged by its row.
 
-use Rattle.std.proofs.Common.{◌≡◌, ℕ, ◌+◌, ◌-◌, ◌≤◌, Bool, true, false, List, [], ◌∷◌, ◌++◌, length, length-append, arith, Option, None, Some, Result, Ok, Err, refl, is_some}
-use Rattle.std.specs.Prelude.{is_none, if◌then◌else◌}
-use Rattle.std.specs.Bool.{then_some}
-use Rattle.link_bundle_blocks.proofs.Runs.{bytes_at-none}
-use Rattle.link_cbor.specs.declared.check.CheckKind.{CheckKind}
+use Rattle.std.proofs.Common.{◌≡◌, ℕ, List, Result, Ok, Err, refl}
 use Rattle.link_cbor.specs.declared.head.Head.{Head}
 use Rattle.link_bundle_types.specs.declared.fault.BundleFault.{BundleFault}
-use Rattle.link_bundle_heads.specs.Rows.{◌>>=◌, closing}
-use Rattle.link_bundle_blocks.specs.Reading.{Stop, stopped, head_at, row_at}
-use Rattle.link_bundle_blocks.specs.CheckField.{field_at}
-use Rattle.link_bundle_blocks.specs.declared.block.CanonicalBlock.{CanonicalBlock}
-use Rattle.link_bundle_blocks.specs.Blocks.{Primary, CanonicalOf, ended}
-use Rattle.link_bundle_blocks.specs.Canonical.{content_at}
-use Rattle.link_bundle_blocks.specs.Bundle.{info_of, with_blocks, rest_of, payload_at, blocks_at}
-use Rattle.link_bundle_types.specs.Faults.{lasts}
+use Rattle.link_bundle_blocks.specs.Reading.{stopped, head_at, row_at}
 
 pub row_at-accepted : {A : Type 0} (row : Head → Result A BundleFault) (bytes : List ℕ)
     (offset next : ℕ) (head : Head) (value : A)

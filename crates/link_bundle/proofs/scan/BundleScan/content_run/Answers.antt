@@ -6,8 +6,8 @@ use Rattle.link_bundle.proofs.Steps.{at_stage, fits_at}
 use Rattle.link_bundle.proofs.Taking.{takes_plain, none_last, ends_here, ends_nowhere}
 use Rattle.link_bundle.proofs.scan.BundleScan.content_run.Goals as goal
 
-pub returns-then-left-gt0 : goal.returns-then-left-gt0
-returns-then-left-gt0 c =
+pub returns-in-Content : goal.returns-in-Content
+returns-in-Content c =
     let now = c.args.self.now in
     takes_plain (search rules) (none_last now _ c.requires.stage refl)
     (ends_nowhere now.draft c.content_run.new.self)
@@ -18,8 +18,8 @@ returns-then-left-gt0 c =
     (All-from_get_or (λ (byte : ℕ). byte < 256) c.args.run.now 0
     (λ k within. omega (arith, c.type_inv.run k))) c.content_run.ensures)
 
-pub returns-else-left-gt0 : goal.returns-else-left-gt0
-returns-else-left-gt0 c =
+pub returns-else-rest-gt0 : goal.returns-else-rest-gt0
+returns-else-rest-gt0 c =
     let now = c.args.self.now in
     takes_plain (search rules) (none_last now _ c.requires.stage refl)
     (ends_here c.after_fields-stage.result c.after_fields-stage.new.self c.enter.new.self
