@@ -23,22 +23,27 @@ DATA = {
 }
 
 
-def bundle(kind, content):
+def bundle(kind, content, sequence=0):
     """A bundle with data in a block of a type. It is an administrative record if that is 1."""
-    begin = primary((2, 1), (1, 1), None, kind=1, flags=2 if kind == 1 else 0, stamp=(1, 0))
+    begin = primary((2, 1), (1, 1), None, kind=1, flags=2 if kind == 1 else 0, stamp=(1, sequence))
     blocks = [canonical(1, 1, content)] if kind == 1 else [canonical(kind, 2, content), canonical(1, 1, b"x")]
     return spelled([begin, *blocks])[0]
 
 
-def of_data(kind, heads):
-    """Bundles with the data, its beginnings, a byte after it, and each head in every spelling."""
+def contents(heads):
+    """The data, its beginnings, the data with a byte after it, and with each head in every spelling."""
     whole = encoded(heads)
-    contents = [whole[:length] for length in range(len(whole) + 1)] + [whole + b"\x00", whole + b"\xff"]
+    made = [whole[:length] for length in range(len(whole) + 1)] + [whole + b"\x00", whole + b"\xff"]
     for number, it in enumerate(heads):
         others = [other for _, other in spellings(it)] + KINDS
-        contents += [encoded(heads, number, other) for other in others]
-        contents += [encoded(heads[:number]) + other for other in others]
-    for content in dict.fromkeys(contents):
+        made += [encoded(heads, number, other) for other in others]
+        made += [encoded(heads[:number]) + other for other in others]
+    return list(dict.fromkeys(made))
+
+
+def of_data(kind, heads):
+    """Bundles with each content of a block of a type, alone and as the data of a transfer."""
+    for content in contents(heads):
         yield bundle(kind, content), RUNS
         yield carried(bundle(kind, content)), CARRIED
 

@@ -85,15 +85,18 @@ def blocks_of(rng):
     return blocks + [canonical(1, 1, payload, rng.randint(0, 2))]
 
 
-def bundle(rng):
-    """A bundle, in some cases with another head in place of one."""
-    blocks, widths = blocks_of(rng), width_of(rng)
-    if rng.random() < 0.7:
-        return spelled(blocks, widths=widths)[0]
+def changed(rng, blocks, widths):
+    """The bundle of these blocks with another head in place of one."""
     number = rng.randrange(sum(map(len, blocks)))
     it = [each for block in blocks for each in block][number]
     other = rng.choice(KINDS + 3 * [head(it.major, rng.choice(NUMBERS + 5 * [it.value]))])
     return spelled(blocks, number, other, widths=widths)[0]
+
+
+def bundle(rng):
+    """A bundle, in some cases with another head in place of one."""
+    blocks, widths = blocks_of(rng), width_of(rng)
+    return spelled(blocks, widths=widths)[0] if rng.random() < 0.7 else changed(rng, blocks, widths)
 
 
 def damage(rng, content):
