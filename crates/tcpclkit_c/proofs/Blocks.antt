@@ -11,12 +11,12 @@ use Rattle.link_bundle_blocks.specs.Blocks.{Block}
 use Rattle.link_bundle_blocks.specs.Bundle.{verdict, state_of, bundle_goes, blocks_in}
 use Rattle.link_bundle.specs.Scan.{HasScanned, Advances, AddsBlock, ending}
 use Rattle.link_bundle_types.specs.declared.fault.State.{State}
-use Rattle.tcpclkit_c.specs.Block.{first_shown}
-use Rattle.tcpclkit_c.specs.Bundle.{state_status}
+use Rattle.link_numbers.specs.Block.{first_shown}
+use Rattle.link_numbers.specs.Bundle.{state_status}
 use Rattle.link_bundle.proofs.Endings.{none_sooner}
 use Rattle.tcpclkit_c.specs.NextBlock.{goes_in_block, added, TakesBlock, FeedsBlock}
 use Rattle.tcpclkit_c.specs.Scan.{IsScan, has_room}
-use Rattle.tcpclkit_c.specs.declared.block.BlockNumbers.{BlockNumbers}
+use Rattle.link_numbers.specs.declared.block.BlockNumbers.{BlockNumbers}
 use Rattle.tcpclkit_c.specs.declared.scan.MarkedScan.{MarkedScan}
 
 both : {one other : Bool} → one ≡ true → other ≡ true → (one && other) ≡ true

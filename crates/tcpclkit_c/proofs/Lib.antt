@@ -3,5 +3,4 @@ pub mod Runs
 mod Scanning
 mod Blocks
 mod Walks
-mod Orders
 mod Lending

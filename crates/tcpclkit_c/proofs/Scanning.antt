@@ -6,7 +6,7 @@ use Rattle.link_cbor.specs.PieceLaws.{takes_shortest}
 use Rattle.link_cbor.specs.Pieces.{taken}
 use Rattle.link_bundle_types.specs.declared.fault.State.{State}
 use Rattle.link_bundle_blocks.specs.Bundle.{verdict, state_of, bundle_goes}
-use Rattle.tcpclkit_c.specs.Bundle.{state_status}
+use Rattle.link_numbers.specs.Bundle.{state_status}
 use Rattle.tcpclkit_c.specs.Scan.{IsScan, has_room, Feeds}
 use Rattle.tcpclkit_c.specs.declared.scan.MarkedScan.{MarkedScan}
 

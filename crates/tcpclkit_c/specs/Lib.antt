@@ -1,11 +1,7 @@
 pub mod Slice
-pub mod Fault
 pub mod Bundle
-pub mod Block
 pub mod Scan
 pub mod NextBlock
-pub mod Recording
-pub mod Order
 pub mod Text
 pub mod Options
 pub mod Tool

@@ -7,10 +7,11 @@ use Rattle.link_cbor.specs.Pieces.{taken}
 use Rattle.link_bundle_blocks.specs.Bundle.{verdict, payload_seen, state_of, bundle_goes}
 use Rattle.link_bundle.specs.Scan.{HasScanned}
 use Rattle.link_primary.specs.Fields.{primary_fields}
-use Rattle.tcpclkit_c.specs.Bundle.{state_status, Names, ReturnsVerdict, ReturnsInfo}
+use Rattle.link_numbers.specs.Bundle.{state_status, ReturnsVerdict}
+use Rattle.tcpclkit_c.specs.Bundle.{Names, ReturnsInfo}
 use Rattle.tcpclkit_c.specs.contracts.scan.MarkedScan.{the_row}
-use Rattle.tcpclkit_c.specs.declared.bundle.Bundle.{Bundle}
-use Rattle.tcpclkit_c.specs.declared.bundle.Verdict.{Verdict}
+use Rattle.link_numbers.specs.declared.bundle.Bundle.{Bundle}
+use Rattle.link_numbers.specs.declared.bundle.Verdict.{Verdict}
 use Rattle.tcpclkit_c.specs.declared.scan.MarkedScan.{MarkedScan}
 
 -- the first word of each scan

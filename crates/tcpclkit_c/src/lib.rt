@@ -1,9 +1,9 @@
 //! The C library: what a program in C calls, over the libraries of this repository.
 //!
 //! `include/tcpclkit.h` declares every export and says what its caller owes. An export takes
-//! slices, numbers and structs of numbers, which [`fault`] and the other modules define. It tests
-//! what a caller may get wrong, calls one proved function, and writes the answer as numbers. Its
-//! contract has the words of that function's contract.
+//! slices, numbers and the structs of numbers of `link_numbers`. It tests what a caller may get
+//! wrong, calls one proved function, and writes the answer as numbers. Its contract has the words
+//! of that function's contract.
 //!
 //! An export of [`scan`] that takes a pointer has a condition: a scan lies there, or memory for
 //! one. No loan follows a raw pointer, so the contract says what memory the caller gives up and
@@ -12,10 +12,8 @@
 
 ghost use Rattle.std.specs.Prelude.{◌≡◌};
 
-mod block;
 mod bundle;
 mod device;
-mod fault;
 mod history;
 mod kept;
 mod options;
@@ -24,7 +22,6 @@ mod recording;
 mod running;
 mod scan;
 mod slice;
-mod status;
 mod text;
 mod tool;
 

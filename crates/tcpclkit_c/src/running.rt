@@ -6,7 +6,7 @@ ghost use Rattle.tcpclkit_c.specs.Tool.{texts_status};
 ghost use Rattle.tcpclkit_c.specs.Run.{HasRun, Leaves, RanWhole, ReturnsJob};
 
 use crate::device::{SliceReader, SliceWriter};
-use crate::status::{MEMORY, OK, TOO_SMALL};
+use link_numbers::status::{MEMORY, OK, TOO_SMALL};
 use link_run::RunEnd;
 use link_tools::{Job, Status, run_tool};
 use link_wire::IoFault;

@@ -9,17 +9,19 @@ ghost use denote.RawPtr.{room_at};
 ghost use Rattle.link_bundle_blocks.specs.Bundle.{verdict, payload_seen, state_of};
 ghost use Rattle.link_bundle.specs.Scan.{scan_size};
 ghost use Rattle.link_primary.specs.Fields.{primary_fields};
-ghost use Rattle.tcpclkit_c.specs.Bundle.{verdict_shown, state_status, three_names, ReturnsInfo};
+ghost use Rattle.link_numbers.specs.Bundle.{verdict_shown, state_status};
+ghost use Rattle.tcpclkit_c.specs.Bundle.{three_names, ReturnsInfo};
 ghost use Rattle.tcpclkit_c.specs.Scan.{IsScan, HoldsScan, mark, has_room, fed, fed_status, FeedsMarked, JudgesMarked, DescribesMarked};
 ghost use Rattle.tcpclkit_c.specs.NextBlock.{TakesBlock, fed_block, fed_block_status, added_block, FeedsMarkedBlock};
 ghost use Rattle.tcpclkit_c.specs.contracts.scan.MarkedScan.{the_row};
 
-use crate::block::{BlockNumbers, block_numbers};
-use crate::bundle::{Bundle, Verdict, give_info, give_verdict, state_status};
+use crate::bundle::{give_info, give_verdict};
 use crate::kept::Kept;
-use crate::status::{OK, RANGE};
 use link_bundle::BundleScan;
 use link_cbor::Piecewise;
+use link_numbers::block::{BlockNumbers, block_numbers};
+use link_numbers::bundle::{Bundle, Verdict, state_status};
+use link_numbers::status::{OK, RANGE};
 use link_primary::primary_fields;
 use link_wire::INPUT_LIMIT;
 

@@ -7,7 +7,7 @@ ghost use Rattle.tcpclkit_c.specs.Tool.{ReturnsTexts, Unpacks, ShowsBlocks, Retu
 
 use crate::options::{blocks_job_in, pack_in_range, pack_numbers, packing_of, wanted_in};
 use crate::running::{Run, Wants, run_job};
-use crate::status::RANGE;
+use link_numbers::status::RANGE;
 use link_tools::{Job, cutter_for};
 use std::alloc::Global;
 

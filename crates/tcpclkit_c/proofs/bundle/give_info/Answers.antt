@@ -6,9 +6,10 @@ use Rattle.link_bundle_types.specs.declared.info.BundleInfo.{BundleInfo}
 use Rattle.link_bundle_blocks.specs.Bundle.{verdict, payload_seen, state_of}
 use Rattle.link_primary.specs.Fields.{PrimaryFields}
 use Rattle.link_primary.specs.View.{viewed_fields}
-use Rattle.tcpclkit_c.specs.Bundle.{Names, verdict_shown, ReturnsBundle, ReturnsStop, ReturnsInfo}
-use Rattle.tcpclkit_c.specs.declared.bundle.Bundle.{Bundle}
-use Rattle.tcpclkit_c.specs.declared.bundle.Verdict.{Verdict}
+use Rattle.link_numbers.specs.Bundle.{verdict_shown}
+use Rattle.tcpclkit_c.specs.Bundle.{Names, ReturnsBundle, ReturnsStop, ReturnsInfo}
+use Rattle.link_numbers.specs.declared.bundle.Bundle.{Bundle}
+use Rattle.link_numbers.specs.declared.bundle.Verdict.{Verdict}
 use Rattle.link_bundle.proofs.Pieces.{verdict_judged}
 use Rattle.tcpclkit_c.proofs.bundle.give_info.Goals as goal
 

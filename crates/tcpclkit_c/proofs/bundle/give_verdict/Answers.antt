@@ -1,6 +1,6 @@
 use Rattle.std.proofs.Common.{ap, ◌∙◌}
 use Rattle.link_bundle_blocks.specs.Bundle.{state_of}
-use Rattle.tcpclkit_c.specs.Bundle.{state_status}
+use Rattle.link_numbers.specs.Bundle.{state_status}
 use Rattle.link_bundle.proofs.Pieces.{verdict_judged}
 use Rattle.tcpclkit_c.proofs.bundle.give_verdict.Goals as goal
 

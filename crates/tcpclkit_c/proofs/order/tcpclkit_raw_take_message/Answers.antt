@@ -1,5 +1,5 @@
 use Rattle.std.proofs.Common.{sym, ◌∙◌}
-use Rattle.tcpclkit_c.proofs.Orders.{same_event}
+use Rattle.link_numbers.proofs.Orders.{same_event}
 use Rattle.tcpclkit_c.proofs.order.tcpclkit_raw_take_message.Goals as goal
 
 pub returns-clause-after : goal.returns-clause-after

@@ -4,7 +4,7 @@ use Rattle.std.proofs.lemmas.Bool.{false≢true, lt-ltb, le-ltb}
 use Rattle.link_cbor.specs.Pieces.{taken}
 use Rattle.link_bundle_blocks.specs.Blocks.{viewed_blocks}
 use Rattle.link_bundle.specs.Scan.{ending}
-use Rattle.tcpclkit_c.specs.Block.{first_shown}
+use Rattle.link_numbers.specs.Block.{first_shown}
 use Rattle.tcpclkit_c.specs.NextBlock.{goes_in_block}
 use Rattle.tcpclkit_c.specs.Scan.{has_room}
 use Rattle.tcpclkit_c.proofs.Blocks.{feeds_block}

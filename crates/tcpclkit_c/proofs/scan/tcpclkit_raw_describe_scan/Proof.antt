@@ -8,7 +8,7 @@ use Rattle.link_primary.specs.Fields.{primary_fields}
 use Rattle.tcpclkit_c.specs.Bundle.{Names, three_names, ReturnsInfo}
 use Rattle.tcpclkit_c.specs.Scan.{HoldsScan, DescribesMarked}
 use Rattle.tcpclkit_c.proofs.Lending.{lent_scan, lends_scan, held_scan}
-use Rattle.tcpclkit_c.specs.contracts.bundle.Bundle.{the_row as B}
+use Rattle.link_numbers.specs.contracts.bundle.Bundle.{the_row as B}
 use Rattle.tcpclkit_c.specs.contracts.scan.tcpclkit_raw_describe_scan as f
 use Rattle.tcpclkit_c.proofs.scan.tcpclkit_raw_describe_scan.Statement.{statement}
 use Rattle.tcpclkit_c.proofs.scan.tcpclkit_raw_describe_scan.Code as code

@@ -4,10 +4,10 @@ use prog.Wp.{WpFn}
 use Rattle.tcpclkit_c.specs.declared.scan.MarkedScan.{MarkedScan}
 use Rattle.tcpclkit_c.specs.contracts.scan.MarkedScan.{the_row as R}
 use Rattle.link_bundle_blocks.specs.Bundle.{verdict, payload_seen, state_of}
-use Rattle.tcpclkit_c.specs.Bundle.{state_status, verdict_shown}
+use Rattle.link_numbers.specs.Bundle.{state_status, verdict_shown}
 use Rattle.tcpclkit_c.specs.Scan.{HoldsScan, JudgesMarked}
 use Rattle.tcpclkit_c.proofs.Lending.{lent_scan, lends_scan, held_scan}
-use Rattle.tcpclkit_c.specs.contracts.bundle.Verdict.{the_row as V}
+use Rattle.link_numbers.specs.contracts.bundle.Verdict.{the_row as V}
 use Rattle.tcpclkit_c.specs.contracts.scan.tcpclkit_raw_judge_scan as f
 use Rattle.tcpclkit_c.proofs.scan.tcpclkit_raw_judge_scan.Statement.{statement}
 use Rattle.tcpclkit_c.proofs.scan.tcpclkit_raw_judge_scan.Code as code

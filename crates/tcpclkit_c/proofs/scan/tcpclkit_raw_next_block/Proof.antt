@@ -5,7 +5,7 @@ use Rattle.tcpclkit_c.specs.declared.scan.MarkedScan.{MarkedScan}
 use Rattle.tcpclkit_c.specs.contracts.scan.MarkedScan.{the_row as R}
 use Rattle.tcpclkit_c.specs.Scan.{HoldsScan}
 use Rattle.tcpclkit_c.specs.NextBlock.{FeedsMarkedBlock, fed_block, fed_block_status, added_block}
-use Rattle.tcpclkit_c.specs.contracts.block.BlockNumbers.{the_row as B}
+use Rattle.link_numbers.specs.contracts.block.BlockNumbers.{the_row as B}
 use Rattle.tcpclkit_c.specs.contracts.scan.tcpclkit_raw_next_block as f
 use Rattle.tcpclkit_c.proofs.scan.tcpclkit_raw_next_block.Statement.{statement}
 use Rattle.tcpclkit_c.proofs.scan.tcpclkit_raw_next_block.Code as code

@@ -1,0 +1,6 @@
+pub mod Fault
+pub mod Named
+pub mod Bundle
+pub mod Block
+pub mod Recording
+pub mod Order
