@@ -47,7 +47,7 @@ fn write_long_flags(page: &mut [u8], at: usize, flags: u64) -> usize
 
 /// Writes flags in pairs of hexadecimal digits.
 #[inline(always)]
-fn write_flags(page: &mut [u8], at: usize, flags: u64) -> usize
+pub fn write_flags(page: &mut [u8], at: usize, flags: u64) -> usize
     requires { at + 16 ≤ length page.old }
     ensures text { take result page.new ≡ take at page.old ++ flags_text flags }
     ensures fits { result ≤ at + 16 }

@@ -12,6 +12,7 @@
 //! ```
 //!
 //! [`data_kind`] says which data is read for the last words of a block's line, such as ` age=100`.
+//! [`write_flags`] writes flags as these lines have them.
 #![tactic(auto)]
 
 mod blocks;
@@ -20,4 +21,5 @@ mod kinds;
 mod words;
 
 pub use blocks::{BlockText, EndText, PrimaryRestText, PrimaryStartText};
+pub use fields::write_flags;
 pub use kinds::data_kind;

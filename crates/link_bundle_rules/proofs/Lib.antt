@@ -1,0 +1,4 @@
+pub mod Ages
+pub mod Blocks
+pub mod Broken
+pub mod DtnNames

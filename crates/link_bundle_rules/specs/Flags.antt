@@ -1,0 +1,97 @@
+-- Rules of flags (RFC 9171).
+use Rattle.std.specs.Prelude.{ℕ, Bool, not, ◌&&◌, ◌||◌, ◌==◌, bit_and, Option, Some, None, if◌then◌else◌}
+use Rattle.link_bundle_blocks.specs.Blocks.{Primary}
+use Rattle.link_rules.specs.Flags.{has_other_flags}
+use Rattle.link_bundle_rules.specs.ReadBundle.{ReadBlock, ReadBundle, is_anonymous, payload, is_of_type, find_map}
+use Rattle.link_bundle_rules.specs.declared.rule.BundleRule.{BundleRule}
+use Rattle.link_bundle_rules.specs.declared.rule.BundleRule.TheVariants as rule
+
+-- ---- bundle processing control flags (section 4.2.3)
+
+-- the payload is an administrative record
+abbrev pub record_flag : ℕ
+record_flag = 0x000002
+
+-- the bundle must not be fragmented
+abbrev pub no_fragments : ℕ
+no_fragments = 0x000004
+
+-- status reports are requested of reception, forwarding, delivery and deletion
+abbrev pub report_requests : ℕ
+report_requests = 0x074000
+
+-- all that are defined: with these, that of a fragment, and those that request an acknowledgement
+-- by the application, and times in status reports
+abbrev pub bundle_flags_defined : ℕ
+bundle_flags_defined = 0x074067
+
+-- ---- block processing control flags (section 4.2.4)
+
+-- a status report is requested if the block cannot be processed
+abbrev pub block_report : ℕ
+block_report = 0x02
+
+-- all that are defined: with this, those that copy the block into every fragment, and that delete
+-- the bundle or discard the block if the block cannot be processed
+abbrev pub block_flags_defined : ℕ
+block_flags_defined = 0x17
+
+-- ---- the rules
+
+abbrev pub is_set : (flag flags : ℕ) → Bool
+is_set flag flags = bit_and flags flag == flag
+
+-- whether some status report is requested
+abbrev pub requests_reports : (flags : ℕ) → Bool
+requests_reports flags = not (bit_and flags report_requests == 0)
+
+-- bundle-flags: a bundle has no flag but those that are defined (section 4.2.3)
+unfoldable pub bundle_flags : ReadBundle → Option BundleRule
+bundle_flags bundle =
+    let flags = bundle.primary.flags in
+    if has_other_flags bundle_flags_defined flags then Some (rule.BundleFlags flags) else None
+
+-- anonymous: a bundle without a source forbids fragments, and requests no status reports (section
+-- 4.2.3)
+unfoldable pub anonymous : ReadBundle → Option BundleRule
+anonymous bundle =
+    let flags = bundle.primary.flags in
+    if is_anonymous bundle.primary && (not (is_set no_fragments flags) || requests_reports flags)
+    then Some (rule.Anonymous flags)
+    else None
+
+-- record-reports: an administrative record requests no status reports (section 4.2.3)
+unfoldable pub record_reports : ReadBundle → Option BundleRule
+record_reports bundle =
+    let flags = bundle.primary.flags in
+    if is_set record_flag flags && requests_reports flags
+    then Some (rule.RecordReports flags)
+    else None
+
+-- whether the blocks of a bundle must request no status reports (section 4.2.4)
+abbrev pub forbids_reports : Primary → Bool
+forbids_reports primary = is_set record_flag primary.flags || is_anonymous primary
+
+-- a block other than the payload that requests a status report
+abbrev pub if_reporting : ReadBlock → Option BundleRule
+if_reporting read =
+    if not (is_of_type payload read) && is_set block_report read.block.flags
+    then Some (rule.BlockReports read.block.number)
+    else None
+
+-- block-reports: no block of an administrative record, or of a bundle without a source, requests a
+-- status report (section 4.2.4). The payload block may. The first other one that does counts.
+unfoldable pub block_reports : ReadBundle → Option BundleRule
+block_reports bundle =
+    if forbids_reports bundle.primary then find_map if_reporting bundle.blocks else None
+
+abbrev pub if_other_block_flags : ReadBlock → Option BundleRule
+if_other_block_flags read =
+    if has_other_flags block_flags_defined read.block.flags
+    then Some (rule.BlockFlags read.block.number read.block.flags)
+    else None
+
+-- block-flags: a block has no flag but those that are defined (section 4.2.4). The first one that
+-- has another one counts.
+unfoldable pub block_flags : ReadBundle → Option BundleRule
+block_flags bundle = find_map if_other_block_flags bundle.blocks

@@ -1,0 +1,47 @@
+-- The rule of dtn names (RFC 9171 section 4.2.5.1.1).
+use Rattle.std.specs.Prelude.{ℕ, Bool, false, not, ◌&&◌, ◌==◌, List, [], ◌∷◌, Option, Some, None, option_map, if◌then◌else◌}
+use Rattle.std.specs.Char.{is_ascii_graphic}
+use Rattle.std.specs.List.{list_any, list_all}
+use Rattle.link_bundle_types.specs.declared.eid.Eid.{Eid}
+use Rattle.link_bundle_types.specs.declared.eid.Eid.TheVariants as eid
+use Rattle.link_bundle_blocks.specs.Blocks.{Primary}
+use Rattle.link_bundle_rules.specs.ReadBundle.{ReadBundle}
+use Rattle.link_bundle_rules.specs.declared.rule.BundleRule.{BundleRule}
+use Rattle.link_bundle_rules.specs.declared.rule.BundleRule.TheVariants.{DtnName}
+use Rattle.link_bundle_rules.specs.declared.rule.Endpoint.{Endpoint}
+use Rattle.link_bundle_rules.specs.declared.rule.Endpoint.TheVariants.{Destination, Source, ReportTo}
+
+abbrev pub is_slash : ℕ → Bool
+is_slash byte = byte == 0x2f
+
+-- a node name, a slash, and a demux: the name has at least one byte, and no slash
+abbrev pub is_name_and_demux : List ℕ → Bool
+is_name_and_demux [] = false
+is_name_and_demux (first ∷ rest) = not (is_slash first) && list_any is_slash rest
+
+-- what follows `dtn:` in a URI: `//`, a node name, `/`, and a demux, with no byte outside 21 to 7e
+unfoldable pub is_dtn_name : List ℕ → Bool
+is_dtn_name [] = false
+is_dtn_name (first ∷ []) = false
+is_dtn_name (first ∷ second ∷ rest) =
+    is_slash first
+    && (is_slash second && (is_name_and_demux rest && list_all is_ascii_graphic rest))
+
+-- dtn:none as the number 0 is no text
+abbrev pub has_bad_name : Eid → Bool
+has_bad_name eid.DtnNone = false
+has_bad_name (eid.Dtn name) = not (is_dtn_name name.items)
+has_bad_name (eid.Ipn node service) = false
+has_bad_name (eid.Ipn3 allocator node service) = false
+
+-- the first endpoint ID of a primary block that has one
+abbrev pub bad_name : Primary → Option Endpoint
+bad_name primary =
+    if has_bad_name primary.destination then Some Destination
+    else (if has_bad_name primary.source then Some Source
+    else (if has_bad_name primary.report_to then Some ReportTo else None))
+
+-- dtn-name: an endpoint ID of scheme dtn that is a text is a dtn name. The first one that is not
+-- counts.
+unfoldable pub dtn_name : ReadBundle → Option BundleRule
+dtn_name bundle = option_map (λ of. DtnName of) (bad_name bundle.primary)

@@ -1,0 +1,119 @@
+//! The blocks of a bundle so far, as far as the rules for it need them.
+
+ghost use Rattle.std.specs.Prelude.{◌≡◌, ◌+◌, ◌<◌, ◌≤◌, List, [], ◌∷◌, ◌++◌, Option};
+ghost use Rattle.arrayvec.specs.ArrayVec.{array_vec_len};
+ghost use Rattle.link_bundle_rules.specs.BundleRules.{long_head};
+ghost use Rattle.link_bundle_rules.specs.ReadBundle.{ReadBundle};
+ghost use Rattle.link_bundle_rules.specs.Remembered.{HasBroken};
+ghost use Rattle.link_bundle_rules.specs.declared.rule.BundleRule.{BundleRule};
+
+use crate::block::ReadBlockView;
+use crate::extensions::ExtensionFacts;
+use crate::flags::FlagFacts;
+use crate::primary::PrimaryFacts;
+use crate::rule::BundleRule;
+use crate::security::SecurityFacts;
+use arrayvec::ArrayVec;
+use link_bundle_blocks::PrimaryBlock;
+
+/// The number of rules of a bundle.
+const RULES: usize = 16;
+
+/// The rules that a bundle breaks, in order.
+pub type BrokenBundleRules = ArrayVec<BundleRule, RULES>;
+
+/// The rule of long heads. `byte` is the offset of the first one.
+#[tactic(auto, unfolding(crate::specs::BundleRules::long_head))]
+fn long_head(byte: Option<u64>) -> Option<BundleRule>
+    ensures { (bundle : ReadBundle) → bundle.long_head ≡ byte → result ≡ long_head bundle }
+{
+    let byte = byte?;
+    Some(BundleRule::LongHead { byte })
+}
+
+/// Appends a rule, if it is broken.
+#[tactic(auto, using(crate::proofs::Broken::broken_more, crate::proofs::Broken::broken_same))]
+fn add(broken: &mut BrokenBundleRules, rule: Option<BundleRule>)
+    requires { array_vec_len broken.old < RULES }
+    ensures items { (judged : List (Option BundleRule)) → HasBroken broken.old judged
+        → HasBroken broken.new (judged ++ rule ∷ []) }
+    ensures size { array_vec_len broken.new ≤ array_vec_len broken.old + 1 }
+{
+    if let Some(rule) = rule {
+        broken.push(rule);
+    }
+}
+
+/// The blocks of a bundle so far, as far as the rules for it need them.
+#[derive(Clone, Copy, Debug)]
+pub struct BundleHistory {
+    primary: PrimaryFacts,
+    flags: FlagFacts,
+    extensions: ExtensionFacts,
+    security: SecurityFacts,
+}
+
+impl BundleHistory {
+    ghost use Rattle.std.specs.Prelude.{◌≡◌, ◌^◌, ◌<◌, [], length, Option, option_map, IfSome};
+    ghost use Rattle.link_bundle_blocks.specs.Blocks.{viewed_primary};
+    ghost use Rattle.link_bundle_rules.specs.BundleRules.{broken_bundle_rules};
+    ghost use Rattle.link_bundle_rules.specs.ReadBundle.{ReadBundle, viewed_read_block, with_block, malformed_at};
+    ghost use Rattle.link_bundle_rules.specs.Remembered.{Remembers};
+
+    /// The history of a bundle whose primary block is whole.
+    pub fn begin(primary: &PrimaryBlock<'_>) -> BundleHistory
+        ensures { (bundle : ReadBundle) → bundle.primary ≡ viewed_primary primary.now
+            → bundle.check ≡ primary.now.check → bundle.blocks ≡ [] → Remembers result bundle }
+    {
+        BundleHistory {
+            primary: PrimaryFacts::of(primary),
+            flags: FlagFacts::new(),
+            extensions: ExtensionFacts::new(),
+            security: SecurityFacts::new(),
+        }
+    }
+
+    /// Takes the next canonical block.
+    ///
+    /// An offset in a bundle has 64 bits.
+    pub fn take(&mut self, read: &ReadBlockView<'_>)
+        ensures { (bundle : ReadBundle) → Remembers self.old bundle
+            → IfSome (malformed_at (viewed_read_block read.now)) (λ byte. byte < 2 ^ 64)
+            → Remembers self.new (with_block bundle (viewed_read_block read.now)) }
+    {
+        self.flags.take(read);
+        self.extensions.take(read);
+        self.security.take(read);
+    }
+
+    /// The rules that the bundle breaks, in order, if it is good and all its blocks came.
+    ///
+    /// `first_long_head` is the offset of the first head that is longer than its number needs, and
+    /// `payload_length` the number of bytes of the payload. The number of blocks has 64 bits.
+    pub fn rules(&self, first_long_head: Option<u64>, payload_length: u64) -> BrokenBundleRules
+        ensures { (bundle : ReadBundle) → Remembers self.now bundle
+            → length bundle.blocks < 2 ^ 64
+            → bundle.long_head ≡ first_long_head → bundle.payload_length ≡ payload_length
+            → result.items ≡ broken_bundle_rules bundle }
+    {
+        let hidden = self.security.is_hidden();
+        let mut broken = BrokenBundleRules::new();
+        add(&mut broken, long_head(first_long_head));
+        add(&mut broken, self.primary.bundle_flags());
+        add(&mut broken, self.security.primary_check(&self.primary));
+        add(&mut broken, self.primary.anonymous());
+        add(&mut broken, self.primary.record_reports());
+        add(&mut broken, self.flags.block_reports(&self.primary));
+        add(&mut broken, self.flags.block_flags());
+        add(&mut broken, self.primary.dtn_name());
+        add(&mut broken, self.primary.fragment(payload_length));
+        add(&mut broken, self.extensions.age(&self.primary));
+        add(&mut broken, self.extensions.previous_node());
+        add(&mut broken, self.extensions.hop_count(hidden));
+        add(&mut broken, self.security.confidential_primary());
+        add(&mut broken, self.extensions.hops(hidden));
+        add(&mut broken, self.extensions.block_data(hidden));
+        add(&mut broken, self.extensions.administrative_record(hidden));
+        broken
+    }
+}

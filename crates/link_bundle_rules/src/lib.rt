@@ -1,0 +1,28 @@
+//! The rules that a good bundle breaks (RFC 9171, and RFC 9172 section 3.8).
+//!
+//! A [`BundleHistory`] keeps what the rules need of the blocks so far. It has a fixed size.
+//!
+//! ```ignore
+//! let mut history = BundleHistory::begin(&primary);
+//! // for each canonical block, one after another
+//! history.take(&ReadBlockView { block: &block, found });
+//! // at the end, if the bundle is good
+//! for rule in history.rules(long_head, payload_length).as_slice() {
+//!     // .. rule.level() says how strictly the rule is meant
+//! }
+//! ```
+#![tactic(auto)]
+
+mod block;
+mod extensions;
+mod flags;
+mod history;
+mod names;
+mod primary;
+mod rule;
+mod security;
+
+pub use block::ReadBlockView;
+pub use history::{BrokenBundleRules, BundleHistory};
+pub use link_rules::Level;
+pub use rule::{BundleRule, Endpoint};

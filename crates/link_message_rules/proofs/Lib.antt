@@ -1,0 +1,5 @@
+pub mod Pushes
+pub mod Runs
+pub mod Disabling
+pub mod Joined
+pub mod Tests

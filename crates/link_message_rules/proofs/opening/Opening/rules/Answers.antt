@@ -1,0 +1,11 @@
+use Rattle.link_message_rules.specs.TransferRules.{broken_transfer_rules}
+use Rattle.link_message_rules.proofs.opening.Opening.rules.Goals as goal
+
+pub returns : goal.returns
+unfolding broken_transfer_rules
+returns c first is =
+    rw (
+      ← c.length_item.ensures first is,
+      ← c.length_differs.ensures first is,
+      ← c.length_of_one_segment.ensures first is,
+    ) c.broken_of.ensures

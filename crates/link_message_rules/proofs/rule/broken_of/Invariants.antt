@@ -1,0 +1,10 @@
+use Rattle.std.proofs.Common.{◌≡◌, ◌≤◌, take}
+use Rattle.std.specs.List.{filter_map}
+use Rattle.arrayvec.specs.ArrayVec.{array_vec_len}
+use Rattle.link_message_rules.proofs.rule.broken_of.Given as goal
+
+abbrev pub invariant-loop-rule : goal.invariant-loop-rule
+invariant-loop-rule g l = record {
+  kept : l.broken.items ≡ filter_map (λ rule. rule) (take l.rule-index l.judged);
+  room : array_vec_len l.broken ≤ l.rule-index;
+}

@@ -1,0 +1,10 @@
+pub mod Heads
+pub mod Flags
+pub mod NodeIds
+pub mod Session
+pub mod TransferIds
+pub mod Lengths
+pub mod MessageRules
+pub mod TransferRules
+pub mod TransferData
+pub mod Remembered

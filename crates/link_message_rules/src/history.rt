@@ -1,0 +1,101 @@
+//! The messages so far, as far as the rules for the next one need them.
+
+use crate::flags::{item_flags, segment_flags, term_flags};
+use crate::head::JudgedHeadView;
+use crate::lengths::{
+    Ack, TransferSoFar, ack_after, ack_length, peer_segment, peer_transfer, so_far_after,
+};
+use crate::limits::PeerLimits;
+use crate::node::node_id;
+use crate::opening::Opening;
+use crate::rule::{MessageRule, broken_of};
+use crate::session::{Keepalives, before_session, initiated_after, order};
+use crate::transfer_ids::{IdRun, interleaved, run_after, transfer_id};
+use arrayvec::ArrayVec;
+
+/// The number of rules of a message.
+const RULES: usize = 12;
+
+/// The rules that a message breaks, in order.
+pub type BrokenRules = ArrayVec<MessageRule, RULES>;
+
+/// The messages so far, as far as the rules for the next one need them.
+#[derive(Clone, Copy, Debug)]
+pub struct MessageHistory {
+    /// Whether a SESS_INIT came.
+    initiated: bool,
+    keepalives: Keepalives,
+    /// The IDs of the last STARTs.
+    run: Option<IdRun>,
+    /// The last XFER_ACK.
+    ack: Option<Ack>,
+    /// The transfer that began last.
+    transfer: Option<TransferSoFar>,
+}
+
+impl MessageHistory {
+    ghost use Rattle.std.specs.Prelude.{◌≡◌, List, [], ◌∷◌, ◌++◌, option_map};
+    ghost use Rattle.link_wire.specs.MessageBuffer.{SegmentHasTotals};
+    ghost use Rattle.link_message_rules.specs.Heads.{JudgedHead, viewed_head};
+    ghost use Rattle.link_message_rules.specs.MessageRules.{broken_rules};
+    ghost use Rattle.link_message_rules.specs.Remembered.{Remembers};
+    ghost use Rattle.link_message_rules.specs.TransferRules.{last_opening};
+
+    /// The history before the first message.
+    pub fn new() -> MessageHistory
+        ensures { Remembers result [] }
+    {
+        MessageHistory {
+            initiated: false,
+            keepalives: Keepalives::Enabled,
+            run: None,
+            ack: None,
+            transfer: None,
+        }
+    }
+
+    /// What the transfer that began last keeps of its first segment.
+    pub fn opening(&self) -> Option<Opening>
+        ensures { (heads : List JudgedHead) → Remembers self.now heads
+            → result ≡ last_opening heads }
+    {
+        Some(self.transfer?.opening)
+    }
+
+    /// The rules that the next message breaks, in order.
+    pub fn rules(&self, limits: &PeerLimits, head: &JudgedHeadView<'_>) -> BrokenRules
+        requires { SegmentHasTotals head.now.message.now }
+        ensures { (before : List JudgedHead) → Remembers self.now before
+            → result.items ≡ broken_rules limits.now before (viewed_head head.now) }
+    {
+        let message = head.message;
+        broken_of(&[
+            node_id(message),
+            item_flags(message),
+            order(head),
+            before_session(self.initiated, message),
+            interleaved(head),
+            segment_flags(message),
+            transfer_id(self.run, message),
+            peer_segment(limits.segment, message),
+            peer_transfer(limits.transfer, self.transfer, head),
+            ack_length(self.ack, message),
+            self.keepalives.rule(message),
+            term_flags(message),
+        ])
+    }
+
+    /// Takes the next message.
+    pub fn take(&mut self, head: &JudgedHeadView<'_>)
+        requires { SegmentHasTotals head.now.message.now }
+        ensures { (before : List JudgedHead) → Remembers self.old before
+            → Remembers self.new (before ++ viewed_head head.now ∷ []) }
+    {
+        let message = head.message;
+        self.initiated = initiated_after(self.initiated, message);
+        self.keepalives = self.keepalives.after(message);
+        self.run = run_after(self.run, message);
+        self.ack = ack_after(self.ack, message);
+        self.transfer = so_far_after(self.transfer, head);
+    }
+}

@@ -1,0 +1,106 @@
+-- The words of rules: what broke a rule.
+
+use Rattle.std.specs.Prelude.{ℕ, ◌==◌, List, [], ◌++◌, map, codes, Option, Some, None, if◌then◌else◌}
+use Rattle.link_bundle_types.specs.declared.fault.BundleFault.{BundleFault}
+use Rattle.link_transfer.specs.declared.fault.OrderFault.{OrderFault}
+use Rattle.link_message_rules.specs.declared.rule.MessageRule.{MessageRule}
+use Rattle.link_message_rules.specs.declared.rule.MessageRule.TheVariants as message
+use Rattle.link_message_rules.specs.declared.rule.TransferRule.{TransferRule}
+use Rattle.link_message_rules.specs.declared.rule.TransferRule.TheVariants as transfer
+use Rattle.link_bundle_rules.specs.declared.rule.BundleRule.{BundleRule}
+use Rattle.link_bundle_rules.specs.declared.rule.BundleRule.TheVariants as bundle
+use Rattle.link_bundle_rules.specs.declared.rule.Endpoint.{Endpoint}
+use Rattle.link_bundle_rules.specs.declared.rule.Endpoint.TheVariants.{Destination, Source, ReportTo}
+use Rattle.link_report.specs.BundleFault.{code_text}
+use Rattle.link_report.specs.Fault.{order_text}
+use Rattle.link_report.specs.Message.{flags_text}
+use Rattle.link_report.specs.Text.{hex2, number_text}
+use Rattle.link_block_report.specs.Fields as fields
+use Rattle.link_rule_report.specs.declared.rule.BrokenRule.{BrokenRule}
+use Rattle.link_rule_report.specs.declared.rule.BrokenRule.TheVariants.{Message, Transfer, Bundle}
+
+-- a text with hyphens for its spaces
+unfoldable pub hyphenated : List ℕ → List ℕ
+hyphenated text = map (λ byte. if byte == 0x20 then 0x2d else byte) text
+
+-- a fault of the order of messages, as one word
+unfoldable pub order_words : OrderFault → List ℕ
+order_words fault = codes " fault=" ++ hyphenated (order_text fault)
+
+-- the flags of a message are one byte
+unfoldable pub message_words : MessageRule → List ℕ
+message_words (message.ContactFlags flags) = flags_text flags
+message_words (message.NodeId size) = number_text (codes " length=") size
+message_words (message.ItemFlags item flags) = number_text (codes " item=") item ++ flags_text flags
+message_words (message.Order fault) = order_words fault
+message_words (message.BeforeSession type) = codes " type=" ++ hex2 type
+message_words (message.Interleaved id open_id) =
+    number_text (codes " id=") id ++ number_text (codes " open=") open_id
+message_words (message.SegmentFlags flags) = flags_text flags
+message_words (message.TransferId id) = number_text (codes " id=") id
+message_words (message.PeerSegment size limit) =
+    number_text (codes " length=") size ++ number_text (codes " limit=") limit
+message_words (message.PeerTransferAnnounced announced limit) =
+    number_text (codes " announced=") announced ++ number_text (codes " limit=") limit
+message_words (message.PeerTransferLength size limit) =
+    number_text (codes " length=") size ++ number_text (codes " limit=") limit
+message_words (message.AckLength size before) =
+    number_text (codes " length=") size ++ number_text (codes " before=") before
+message_words message.Keepalive = []
+message_words (message.TermFlags flags) = flags_text flags
+
+-- the code of a fault of a bundle, and its offset in the bundle
+unfoldable pub fault_words : BundleFault → ℕ → List ℕ
+fault_words fault byte = codes " code=" ++ code_text fault ++ number_text (codes " byte=") byte
+
+unfoldable pub transfer_words : TransferRule → List ℕ
+transfer_words (transfer.Unfinished size) = number_text (codes " length=") size
+transfer_words transfer.LengthItem = []
+transfer_words (transfer.LengthDiffers announced size) =
+    number_text (codes " announced=") announced ++ number_text (codes " length=") size
+transfer_words transfer.LengthOfOneSegment = []
+transfer_words (transfer.Bundle fault byte) = fault_words fault byte
+transfer_words (transfer.NotRead fault byte) = fault_words fault byte
+
+-- the flags of a bundle or of a block, as in the lines of blocks
+unfoldable pub control_words : ℕ → List ℕ
+control_words flags = codes " flags=" ++ fields.flags_text flags
+
+unfoldable pub endpoint_name : Endpoint → List ℕ
+endpoint_name Destination = codes "destination"
+endpoint_name Source = codes "source"
+endpoint_name ReportTo = codes "report-to"
+
+-- a hop limit, if the data of the block says one
+unfoldable pub limit_words : Option ℕ → List ℕ
+limit_words None = []
+limit_words (Some limit) = number_text (codes " limit=") limit
+
+unfoldable pub bundle_words : BundleRule → List ℕ
+bundle_words (bundle.LongHead byte) = number_text (codes " byte=") byte
+bundle_words (bundle.BundleFlags flags) = control_words flags
+bundle_words bundle.PrimaryCheck = []
+bundle_words (bundle.Anonymous flags) = control_words flags
+bundle_words (bundle.RecordReports flags) = control_words flags
+bundle_words (bundle.BlockReports block) = number_text (codes " block=") block
+bundle_words (bundle.BlockFlags block flags) =
+    number_text (codes " block=") block ++ control_words flags
+bundle_words (bundle.DtnName of) = codes " of=" ++ endpoint_name of
+bundle_words (bundle.Fragment offset size total) =
+    number_text (codes " offset=") offset ++ number_text (codes " length=") size
+    ++ number_text (codes " total=") total
+bundle_words (bundle.Age blocks) = number_text (codes " blocks=") blocks
+bundle_words (bundle.PreviousNode blocks) = number_text (codes " blocks=") blocks
+bundle_words (bundle.HopCount blocks limit) =
+    number_text (codes " blocks=") blocks ++ limit_words limit
+bundle_words (bundle.ConfidentialPrimary block) = number_text (codes " block=") block
+bundle_words (bundle.Hops limit count) =
+    number_text (codes " limit=") limit ++ number_text (codes " count=") count
+bundle_words (bundle.BlockData block byte) =
+    number_text (codes " block=") block ++ number_text (codes " byte=") byte
+bundle_words (bundle.Record byte) = number_text (codes " byte=") byte
+
+unfoldable pub rule_words : BrokenRule → List ℕ
+rule_words (Message rule) = message_words rule
+rule_words (Transfer id rule) = transfer_words rule
+rule_words (Bundle place rule) = bundle_words rule

@@ -1,0 +1,285 @@
+//! The words of rules: what broke a rule.
+
+ghost use Rattle.std.specs.Prelude.{◌≡◌, ◌+◌, ◌≤◌, ◌++◌, length, take, codes, decimal};
+ghost use Rattle.link_report.specs.Message.{flags_text};
+ghost use Rattle.link_report.specs.Text.{number_text};
+ghost use Rattle.link_rule_report.specs.Words.{hyphenated, order_words, message_words, fault_words, transfer_words, control_words, endpoint_name, limit_words, bundle_words, rule_words};
+
+use crate::rule::BrokenRule;
+use itoa::Buffer;
+use link_block_report::write_flags;
+use link_bundle_rules::{BundleRule, Endpoint};
+use link_bundle_types::BundleFault;
+use link_message_rules::{MessageRule, TransferRule};
+use link_report::{code_of, order_words, write_bytes, write_hex2, write_number, write_text};
+use link_transfer::OrderFault;
+
+/// The greatest length in bytes of the words of a rule: those of a fragment, 23 bytes and three
+/// numbers.
+pub(crate) const WORDS_MAX: usize = 83;
+
+/// The greatest length in bytes of a fault of the order of messages, as one word.
+const ORDER_MAX: usize = 47;
+
+/// The greatest length in bytes of the flags of a bundle or of a block.
+const CONTROL_MAX: usize = 23;
+
+/// Writes two labels, each with a number.
+#[inline(always)]
+fn write_two<const N: usize, const M: usize>(
+    page: &mut [u8],
+    at: usize,
+    label: [u8; N],
+    number: u64,
+    next_label: [u8; M],
+    next: u64,
+) -> usize
+    requires { at + N + M + 40 ≤ length page.old }
+    ensures text { take result page.new ≡ take at page.old
+        ++ number_text label.entry number ++ number_text next_label.entry next }
+    ensures fits { result ≤ at + N + M + 40 }
+    ensures size { length page.new ≡ length page.old }
+{
+    let at = write_number(page, at, label, number);
+    write_number(page, at, next_label, next)
+}
+
+/// Writes the flags of a message, which are one byte.
+#[tactic(auto, unfolding(link_report::specs::Message::flags_text))]
+fn write_byte_flags(page: &mut [u8], at: usize, flags: u8) -> usize
+    requires { at + 9 ≤ length page.old }
+    ensures text { take result page.new ≡ take at page.old ++ flags_text flags }
+    ensures end { result ≡ at + 9 }
+    ensures size { length page.new ≡ length page.old }
+{
+    let at = write_bytes(page, at, *b" flags=");
+    write_hex2(page, at, flags)
+}
+
+/// Writes a text with hyphens for its spaces.
+#[tactic(auto, unfolding(crate::specs::Words::hyphenated))]
+fn write_hyphenated(page: &mut [u8], at: usize, text: &str) -> usize
+    requires { at + length text.now ≤ length page.old }
+    ensures text { take result page.new ≡ take at page.old ++ hyphenated text.now }
+    ensures end { result ≡ at + length text.now }
+    ensures size { length page.new ≡ length page.old }
+{
+    let mut end = at;
+    for byte in text.as_bytes() {
+        let shown = if *byte == b' ' { b'-' } else { *byte };
+        end = write_bytes(page, end, [shown]);
+    }
+    end
+}
+
+/// Writes a fault of the order of messages, as one word.
+#[tactic(auto, unfolding(crate::specs::Words::order_words))]
+fn write_order(page: &mut [u8], at: usize, fault: OrderFault) -> usize
+    requires { at + ORDER_MAX ≤ length page.old }
+    ensures text { take result page.new ≡ take at page.old ++ order_words fault }
+    ensures fits { result ≤ at + ORDER_MAX }
+    ensures size { length page.new ≡ length page.old }
+{
+    let at = write_bytes(page, at, *b" fault=");
+    write_hyphenated(page, at, order_words(fault))
+}
+
+/// Writes the length of a transfer, which may have more than 64 bits, and the limit that it passes.
+#[tactic(auto, unfolding(link_report::specs::Text::number_text))]
+fn write_passed(page: &mut [u8], at: usize, size: u128, limit: u64) -> usize
+    requires { at + WORDS_MAX ≤ length page.old }
+    ensures text { take result page.new ≡ take at page.old
+        ++ number_text (codes " length=") size ++ number_text (codes " limit=") limit }
+    ensures fits { result ≤ at + WORDS_MAX }
+    ensures size { length page.new ≡ length page.old }
+{
+    let at = write_bytes(page, at, *b" length=");
+    let at = write_text(page, at, Buffer::new().format(size));
+    write_number(page, at, *b" limit=", limit)
+}
+
+/// Writes the words of a rule of messages.
+#[tactic(auto, unfolding(crate::specs::Words::message_words))]
+fn write_message(page: &mut [u8], at: usize, rule: &MessageRule) -> usize
+    requires { at + WORDS_MAX ≤ length page.old }
+    ensures text { take result page.new ≡ take at page.old ++ message_words rule.now }
+    ensures fits { result ≤ at + WORDS_MAX }
+    ensures size { length page.new ≡ length page.old }
+{
+    match *rule {
+        MessageRule::ContactFlags { flags }
+        | MessageRule::SegmentFlags { flags }
+        | MessageRule::TermFlags { flags } => write_byte_flags(page, at, flags),
+        MessageRule::NodeId { length } => write_number(page, at, *b" length=", length),
+        MessageRule::ItemFlags { item, flags } => {
+            let at = write_number(page, at, *b" item=", item);
+            write_byte_flags(page, at, flags)
+        }
+        MessageRule::Order(fault) => write_order(page, at, fault),
+        MessageRule::BeforeSession { kind } => {
+            let at = write_bytes(page, at, *b" type=");
+            write_hex2(page, at, kind)
+        }
+        MessageRule::Interleaved { id, open } => {
+            write_two(page, at, *b" id=", id, *b" open=", open)
+        }
+        MessageRule::TransferId { id } => write_number(page, at, *b" id=", id),
+        MessageRule::PeerSegment { length, limit } => {
+            write_two(page, at, *b" length=", length, *b" limit=", limit)
+        }
+        MessageRule::PeerTransferAnnounced { announced, limit } => {
+            write_two(page, at, *b" announced=", announced, *b" limit=", limit)
+        }
+        MessageRule::PeerTransferLength { length, limit } => write_passed(page, at, length, limit),
+        MessageRule::AckLength { length, before } => {
+            write_two(page, at, *b" length=", length, *b" before=", before)
+        }
+        MessageRule::Keepalive => at,
+    }
+}
+
+/// Writes the code of a fault of a bundle, and its offset in the bundle.
+#[tactic(auto, unfolding(crate::specs::Words::fault_words))]
+fn write_fault(page: &mut [u8], at: usize, fault: BundleFault, byte: u64) -> usize
+    requires { at + WORDS_MAX ≤ length page.old }
+    ensures text { take result page.new ≡ take at page.old ++ fault_words fault byte }
+    ensures fits { result ≤ at + WORDS_MAX }
+    ensures size { length page.new ≡ length page.old }
+{
+    let at = write_bytes(page, at, *b" code=");
+    let at = write_text(page, at, code_of(fault));
+    write_number(page, at, *b" byte=", byte)
+}
+
+/// Writes the words of a rule of transfers.
+#[tactic(auto, unfolding(crate::specs::Words::transfer_words))]
+fn write_transfer(page: &mut [u8], at: usize, rule: &TransferRule) -> usize
+    requires { at + WORDS_MAX ≤ length page.old }
+    ensures text { take result page.new ≡ take at page.old ++ transfer_words rule.now }
+    ensures fits { result ≤ at + WORDS_MAX }
+    ensures size { length page.new ≡ length page.old }
+{
+    match *rule {
+        TransferRule::Unfinished { length } => write_number(page, at, *b" length=", length),
+        TransferRule::LengthDiffers { announced, length } => {
+            write_two(page, at, *b" announced=", announced, *b" length=", length)
+        }
+        TransferRule::LengthItem | TransferRule::LengthOfOneSegment => at,
+        TransferRule::Bundle { fault, byte } | TransferRule::NotRead { fault, byte } => {
+            write_fault(page, at, fault, byte)
+        }
+    }
+}
+
+/// Writes the flags of a bundle or of a block.
+#[tactic(auto, unfolding(crate::specs::Words::control_words))]
+fn write_control(page: &mut [u8], at: usize, flags: u64) -> usize
+    requires { at + CONTROL_MAX ≤ length page.old }
+    ensures text { take result page.new ≡ take at page.old ++ control_words flags }
+    ensures fits { result ≤ at + CONTROL_MAX }
+    ensures size { length page.new ≡ length page.old }
+{
+    let at = write_bytes(page, at, *b" flags=");
+    write_flags(page, at, flags)
+}
+
+/// Writes which endpoint ID of the primary block it is.
+#[tactic(auto, unfolding(crate::specs::Words::endpoint_name))]
+fn write_endpoint(page: &mut [u8], at: usize, endpoint: Endpoint) -> usize
+    requires { at + WORDS_MAX ≤ length page.old }
+    ensures text { take result page.new ≡ take at page.old ++ codes " of=" ++ endpoint_name endpoint }
+    ensures fits { result ≤ at + WORDS_MAX }
+    ensures size { length page.new ≡ length page.old }
+{
+    match endpoint {
+        Endpoint::Destination => write_bytes(page, at, *b" of=destination"),
+        Endpoint::Source => write_bytes(page, at, *b" of=source"),
+        Endpoint::ReportTo => write_bytes(page, at, *b" of=report-to"),
+    }
+}
+
+/// Writes the offset, the length and the total length of a fragment.
+fn write_fragment(page: &mut [u8], at: usize, offset: u64, size: u64, total: u64) -> usize
+    requires { at + WORDS_MAX ≤ length page.old }
+    ensures text { take result page.new ≡ take at page.old
+        ++ number_text (codes " offset=") offset ++ number_text (codes " length=") size
+        ++ number_text (codes " total=") total }
+    ensures fits { result ≤ at + WORDS_MAX }
+    ensures size { length page.new ≡ length page.old }
+{
+    let at = write_two(page, at, *b" offset=", offset, *b" length=", size);
+    write_number(page, at, *b" total=", total)
+}
+
+/// Writes a number of hop count blocks, and a hop limit if the first one says it.
+#[tactic(auto, unfolding(crate::specs::Words::limit_words))]
+fn write_hop_limit(page: &mut [u8], at: usize, blocks: u64, limit: Option<u64>) -> usize
+    requires { at + WORDS_MAX ≤ length page.old }
+    ensures text { take result page.new ≡ take at page.old
+        ++ number_text (codes " blocks=") blocks ++ limit_words limit }
+    ensures fits { result ≤ at + WORDS_MAX }
+    ensures size { length page.new ≡ length page.old }
+{
+    let at = write_number(page, at, *b" blocks=", blocks);
+    match limit {
+        Some(limit) => write_number(page, at, *b" limit=", limit),
+        None => at,
+    }
+}
+
+/// Writes the words of a rule of bundles.
+#[tactic(auto, unfolding(crate::specs::Words::bundle_words))]
+fn write_bundle(page: &mut [u8], at: usize, rule: &BundleRule) -> usize
+    requires { at + WORDS_MAX ≤ length page.old }
+    ensures text { take result page.new ≡ take at page.old ++ bundle_words rule.now }
+    ensures fits { result ≤ at + WORDS_MAX }
+    ensures size { length page.new ≡ length page.old }
+{
+    match *rule {
+        BundleRule::PrimaryCheck => at,
+        BundleRule::LongHead { byte } | BundleRule::Record { byte } => {
+            write_number(page, at, *b" byte=", byte)
+        }
+        BundleRule::BundleFlags { flags }
+        | BundleRule::Anonymous { flags }
+        | BundleRule::RecordReports { flags } => write_control(page, at, flags),
+        BundleRule::BlockReports { block } | BundleRule::ConfidentialPrimary { block } => {
+            write_number(page, at, *b" block=", block)
+        }
+        BundleRule::BlockFlags { block, flags } => {
+            let at = write_number(page, at, *b" block=", block);
+            write_control(page, at, flags)
+        }
+        BundleRule::DtnName { of } => write_endpoint(page, at, of),
+        BundleRule::Fragment {
+            offset,
+            length,
+            total,
+        } => write_fragment(page, at, offset, length, total),
+        BundleRule::Age { blocks } | BundleRule::PreviousNode { blocks } => {
+            write_number(page, at, *b" blocks=", blocks)
+        }
+        BundleRule::HopCount { blocks, limit } => write_hop_limit(page, at, blocks, limit),
+        BundleRule::Hops { limit, count } => {
+            write_two(page, at, *b" limit=", limit, *b" count=", count)
+        }
+        BundleRule::BlockData { block, byte } => {
+            write_two(page, at, *b" block=", block, *b" byte=", byte)
+        }
+    }
+}
+
+/// Writes the words of a rule.
+#[tactic(auto, unfolding(crate::specs::Words::rule_words))]
+pub(crate) fn write_words(page: &mut [u8], at: usize, rule: &BrokenRule) -> usize
+    requires { at + WORDS_MAX ≤ length page.old }
+    ensures text { take result page.new ≡ take at page.old ++ rule_words rule.now }
+    ensures fits { result ≤ at + WORDS_MAX }
+    ensures size { length page.new ≡ length page.old }
+{
+    match rule {
+        BrokenRule::Message(rule) => write_message(page, at, rule),
+        BrokenRule::Transfer(_, rule) => write_transfer(page, at, rule),
+        BrokenRule::Bundle(_, rule) => write_bundle(page, at, rule),
+    }
+}

@@ -1,0 +1,8 @@
+//! What the rules of messages and the rules of bundles share.
+#![tactic(auto)]
+
+mod flags;
+mod level;
+
+pub use flags::has_other_flags;
+pub use level::Level;

@@ -1,0 +1,159 @@
+//! The lines of the rules of messages. They are those of tests/rows.
+
+use link_message_rules::MessageRule as Rule;
+use link_rule_report::{BrokenRule, RuleText};
+use link_transfer::OrderFault;
+use link_wire::{TEXT_MAX, Text};
+use std::process::Abort;
+
+pub(crate) const MAX: u64 = u64::MAX;
+
+/// Checks the line of a broken rule.
+pub(crate) fn expect(rt: &impl Abort, offset: u64, rule: BrokenRule, want: &str) {
+    let mut page = [0; TEXT_MAX];
+    let end = RuleText { offset, rule }.put(&mut page, 0);
+    assert_eq!(rt; &page[..end], want.as_bytes(), "{want}");
+}
+
+/// The offset of a message, a rule that it breaks, and the line.
+type Row = (u64, Rule, &'static str);
+
+static ROWS: [Row; 16] = [
+    (
+        0,
+        Rule::ContactFlags { flags: 0x80 },
+        "0 must contact-flags flags=80\n",
+    ),
+    (6, Rule::NodeId { length: 7 }, "6 must node-id length=7\n"),
+    (
+        6,
+        Rule::ItemFlags {
+            item: 1,
+            flags: 0x03,
+        },
+        "6 must item-flags item=1 flags=03\n",
+    ),
+    (
+        6,
+        Rule::BeforeSession { kind: 0x02 },
+        "6 should before-session type=02\n",
+    ),
+    (
+        60,
+        Rule::Interleaved { id: 1, open: 0 },
+        "60 should interleaved id=1 open=0\n",
+    ),
+    (
+        38,
+        Rule::SegmentFlags { flags: 0x07 },
+        "38 must segment-flags flags=07\n",
+    ),
+    (
+        93,
+        Rule::TransferId { id: MAX },
+        "93 must transfer-id id=18446744073709551615\n",
+    ),
+    (
+        38,
+        Rule::PeerSegment {
+            length: 33,
+            limit: 32,
+        },
+        "38 must peer-segment length=33 limit=32\n",
+    ),
+    (
+        38,
+        Rule::PeerTransferAnnounced {
+            announced: 33,
+            limit: 32,
+        },
+        "38 must peer-transfer announced=33 limit=32\n",
+    ),
+    (
+        69,
+        Rule::PeerTransferLength {
+            length: 33,
+            limit: 32,
+        },
+        "69 must peer-transfer length=33 limit=32\n",
+    ),
+    // The sum of two lengths of 64 bits, and the greatest number.
+    (
+        MAX,
+        Rule::PeerTransferLength {
+            length: 36_893_488_147_419_103_230,
+            limit: MAX,
+        },
+        "18446744073709551615 must peer-transfer length=36893488147419103230 \
+        limit=18446744073709551615\n",
+    ),
+    (
+        0,
+        Rule::PeerTransferLength {
+            length: u128::MAX,
+            limit: 0,
+        },
+        "0 must peer-transfer length=340282366920938463463374607431768211455 limit=0\n",
+    ),
+    (
+        56,
+        Rule::AckLength {
+            length: 19,
+            before: 20,
+        },
+        "56 must ack-length length=19 before=20\n",
+    ),
+    (38, Rule::Keepalive, "38 should keepalive\n"),
+    (
+        38,
+        Rule::TermFlags { flags: 0x02 },
+        "38 must term-flags flags=02\n",
+    ),
+    (
+        0,
+        Rule::ContactFlags { flags: 0xff },
+        "0 must contact-flags flags=ff\n",
+    ),
+];
+
+#[test]
+fn has_lines_of_messages(rt: HostRuntime) {
+    for &(offset, rule, want) in &ROWS {
+        expect(&rt, offset, BrokenRule::Message(rule), want);
+    }
+}
+
+static FAULTS: [(u64, OrderFault, &str); 5] = [
+    (
+        38,
+        OrderFault::SecondSessInit,
+        "38 should order fault=second-session-initiation\n",
+    ),
+    (
+        6,
+        OrderFault::SegmentBeforeSessInit,
+        "6 must order fault=segment-before-session-initiation\n",
+    ),
+    (
+        38,
+        OrderFault::NoSuchOpenTransfer,
+        "38 must order fault=no-such-open-transfer\n",
+    ),
+    (
+        69,
+        OrderFault::StartRepeatsOpenId,
+        "69 must order fault=start-repeats-the-open-transfer\n",
+    ),
+    (
+        41,
+        OrderFault::StartAfterSessTerm,
+        "41 must order fault=start-after-session-termination\n",
+    ),
+];
+
+#[test]
+fn has_lines_of_faults_of_the_order(rt: HostRuntime) {
+    for &(offset, fault, want) in &FAULTS {
+        expect(&rt, offset, BrokenRule::Message(Rule::Order(fault)), want);
+    }
+}
