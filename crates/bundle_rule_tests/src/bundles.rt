@@ -93,7 +93,7 @@ fn expect(rt: &impl Abort, scan: &mut BundleScan, row: &Row) {
         panic!(rt; "no block in {:?}", row.bytes);
     };
     let broken = taken.history.rules(row.long_head, payload_length);
-    assert_eq!(rt; broken.as_slice(), row.broken, "{:?}", row.bytes);
+    assert_eq!(rt; broken.as_slice(), row.broken.as_slice(), "{:?}", row.bytes);
 }
 
 #[test]

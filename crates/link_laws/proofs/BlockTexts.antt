@@ -1,14 +1,13 @@
 -- The texts of `blocks` that some bytes determine are prefixes of its texts for longer inputs.
-use Rattle.std.proofs.Common.{◌≡◌, ℕ, Bool, true, false, not, ◌&&◌, ◌==◌, List, [], ◌∷◌, ◌++◌, length, if◌then◌else◌, refl, ap, sym, ◌∙◌, append-nil}
+use Rattle.std.proofs.Common.{ℕ, Bool, true, false, List, [], ◌∷◌, ◌++◌, length, if◌then◌else◌, refl, ap, ◌∙◌, append-nil}
 use Rattle.std.proofs.lemmas.Grind.{flat_map-append}
-use Rattle.link_wire.specs.Message.{data_length}
 use Rattle.link_run.specs.Writers.{on_output}
-use Rattle.link_walk.specs.Walk.{WalkEvent, ContactHeader, MessageHead, Data, Whole, LeftOpen, abandons, is_last, open_after_event, has_open}
+use Rattle.link_walk.specs.Walk.{WalkEvent, ContactHeader, MessageHead, Data, Whole, LeftOpen, open_after_event, has_open}
 use Rattle.link_walk.proofs.Heads.{has_open-append}
 use Rattle.link_unpack.specs.Transfers.{Transfer, continued}
 use Rattle.link_unpack.specs.TransferJudge.{grown}
-use Rattle.link_unpack.specs.Unpacking.{is_selected, Told, transfers_at, told_event, told_after}
-use Rattle.link_unpack.proofs.Effects.{Does, comes_does}
+use Rattle.link_unpack.specs.Unpacking.{is_selected, Told, told_event, told_after}
+use Rattle.link_unpack.proofs.Effects.{comes_does}
 use Rattle.link_unpack.proofs.Events.{told_push}
 use Rattle.link_blocks.specs.BlockLines.{block_lines}
 use Rattle.link_blocks.specs.Bundles.{bundle_blocks_telling, bundle_blocks_tool}

@@ -1,5 +1,5 @@
 -- What a tool over bundles says of an input, when more bytes follow.
-use Rattle.std.proofs.Common.{◌≡◌, ℕ, zero, suc, ◌+◌, ◌-◌, ◌<◌, ◌≤◌, Bool, true, false, List, [], ◌∷◌, ◌++◌, length, take, drop, Option, Some, None, Result, Ok, Err, if◌then◌else◌, refl, ap, sym, ◌∙◌, subst, ⊎_elim, append-nil, append_assoc, length-append, length-drop, arith}
+use Rattle.std.proofs.Common.{◌≡◌, ℕ, zero, suc, ◌-◌, ◌<◌, ◌≤◌, Bool, true, false, List, [], ◌∷◌, ◌++◌, length, take, drop, Option, Some, None, Result, Ok, Err, if◌then◌else◌, refl, ap, sym, ◌∙◌, subst, ⊎_elim, append-nil, append_assoc, length-append, length-drop, arith}
 use Rattle.std.proofs.lemmas.Bool.{cases_lt, false≢true}
 use Rattle.link_cbor.specs.Pieces.{taken}
 use Rattle.link_bundle_types.specs.Faults.{lasts}
@@ -7,7 +7,6 @@ use Rattle.link_bundle_types.specs.declared.fault.BundleFault.{BundleFault}
 use Rattle.link_bundle_types.specs.declared.info.BundleInfo.{BundleInfo}
 use Rattle.link_bundle_blocks.specs.Bundle.{verdict, bundle_goes}
 use Rattle.link_run.specs.Made.{Made, tool_of}
-use Rattle.link_run.specs.Run.{Texts}
 use Rattle.link_run.proofs.Ends.{take-append}
 use Rattle.link_bundle_walk.specs.Bundles.{Packed, Refusal, Longer, Faulty, Rest, Divided, IsOpen, refused_by, divided_by, divided, with_bundles}
 use Rattle.link_bundle_walk.specs.Telling.{SoFar, BundleTelling, between, come_in, stop_by, with_run, told_of}

@@ -1,7 +1,7 @@
 -- A stream has no less bytes than its segments have data.
-use Rattle.std.proofs.Common.{◌≡◌, ℕ, ◌+◌, ◌≤◌, List, [], ◌∷◌, ◌++◌, length, Option, Some, None, refl, ap, sym, ◌∙◌, length-append, arith}
+use Rattle.std.proofs.Common.{ℕ, ◌+◌, ◌≤◌, List, [], ◌∷◌, ◌++◌, length, Option, Some, None, ap, length-append, arith}
 use Rattle.std.specs.List.{flat_map}
-use Rattle.link_wire.specs.Spelled.{Spelled, HeadSpelled, These}
+use Rattle.link_wire.specs.Spelled.{Spelled}
 use Rattle.link_wire.specs.SpelledStream.{IsStream, IsReadingBy, IsReading}
 use Rattle.link_wire.specs.Stream.{Entry, End, Reading}
 use Rattle.link_wire.specs.declared.message.Contact.{Contact}

@@ -1,6 +1,6 @@
 -- Good bundles, one after another: how they are divided, and the lines of their blocks.
-use Rattle.std.proofs.Common.{◌≡◌, ℕ, suc, ◌+◌, ◌≤◌, ◌<◌, inl, inr, Bool, true, false, ◌&&◌, not, ◌==◌, List, [], ◌∷◌, ◌++◌, length, drop, map, None, Result, Ok, Err, if◌then◌else◌, refl, ap, sym, ◌∙◌, ⊎_elim, append-nil, append_assoc, length-append, arith}
-use Rattle.std.specs.List.{All, flat_map, list_all}
+use Rattle.std.proofs.Common.{◌≡◌, ℕ, suc, ◌≤◌, Bool, true, false, not, ◌==◌, List, [], ◌∷◌, ◌++◌, length, drop, map, None, Result, Ok, Err, refl, ap, sym, ◌∙◌, ⊎_elim, append-nil, length-append, arith}
+use Rattle.std.specs.List.{All, flat_map}
 use Rattle.std.proofs.lemmas.Bool.{cases_Bool, and_parts}
 use Rattle.std.proofs.lemmas.Grind.{flat_map-append}
 use Rattle.std.proofs.lemmas.List.{take-append-drop}
@@ -8,7 +8,6 @@ use Rattle.std.proofs.lemmas.List.Elements.{All-nil, All-cons, All-append, All-h
 use Rattle.link_cbor.specs.PieceLaws.{takes_shortest}
 use Rattle.link_bundle_types.specs.Faults.{lasts}
 use Rattle.link_bundle_types.specs.declared.fault.BundleFault.{BundleFault}
-use Rattle.link_bundle_types.specs.declared.fault.State.TheVariants as state
 use Rattle.link_bundle_types.specs.declared.info.BundleInfo.{BundleInfo}
 use Rattle.link_bundle_blocks.specs.Bundle.{verdict, state_of, is_going, bundle_goes}
 use Rattle.link_bundle_blocks.proofs.Lengths.{FaultLasts-holds, TrailingLasts-holds}
@@ -16,15 +15,12 @@ use Rattle.link_transfer.specs.Announced.{announced_of}
 use Rattle.link_transfer.specs.declared.announcement.Announced.{Announced}
 use Rattle.link_transfer.specs.declared.announcement.Announced.TheVariants.{Absent, Total, Malformed}
 use Rattle.link_report.specs.Judgement.{judged_transfer, judged_length, judged_data}
-use Rattle.link_report.specs.declared.judgement.Judgement.{Judgement}
 use Rattle.link_report.specs.declared.judgement.Judgement.TheVariants.{Good}
-use Rattle.link_run.specs.Run.{Outcome}
 use Rattle.link_run.specs.Made.{Made, whole_by}
 use Rattle.link_run.specs.Writers.{on_output}
 use Rattle.link_unpack.specs.Transfers.{Transfer}
 use Rattle.link_unpack.specs.Unpacking.{parts_of, judgement_of, is_good}
 use Rattle.link_bundle_walk.specs.Bundles.{Packed, bundle_prefix, with_bundle, divided}
-use Rattle.link_bundle_walk.specs.Telling.{told_by, told_of}
 use Rattle.link_bundle_walk.proofs.Dividing.{divided_none, divided_whole}
 use Rattle.link_bundle_walk.proofs.Divisions.{stopped_lasts}
 use Rattle.link_bundle_walk.proofs.Outcomes.{told_as}

@@ -1,24 +1,22 @@
 -- If every transfer of a recording is over and good, `blocks` writes the lines of the bundles that
 -- `unpack` joins.
-use Rattle.std.proofs.Common.{◌≡◌, ℕ, ◌≤◌, ◌<◌, ◌^◌, ◌-◌, Bool, true, false, ◌&&◌, List, [], ◌∷◌, ◌++◌, length, Option, Some, None, if◌then◌else◌, refl, ap, sym, ◌∙◌, append-nil, arith}
+use Rattle.std.proofs.Common.{◌≡◌, ℕ, ◌≤◌, Bool, true, false, List, [], ◌∷◌, ◌++◌, length, Option, Some, None, if◌then◌else◌, refl, ap, sym, ◌∙◌, append-nil, arith}
 use Rattle.std.specs.List.{flat_map, fold}
 use Rattle.std.proofs.lemmas.Bool.{and_parts}
 use Rattle.std.proofs.lemmas.Grind.{flat_map-append}
 use Rattle.link_wire.specs.Bytes.{AreBytes}
 use Rattle.link_wire.specs.Message.{data_length}
 use Rattle.link_wire.specs.SpelledStream.{IsReading}
-use Rattle.link_wire.specs.Stream.{Entry, End, Reading, reading_of, heads_of, cut_heads}
+use Rattle.link_wire.specs.Stream.{Entry, End, Reading, reading_of, heads_of}
 use Rattle.link_wire.specs.declared.message.Contact.{Contact}
-use Rattle.link_transfer.specs.Event.{event_of}
-use Rattle.link_transfer.specs.Order.{refusal, effect_of}
 use Rattle.link_transfer.specs.declared.fault.OrderFault.{OrderFault}
 use Rattle.link_transfer.specs.declared.joiner.Turn.{Turn}
 use Rattle.link_transfer.specs.declared.joiner.Turn.TheVariants as turn
 use Rattle.link_run.specs.Made.{StreamStop, Made, whole_by, stop_of}
-use Rattle.link_run.specs.Run.{Texts, Outcome}
+use Rattle.link_run.specs.Run.{Texts}
 use Rattle.link_run.specs.Writers.{on_output}
 use Rattle.link_run.proofs.Runs.{texts_as}
-use Rattle.link_walk.specs.Walk.{WalkEvent, MessageHead, LeftOpen, Whole, data_events, Head, head_at, is_plain, head_events, content_events, contact_events, Walked, taken_with, with_judged, with_entry_unless, with_next, none_walked, walked_of, walked, end_events, has_open, stop_by, told_of}
+use Rattle.link_walk.specs.Walk.{WalkEvent, MessageHead, LeftOpen, Whole, data_events, Head, head_at, head_events, content_events, contact_events, Walked, taken_with, with_judged, with_entry_unless, with_next, none_walked, walked_of, walked, end_events, has_open, stop_by, told_of}
 use Rattle.link_walk.specs.declared.consumer.Manner.{Manner}
 use Rattle.link_unpack.specs.Transfers.{Transfer}
 use Rattle.link_unpack.specs.Unpacking.{Told, told_after, unpacking_of, unpack_tool, parts_of}
@@ -27,12 +25,12 @@ use Rattle.link_blocks.specs.Showing.{order_line_of, lines_of, blocks_of, blocks
 use Rattle.link_laws.specs.Cuts.{data_of}
 use Rattle.link_laws.specs.Ranges.{InputFits}
 use Rattle.link_laws.specs.RoundTrip.{all}
-use Rattle.link_laws.specs.SameLines.{shown, unpacked, lines_under, HasSameLines}
+use Rattle.link_laws.specs.SameLines.{shown, unpacked, HasSameLines}
 use Rattle.link_laws.specs.Transfers.{are_good, unpacked_of}
 use Rattle.link_laws.proofs.DataSize.{reading_size, order_size}
 use Rattle.link_laws.proofs.EveryByte.{every_byte}
 use Rattle.link_laws.proofs.Following.{closed_at_end}
-use Rattle.link_laws.proofs.GoodBundles.{Carries, carries, joined_lines}
+use Rattle.link_laws.proofs.GoodBundles.{carries, joined_lines}
 use Rattle.link_laws.proofs.Same.{clean_end, clean_told}
 use Rattle.link_laws.proofs.Whole.{AreWhole, reading_read}
 

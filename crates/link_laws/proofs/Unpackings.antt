@@ -11,11 +11,11 @@ use Rattle.link_unpack.specs.TransferJudge.{grown}
 use Rattle.link_unpack.specs.Transfers.{Transfer, continued, after_message}
 use Rattle.link_unpack.specs.Unpacking.{is_selected, parts_of, Told, transfers_at, told_event, told_after, unpack_telling, unpack_tool}
 use Rattle.link_unpack.specs.declared.wanted.Wanted.{Wanted}
-use Rattle.link_unpack.proofs.Events.{told_then, told_push}
+use Rattle.link_unpack.proofs.Events.{told_push}
 use Rattle.link_unpack.proofs.Heads.{kind_of, transfers_same, transfer_begins, transfer_continues}
 use Rattle.link_unpack.proofs.Texts.{parts_more}
 use Rattle.link_laws.specs.Prefix.{IsFrontOf, IsPrefixed}
-use Rattle.link_laws.proofs.Fronts.{IsFront, front_same, front_first, front_then, front_after, front_none, AreFronts, fronts_same, fronts_trans}
+use Rattle.link_laws.proofs.Fronts.{front_same, front_first, front_then, front_after, front_none, AreFronts, fronts_same}
 use Rattle.link_laws.proofs.Payloads.{payload_front}
 use Rattle.link_laws.proofs.Walks.{Adds, told_prefix}
 
