@@ -1,7 +1,7 @@
 pub mod Lines
-mod Reading
+pub mod Reading
 mod Runs
-mod Judged
+pub mod Judged
 pub mod Ended
 mod Told
 pub mod BundleTexts

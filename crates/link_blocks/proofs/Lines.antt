@@ -28,7 +28,7 @@ all_rest P x xs all = λ k d less. all (suc k) d (omega arith)
 
 -- ---- the data of whole blocks
 
-data_grown : (content more : List ℕ) (block : CanonicalBlock)
+pub data_grown : (content more : List ℕ) (block : CanonicalBlock)
     → block.data_start + block.data_length ≤ length content
     → data_in (content ++ more) block ≡ data_in content block
 data_grown content more block within =

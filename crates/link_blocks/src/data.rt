@@ -12,12 +12,12 @@ ghost use Rattle.link_blocks.specs.DataReader.{IsReading, IsReadingBlock, read_s
 
 use link_block_data::{DataKind, DataScan, DataView};
 use link_block_report::data_kind;
-use link_bundle::CanonicalBlock;
+use link_bundle::{BlockView, BundleScan, CanonicalBlock};
 use link_unpack::part_in;
 
-/// Reads the data of one block after another.
+/// Reads the data of the blocks of one bundle after another.
 #[derive(Drop)]
-pub(crate) struct DataReader {
+pub struct DataReader {
     /// The flags of the bundle, once its primary block has come.
     pub(crate) flags: u64,
     /// The kind of the latest block's data, if it is read.
@@ -26,8 +26,14 @@ pub(crate) struct DataReader {
 }
 
 impl DataReader {
+    ghost use Rattle.std.specs.Prelude.{◌∷◌, fold, true};
+    ghost use Rattle.link_bundle_blocks.specs.Blocks.{CanonicalOf, viewed_blocks};
+    ghost use Rattle.link_bundle_blocks.specs.Bundle.{blocks_in, bundle_goes};
+    ghost use Rattle.link_bundle.specs.Scan.{HasScanned as HasScannedBundle, ending};
+    ghost use Rattle.link_blocks.specs.BlockLines.{flags_after};
+
     /// Makes a reader for the first bundle.
-    pub(crate) fn new() -> DataReader
+    pub fn new() -> DataReader
         ensures size { read_size result ≡ 0 }
     {
         DataReader {
@@ -38,7 +44,7 @@ impl DataReader {
     }
 
     /// Begins another bundle.
-    pub(crate) fn restart(&mut self)
+    pub fn restart(&mut self)
         ensures reads { IsReading self.new [] }
         ensures size { read_size self.new ≡ 0 }
     {
@@ -62,7 +68,7 @@ impl DataReader {
 
     /// Reads the bytes of a block's data that a run of the bundle has. The run comes after the
     /// first `before` bytes.
-    pub(crate) fn take(&mut self, block: &CanonicalBlock, before: u64, run: &[u8])
+    fn take(&mut self, block: &CanonicalBlock, before: u64, run: &[u8])
         requires room { before + length run.now < 2 ^ 63 }
         requires size { read_size self.old ≤ before }
         ensures reads { (seen : List ℕ) → length seen ≡ before
@@ -82,9 +88,48 @@ impl DataReader {
         }
     }
 
+    /// Reads the data in a run of the bundle, which comes after its first `before` bytes.
+    ///
+    /// The scan has seen the run. `ended` is the block that ends with the run, if one does, and no
+    /// block ends before.
+    #[inline(always)]
+    pub fn follow(
+        &mut self,
+        before: u64,
+        run: &[u8],
+        ended: &Option<BlockView<'_>>,
+        scan: &BundleScan,
+    )
+        requires room { before + length run.now < 2 ^ 63 }
+        requires size { read_size self.old ≤ before }
+        requires ended { viewed_blocks ended.now ≡ ending scan.now }
+        ensures size { read_size self.new ≤ before + length run.now }
+        ensures flags { self.new.flags ≡ fold flags_after self.old.flags (ending scan.now) }
+        ensures reads { (seen : List ℕ) → length seen ≡ before → IsReading self.old seen
+            → bundle_goes seen ≡ true
+            → HasScannedBundle scan.now (seen ++ run.now)
+            → blocks_in (seen ++ run.now) ≡ blocks_in seen ++ ending scan.now
+            → IsReading self.new (seen ++ run.now) }
+        ensures whole { (seen : List ℕ) (block : CanonicalBlock) → length seen ≡ before
+            → IsReading self.old seen → bundle_goes seen ≡ true
+            → blocks_in (seen ++ run.now) ≡ blocks_in seen ++ ending scan.now
+            → ending scan.now ≡ CanonicalOf block ∷ []
+            → IsReadingBlock self.new (seen ++ run.now) block }
+    {
+        match ended {
+            Some(BlockView::Primary(block)) => self.flags = block.flags,
+            Some(BlockView::Canonical(block)) => self.take(block, before, run),
+            None => {
+                if let Some(block) = scan.cut_block() {
+                    self.take(&block, before, run);
+                }
+            }
+        }
+    }
+
     /// What the data of the latest block says, if it is read, or the offset in the data at which it
     /// is malformed.
-    pub(crate) fn found(&self) -> Option<Result<DataView<'_>, u64>>
+    pub fn found(&self) -> Option<Result<DataView<'_>, u64>>
         ensures found { (seen : List ℕ) (block : CanonicalBlock)
             → IsReadingBlock self.now seen block
             → option_map viewed_result result ≡ found_in self.now.flags seen block }

@@ -21,5 +21,6 @@ mod piece;
 mod transfer;
 
 pub use bundles::{BundleBlocksRun, BundleLister, bundle_blocks, bundle_blocks_run};
+pub use data::DataReader;
 pub use lister::{BlockLister, BlocksRun, blocks, blocks_run};
 pub use options::BlockOptions;

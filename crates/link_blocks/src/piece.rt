@@ -80,21 +80,12 @@ fn show_block<W: OutDevice, E: OutDevice>(
         → AfterWrite W.state E.state writers.old writers.new (on_output (lines_from id
         reader.old.flags (seen ++ run.now) (ending scan.now))) result }
 {
-    match scan.ended_block() {
-        Some(BlockView::Primary(block)) => {
-            reader.flags = block.flags;
-            write_primary(id, &block, writers)
-        }
-        Some(BlockView::Canonical(block)) => {
-            reader.take(&block, before, run);
-            write_canonical(id, &block, reader, writers)
-        }
-        None => {
-            if let Some(block) = scan.cut_block() {
-                reader.take(&block, before, run);
-            }
-            Ok(())
-        }
+    let ended = scan.ended_block();
+    reader.follow(before, run, &ended, scan);
+    match &ended {
+        Some(BlockView::Primary(block)) => write_primary(id, block, writers),
+        Some(BlockView::Canonical(block)) => write_canonical(id, block, reader, writers),
+        None => Ok(()),
     }
 }
 

@@ -11,7 +11,7 @@ use Rattle.link_bundle_rules.specs.Security.{primary_check, confidential_primary
 use Rattle.link_bundle_rules.specs.declared.rule.BundleRule.{BundleRule}
 use Rattle.link_bundle_rules.specs.declared.rule.BundleRule.TheVariants as rule
 
--- long-head: each head of the bundle is the shortest for its number (RFC 9171 section 4.1). The
+-- long-head: each head of the bundle is the shortest for its number (RFC 9171 section 4). The
 -- first that is longer counts. Those inside block data, and that of the bundle's own array, do not.
 unfoldable pub long_head : ReadBundle → Option BundleRule
 long_head bundle = option_map (λ byte. rule.LongHead byte) bundle.long_head
@@ -44,7 +44,7 @@ bundle_level_of (rule.BlockFlags block flags) = Should
 bundle_level_of (rule.DtnName of) = Must
 bundle_level_of (rule.Fragment offset size total) = Must
 bundle_level_of (rule.Age blocks) = Must
-bundle_level_of (rule.PreviousNode blocks) = Must
+bundle_level_of (rule.PreviousNode blocks) = Should
 bundle_level_of (rule.HopCount blocks limit) = Must
 bundle_level_of (rule.ConfidentialPrimary block) = Must
 bundle_level_of (rule.Hops limit count) = Should

@@ -18,7 +18,7 @@ age bundle =
     then Some (rule.Age blocks)
     else None
 
--- previous-node: a bundle has at most one previous node block (section 4.4.1)
+-- previous-node: a bundle has at most one previous node block (section 4.4.1, which asks for one)
 unfoldable pub previous_node : ReadBundle → Option BundleRule
 previous_node bundle =
     let blocks = count_of_type block.previous_node bundle.blocks in

@@ -14,18 +14,14 @@ use Rattle.link_bundle_rules.specs.declared.rule.Endpoint.TheVariants.{Destinati
 abbrev pub is_slash : ℕ → Bool
 is_slash byte = byte == 0x2f
 
--- a node name, a slash, and a demux: the name has at least one byte, and no slash
-abbrev pub is_name_and_demux : List ℕ → Bool
-is_name_and_demux [] = false
-is_name_and_demux (first ∷ rest) = not (is_slash first) && list_any is_slash rest
-
--- what follows `dtn:` in a URI: `//`, a node name, `/`, and a demux, with no byte outside 21 to 7e
+-- What follows `dtn:` in a URI: `//`, a node name, `/`, and a demux, with no byte outside 21 to 7e.
+-- The name and the demux may be empty.
 unfoldable pub is_dtn_name : List ℕ → Bool
 is_dtn_name [] = false
 is_dtn_name (first ∷ []) = false
 is_dtn_name (first ∷ second ∷ rest) =
     is_slash first
-    && (is_slash second && (is_name_and_demux rest && list_all is_ascii_graphic rest))
+    && (is_slash second && (list_any is_slash rest && list_all is_ascii_graphic rest))
 
 -- dtn:none as the number 0 is no text
 abbrev pub has_bad_name : Eid → Bool

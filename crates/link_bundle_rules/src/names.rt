@@ -5,7 +5,7 @@ ghost use Rattle.std.specs.Char.{is_ascii_graphic};
 ghost use Rattle.std.specs.List.{list_any, list_all};
 ghost use Rattle.link_bundle_blocks.specs.Blocks.{viewed_primary};
 ghost use Rattle.link_bundle_types.specs.EidView.{viewed_eid};
-ghost use Rattle.link_bundle_rules.specs.Names.{is_slash, is_name_and_demux, is_dtn_name, has_bad_name, bad_name};
+ghost use Rattle.link_bundle_rules.specs.Names.{is_slash, is_dtn_name, has_bad_name, bad_name};
 
 use crate::rule::Endpoint;
 use link_bundle_blocks::PrimaryBlock;
@@ -24,17 +24,6 @@ fn is_visible(bytes: &[u8]) -> bool
     bytes.iter().all(|byte| byte.is_ascii_graphic())
 }
 
-/// Whether bytes are a node name, a slash, and a demux.
-#[tactic(auto, using(crate::proofs::DtnNames::name_parts))]
-fn is_name_and_demux(bytes: &[u8]) -> bool
-    ensures { result ≡ is_name_and_demux bytes.now }
-{
-    match bytes {
-        [first, rest @ ..] => *first != b'/' && has_slash(rest),
-        [] => false,
-    }
-}
-
 /// Whether the text after `dtn:` is a dtn name.
 #[tactic(auto, using(crate::proofs::DtnNames::text_parts, crate::proofs::DtnNames::short_text))]
 fn is_dtn_name(text: &[u8]) -> bool
@@ -42,7 +31,7 @@ fn is_dtn_name(text: &[u8]) -> bool
 {
     match text {
         [first, second, rest @ ..] => {
-            *first == b'/' && *second == b'/' && is_name_and_demux(rest) && is_visible(rest)
+            *first == b'/' && *second == b'/' && has_slash(rest) && is_visible(rest)
         }
         _ => false,
     }

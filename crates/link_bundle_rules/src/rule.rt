@@ -15,7 +15,7 @@ pub enum Endpoint {
 /// A `byte` is an offset in the bundle, and a `block` is the number of a block.
 #[derive(Clone, Copy, Debug, Default, PartialEq, Eq)]
 pub enum BundleRule {
-    /// A head is longer than its number needs (section 4.1).
+    /// A head is longer than its number needs (section 4).
     LongHead {
         byte: u64,
     },
@@ -100,6 +100,7 @@ impl BundleRule {
         match self {
             BundleRule::BundleFlags { .. }
             | BundleRule::BlockFlags { .. }
+            | BundleRule::PreviousNode { .. }
             | BundleRule::Hops { .. } => Level::Should,
             _ => Level::Must,
         }

@@ -1,5 +1,6 @@
 -- What a consumer has said, and what holds after a step of a walk over bundles.
 use Rattle.std.proofs.Common.{◌≡◌, ℕ, ◌+◌, ◌<◌, ◌≤◌, ◌⊎◌, inl, inr, Bool, true, false, List, [], ◌∷◌, ◌++◌, length, take, Option, Some, None, Result, Ok, Err, refl, ap, sym, ◌∙◌, subst, append-nil, append_assoc, length-append, length-take, arith, ◌-◌, ⊎_elim, if◌then◌else◌}
+use Rattle.std.proofs.lemmas.Grind.{fold-append}
 use Rattle.std.specs.Result.{result_and}
 use Rattle.link_wire.specs.Device.{Output}
 use Rattle.link_wire.specs.Limits.{window_size}
@@ -17,7 +18,7 @@ use Rattle.link_run.specs.declared.run.Status.{Status}
 use Rattle.link_run.specs.declared.writers.Writers.{Writers}
 use Rattle.link_run.proofs.Runs.{few_over, then_assoc, writes_then, part_of_more}
 use Rattle.link_run.proofs.Stands.{goes_on, loses, ends, last_step}
-use Rattle.link_bundle_walk.specs.Bundles.{Packed, divided, with_bundles, Divided}
+use Rattle.link_bundle_walk.specs.Bundles.{Packed, divided, with_bundles, Divided, size_of}
 use Rattle.link_bundle_walk.specs.Telling.{SoFar, BundleTelling, Tells, told_of, with_run, refusal_fault, between, ComesAfter, IsAccepted, stop_by}
 use Rattle.link_bundle_walk.specs.BundleRun.{before_last, MakesOf, cut_at, Walks, ended_by, GoesOn, Ends, WritesFound, Comes, Refuses, fault_of}
 use Rattle.link_bundle_walk.specs.declared.current.Current.{Current}
@@ -31,6 +32,17 @@ use Rattle.link_report.specs.Fault.{fault_text}
 use Rattle.link_run.proofs.Sessions.{then_fault}
 use Rattle.link_bundle_walk.specs.declared.consumer.WholeView.{WholeView}
 
+-- the number of bytes with one more bundle
+size_with : (bundles : List Packed) (bundle : Packed)
+    → size_of (bundles ++ bundle ∷ []) ≡ size_of bundles + length bundle.bytes
+unfolding size_of
+size_with bundles bundle =
+    fold-append (λ size (b : Packed). size + length b.bytes) 0 bundles (bundle ∷ [])
+
+pub no_size : size_of [] ≡ 0
+unfolding size_of
+no_size = refl
+
 pub between_is : (now : SoFar) → now.begun ≡ [] → now ≡ between now.bundles
 between_is now none = ap (λ (begun : List ℕ). record { bundles = now.bundles; begun = begun }) none
 
@@ -39,7 +51,7 @@ pub accepted : {limit : ℕ} {current : Current} {before : SoFar} {run : List �
     → Comes limit current before run → (whole : Option WholeView)
     → IsAccepted limit before.begun run whole → ComesAfter limit before current.number run whole
 accepted here whole is =
-    record { numbered = here.numbered; opened = here.opened; accepted = is; few = here.few }
+    record { numbered = here.numbered; opened = here.opened; accepted = is; few = here.few; sized = here.sized }
 
 -- the same, for the bytes before the one that shows a fault
 pub refused : {limit : ℕ} {current : Current} {before : SoFar} {run : List ℕ} {why : Fault}
@@ -56,6 +68,13 @@ refused {before = before} {run = run} bytes is here refuses =
       accepted = rw is (refuses.before (length run - 1) (omega arith));
       few = omega (
         arith,
+        length-append before.begun run,
+        length-append before.begun bytes,
+        length-take (length run - 1) run,
+      );
+      sized = omega (
+        arith,
+        here.sized,
         length-append before.begun run,
         length-append before.begun bytes,
         length-take (length run - 1) run,
@@ -257,9 +276,10 @@ module _ {R W E : Type 0} {look : Looks R W E} {start : Devices R W E} (telling 
         → ((rest : List ℕ) → divided telling.limit ((history ++ run) ++ rest)
         ≡ with_bundles now.bundles (divided telling.limit (now.begun ++ rest)))
         → length now.bundles + length now.begun ≤ length (history ++ run)
+        → size_of now.bundles + length now.begun ≤ length (history ++ run)
         → GoesOn look.output look.report telling before after at.so_far knows next now result
         → Gives result
-    went now come few gave =
+    went now come few sized gave =
         let opened = gave.reading.opened in
         let bytes = history ++ run in
         subst Gives (sym gave.is)
@@ -274,6 +294,7 @@ module _ {R W E : Type 0} {look : Looks R W E} {start : Devices R W E} (telling 
           holds = record { number = gave.number; reading = gave.reading; known = known };
           divides = come;
           few = few;
+          sized = sized;
         }) (λ is. some) (λ may. refl))
 
     pub came : (mid : Current) → mid.number ≡ current.number → (what : Found)
@@ -284,7 +305,8 @@ module _ {R W E : Type 0} {look : Looks R W E} {start : Devices R W E} (telling 
     came mid numbered found.Part took gave =
         let few = at.few in
         went (with_bytes run) (divides run)
-        (omega (arith, length-append at.so_far.begun run, length-append history run)) gave
+        (omega (arith, length-append at.so_far.begun run, length-append history run))
+        (omega (arith, at.sized, length-append at.so_far.begun run, length-append history run)) gave
     came mid numbered found.Whole took gave =
         let few = at.few in
         let bundles = at.so_far.bundles in
@@ -296,7 +318,9 @@ module _ {R W E : Type 0} {look : Looks R W E} {start : Devices R W E} (telling 
           bundles = all;
           rest = (divided telling.limit rest).rest;
         }) (sym (append_assoc bundles (bundle ∷ []) (divided telling.limit rest).bundles)))
-        (omega (arith, length-append bundles (bundle ∷ []), length-append history run)) gave.2
+        (omega (arith, length-append bundles (bundle ∷ []), length-append history run))
+        (omega (arith, at.sized, size_with bundles bundle, length-append at.so_far.begun run,
+        length-append history run)) gave.2
     came mid numbered (found.Refused fault) took gave =
         let bytes = history ++ run in
         let now = with_bytes run in

@@ -17,7 +17,7 @@ use Rattle.link_run.specs.Writers.{AfterLastWrite}
 use Rattle.link_run.specs.declared.run.Progress.{Progress}
 use Rattle.link_run.specs.declared.run.Status.{Status}
 use Rattle.link_run.specs.declared.writers.Writers.{Writers}
-use Rattle.link_bundle_walk.specs.Bundles.{Refusal, IsOpen, bundle_prefix, divided, with_bundles}
+use Rattle.link_bundle_walk.specs.Bundles.{Refusal, IsOpen, bundle_prefix, divided, with_bundles, size_of}
 use Rattle.link_bundle_walk.specs.Telling.{SoFar, none_yet, BundleTelling, Tells, with_run, refusal_fault, lasting, stop_by, IsShown}
 use Rattle.link_bundle_walk.specs.declared.consumer.WholeView.{WholeView}
 use Rattle.link_bundle_walk.specs.declared.current.Current.{Current}
@@ -39,6 +39,7 @@ pub record Comes (limit : ℕ) (current : Current) (before : SoFar) (run : List 
   pub opened : IsOpen limit before.begun
   pub some : 0 < length run
   pub few : length before.bundles + length (before.begun ++ run) < 2 ^ 63
+  pub sized : size_of before.bundles + length (before.begun ++ run) < 2 ^ 63
 
 -- exactly these bytes of the bundle have come, and they are a bundle that the peer takes
 pub record IsWhole (limit : ℕ) (current : Current) (bundle : List ℕ) : Type 0 where
@@ -128,6 +129,7 @@ module _ {R : Type 0} (look : R → Seen) (telling : BundleTelling) (knows : SoF
         → divided telling.limit (history ++ more)
         ≡ with_bundles so_far.bundles (divided telling.limit (so_far.begun ++ more))
     pub few : length so_far.bundles + length so_far.begun ≤ length history
+    pub sized : size_of so_far.bundles + length so_far.begun ≤ length history
 
   -- a run that has not begun was given nothing, and has read nothing
   pub record Begins : Type 0 where

@@ -1,5 +1,5 @@
 -- The bundles of an input: one bundle (RFC 9171 section 4.1) after another, with nothing between.
-use Rattle.std.specs.Prelude.{◌≡◌, ℕ, zero, suc, ◌-◌, ◌≤◌, nat_lt, true, List, [], ◌∷◌, ◌++◌, length, take, drop, Option, Some, None, Result, Ok, Err, if◌then◌else◌}
+use Rattle.std.specs.Prelude.{◌≡◌, ℕ, zero, suc, ◌-◌, ◌≤◌, nat_lt, true, List, [], ◌∷◌, ◌++◌, length, take, drop, sum_by, Option, Some, None, Result, Ok, Err, if◌then◌else◌}
 use Rattle.link_cbor.specs.Pieces.{taken}
 use Rattle.link_bundle_types.specs.Faults.{lasts}
 use Rattle.link_bundle_types.specs.declared.fault.BundleFault.{BundleFault}
@@ -16,6 +16,10 @@ pub data Refusal : Type 0 where
 pub record Packed : Type 0 where
   pub bytes : List ℕ
   pub info : BundleInfo
+
+-- the number of bytes of some bundles
+unfoldable pub size_of : List Packed → ℕ
+size_of bundles = sum_by (λ (bundle : Packed). length bundle.bytes) bundles
 
 -- The end of an input, if it is not a bundle that the peer takes. `accepted` are the bytes before
 -- the one that shows this, and `refusal` is the reason.

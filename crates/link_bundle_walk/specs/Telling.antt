@@ -12,7 +12,7 @@ use Rattle.link_run.specs.Made.{StreamStop, Made}
 use Rattle.link_run.specs.Run.{Texts, ◌then◌}
 use Rattle.link_run.specs.Writers.{AfterWrite}
 use Rattle.link_run.specs.declared.writers.Writers.{Writers}
-use Rattle.link_bundle_walk.specs.Bundles.{Packed, Refusal, Longer, Faulty, Rest, Divided, IsOpen, divided}
+use Rattle.link_bundle_walk.specs.Bundles.{Packed, Refusal, Longer, Faulty, Rest, Divided, IsOpen, divided, size_of}
 use Rattle.link_bundle_walk.specs.declared.consumer.WholeView.{WholeView}
 
 -- ---- where an input stops
@@ -104,6 +104,7 @@ pub record ComesAfter (limit : ℕ) (before : SoFar) (number : ℕ) (run : List 
   pub opened : IsOpen limit before.begun
   pub accepted : IsAccepted limit before.begun run whole
   pub few : length before.bundles + length (before.begun ++ run) < 2 ^ 63
+  pub sized : size_of before.bundles + length (before.begun ++ run) < 2 ^ 63
 
 -- Of the texts `due`, those of `had` were written before. The others were written, and `stands`
 -- holds; or a writer failed in them.

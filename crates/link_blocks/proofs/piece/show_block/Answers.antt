@@ -1,49 +1,18 @@
-use Rattle.std.proofs.Common.{◌≡◌, ℕ, true, List, [], ◌∷◌, ◌++◌, length, None, Some, Option, refl, sym, ap, ◌∙◌, append-nil, length-append, arith}
-use Rattle.link_bundle_blocks.specs.Blocks.{CanonicalOf, PrimaryOf, viewed_primary, viewed_block, next_of}
-use Rattle.link_bundle_blocks.specs.Bundle.{bundle_goes, blocks_in, cut_block_in}
+use Rattle.std.proofs.Common.{◌≡◌, [], ◌∷◌, ◌++◌, sym, ap, ◌∙◌, append-nil, fold, length-append, arith}
+use Rattle.link_bundle_blocks.specs.Blocks.{CanonicalOf, viewed_block, viewed_blocks}
+use Rattle.link_bundle_blocks.specs.Bundle.{blocks_in}
 use Rattle.link_bundle.specs.Scan.{ending}
-use Rattle.link_bundle_blocks.specs.declared.block.CanonicalBlock.{CanonicalBlock}
 use Rattle.link_block_report.specs.Blocks.{block_text}
-use Rattle.link_blocks.specs.BlockLines.{found_in}
-use Rattle.link_blocks.specs.DataReader.{IsReading, IsReadingBlock}
-use Rattle.link_blocks.proofs.Reading.{placed, read_whole, read_on, lies_within}
+use Rattle.link_blocks.specs.BlockLines.{flags_after, found_in}
+use Rattle.link_blocks.proofs.Reading.{lies_within}
 use Rattle.link_blocks.proofs.piece.show_block.Goals as goal
-
-pub returns-in-Some-Primary-clause-reads : goal.returns-in-Some-Primary-clause-reads
-returns-in-Some-Primary-clause-reads g c = λ seen before reading goes come grown.
-    let block = c.in-Some-Primary.block in
-    read_whole _ c.args.scan.now c.args.reader.now.flags seen c.args.run.now
-    (PrimaryOf (viewed_primary block) block.check block.end) reading.flags come grown
-    (sym c.in-Some-Primary.ensures.block ∙ ap (λ view. viewed_block view ∷ []) c.in-Some-Primary.field-0-is)
-    refl
 
 -- the block that has ended
 ended_is : (g : _) (c : goal.After-write_canonical g)
     → ending c.args.scan.now ≡ CanonicalOf c.in-Some-Canonical.block ∷ []
 ended_is g c =
-    sym c.in-Some-Canonical.ensures.block
-    ∙ ap (λ view. viewed_block view ∷ []) c.in-Some-Canonical.field-0-is
-
--- the data of the block that has ended is read
-ended_read : (g : _) (c : goal.After-write_canonical g) (seen : List ℕ)
-    → length seen ≡ c.args.before → IsReading c.args.reader.now seen → bundle_goes seen ≡ true
-    → blocks_in (seen ++ c.args.run.now) ≡ blocks_in seen ++ ending c.args.scan.now
-    → IsReadingBlock c.take.new.self (seen ++ c.args.run.now) c.in-Some-Canonical.block
-ended_read g c seen before reading goes grown =
-    let block = c.in-Some-Canonical.block in
-    c.take.ensures.reads seen before (λ less.
-    let was = placed c.args.reader.now seen c.args.run.now (ending c.args.scan.now)
-    (record block { end = None }) reading goes grown
-    (ap (λ new. next_of new (cut_block_in (seen ++ c.args.run.now)))
-    (ended_is g c))
-    (omega (arith, before)) in
-    record { kind = was.kind; scanned = was.scanned })
-
-pub returns-in-Some-Canonical-clause-reads : goal.returns-in-Some-Canonical-clause-reads
-returns-in-Some-Canonical-clause-reads g c = λ seen before reading goes come grown.
-    read_whole c.take.new.self c.args.scan.now c.args.reader.now.flags seen c.args.run.now
-    (CanonicalOf c.in-Some-Canonical.block) reading.flags come grown
-    (ended_is g c) c.take.ensures.flags
+    sym c.ended_block-ended.ensures.block ∙ ap viewed_blocks c.in-Some-Canonical.is
+    ∙ ap (λ view. viewed_block view ∷ []) (rw c.in-Some-Canonical.is at c.in-Some-Canonical.field-0-is)
 
 pub returns-in-Some-Canonical-clause-gives : goal.returns-in-Some-Canonical-clause-gives
 returns-in-Some-Canonical-clause-gives g c = λ seen before reading goes come grown.
@@ -52,23 +21,7 @@ returns-in-Some-Canonical-clause-gives g c = λ seen before reading goes come gr
     let within = lies_within now (blocks_in seen) block
     (grown ∙ ap (λ new. blocks_in seen ++ new) (ended_is g c)) in
     let line = block_text c.args.id block (found_in c.args.reader.now.flags now block) in
-    rw (ended_is g c, append-nil line, ← c.take.ensures.flags)
+    let same = c.follow.ensures.flags ∙ ap (fold flags_after c.args.reader.now.flags) (ended_is g c) in
+    rw (ended_is g c, append-nil line, ← same)
     (c.write_canonical.ensures now (omega (arith, within, before, length-append seen c.args.run.now))
-    (ended_read g c seen before reading goes grown))
-
-pub returns-in-Some-clause-reads : goal.returns-in-Some-clause-reads
-returns-in-Some-clause-reads g c = λ seen before reading goes come grown.
-    let now = seen ++ c.args.run.now in
-    let cut : cut_block_in now ≡ Some c.in-Some.block = sym (c.cut_block.ensures now come) ∙ c.in-Some.is in
-    let none : blocks_in now ≡ blocks_in seen ++ [] =
-    grown ∙ ap (λ new. blocks_in seen ++ new) (sym c.in-None.ensures.block) in
-    let read = c.take-in-Some.ensures.reads seen before (λ less.
-    placed c.args.reader.now seen c.args.run.now [] c.in-Some.block reading goes none cut
-    (omega (arith, before))) in
-    read_on c.take-in-Some.new.self c.args.reader.now.flags seen c.args.run.now reading.flags none
-    c.take-in-Some.ensures.flags
-    (λ block is. let same : c.in-Some.block ≡ block = some_same _ _ (sym cut ∙ is) in rw (← same) read)
-  where
-    some_same : (one other : CanonicalBlock) → ◌≡◌ {A = Option CanonicalBlock} (Some one) (Some other)
-        → one ≡ other
-    some_same one other is = cc
+    (c.follow.ensures.whole seen block before reading goes grown (ended_is g c)))

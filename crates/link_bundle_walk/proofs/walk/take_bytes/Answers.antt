@@ -94,6 +94,17 @@ returns-clause-gives g c = λ start history stood at.
       opened = at.holds.reading.opened;
       some = some;
       few = omega (arith, bound, length-append at.so_far.begun run, run_size);
+      sized = omega (
+        arith,
+        ap length c.front.ensures.front,
+        sizes,
+        at.sized,
+        front_room look mid,
+        read.1.readies.count,
+        at.source_at.given,
+        length-append at.so_far.begun run,
+        run_size,
+      );
     }) took)
 
 pub returns-clause-waits : goal.returns-clause-waits

@@ -5,7 +5,7 @@ use Rattle.link_run.specs.Made.{Made, shows_fault}
 use Rattle.link_run.specs.Reading.{inner_of}
 use Rattle.link_bundle_walk.specs.BundleRun.{Walks}
 use Rattle.link_bundle_walk.specs.Telling.{none_yet, told_of}
-use Rattle.link_bundle_walk.proofs.Founds.{stepped}
+use Rattle.link_bundle_walk.proofs.Founds.{stepped, no_size}
 use Rattle.link_bundle_walk.proofs.Outcomes.{told_none}
 use Rattle.link_bundle_walk.proofs.walk.BundleWalkStagesSource.stage.Goals as goal
 
@@ -31,4 +31,5 @@ returns-in-Begin-clause-gives g c = λ start history. rw c.in-Begin.is (λ stood
       holds = record { number = at.holds.number; reading = at.holds.reading; known = known };
       divides = λ more. refl;
       few = omega arith;
+      sized = omega (arith, no_size);
     })) (λ is. absurd (false≢true is)) (λ some. absurd (omega (arith, some)))))

@@ -1,0 +1,415 @@
+-- The first head that is sought, after more bytes.
+
+use Rattle.std.proofs.Common.{◌≡◌, ℕ, zero, suc, ◌+◌, ◌-◌, ◌%◌, ◌^◌, ◌<◌, ◌≤◌, Bool, true, false, List, [], ◌∷◌, ◌++◌, length, get_or, take, drop, Option, Some, None, refl, sym, ap, subst, ◌∙◌, append_assoc, append-nil, length-append, length-drop, length-take, mod-eq_of_lt, arith}
+use Rattle.std.specs.Prelude.{if◌then◌else◌}
+use Rattle.std.specs.Bool.{then_some}
+use Rattle.std.specs.Option.{option_or}
+use Rattle.std.proofs.lemmas.List.{drop-append-le, length-take-le}
+use Rattle.std.proofs.Math.Seq.{drop-append_seam, drop-length, take-add, take-length}
+use Rattle.link_cbor.specs.declared.head.Head.{Head as HeadItem}
+use Rattle.link_cbor.specs.declared.head_scan.HeadScan.{HeadScan}
+use Rattle.link_cbor.specs.Head.{Cut, IllFormed, Whole, head_front, whole_of}
+use Rattle.link_cbor.specs.HeadScan.{HasScannedHead}
+use Rattle.link_cbor.proofs.HeadLaws.{head_alone, whole_stays, ill_formed_stays}
+use Rattle.link_rules.specs.declared.heads.Stage.{Stage}
+use Rattle.link_rules.specs.declared.heads.Stage.TheVariants.{Inside, Head, Ended}
+use Rattle.link_rules.specs.declared.heads.Found.{Found}
+use Rattle.link_rules.specs.declared.heads.HeadWalk.{HeadWalk}
+use Rattle.link_rules.specs.Heads.{content_size, is_long, is_indefinite, first_from}
+use Rattle.link_rules.specs.HeadWalk.{first_left, HasSought, HasFound, HasNoted, IsAtStage, HasSeen, HasWalked, HasTaken}
+
+-- ---- the definition, step by step
+
+-- bytes of the last head and of its string
+inside : (sought : HeadItem → ℕ → Bool) (left offset : ℕ) (run more : List ℕ) → length run ≤ left
+    → first_from sought left offset (run ++ more)
+    ≡ first_from sought (left - length run) (offset + length run) more
+unfolding first_from
+inside sought left offset [] more within =
+    let here : left - 0 ≡ left = omega arith in
+    let next : offset + 0 ≡ offset = omega arith in
+    rw (here, next) refl
+inside sought zero offset (byte ∷ run) more within = absurd (omega arith)
+inside sought (suc left) offset (byte ∷ run) more within =
+    let here : suc left - suc (length run) ≡ left - length run = omega arith in
+    let next : offset + suc (length run) ≡ offset + 1 + length run = omega arith in
+    rw (here, next) (inside sought left (offset + 1) run more (omega arith))
+
+not_empty : (head : HeadItem) → head_front [] ≡ Whole head 0 → ⊥
+unfolding head_front
+not_empty head whole = cc
+
+not_ill_formed : head_front [] ≡ IllFormed → ⊥
+unfolding head_front
+not_ill_formed wrong = cc
+
+-- a run after the bytes seen
+after_seen : (offset : ℕ) (seen run : List ℕ) → offset ≡ length seen
+    → drop offset (seen ++ run) ≡ run
+after_seen offset seen run here =
+    ap (λ (offset : ℕ). drop offset (seen ++ run)) here ∙ drop-append_seam seen run
+
+-- a whole head
+at_head : (sought : HeadItem → ℕ → Bool) (offset : ℕ) (run more : List ℕ) (head : HeadItem)
+    → head_front run ≡ Whole head (length run)
+    → first_from sought 0 offset (run ++ more)
+    ≡ (if sought head (length run) then Some offset
+    else first_from sought (content_size head) (offset + length run) more)
+unfolding first_from
+at_head sought offset [] more head whole = absurd (not_empty head whole)
+at_head sought offset (byte ∷ rest) more head whole =
+    let here : (suc (length rest) - 1 + content_size head) - length rest ≡ content_size head =
+    omega arith in
+    let next : offset + 1 + length rest ≡ offset + suc (length rest) = omega arith in
+    rw (whole_stays (byte ∷ rest) more head (suc (length rest)) whole, first_from)
+    (ap (λ (found : Option ℕ). if sought head (suc (length rest)) then Some offset else found)
+    (inside sought (suc (length rest) - 1 + content_size head) (offset + 1) rest more (omega arith)
+    ∙ ap (λ (left : ℕ). first_from sought left (offset + 1 + length rest) more) here
+    ∙ ap (λ (offset : ℕ). first_from sought (content_size head) offset more) next))
+
+at_ill_formed : (sought : HeadItem → ℕ → Bool) (offset : ℕ) (bytes more : List ℕ)
+    → head_front bytes ≡ IllFormed → first_from sought 0 offset (bytes ++ more) ≡ None
+unfolding first_from
+at_ill_formed sought offset [] more wrong = absurd (not_ill_formed wrong)
+at_ill_formed sought offset (byte ∷ rest) more wrong =
+    rw (ill_formed_stays (byte ∷ rest) more wrong, first_from) refl
+
+at_cut : (sought : HeadItem → ℕ → Bool) (offset : ℕ) (bytes : List ℕ)
+    → head_front bytes ≡ Cut → first_from sought 0 offset bytes ≡ None
+unfolding first_from
+at_cut sought offset [] cut = refl
+at_cut sought offset (byte ∷ rest) cut = rw (cut, first_from) refl
+
+at_end : (sought : HeadItem → ℕ → Bool) (left offset : ℕ) → first_from sought left offset [] ≡ None
+unfolding first_from
+at_end sought left offset = refl
+
+-- ---- what is found and what is left
+
+-- a head that is the first, if none was found before it
+first_or : (found : Option ℕ) (is_sought : Bool) (offset : ℕ) (rest : Option ℕ)
+    → option_or found (if is_sought then Some offset else rest)
+    ≡ option_or (option_or found (then_some is_sought offset)) rest
+first_or (Some at) is_sought offset rest = refl
+first_or None true offset rest = refl
+first_or None false offset rest = refl
+
+sought_inside : (sought : HeadItem → ℕ → Bool) (found : Option ℕ) (left : ℕ) (seen run : List ℕ)
+    → HasSought sought found (Inside left) seen → length run ≤ left
+    → HasSought sought found (Inside (left - length run)) (seen ++ run)
+sought_inside sought found left seen run come within = record {
+  reads = λ more.
+      let there : length (seen ++ run) ≡ length seen + length run = length-append seen run in
+      rw (append_assoc seen run more, there) (come.reads (run ++ more)
+      ∙ ap (λ (rest : Option ℕ). option_or found rest)
+      (inside sought left (length seen) run more within));
+}
+
+-- where a head begins, no byte of it is seen
+sought_begins : (sought : HeadItem → ℕ → Bool) (found : Option ℕ) (seen : List ℕ)
+    → HasSought sought found (Inside 0) seen → HasSought sought found (Head (length seen)) seen
+sought_begins sought found seen come = record {
+  reads = λ more. rw (drop-length seen) (come.reads more);
+}
+
+sought_more : (sought : HeadItem → ℕ → Bool) (found : Option ℕ) (offset : ℕ) (seen run : List ℕ)
+    → HasSought sought found (Head offset) seen → offset ≤ length seen
+    → HasSought sought found (Head offset) (seen ++ run)
+sought_more sought found offset seen run come within = record {
+  reads = λ more.
+      rw (
+        append_assoc seen run more,
+        drop-append-le offset seen run within,
+        append_assoc (drop offset seen) run more,
+      ) (come.reads (run ++ more));
+}
+
+sought_whole : (sought : HeadItem → ℕ → Bool) (found : Option ℕ) (offset : ℕ) (seen : List ℕ)
+    (head : HeadItem) → HasSought sought found (Head offset) seen → offset ≤ length seen
+    → head_front (drop offset seen) ≡ Whole head (length (drop offset seen))
+    → HasSought sought
+    (option_or found (then_some (sought head (length (drop offset seen))) offset))
+    (Inside (content_size head)) seen
+sought_whole sought found offset seen head come within whole = record {
+  reads = λ more.
+      let next : offset + length (drop offset seen) ≡ length seen =
+      omega (arith, length-drop offset seen) in
+      come.reads more
+      ∙ ap (λ (rest : Option ℕ). option_or found rest)
+      (at_head sought offset (drop offset seen) more head whole
+      ∙ ap (λ (next : ℕ). if sought head (length (drop offset seen)) then Some offset
+      else first_from sought (content_size head) next more) next)
+      ∙ first_or found (sought head (length (drop offset seen))) offset
+      (first_from sought (content_size head) (length seen) more);
+}
+
+sought_ill_formed : (sought : HeadItem → ℕ → Bool) (found : Option ℕ) (offset : ℕ) (seen : List ℕ)
+    → HasSought sought found (Head offset) seen → head_front (drop offset seen) ≡ IllFormed
+    → HasSought sought found Ended seen
+sought_ill_formed sought found offset seen come wrong = record {
+  reads = λ more. come.reads more
+      ∙ ap (λ (rest : Option ℕ). option_or found rest)
+      (at_ill_formed sought offset (drop offset seen) more wrong);
+}
+
+or_none : (found : Option ℕ) → option_or found None ≡ found
+or_none None = refl
+or_none (Some at) = refl
+
+-- what is found in the bytes seen, if no more follow
+sought_now : (sought : HeadItem → ℕ → Bool) (found : Option ℕ) (stage : Stage) (seen : List ℕ)
+    → HasSought sought found stage seen → first_left sought stage seen [] ≡ None
+    → found ≡ first_from sought 1 0 seen
+sought_now sought found stage seen come none =
+    sym (ap (λ (bytes : List ℕ). first_from sought 1 0 bytes) (sym (append-nil seen))
+    ∙ come.reads [] ∙ ap (λ (rest : Option ℕ). option_or found rest) none ∙ or_none found)
+
+-- ---- both kinds of heads
+
+found_inside : (found : Found) (left : ℕ) (seen run : List ℕ) → HasFound found (Inside left) seen
+    → length run ≤ left → HasFound found (Inside (left - length run)) (seen ++ run)
+found_inside found left seen run come within = record {
+  long = sought_inside is_long found.long left seen run come.long within;
+  indefinite = sought_inside is_indefinite found.indefinite left seen run come.indefinite within;
+}
+
+found_begins : (found : Found) (offset : ℕ) (seen : List ℕ) → HasFound found (Inside 0) seen
+    → offset ≡ length seen → HasFound found (Head offset) seen
+found_begins found offset seen come here =
+    subst (λ (offset : ℕ). HasFound found (Head offset) seen) (sym here) (record {
+      long = sought_begins is_long found.long seen come.long;
+      indefinite = sought_begins is_indefinite found.indefinite seen come.indefinite;
+    })
+
+found_more : (found : Found) (offset : ℕ) (seen run : List ℕ) → HasFound found (Head offset) seen
+    → offset ≤ length seen → HasFound found (Head offset) (seen ++ run)
+found_more found offset seen run come within = record {
+  long = sought_more is_long found.long offset seen run come.long within;
+  indefinite = sought_more is_indefinite found.indefinite offset seen run come.indefinite within;
+}
+
+found_whole : (old new : Found) (offset : ℕ) (seen : List ℕ) (head : HeadItem) (size : ℕ)
+    → HasFound old (Head offset) seen → offset ≤ length seen
+    → head_front (drop offset seen) ≡ Whole head (length (drop offset seen))
+    → size ≡ length (drop offset seen) → HasNoted old new offset head size
+    → HasFound new (Inside (content_size head)) seen
+found_whole old new offset seen head size come within whole sized noted =
+    let noted_here : HasNoted old new offset head (length (drop offset seen)) =
+    subst (λ (size : ℕ). HasNoted old new offset head size) sized noted in
+    record {
+      long = rw noted_here.long
+          (sought_whole is_long old.long offset seen head come.long within whole);
+      indefinite = rw noted_here.indefinite
+          (sought_whole is_indefinite old.indefinite offset seen head come.indefinite within whole);
+    }
+
+-- the next head, whose bytes are a run
+found_next : (old new : Found) (offset : ℕ) (seen run : List ℕ) (head : HeadItem) (size : ℕ)
+    → HasFound old (Inside 0) seen → offset ≡ length seen
+    → head_front run ≡ Whole head (length run) → size ≡ length run
+    → HasNoted old new offset head size
+    → HasFound new (Inside (content_size head)) (seen ++ run)
+found_next old new offset seen run head size come here whole sized noted =
+    let rest : drop offset (seen ++ run) ≡ run = after_seen offset seen run here in
+    found_whole old new offset (seen ++ run) head size
+    (found_more old offset seen run (found_begins old offset seen come here) (omega arith))
+    (omega (arith, length-append seen run))
+    (subst (λ (bytes : List ℕ). head_front bytes ≡ Whole head (length bytes)) (sym rest) whole)
+    (sized ∙ ap length (sym rest)) noted
+
+-- ---- the walk
+
+-- a walk whose stage is known
+pub at_stage : (walk : HeadWalk) (stage : Stage) (seen : List ℕ) → walk.stage ≡ stage
+    → HasWalked walk seen → HasSeen stage walk.found walk.head walk.count seen
+at_stage walk stage seen is come =
+    subst (λ (stage : Stage). HasSeen stage walk.found walk.head walk.count seen) is come
+
+-- a count that does not wrap
+counted_more : (count size : ℕ) (seen run : List ℕ) → count ≡ length seen → size ≡ length run
+    → length (seen ++ run) < 2 ^ 63 → (count + size) % 2 ^ 64 ≡ length (seen ++ run)
+counted_more count size seen run counted sized small =
+    let sum : count + size ≡ length (seen ++ run) = omega (arith, length-append seen run) in
+    let fits : count + size < 2 ^ 64 = omega arith in
+    mod-eq_of_lt fits ∙ sum
+
+pub taken_inside : (left size : ℕ) (found : Found) (head : HeadScan) (count : ℕ)
+    (seen run : List ℕ) → HasSeen (Inside left) found head count seen → size ≡ length run
+    → size ≤ left → length (seen ++ run) < 2 ^ 63
+    → HasSeen (Inside (left - size)) found head ((count + size) % 2 ^ 64) (seen ++ run)
+taken_inside left size found head count seen run come sized within small = record {
+  counted = counted_more count size seen run come.counted sized small;
+  sought = rw sized (found_inside found left seen run come.sought (omega arith));
+  stands = come.stands;
+}
+
+-- the bytes of a piece from an offset on, as the code takes them
+pub the_rest : (bytes : List ℕ) (count : ℕ)
+    → take (length bytes - count) (drop count bytes) ≡ drop count bytes
+the_rest bytes count =
+    ap (λ (size : ℕ). take size (drop count bytes)) (sym (length-drop count bytes))
+    ∙ take-length (drop count bytes)
+
+-- the bytes seen and the first of a piece, and then one more run of it
+pub joined_run : (seen bytes : List ℕ) (count more : ℕ)
+    → (seen ++ take count bytes) ++ take more (drop count bytes) ≡ seen ++ take (count + more) bytes
+joined_run seen bytes count more =
+    append_assoc seen (take count bytes) (take more (drop count bytes))
+    ∙ ap (λ (run : List ℕ). seen ++ run) (sym (take-add count more bytes))
+
+-- fewer bytes of a piece
+pub fewer : (seen piece : List ℕ) (count more : ℕ) → count ≤ more
+    → length (seen ++ take more piece) < 2 ^ 63 → length (seen ++ take count piece) < 2 ^ 63
+fewer seen piece count more within small =
+    omega (
+      arith,
+      length-append seen (take more piece),
+      length-append seen (take count piece),
+      length-take more piece,
+      length-take count piece,
+    )
+
+-- the next head in a piece
+pub found_head : (old new : Found) (offset taken size : ℕ) (seen piece : List ℕ) (head : HeadItem)
+    → offset ≡ length seen → taken ≤ length piece
+    → whole_of (head_front (drop taken piece)) ≡ Some (head, size)
+    → taken + size ≤ length piece → HasFound old (Inside 0) (seen ++ take taken piece)
+    → HasNoted old new ((offset + taken) % 2 ^ 64) head size
+    → length (seen ++ take (taken + size) piece) < 2 ^ 63
+    → HasFound new (Inside (content_size head)) (seen ++ take (taken + size) piece)
+found_head old new offset taken size seen piece head here within front ends come noted small =
+    let rest = drop taken piece in
+    let run = take size (drop taken piece) in
+    let there : size ≤ length (drop taken piece) = omega (arith, length-drop taken piece) in
+    let sized : length (take size (drop taken piece)) ≡ size = length-take-le size rest there in
+    let before : length (take taken piece) ≡ taken = length-take-le taken piece within in
+    let joined = joined_run seen piece taken size in
+    let few = fewer seen piece taken (taken + size) (omega arith) small in
+    subst (λ (seen : List ℕ). HasFound new (Inside (content_size head)) seen) joined
+    (found_next old new ((offset + taken) % 2 ^ 64) (seen ++ take taken piece) run head size come
+    (counted_more offset taken seen (take taken piece) here (sym before) few)
+    (head_alone rest head size front there) (sym sized) noted)
+
+-- the next bytes of a string in a piece
+pub found_content : (found : Found) (left size taken : ℕ) (seen piece : List ℕ)
+    → HasFound found (Inside left) (seen ++ take taken piece) → size ≤ left
+    → taken + size ≤ length piece
+    → HasFound found (Inside (left - size)) (seen ++ take (taken + size) piece)
+found_content found left size taken seen piece come within ends =
+    let run = take size (drop taken piece) in
+    let sized : length (take size (drop taken piece)) ≡ size =
+    length-take-le size (drop taken piece) (omega (arith, length-drop taken piece)) in
+    subst (λ (seen : List ℕ). HasFound found (Inside (left - size)) seen)
+    (joined_run seen piece taken size)
+    (subst (λ (size : ℕ). HasFound found (Inside (left - size)) ((seen ++ take taken piece) ++ run))
+    sized
+    (found_inside found left (seen ++ take taken piece) run come (omega arith)))
+
+-- nothing of a piece
+pub found_none : (found : Found) (left taken : ℕ) (seen piece : List ℕ) → left ≡ 0 → taken ≡ 0
+    → HasFound found (Inside left) (seen ++ take taken piece) → HasFound found (Inside 0) seen
+found_none found left taken seen piece none no_more come =
+    rw (none, no_more, append-nil seen) at come
+
+pub first_byte : (bytes : List ℕ) → 0 < length bytes → get_or bytes 0 0 ∷ [] ≡ take 1 bytes
+first_byte [] some = absurd (omega arith)
+first_byte (byte ∷ bytes) some = refl
+
+-- a head of which no byte is seen
+pub head_begun : (found : Found) (head : HeadScan) (count : ℕ) (seen : List ℕ)
+    → HasSeen (Inside 0) found head count seen → HasSeen (Head count) found head count seen
+unfolding head_front
+head_begun found head count seen come =
+    let none : drop count seen ≡ [] =
+    ap (λ (offset : ℕ). drop offset seen) come.counted ∙ drop-length seen in
+    record {
+      counted = come.counted;
+      sought = found_begins found count seen come.sought come.counted;
+      stands = record {
+        in_bytes = omega (arith, come.counted);
+        scanned = subst (λ (bytes : List ℕ). HasScannedHead head bytes) (sym none) come.stands;
+        cut = rw none refl;
+      };
+    }
+
+-- the bytes seen of a head, with one more
+pub one_more : (offset : ℕ) (found : Found) (old new : HeadScan) (count : ℕ) (seen run : List ℕ)
+    → HasSeen (Head offset) found old count seen
+    → ((head : List ℕ) → HasScannedHead old head → HasScannedHead new (head ++ run))
+    → HasScannedHead new (drop offset (seen ++ run))
+one_more offset found old new count seen run come heads =
+    rw (drop-append-le offset seen run come.stands.in_bytes)
+    (heads (drop offset seen) come.stands.scanned)
+
+pub head_ill_formed : (offset : ℕ) (found : Found) (old new : HeadScan) (count : ℕ)
+    (seen run : List ℕ) → HasSeen (Head offset) found old count seen → 1 ≡ length run
+    → length (seen ++ run) < 2 ^ 63 → head_front (drop offset (seen ++ run)) ≡ IllFormed
+    → HasSeen Ended found new ((count + 1) % 2 ^ 64) (seen ++ run)
+head_ill_formed offset found old new count seen run come one small wrong =
+    let more : HasFound found (Head offset) (seen ++ run) =
+    found_more found offset seen run come.sought come.stands.in_bytes in
+    record {
+      counted = counted_more count 1 seen run come.counted one small;
+      sought = record {
+        long = sought_ill_formed is_long found.long offset (seen ++ run) more.long wrong;
+        indefinite = sought_ill_formed is_indefinite found.indefinite offset (seen ++ run)
+            more.indefinite wrong;
+      };
+      stands = tt;
+    }
+
+pub head_whole : (offset : ℕ) (found noted : Found) (old new : HeadScan) (count : ℕ)
+    (seen run : List ℕ) (head : HeadItem) (size : ℕ) → HasSeen (Head offset) found old count seen
+    → 1 ≡ length run → length (seen ++ run) < 2 ^ 63
+    → head_front (drop offset (seen ++ run)) ≡ Whole head (length (drop offset (seen ++ run)))
+    → size ≡ length (drop offset (seen ++ run)) → HasNoted found noted offset head size
+    → HasScannedHead new []
+    → HasSeen (Inside (content_size head)) noted new ((count + 1) % 2 ^ 64) (seen ++ run)
+head_whole offset found noted old new count seen run head size come one small whole sized with_it
+    fresh = record {
+      counted = counted_more count 1 seen run come.counted one small;
+      sought = found_whole found noted offset (seen ++ run) head size
+          (found_more found offset seen run come.sought come.stands.in_bytes)
+          (omega (arith, length-append seen run, come.stands.in_bytes)) whole sized with_it;
+      stands = fresh;
+    }
+
+-- ---- one run after another
+
+pub taken_then : (old middle new : HeadWalk) (run more : List ℕ) → HasTaken old middle run
+    → HasTaken middle new more → HasTaken old new (run ++ more)
+taken_then old middle new run more first second = record {
+  seen = λ seen small come.
+      let first_small : length (seen ++ run) < 2 ^ 63 =
+      omega (
+        arith,
+        length-append seen run,
+        length-append run more,
+        length-append seen (run ++ more),
+      ) in
+      let small_too : length ((seen ++ run) ++ more) < 2 ^ 63 =
+      rw (append_assoc seen run more) small in
+      subst (λ (seen : List ℕ). HasWalked new seen) (append_assoc seen run more)
+      (second.seen (seen ++ run) small_too (first.seen seen first_small come));
+}
+
+-- ---- what is found in the bytes seen
+
+none_left : (sought : HeadItem → ℕ → Bool) (stage : Stage) (head : HeadScan) (seen : List ℕ)
+    → IsAtStage stage head seen → first_left sought stage seen [] ≡ None
+none_left sought (Inside left) head seen stands = at_end sought left (length seen)
+none_left sought (Head offset) head seen stands =
+    rw (append-nil (drop offset seen)) (at_cut sought offset (drop offset seen) stands.cut)
+none_left sought Ended head seen stands = refl
+
+pub long_now : (walk : HeadWalk) (seen : List ℕ) → HasWalked walk seen
+    → walk.found.long ≡ first_from is_long 1 0 seen
+long_now walk seen come =
+    sought_now is_long walk.found.long walk.stage seen come.sought.long
+    (none_left is_long walk.stage walk.head seen come.stands)
+
+pub indefinite_now : (walk : HeadWalk) (seen : List ℕ) → HasWalked walk seen
+    → walk.found.indefinite ≡ first_from is_indefinite 1 0 seen
+indefinite_now walk seen come =
+    sought_now is_indefinite walk.found.indefinite walk.stage seen come.sought.indefinite
+    (none_left is_indefinite walk.stage walk.head seen come.stands)

@@ -1,0 +1,281 @@
+//! A walk over the heads of CBOR items that follow one another.
+ghost use Rattle.std.specs.Prelude.{◌≡◌, ℕ, ◌^◌, ◌<◌, ◌≤◌, List, ◌∷◌, [], ◌++◌, length, take, IsTrue};
+ghost use Rattle.link_cbor.specs.HeadScan.{may_scan_head};
+ghost use Rattle.link_rules.specs.Heads.{content_size, shortest_size, is_long, is_indefinite, first_long, first_indefinite};
+
+use link_cbor::{Head, HeadScan, HeadStep, Piecewise};
+
+/// The major type of byte strings (RFC 8949 section 3.1).
+const BYTE_STRING: u8 = 2;
+
+/// The major type of text strings.
+const TEXT_STRING: u8 = 3;
+
+/// The major type of simple values, floats and the break.
+const SIMPLE: u8 = 7;
+
+/// The fewest bytes of a head with this value (RFC 8949 section 3).
+fn shortest_size(value: Option<u64>) -> usize
+    ensures { result ≡ shortest_size value }
+{
+    match value {
+        None | Some(0..=23) => 1,
+        Some(24..=0xff) => 2,
+        Some(0x100..=0xffff) => 3,
+        Some(0x1_0000..=0xffff_ffff) => 5,
+        Some(_) => 9,
+    }
+}
+
+/// The number of bytes of a string, which follow its head. Other items have none.
+#[inline(always)]
+fn content_size(head: Head) -> u64
+    ensures { result ≡ content_size head }
+{
+    match head.major {
+        BYTE_STRING | TEXT_STRING => head.value.unwrap_or(0),
+        _ => 0,
+    }
+}
+
+/// Whether a head of `size` bytes is longer than its number needs.
+fn is_long(head: Head, size: usize) -> bool
+    ensures { result ≡ is_long head size }
+{
+    shortest_size(head.value) < size
+}
+
+/// Whether a head is that of a string, an array or a map of indefinite length.
+fn is_indefinite(head: Head) -> bool
+    ensures { (size : ℕ) → result ≡ is_indefinite head size }
+{
+    head.value.is_none() && head.major != SIMPLE
+}
+
+/// The offset of the first head of each kind that is sought.
+#[derive(Clone, Copy, Debug)]
+struct Found {
+    /// A head that is longer than its number needs.
+    long: Option<u64>,
+    /// A head of indefinite length.
+    indefinite: Option<u64>,
+}
+
+impl Found {
+    ghost use Rattle.link_rules.specs.HeadWalk.{HasFound, HasNoted};
+    ghost use Rattle.link_rules.specs.declared.heads.Stage.TheVariants.{Inside};
+
+    /// Keeps the offset of a head of `size` bytes, if it is the first of its kind.
+    // Inlined: most heads are one byte with a number, and such a head should cost no call.
+    #[inline(always)]
+    fn note(&mut self, offset: u64, head: Head, size: usize)
+        ensures { HasNoted self.old self.new offset head size }
+    {
+        if size == 1 && head.value.is_some() {
+            return;
+        }
+        self.note_any(offset, head, size);
+    }
+
+    /// Keeps the offset of any head, if it is the first of its kind.
+    fn note_any(&mut self, offset: u64, head: Head, size: usize)
+        ensures { HasNoted self.old self.new offset head size }
+    {
+        self.long = self.long.or(is_long(head, size).then_some(offset));
+        self.indefinite = self.indefinite.or(is_indefinite(head).then_some(offset));
+    }
+
+    /// Takes the heads that a piece begins with, and their strings. The first is at `offset`.
+    ///
+    /// Returns how many bytes it took, and how many bytes of the last string are still to come. It
+    /// stops before a head that is ill-formed or cut.
+    #[inline(always)]
+    fn take_heads(&mut self, offset: u64, piece: &[u8]) -> (usize, u64)
+        ensures within { result.0 ≤ length piece.now }
+        ensures none { result.0 ≡ 0 → result.1 ≡ 0 }
+        // `seen` is the list of the bytes before the piece.
+        ensures found { (seen : List ℕ) → offset ≡ length seen
+            → length (seen ++ take result.0 piece.now) < 2 ^ 63
+            → HasFound self.old (Inside 0) seen
+            → HasFound self.new (Inside result.1) (seen ++ take result.0 piece.now) }
+    {
+        let mut taken = 0;
+        while let Some((head, size)) = Head::front(&piece[taken..]) {
+            self.note(offset.wrapping_add(taken as u64), head, size);
+            taken += size;
+            let content = content_size(head);
+            // Most items are no strings, and this way the loop is shorter for them.
+            if content == 0 {
+                continue;
+            }
+            let left = (piece.len() - taken) as u64;
+            if content > left {
+                return (piece.len(), content - left);
+            }
+            taken += content as usize;
+        }
+        (taken, 0)
+    }
+}
+
+/// Where a walk is.
+#[derive(Clone, Copy, Debug)]
+enum Stage {
+    /// This many more bytes belong to the last head and to its string. Then a head begins.
+    Inside(u64),
+    /// The bytes seen end inside the head that begins at this offset.
+    Head(u64),
+    /// A head is ill-formed, so there is none after it.
+    Ended,
+}
+
+/// A walk over the heads of a bundle, whose bytes come in pieces of any size.
+///
+/// It finds the first head that is longer than its number needs, and the first of indefinite
+/// length (RFC 8949 section 3). The bundle's own array head is passed over, and so are the bytes of
+/// strings. There is no head after one that is ill-formed.
+///
+/// It keeps numbers, and no bytes of the bundle.
+#[derive(Clone, Copy, Debug)]
+pub struct HeadWalk {
+    stage: Stage,
+    /// The number of bytes seen.
+    count: u64,
+    found: Found,
+    /// The scan of a head that is cut, and a new one at any other stage.
+    head: HeadScan,
+    ghost fits: { IsTrue (may_scan_head head) },
+}
+
+impl HeadWalk {
+    ghost use Rattle.link_rules.specs.HeadWalk.{HasWalked, HasTaken};
+
+    /// A walk that has seen no byte.
+    pub fn new() -> HeadWalk
+        ensures { HasWalked result [] }
+    {
+        HeadWalk {
+            // The bundle's own array head is one byte.
+            stage: Stage::Inside(1),
+            count: 0,
+            found: Found {
+                long: None,
+                indefinite: None,
+            },
+            head: HeadScan::new(),
+        }
+    }
+
+    /// Makes the walk new.
+    pub fn restart(&mut self)
+        ensures { HasWalked self.new [] }
+    {
+        *self = HeadWalk::new();
+    }
+
+    /// The offset in the bundle of the first head that is longer than its number needs.
+    pub fn first_long(&self) -> Option<u64>
+        ensures { (seen : List ℕ) → HasWalked self.now seen → result ≡ first_long seen }
+    {
+        self.found.long
+    }
+
+    /// The offset in the bundle of the first head of indefinite length.
+    pub fn first_indefinite(&self) -> Option<u64>
+        ensures { (seen : List ℕ) → HasWalked self.now seen → result ≡ first_indefinite seen }
+    {
+        self.found.indefinite
+    }
+
+    /// Takes the next piece of the bundle.
+    ///
+    /// Offsets are right up to 2^63 - 1 bytes.
+    pub fn take(&mut self, piece: &[u8])
+        ensures { (seen : List ℕ) → length (seen ++ piece.now) < 2 ^ 63 → HasWalked self.old seen
+            → HasWalked self.new (seen ++ piece.now) }
+    {
+        let mut taken = 0;
+        while taken < piece.len() {
+            taken += self.advance(&piece[taken..]);
+        }
+    }
+
+    /// Takes the next bytes of a piece, and returns how many, at least one.
+    #[inline(always)]
+    fn advance(&mut self, piece: &[u8]) -> usize
+        requires some { 0 < length piece.now }
+        ensures some { 0 < result }
+        ensures within { result ≤ length piece.now }
+        ensures taken { HasTaken self.old self.new (take result piece.now) }
+    {
+        match self.stage {
+            Stage::Inside(0) => self.next_heads(piece),
+            Stage::Inside(left) => self.pass(left, piece),
+            Stage::Head(offset) => {
+                self.head_byte(offset, piece[0]);
+                1
+            }
+            Stage::Ended => {
+                self.count = self.count.wrapping_add(piece.len() as u64);
+                piece.len()
+            }
+        }
+    }
+
+    /// Takes the next bytes, where a head begins.
+    #[inline(always)]
+    fn next_heads(&mut self, piece: &[u8]) -> usize
+        requires stage { self.old.stage ≡ Stage.Inside 0 }
+        requires some { 0 < length piece.now }
+        ensures some { 0 < result }
+        ensures within { result ≤ length piece.now }
+        ensures taken { HasTaken self.old self.new (take result piece.now) }
+    {
+        let offset = self.count;
+        let (taken, left) = self.found.take_heads(offset, piece);
+        if taken == 0 {
+            self.stage = Stage::Head(offset);
+            self.head_byte(offset, piece[0]);
+            return 1;
+        }
+        self.stage = Stage::Inside(left);
+        self.count = offset.wrapping_add(taken as u64);
+        taken
+    }
+
+    /// Passes over the next bytes of the last head and its string, which have `left` more.
+    fn pass(&mut self, left: u64, piece: &[u8]) -> usize
+        requires stage { self.old.stage ≡ Stage.Inside left }
+        requires left { 0 < left }
+        requires some { 0 < length piece.now }
+        ensures some { 0 < result }
+        ensures within { result ≤ length piece.now }
+        ensures taken { HasTaken self.old self.new (take result piece.now) }
+    {
+        let passed = left.min(piece.len() as u64);
+        self.stage = Stage::Inside(left - passed);
+        self.count = self.count.wrapping_add(passed);
+        passed as usize
+    }
+
+    /// Takes a byte of the head that begins at `offset`.
+    #[cold]
+    #[inline(never)]
+    fn head_byte(&mut self, offset: u64, byte: u8)
+        requires { self.old.stage ≡ Stage.Head offset }
+        ensures { HasTaken self.old self.new (byte ∷ []) }
+    {
+        self.count = self.count.wrapping_add(1);
+        let mut scan = self.head;
+        scan.step(byte);
+        match scan.outcome() {
+            HeadStep::More => self.head = scan,
+            HeadStep::Bad => self.stage = Stage::Ended,
+            HeadStep::Done(head) => {
+                self.head = HeadScan::new();
+                self.found.note(offset, head, scan.count() as usize);
+                self.stage = Stage::Inside(content_size(head));
+            }
+        }
+    }
+}
