@@ -8,3 +8,4 @@ pub mod MessageRules
 pub mod TransferRules
 pub mod TransferData
 pub mod Remembered
+pub mod Kept

@@ -1,8 +1,9 @@
 -- The rule that the data of a closed transfer breaks: it is a bundle (RFC 9171 section 4).
-use Rattle.std.specs.Prelude.{ℕ, ◌/◌, ◌%◌, Bool, true, false, ◌&&◌, ◌||◌, ◌==◌, nat_le, List, get_or, Option, Some, None, Result, Ok, Err, if◌then◌else◌}
+use Rattle.std.specs.Prelude.{ℕ, Bool, true, false, ◌&&◌, ◌||◌, ◌==◌, List, Option, Some, None, Result, Ok, Err, if◌then◌else◌}
 use Rattle.link_bundle_types.specs.declared.fault.BundleFault.{BundleFault}
 use Rattle.link_bundle_types.specs.declared.fault.BundleFault.TheVariants.{WrongKind, BadScheme, BadSpecificPart, EidTooLong, TooManyBlocks}
 use Rattle.link_bundle_types.specs.declared.info.BundleInfo.{BundleInfo}
+use Rattle.link_rules.specs.Heads.{first_indefinite}
 use Rattle.link_message_rules.specs.declared.rule.TransferRule.{TransferRule}
 use Rattle.link_message_rules.specs.declared.rule.TransferRule.TheVariants.{Bundle, NotRead}
 
@@ -20,17 +21,16 @@ is_of_item WrongKind = true
 is_of_item BadSpecificPart = true
 is_of_item others = false
 
--- whether a head of indefinite length begins with this byte: it has major type 2 to 5 and
--- additional information 31 (RFC 8949 section 3)
-abbrev pub begins_indefinite : ℕ → Bool
-begins_indefinite first = (first % 32 == 31) && (nat_le 2 (first / 32) && nat_le (first / 32) 5)
+abbrev pub is_offset : Option ℕ → (byte : ℕ) → Bool
+is_offset None byte = false
+is_offset (Some offset) byte = offset == byte
 
 -- Whether data with a fault at an offset may be a bundle that this toolkit does not read. RFC 9171
--- permits items of indefinite length (section 4), and this toolkit reads only the array of the
--- bundle.
+-- permits items of indefinite length (section 4). This toolkit reads none of them but the array of
+-- the bundle, so the first other one is at fault.
 abbrev pub may_be_bundle : (bytes : List ℕ) → BundleFault → (byte : ℕ) → Bool
 may_be_bundle bytes fault byte =
-    is_limit fault || (is_of_item fault && begins_indefinite (get_or bytes byte 0))
+    is_limit fault || (is_of_item fault && is_offset (first_indefinite bytes) byte)
 
 -- bundle: the data of a transfer is a bundle. not-read: this toolkit reads the bundle.
 unfoldable pub data_rule : (bytes : List ℕ) → Result BundleInfo (BundleFault × ℕ)

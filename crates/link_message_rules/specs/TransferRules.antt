@@ -6,8 +6,6 @@ use Rattle.link_wire.specs.declared.message.SegmentHead.{SegmentHead}
 use Rattle.link_transfer.specs.Announced.{announced_of}
 use Rattle.link_transfer.specs.declared.announcement.Announced.{Announced}
 use Rattle.link_transfer.specs.declared.announcement.Announced.TheVariants.{Absent, Total, Malformed}
-use Rattle.link_message_rules.specs.Heads.{JudgedHead}
-use Rattle.link_message_rules.specs.Lengths.{segments_of, first_segment}
 use Rattle.link_message_rules.specs.declared.opening.Opening.{Opening}
 use Rattle.link_rules.specs.declared.level.Level.{Level}
 use Rattle.link_rules.specs.declared.level.Level.TheVariants.{Must, Should}
@@ -66,11 +64,3 @@ opening_of first = record {
   announced = announced_of first.items.items;
   single = is_start first.flags && is_end first.flags;
 }
-
-abbrev pub opening_by : (segments : List SegmentHead) → Option Opening
-opening_by [] = None
-opening_by (segment ∷ earlier) = Some (opening_of (first_segment segment earlier))
-
--- the same of the transfer that began last
-abbrev pub last_opening : List JudgedHead → Option Opening
-last_opening heads = opening_by (segments_of heads)

@@ -33,6 +33,7 @@ pub fn contact_flags(contact: &Contact) -> Option<MessageRule>
 
 /// The rule of the flags of extension items.
 #[tactic(auto, unfolding(crate::specs::Flags::item_flags))]
+#[inline(always)]
 pub(crate) fn item_flags(message: &MessageBuffer) -> Option<MessageRule>
     ensures { result ≡ item_flags (message_of message.now) }
 {
@@ -52,6 +53,7 @@ pub(crate) fn item_flags(message: &MessageBuffer) -> Option<MessageRule>
 
 /// The rule of the flags of an XFER_SEGMENT.
 #[tactic(auto, unfolding(crate::specs::Flags::segment_flags))]
+#[inline(always)]
 pub(crate) fn segment_flags(message: &MessageBuffer) -> Option<MessageRule>
     ensures { result ≡ segment_flags (message_of message.now) }
 {
@@ -72,6 +74,7 @@ fn is_wrong_term(flags: u64) -> bool
 
 /// The rule of the flags of a SESS_TERM. A reply repeats the flags of what it answers.
 #[tactic(auto, unfolding(crate::specs::Flags::term_flags))]
+#[inline(always)]
 pub(crate) fn term_flags(message: &MessageBuffer) -> Option<MessageRule>
     ensures { result ≡ term_flags (message_of message.now) }
 {

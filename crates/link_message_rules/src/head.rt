@@ -21,6 +21,7 @@ pub struct JudgedHeadView<'a> {
 }
 
 /// The extension items of a message.
+#[inline(always)]
 pub(crate) fn items_of(message: &MessageBuffer) -> &[Item]
     ensures { result.now ≡ items_of (message_of message.now) }
 {
@@ -32,6 +33,7 @@ pub(crate) fn items_of(message: &MessageBuffer) -> &[Item]
 }
 
 /// Whether an XFER_SEGMENT or an XFER_ACK with these flags has START.
+#[inline(always)]
 pub(crate) fn is_start(flags: u8) -> bool
     ensures { result ≡ is_start flags }
 {

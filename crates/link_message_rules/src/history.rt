@@ -7,7 +7,6 @@ use crate::lengths::{
 };
 use crate::limits::PeerLimits;
 use crate::node::node_id;
-use crate::opening::Opening;
 use crate::rule::{MessageRule, broken_of};
 use crate::session::{Keepalives, before_session, initiated_after, order};
 use crate::transfer_ids::{IdRun, interleaved, run_after, transfer_id};
@@ -34,12 +33,12 @@ pub struct MessageHistory {
 }
 
 impl MessageHistory {
-    ghost use Rattle.std.specs.Prelude.{◌≡◌, List, [], ◌∷◌, ◌++◌, option_map};
+    ghost use Rattle.std.specs.Prelude.{◌≡◌, true, List, [], ◌∷◌, ◌++◌, option_map};
     ghost use Rattle.link_wire.specs.MessageBuffer.{SegmentHasTotals};
     ghost use Rattle.link_message_rules.specs.Heads.{JudgedHead, viewed_head};
     ghost use Rattle.link_message_rules.specs.MessageRules.{broken_rules};
+    ghost use Rattle.link_message_rules.specs.Kept.{KeepsSegmentRules, KeepsSessionRules};
     ghost use Rattle.link_message_rules.specs.Remembered.{Remembers};
-    ghost use Rattle.link_message_rules.specs.TransferRules.{last_opening};
 
     /// The history before the first message.
     pub fn new() -> MessageHistory
@@ -54,15 +53,72 @@ impl MessageHistory {
         }
     }
 
-    /// What the transfer that began last keeps of its first segment.
-    pub fn opening(&self) -> Option<Opening>
-        ensures { (heads : List JudgedHead) → Remembers self.now heads
-            → result ≡ last_opening heads }
+    /// Whether the next message is known to break no rule. This takes less time than its rules.
+    #[inline(always)]
+    pub fn keeps_rules(&self, limits: &PeerLimits, head: &JudgedHeadView<'_>) -> bool
+        requires { SegmentHasTotals head.now.message.now }
+        ensures { (before : List JudgedHead) → Remembers self.now before → result ≡ true
+            → broken_rules limits.now before (viewed_head head.now) ≡ [] }
     {
-        Some(self.transfer?.opening)
+        if !self.keeps_session_rules(head) {
+            return false;
+        }
+        self.keeps_segment_rules(limits, head)
+    }
+
+    /// Whether the next message breaks no rule that is about other things than segments.
+    #[inline(always)]
+    fn keeps_session_rules(&self, head: &JudgedHeadView<'_>) -> bool
+        ensures { (before : List JudgedHead) → Remembers self.now before → result ≡ true
+            → KeepsSessionRules before (viewed_head head.now) }
+    {
+        let message = head.message;
+        if order(head).is_some() {
+            return false;
+        }
+        if before_session(self.initiated, message).is_some() {
+            return false;
+        }
+        if ack_length(self.ack, message).is_some() {
+            return false;
+        }
+        if self.keepalives.rule(message).is_some() {
+            return false;
+        }
+        if node_id(message).is_some() {
+            return false;
+        }
+        term_flags(message).is_none()
+    }
+
+    /// Whether the next message breaks no rule of segments and of extension items.
+    #[inline(always)]
+    fn keeps_segment_rules(&self, limits: &PeerLimits, head: &JudgedHeadView<'_>) -> bool
+        requires { SegmentHasTotals head.now.message.now }
+        ensures { (before : List JudgedHead) → Remembers self.now before → result ≡ true
+            → KeepsSegmentRules limits.now before (viewed_head head.now) }
+    {
+        let message = head.message;
+        if segment_flags(message).is_some() {
+            return false;
+        }
+        if interleaved(head).is_some() {
+            return false;
+        }
+        if transfer_id(self.run, message).is_some() {
+            return false;
+        }
+        if peer_segment(limits.segment, message).is_some() {
+            return false;
+        }
+        if peer_transfer(limits.transfer, self.transfer, head).is_some() {
+            return false;
+        }
+        item_flags(message).is_none()
     }
 
     /// The rules that the next message breaks, in order.
+    #[inline(never)]
     pub fn rules(&self, limits: &PeerLimits, head: &JudgedHeadView<'_>) -> BrokenRules
         requires { SegmentHasTotals head.now.message.now }
         ensures { (before : List JudgedHead) → Remembers self.now before
@@ -86,6 +142,7 @@ impl MessageHistory {
     }
 
     /// Takes the next message.
+    #[inline(always)]
     pub fn take(&mut self, head: &JudgedHeadView<'_>)
         requires { SegmentHasTotals head.now.message.now }
         ensures { (before : List JudgedHead) → Remembers self.old before

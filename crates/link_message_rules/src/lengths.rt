@@ -8,7 +8,7 @@ ghost use Rattle.link_message_rules.specs.Heads.{JudgedHead, viewed_head, messag
 ghost use Rattle.link_message_rules.specs.Lengths.{peer_segment, if_passed, if_exceeded, earlier_of, segments_of, peer_transfer, last_ack, ack_length};
 ghost use Rattle.link_message_rules.specs.Remembered.{within_64_bits, so_far_of};
 
-use crate::head::{JudgedHeadView, announcement, is_end, is_start};
+use crate::head::{JudgedHeadView, announcement, is_start};
 use crate::opening::Opening;
 use crate::rule::MessageRule;
 use link_transfer::{Announced, Turn};
@@ -24,13 +24,14 @@ pub(crate) struct Ack {
 /// The segments of one transfer so far.
 #[derive(Clone, Copy, Debug, PartialEq, Eq)]
 pub(crate) struct TransferSoFar {
-    pub(crate) opening: Opening,
+    opening: Opening,
     /// The length of the data, or `None` if it exceeds 64 bits, and so every limit.
     sent: Option<u64>,
 }
 
 /// The rule of the peer's Segment MRU.
 #[tactic(auto, unfolding(crate::specs::Lengths::peer_segment))]
+#[inline(always)]
 pub(crate) fn peer_segment(limit: Option<u64>, message: &MessageBuffer) -> Option<MessageRule>
     ensures { result ≡ peer_segment limit (message_of message.now) }
 {
@@ -71,10 +72,7 @@ impl TransferSoFar {
             → Some result ≡ so_far_of (segment ∷ []) }
     {
         TransferSoFar {
-            opening: Opening {
-                announced: announcement(message, flags),
-                single: is_start(flags) && is_end(flags),
-            },
+            opening: Opening::of(message, flags),
             sent: Some(length),
         }
     }
@@ -131,6 +129,7 @@ fn first_exceeded(limit: u64, announced: Announced, length: u64) -> Option<Messa
 ///
 /// It is `Some(None)` for a first segment, and `None` for a stray one. `so_far` is the transfer
 /// that began last.
+#[inline(always)]
 fn earlier(turn: Option<Turn>, so_far: Option<TransferSoFar>) -> Option<Option<TransferSoFar>>
     ensures { (segments : List SegmentHead) → so_far ≡ so_far_of segments
         → result ≡ option_map so_far_of (earlier_of turn segments) }
@@ -144,6 +143,7 @@ fn earlier(turn: Option<Turn>, so_far: Option<TransferSoFar>) -> Option<Option<T
 
 /// The rule of the peer's Transfer MRU. `so_far` is the transfer that began last.
 #[tactic(auto, unfolding(crate::specs::Lengths::peer_transfer))]
+#[inline(always)]
 pub(crate) fn peer_transfer(
     limit: Option<u64>,
     so_far: Option<TransferSoFar>,
@@ -169,6 +169,7 @@ pub(crate) fn peer_transfer(
 }
 
 /// The transfer that began last, after one more message.
+#[inline(always)]
 pub(crate) fn so_far_after(
     so_far: Option<TransferSoFar>,
     head: &JudgedHeadView<'_>,
@@ -194,6 +195,7 @@ pub(crate) fn so_far_after(
 
 /// The rule of acknowledged lengths. `last` is the last XFER_ACK.
 #[tactic(auto, unfolding(crate::specs::Lengths::ack_length))]
+#[inline(always)]
 pub(crate) fn ack_length(last: Option<Ack>, message: &MessageBuffer) -> Option<MessageRule>
     ensures { (before : List JudgedHead) → last ≡ last_ack (messages_of before)
         → result ≡ ack_length before (message_of message.now) }
@@ -213,6 +215,7 @@ pub(crate) fn ack_length(last: Option<Ack>, message: &MessageBuffer) -> Option<M
 }
 
 /// The last XFER_ACK after one more message.
+#[inline(always)]
 pub(crate) fn ack_after(last: Option<Ack>, message: &MessageBuffer) -> Option<Ack>
     ensures { (before : List Message) → last ≡ last_ack before
         → result ≡ last_ack (before ++ message_of message.now ∷ []) }

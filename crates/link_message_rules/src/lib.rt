@@ -35,4 +35,4 @@ pub use limits::PeerLimits;
 pub use link_rules::Level;
 pub use opening::{BrokenTransferRules, Opening};
 pub use rule::{MessageRule, TransferRule};
-pub use transfer_data::{begins_indefinite, data_rule};
+pub use transfer_data::data_rule;

@@ -2,9 +2,11 @@
 
 ghost use Rattle.std.specs.Prelude.{◌≡◌};
 
+use crate::head::{announcement, is_end, is_start};
 use crate::rule::{TransferRule, broken_of};
 use arrayvec::ArrayVec;
 use link_transfer::Announced;
+use link_wire::MessageBuffer;
 
 /// The rules that the length of a transfer breaks, in order.
 pub type BrokenTransferRules = ArrayVec<TransferRule, 3>;
@@ -20,8 +22,23 @@ pub struct Opening {
 
 impl Opening {
     ghost use Rattle.std.specs.Prelude.{◌≡◌};
+    ghost use Rattle.link_wire.specs.Message.{HasTotals};
+    ghost use Rattle.link_wire.specs.MessageBuffer.{segment_items};
     ghost use Rattle.link_wire.specs.declared.message.SegmentHead.{SegmentHead};
     ghost use Rattle.link_message_rules.specs.TransferRules.{opening_of, length_item, length_differs, length_of_one_segment, broken_transfer_rules};
+
+    /// What the rules need of a first segment with these flags.
+    pub fn of(message: &MessageBuffer, flags: u8) -> Opening
+        requires { HasTotals message.now.items.items }
+        ensures { (first : SegmentHead) → first.flags ≡ flags
+            → first.items ≡ segment_items flags message.now.items
+            → result ≡ opening_of first }
+    {
+        Opening {
+            announced: announcement(message, flags),
+            single: is_start(flags) && is_end(flags),
+        }
+    }
 
     /// The rules that a transfer with this many bytes of data breaks.
     pub fn rules(&self, length: u64) -> BrokenTransferRules

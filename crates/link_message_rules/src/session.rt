@@ -30,6 +30,7 @@ impl Keepalives {
     ghost use Rattle.link_message_rules.specs.Remembered.{keepalives_of};
 
     /// The rule of KEEPALIVEs.
+    #[inline(always)]
     pub(crate) fn rule(self, message: &MessageBuffer) -> Option<MessageRule>
         ensures { (before : List JudgedHead) → self ≡ keepalives_of (messages_of before)
             → result ≡ keepalive before (message_of message.now) }
@@ -41,6 +42,7 @@ impl Keepalives {
     }
 
     /// What holds after one more message.
+    #[inline(always)]
     pub(crate) fn after(self, message: &MessageBuffer) -> Keepalives
         ensures { (before : List Message) → self ≡ keepalives_of before
             → result ≡ keepalives_of (before ++ message_of message.now ∷ []) }
@@ -69,6 +71,7 @@ fn disables_keepalive(message: &MessageBuffer) -> bool
 
 /// The rule of the order of messages.
 #[tactic(auto, unfolding(crate::specs::Session::order))]
+#[inline(always)]
 pub(crate) fn order(head: &JudgedHeadView<'_>) -> Option<MessageRule>
     ensures { result ≡ order (viewed_head head.now) }
 {
@@ -83,6 +86,7 @@ fn is_sess_init(message: &MessageBuffer) -> bool
 }
 
 /// Whether a SESS_INIT came, after one more message.
+#[inline(always)]
 pub(crate) fn initiated_after(initiated: bool, message: &MessageBuffer) -> bool
     ensures { (before : List Message) → initiated ≡ has_sess_init before
         → result ≡ has_sess_init (before ++ message_of message.now ∷ []) }
@@ -104,6 +108,7 @@ fn type_after_sess_init(message: &MessageBuffer) -> Option<u8>
 
 /// The rule of messages before a SESS_INIT. `initiated` is whether one came.
 #[tactic(auto, unfolding(crate::specs::Session::before_session))]
+#[inline(always)]
 pub(crate) fn before_session(initiated: bool, message: &MessageBuffer) -> Option<MessageRule>
     ensures { (before : List JudgedHead) → initiated ≡ has_sess_init (messages_of before)
         → result ≡ before_session before (message_of message.now) }

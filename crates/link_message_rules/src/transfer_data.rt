@@ -1,7 +1,8 @@
 //! The rule that the data of a transfer breaks.
 
-ghost use Rattle.std.specs.Prelude.{◌≡◌, ℕ, List, get_or, Some, Err};
-ghost use Rattle.link_message_rules.specs.TransferData.{is_limit, is_of_item, begins_indefinite, data_rule};
+ghost use Rattle.std.specs.Prelude.{◌≡◌, ℕ, List, Some, Err};
+ghost use Rattle.link_rules.specs.Heads.{first_indefinite};
+ghost use Rattle.link_message_rules.specs.TransferData.{is_limit, is_of_item, data_rule};
 
 use crate::rule::TransferRule;
 use link_bundle_types::BundleFault;
@@ -23,24 +24,15 @@ fn is_of_item(fault: BundleFault) -> bool
     matches!(fault, BundleFault::WrongKind | BundleFault::BadSpecificPart)
 }
 
-/// Whether a head of indefinite length begins with this byte (RFC 8949 section 3).
-///
-/// It is the whole head. A byte string, a text, an array or a map can have one.
-pub fn begins_indefinite(first: u8) -> bool
-    ensures { result ≡ begins_indefinite first }
-{
-    matches!(first, 0x5f | 0x7f | 0x9f | 0xbf)
-}
-
 /// The rule that the data of a closed transfer breaks, if it has a fault at offset `byte`.
 ///
-/// `indefinite` is whether a head of indefinite length begins there.
+/// `indefinite` is the offset of the first head of indefinite length after that of the bundle.
 #[tactic(auto, unfolding(crate::specs::TransferData::data_rule))]
-pub fn data_rule(fault: BundleFault, byte: u64, indefinite: bool) -> TransferRule
-    ensures { (bytes : List ℕ) → begins_indefinite (get_or bytes byte 0) ≡ indefinite
+pub fn data_rule(fault: BundleFault, byte: u64, indefinite: Option<u64>) -> TransferRule
+    ensures { (bytes : List ℕ) → indefinite ≡ first_indefinite bytes
         → Some result ≡ data_rule bytes (Err (fault, byte)) }
 {
-    if is_limit(fault) || is_of_item(fault) && indefinite {
+    if is_limit(fault) || is_of_item(fault) && indefinite == Some(byte) {
         return TransferRule::NotRead { fault, byte };
     }
     TransferRule::Bundle { fault, byte }

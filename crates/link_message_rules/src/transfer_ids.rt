@@ -80,6 +80,7 @@ fn abandoned_by(turn: Option<Turn>) -> Option<u64>
 
 /// The rule of transfers that begin while another is open.
 #[tactic(auto, unfolding(crate::specs::TransferIds::interleaved))]
+#[inline(always)]
 pub(crate) fn interleaved(head: &JudgedHeadView<'_>) -> Option<MessageRule>
     ensures { result ≡ interleaved (viewed_head head.now) }
 {
@@ -92,6 +93,7 @@ pub(crate) fn interleaved(head: &JudgedHeadView<'_>) -> Option<MessageRule>
 
 /// The rule of new transfer IDs. `run` has the IDs of the last STARTs.
 #[tactic(auto, unfolding(crate::specs::TransferIds::transfer_id))]
+#[inline(always)]
 pub(crate) fn transfer_id(run: Option<IdRun>, message: &MessageBuffer) -> Option<MessageRule>
     ensures { (before : List JudgedHead) → run ≡ ends_of (last_run (messages_of before))
         → result ≡ transfer_id before (message_of message.now) }
@@ -104,6 +106,7 @@ pub(crate) fn transfer_id(run: Option<IdRun>, message: &MessageBuffer) -> Option
 }
 
 /// The IDs of the last STARTs after one more message.
+#[inline(always)]
 pub(crate) fn run_after(run: Option<IdRun>, message: &MessageBuffer) -> Option<IdRun>
     ensures { (before : List Message) → run ≡ ends_of (last_run before)
         → result ≡ ends_of (last_run (before ++ message_of message.now ∷ [])) }

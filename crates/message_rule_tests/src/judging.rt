@@ -72,7 +72,7 @@ fn item_of(of: ItemOf) -> Item
     }
 }
 
-fn items_of(list: &[ItemOf]) -> Items
+pub fn items_of(list: &[ItemOf]) -> Items
     ensures { HasTotals result.items }
 {
     let mut items = Items::new();

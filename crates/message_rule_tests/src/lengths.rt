@@ -2,75 +2,46 @@
 //!
 //! Each row has a transfer of a recording that tests/rows has for `check`, and its rules.
 
-use crate::judging::{BOTH, END, NONE, START, Sent, head_of, message_of};
+use crate::judging::{BOTH, ItemOf, NONE, START, items_of};
 use link_bundle_types::BundleFault;
-use link_message_rules::{Level, MessageHistory, TransferRule, begins_indefinite, data_rule};
-use link_transfer::Joiner;
+use link_message_rules::{Level, Opening, TransferRule, data_rule};
+use link_wire::{Fields, MessageBuffer, NodeId};
 
-/// The segments of a transfer, the length of its data, and the rules that it breaks.
-type Row = (&'static [Sent], u64, &'static [TransferRule]);
+/// The flags and the items of the first segment of a transfer, the length of the transfer's data,
+/// and the rules that it breaks.
+type Row = (u8, &'static [ItemOf], u64, &'static [TransferRule]);
 
-static ROWS: [Row; 12] = [
+static ROWS: [Row; 11] = [
     (
-        &[
-            Sent::Segment(START, 0, &[(0, 1, 8, 33), (0, 1, 8, 33)], 9),
-            Sent::Segment(END, 0, NONE, 24),
-        ],
+        START,
+        &[(0, 1, 8, 33), (0, 1, 8, 33)],
         33,
         &[TransferRule::LengthItem],
     ),
+    (START, &[(0, 1, 7, 0)], 33, &[TransferRule::LengthItem]),
+    (START, &[(0, 1, 8, 33), (0, 2, 0, 0)], 33, &[]),
     (
-        &[
-            Sent::Segment(START, 0, &[(0, 1, 7, 0)], 9),
-            Sent::Segment(END, 0, NONE, 24),
-        ],
-        33,
-        &[TransferRule::LengthItem],
-    ),
-    (
-        &[
-            Sent::Segment(START, 0, &[(0, 1, 8, 33), (0, 2, 0, 0)], 9),
-            Sent::Segment(END, 0, NONE, 24),
-        ],
-        33,
-        &[],
-    ),
-    (
-        &[
-            Sent::Segment(START, 0, &[(0, 1, 8, 34)], 9),
-            Sent::Segment(END, 0, NONE, 24),
-        ],
+        START,
+        &[(0, 1, 8, 34)],
         33,
         &[TransferRule::LengthDiffers {
             announced: 34,
             length: 33,
         }],
     ),
+    (START, &[(0, 1, 8, 33)], 33, &[]),
+    (START, NONE, 33, &[]),
     (
-        &[
-            Sent::Segment(START, 0, &[(0, 1, 8, 33)], 9),
-            Sent::Segment(END, 0, NONE, 24),
-        ],
-        33,
-        &[],
-    ),
-    (
-        &[
-            Sent::Segment(START, 0, NONE, 9),
-            Sent::Segment(END, 0, NONE, 24),
-        ],
-        33,
-        &[],
-    ),
-    (
-        &[Sent::Segment(BOTH, 0, &[(0, 1, 8, 33)], 33)],
+        BOTH,
+        &[(0, 1, 8, 33)],
         33,
         &[TransferRule::LengthOfOneSegment],
     ),
-    (&[Sent::Segment(BOTH, 0, &[(0, 2, 8, 0)], 33)], 33, &[]),
-    (&[Sent::Segment(BOTH, 0, NONE, 33)], 33, &[]),
+    (BOTH, &[(0, 2, 8, 0)], 33, &[]),
+    (BOTH, NONE, 33, &[]),
     (
-        &[Sent::Segment(BOTH, 0, &[(0, 1, 8, 2)], 1)],
+        BOTH,
+        &[(0, 1, 8, 2)],
         1,
         &[
             TransferRule::LengthDiffers {
@@ -81,33 +52,32 @@ static ROWS: [Row; 12] = [
         ],
     ),
     (
-        &[Sent::Segment(BOTH | 0x08, 5, &[(0, 1, 8, 34), (0x10, 1, 0, 0)], 33)],
+        BOTH | 0x08,
+        &[(0, 1, 8, 34), (0x10, 1, 0, 0)],
         33,
         &[TransferRule::LengthItem, TransferRule::LengthOfOneSegment],
     ),
-    // A stray segment is part of no transfer.
-    (
-        &[
-            Sent::Segment(START, 0, NONE, 9),
-            Sent::Segment(END | 0x40, 1, NONE, 33),
-            Sent::Segment(END, 0, NONE, 24),
-        ],
-        33,
-        &[],
-    ),
 ];
+
+/// What the rules need of a first segment with these flags and items.
+fn opening_of(flags: u8, items: &[ItemOf]) -> Opening {
+    let message = MessageBuffer {
+        fields: Fields::Segment {
+            flags,
+            id: 0,
+            length: 0,
+        },
+        node: NodeId::new(),
+        items: items_of(items),
+    };
+    Opening::of(&message, flags)
+}
 
 #[test]
 fn judges_lengths_of_transfers(rt: HostRuntime) {
-    for &(sent, length, wanted) in &ROWS {
-        let mut joiner = Joiner::new();
-        let mut history = MessageHistory::new();
-        for &each in sent {
-            let message = message_of(each);
-            history.take(&head_of(&mut joiner, &message));
-        }
-        let opening = history.opening().expect(&rt, "a transfer");
-        assert_eq!(rt; opening.rules(length).as_slice(), wanted, "{sent:?}");
+    for &(flags, items, length, wanted) in &ROWS {
+        let rules = opening_of(flags, items).rules(length);
+        assert_eq!(rt; rules.as_slice(), wanted, "{flags:02x} {items:?}");
     }
 }
 
@@ -146,40 +116,42 @@ fn has_the_levels_of_the_table(rt: HostRuntime) {
     }
 }
 
-/// A fault of data, its offset, the byte there, and whether the data may be a bundle.
-type DataRow = (BundleFault, u64, u8, bool);
+/// A fault of data and its offset, the offset of the first head of indefinite length after that of
+/// the bundle, and whether the data may be a bundle.
+type DataRow = (BundleFault, u64, Option<u64>, bool);
 
-static DATA: [DataRow; 19] = [
-    (BundleFault::NotABundle, 0, 0xbf, false),
-    (BundleFault::Trailing, 33, 0x00, false),
-    (BundleFault::BadHead, 2, 0x3f, false),
-    (BundleFault::NoPayloadLast, 32, 0x9f, false),
-    (BundleFault::WrongKind, 30, 0x00, false),
-    (BundleFault::WrongKind, 1, 0xff, false),
-    (BundleFault::WrongKind, 30, 0x5f, true),
-    (BundleFault::WrongKind, 1, 0x9f, true),
-    (BundleFault::WrongKind, 2, 0xbf, true),
-    (BundleFault::WrongKind, 2, 0x5e, false),
-    (BundleFault::BadSpecificPart, 7, 0x80, false),
-    (BundleFault::BadSpecificPart, 7, 0x7f, true),
-    (BundleFault::BadSpecificPart, 7, 0x9f, true),
-    (BundleFault::BadScheme, 6, 0x03, true),
-    (BundleFault::EidTooLong, 7, 0x79, true),
-    (BundleFault::TooManyBlocks, 451, 0x85, true),
-    (BundleFault::CheckDiffers, 22, 0x5f, false),
-    (BundleFault::BadCount, 1, 0x9f, false),
-    (BundleFault::BadCheckType, 4, 0x5f, false),
+static DATA: [DataRow; 20] = [
+    (BundleFault::NotABundle, 0, None, false),
+    (BundleFault::Trailing, 33, None, false),
+    (BundleFault::BadHead, 2, None, false),
+    (BundleFault::NoPayloadLast, 32, Some(32), false),
+    (BundleFault::WrongKind, 30, None, false),
+    (BundleFault::WrongKind, 1, None, false),
+    (BundleFault::WrongKind, 30, Some(30), true),
+    (BundleFault::WrongKind, 1, Some(1), true),
+    (BundleFault::WrongKind, 2, Some(2), true),
+    (BundleFault::WrongKind, 30, Some(31), false),
+    (BundleFault::BadSpecificPart, 7, None, false),
+    (BundleFault::BadSpecificPart, 7, Some(7), true),
+    (BundleFault::BadSpecificPart, 7, Some(8), false),
+    (BundleFault::BadScheme, 6, None, true),
+    (BundleFault::BadScheme, 6, Some(9), true),
+    (BundleFault::EidTooLong, 7, None, true),
+    (BundleFault::TooManyBlocks, 451, None, true),
+    (BundleFault::CheckDiffers, 22, Some(22), false),
+    (BundleFault::BadCount, 1, Some(1), false),
+    (BundleFault::BadCheckType, 4, Some(4), false),
 ];
 
 #[test]
 fn judges_the_data_of_transfers(rt: HostRuntime) {
-    for &(fault, byte, first, may_be) in &DATA {
+    for &(fault, byte, indefinite, may_be) in &DATA {
         let wanted = if may_be {
             TransferRule::NotRead { fault, byte }
         } else {
             TransferRule::Bundle { fault, byte }
         };
-        let found = data_rule(fault, byte, begins_indefinite(first));
-        assert_eq!(rt; found, wanted, "{fault:?} {first}");
+        let found = data_rule(fault, byte, indefinite);
+        assert_eq!(rt; found, wanted, "{fault:?} {indefinite:?}");
     }
 }

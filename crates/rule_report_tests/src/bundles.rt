@@ -84,7 +84,7 @@ static ROWS: [Row; 24] = [
     (Rule::Age { blocks: 0 }, "0 must age bundle=0 blocks=0\n"),
     (
         Rule::PreviousNode { blocks: 2 },
-        "0 must previous-node bundle=0 blocks=2\n",
+        "0 should previous-node bundle=0 blocks=2\n",
     ),
     (
         Rule::HopCount {
