@@ -5,7 +5,7 @@ _tcpclkit() {
   local words='' values='' flags='-h --help'
   COMPREPLY=()
   if ((COMP_CWORD == 1)); then
-    words='list unpack blocks pack'
+    words='list unpack blocks check pack'
     [[ $word != -* ]] || words="$flags -V --version"
     mapfile -t COMPREPLY < <(compgen -W "$words" -- "$word")
     return
@@ -14,6 +14,7 @@ _tcpclkit() {
     list) ;;
     unpack) values='--transfer' flags+=' --payload --keep-going' ;;
     blocks) values='--transfer' flags+=' --keep-going --bundles' ;;
+    check) values='--peer-segment --peer-transfer' flags+=' --must --bundles' ;;
     pack)
       values='--node --keepalive --segment-mru --transfer-mru --peer-segment --peer-transfer --announce'
       flags+=' --end'

@@ -1,14 +1,14 @@
 //! Tests of the command line on tables of words.
 
-use link_command::{Invocation, UsageFault, options, usage_exit};
-use link_tools::{BlockOptions, Options, PackOptions, Wanted};
+use link_command::{Invocation, UsageFault, options};
+use link_tools::{BlockOptions, CheckOptions, Options, PackOptions, PeerLimits, Wanted};
 use link_wire::NodeId;
 use std::alloc::{AllocError, Global};
 use std::process::Abort;
 use std::test::Fail;
 
 /// The program's name, and then the words of this line.
-fn words_of(alloc: Global, line: &[&str]) -> Result<Vec<String>, AllocError> {
+pub(crate) fn words_of(alloc: Global, line: &[&str]) -> Result<Vec<String>, AllocError> {
     let mut words = Vec::new(alloc);
     words.push(String::from_str(alloc, "tcpclkit")?)?;
     for word in line {
@@ -17,13 +17,14 @@ fn words_of(alloc: Global, line: &[&str]) -> Result<Vec<String>, AllocError> {
     Ok(words)
 }
 
-fn name_of(outcome: &Result<Invocation, UsageFault>) -> &'static str {
+pub(crate) fn name_of(outcome: &Result<Invocation, UsageFault>) -> &'static str {
     match outcome {
         Ok(_) => "taken",
         Err(UsageFault::Help(_)) => "help",
         Err(UsageFault::Words(_)) => "words",
         Err(UsageFault::NodeTooLong) => "node too long",
         Err(UsageFault::MixedInputs) => "mixed inputs",
+        Err(UsageFault::LimitedBundles) => "limited bundles",
         Err(UsageFault::Memory) => "memory",
     }
 }
@@ -62,15 +63,6 @@ fn taken(alloc: Global, line: &[&str]) -> Result<Invocation, Fail> {
     match options(alloc, words.as_slice()) {
         Ok(invocation) => Ok(invocation),
         Err(fault) => Err(Fail::from(name_of(&Err(fault)))),
-    }
-}
-
-/// The text of the fault that is returned for a line.
-fn text_of(alloc: Global, line: &[&str]) -> Result<String, Fail> {
-    let words = words_of(alloc, line)?;
-    match options(alloc, words.as_slice()) {
-        Err(UsageFault::Help(text) | UsageFault::Words(text)) => Ok(text),
-        other => Err(Fail::from(name_of(&other))),
     }
 }
 
@@ -157,6 +149,21 @@ fn wrong_words(rt: HostRuntime) -> Result<(), Fail> {
             &["blocks", "--payload"],
             &["blocks", "a", "b"],
             &["unpack", "--bundles"],
+            &["check", "--peer-segment", "0"],
+            &["check", "--peer-segment", "18446744073709551616"],
+            &["check", "--peer-segment"],
+            &["check", "--peer-segment", "1", "--peer-segment", "1"],
+            &["check", "--peer-transfer", "18446744073709551616"],
+            &["check", "--peer-transfer", "-1"],
+            &["check", "--peer-transfer", "1", "--peer-transfer", "1"],
+            &["check", "--must", "--must"],
+            &["check", "--must=true"],
+            &["check", "--bundles", "--bundles"],
+            &["check", "--keep-going"],
+            &["check", "--transfer", "0"],
+            &["check", "a", "b"],
+            &["blocks", "--must"],
+            &["blocks", "--peer-segment", "1"],
             &["pack", "--node", "x", "--peer-segment", "0"],
             &["pack", "--node", "ipn:1.0", "--announce", "1048577"],
             &["pack", "--node", "x", "--keepalive", "65536"],
@@ -184,12 +191,14 @@ fn requests_for_help(rt: HostRuntime) -> Result<(), Fail> {
             &["list", "--help"],
             &["unpack", "--help"],
             &["blocks", "--help"],
+            &["check", "--help"],
             &["pack", "--help"],
             &["pack", "-h"],
             &["help"],
             &["help", "list"],
             &["help", "unpack"],
             &["help", "blocks"],
+            &["help", "check"],
             &["help", "pack"],
             &["help", "help"],
         ],
@@ -315,6 +324,98 @@ fn mixed_inputs(rt: HostRuntime) -> Result<(), Fail> {
     )
 }
 
+/// The options of `check` for a recording.
+fn judged(must: bool, segment: Option<u64>, transfer: Option<u64>) -> Options {
+    let peer = PeerLimits { segment, transfer };
+    Options::Check(CheckOptions { must, peer })
+}
+
+#[test]
+fn options_of_check(rt: HostRuntime) -> Result<(), Fail> {
+    let lines: [(&[&str], Options); 8] = [
+        (&["check"], judged(false, None, None)),
+        (&["check", "--must", "f"], judged(true, None, None)),
+        (
+            &["check", "--peer-segment", "1"],
+            judged(false, Some(1), None),
+        ),
+        (
+            &["check", "--peer-transfer", "0"],
+            judged(false, None, Some(0)),
+        ),
+        (
+            &["check", "--peer-segment", "18446744073709551615"],
+            judged(false, Some(u64::MAX), None),
+        ),
+        (
+            &["check", "--peer-transfer", "18446744073709551615"],
+            judged(false, None, Some(u64::MAX)),
+        ),
+        (
+            &[
+                "check",
+                "f",
+                "--peer-transfer=9",
+                "--peer-segment=8",
+                "--must",
+            ],
+            judged(true, Some(8), Some(9)),
+        ),
+        (&["check", "--", "--bundles"], judged(false, None, None)),
+    ];
+    all_ask_for(&rt, rt.alloc(), &lines)
+}
+
+#[test]
+fn check_of_bundles(rt: HostRuntime) -> Result<(), Fail> {
+    let lines: [(&[&str], Options); 5] = [
+        (
+            &["check", "--bundles"],
+            Options::BundleCheck { must: false },
+        ),
+        (
+            &["check", "f", "--bundles"],
+            Options::BundleCheck { must: false },
+        ),
+        (
+            &["check", "--bundles", "--", "--must"],
+            Options::BundleCheck { must: false },
+        ),
+        (
+            &["check", "--bundles", "--must"],
+            Options::BundleCheck { must: true },
+        ),
+        (
+            &["check", "--must", "f", "--bundles"],
+            Options::BundleCheck { must: true },
+        ),
+    ];
+    all_ask_for(&rt, rt.alloc(), &lines)
+}
+
+/// `check --bundles` is accepted with `--must`, and not with a limit of the peer.
+#[test]
+fn limited_bundles(rt: HostRuntime) -> Result<(), Fail> {
+    all_come_to(
+        &rt,
+        rt.alloc(),
+        "limited bundles",
+        &[
+            &["check", "--bundles", "--peer-segment", "1"],
+            &["check", "--peer-transfer=0", "--bundles"],
+            &["check", "--must", "--bundles", "--peer-transfer", "7", "f"],
+            &[
+                "check",
+                "--bundles",
+                "--peer-segment",
+                "1",
+                "--peer-transfer",
+                "0",
+            ],
+        ],
+    )
+}
+
 #[test]
 fn options_of_pack(rt: HostRuntime) -> Result<(), Fail> {
     let alloc = rt.alloc();
@@ -404,146 +505,6 @@ fn node_ids(rt: HostRuntime) -> Result<(), Fail> {
         let node = node_of(alloc, size)?;
         all_come_to(&rt, alloc, expected, &[&["pack", "--node", node.as_str()]])?;
     }
-    Ok(())
-}
-
-/// Lines that ask for a help text, and parts of the text.
-const HELP_TEXTS: [(&[&str], &[&str]); 6] = [
-    (
-        &["--help"],
-        &[
-            "Usage: tcpclkit <COMMAND>",
-            "unpack",
-            "Exit status:",
-            "Example:",
-        ],
-    ),
-    (
-        &["list", "--help"],
-        &["Usage: tcpclkit list [FILE]", "Exit status:", "Example:"],
-    ),
-    (
-        &["unpack", "--help"],
-        &[
-            "--transfer <ID>",
-            "--payload",
-            "--keep-going",
-            "Exit status:",
-            "Example:",
-        ],
-    ),
-    (
-        &["blocks", "--help"],
-        &[
-            "--transfer <ID>",
-            "--keep-going",
-            "--bundles",
-            "Exit status:",
-            "Example:",
-        ],
-    ),
-    (
-        &["pack", "--help"],
-        &[
-            "--node <TEXT>",
-            "--keepalive <N>",
-            "0 to 65535 [default: 60]",
-            "--segment-mru <N>",
-            "[default: 65536]",
-            "--transfer-mru <N>",
-            "[default: 1048576]",
-            "--peer-segment <N>",
-            "--peer-transfer <N>",
-            "[default: 18446744073709551615]",
-            "--announce <N>",
-            "0 to 1048576 [default: 0]",
-            "--end",
-            "Exit status:",
-            "Example:",
-        ],
-    ),
-    (&["--version"], &["tcpclkit 0.4.0\n"]),
-];
-
-/// Checks that a text is there for a line, and that it has these parts.
-fn has_parts(rt: &impl Abort, alloc: Global, line: &[&str], parts: &[&str]) -> Result<(), Fail> {
-    let text = text_of(alloc, line)?;
-    for part in parts {
-        assert!(rt;
-            text.as_str().contains(part),
-            "{line:?} without {part:?}: {text}"
-        );
-    }
-    Ok(())
-}
-
-/// Each help text has the usage, the options with ranges and defaults, the statuses and an example.
-#[test]
-fn texts_of_help(rt: HostRuntime) -> Result<(), Fail> {
-    for &(line, parts) in &HELP_TEXTS {
-        has_parts(&rt, rt.alloc(), line, parts)?;
-    }
-    Ok(())
-}
-
-/// The texts of `help` and `help NAME` are those of `--help` and `NAME --help`.
-#[test]
-fn texts_of_the_command_help(rt: HostRuntime) -> Result<(), Fail> {
-    let lines: [(&[&str], &[&str]); 5] = [
-        (&["help"], &["--help"]),
-        (&["help", "list"], &["list", "--help"]),
-        (&["help", "unpack"], &["unpack", "--help"]),
-        (&["help", "blocks"], &["blocks", "--help"]),
-        (&["help", "pack"], &["pack", "--help"]),
-    ];
-    for &(line, same) in &lines {
-        let text = text_of(rt.alloc(), line)?;
-        let expected = text_of(rt.alloc(), same)?;
-        assert!(rt; text == expected, "{line:?}: {text}{expected}");
-    }
-    Ok(())
-}
-
-/// The text for wrong words says what is wrong, and has the usage or says how to find it.
-#[test]
-fn texts_of_wrong_words(rt: HostRuntime) -> Result<(), Fail> {
-    let lines: [(&[&str], &str, &str); 4] = [
-        (&[], "requires a subcommand", "Usage: tcpclkit <COMMAND>"),
-        (&["pack"], "--node <TEXT>", "Usage: tcpclkit pack"),
-        (
-            &["pack", "--node", "x", "--announce", "1048577"],
-            "0..=1048576",
-            "For more information",
-        ),
-        (
-            &["list", "--payload"],
-            "unexpected argument",
-            "Usage: tcpclkit list",
-        ),
-    ];
-    for &(line, wrong, usage) in &lines {
-        let text = text_of(rt.alloc(), line)?;
-        assert!(rt;
-            text.as_str().contains(wrong) && text.as_str().contains(usage),
-            "{line:?}: {text}"
-        );
-    }
-    Ok(())
-}
-
-#[test]
-fn ends_of_the_program(rt: HostRuntime) -> Result<(), Fail> {
-    let text = String::new(rt.alloc());
-    assert!(rt; usage_exit(&UsageFault::Help(text)) == (0, ""));
-    let text = String::new(rt.alloc());
-    assert!(rt; usage_exit(&UsageFault::Words(text)) == (2, ""));
-    assert!(rt;
-        usage_exit(&UsageFault::NodeTooLong) == (2, "tcpclkit: node id longer than 1024 bytes")
-    );
-    assert!(rt;
-        usage_exit(&UsageFault::MixedInputs) == (2, "tcpclkit: --bundles goes with no other option")
-    );
-    assert!(rt; usage_exit(&UsageFault::Memory) == (4, "tcpclkit: out of memory"));
     Ok(())
 }
 
@@ -673,6 +634,24 @@ fn memory_of_blocks(rt: HostRuntime) -> Result<(), Fail> {
         &rt,
         &["blocks", "--keep-going", "--transfer", "7", "f"],
         &Options::Blocks(options),
+        Some("f"),
+    )
+}
+
+#[test]
+fn memory_of_check(rt: HostRuntime) -> Result<(), Fail> {
+    asks_for(
+        &rt,
+        &[
+            "check",
+            "--must",
+            "--peer-segment",
+            "8",
+            "--peer-transfer",
+            "9",
+            "f",
+        ],
+        &judged(true, Some(8), Some(9)),
         Some("f"),
     )
 }

@@ -8,6 +8,7 @@ use Rattle.std.specs.Char.{digit_value}
 use Rattle.clap.specs.Words.{Row, Text, first_of, one_of, subcommand_of}
 use Rattle.link_unpack.specs.declared.wanted.Wanted.{Wanted}
 use Rattle.link_blocks.specs.declared.options.BlockOptions.{BlockOptions}
+use Rattle.link_check.specs.declared.options.CheckOptions.{CheckOptions}
 use Rattle.link_pack.specs.declared.options.PackOptions.{PackOptions}
 use Rattle.link_command.specs.Table.{table}
 use Rattle.link_tools.specs.declared.options.Options.{Options}
@@ -44,7 +45,7 @@ is_set name rows = option_map_or (λ text. bytes_eq text (codes "true")) (first_
 unfoldable pub text_of : (name : Text) → List Row → Text
 text_of name rows = unwrap_or (first_of name rows) []
 
--- whether an option of `blocks` for recordings was given
+-- whether an option for recordings was given to `blocks`
 abbrev pub is_for_recordings : List Row → Bool
 is_for_recordings rows =
     is_some (first_of (codes "transfer") rows) || is_set (codes "keep-going") rows
@@ -52,6 +53,15 @@ is_for_recordings rows =
 -- whether `--bundles` was given together with an option for recordings
 abbrev pub mixes_inputs : List Row → Bool
 mixes_inputs rows = is_set (codes "bundles") rows && is_for_recordings rows
+
+-- whether a limit of the peer was given to `check`
+abbrev pub has_peer_limit : List Row → Bool
+has_peer_limit rows =
+    is_some (first_of (codes "peer-segment") rows) || is_some (first_of (codes "peer-transfer") rows)
+
+-- whether `--bundles` was given together with a limit of the peer
+abbrev pub limits_bundles : List Row → Bool
+limits_bundles rows = is_set (codes "bundles") rows && has_peer_limit rows
 
 -- ---- the invocation
 
@@ -64,6 +74,12 @@ pub record IsBlockOptions (rows : List Row) (options : BlockOptions) : Type 0 wh
   pub recording : is_set (codes "bundles") rows ≡ false
   pub only : options.only ≡ number_in (2 ^ 64) (codes "transfer") rows
   pub keep_going : options.keep_going ≡ is_set (codes "keep-going") rows
+
+pub record IsCheckOptions (rows : List Row) (options : CheckOptions) : Type 0 where
+  pub recording : is_set (codes "bundles") rows ≡ false
+  pub must : options.must ≡ is_set (codes "must") rows
+  pub segment : options.peer.segment ≡ number_in (2 ^ 64) (codes "peer-segment") rows
+  pub transfer : options.peer.transfer ≡ number_in (2 ^ 64) (codes "peer-transfer") rows
 
 -- `max` and `min` change no number that `clap` takes, because the table has the same bounds.
 pub record IsPackOptions (rows : List Row) (packing : PackOptions) : Type 0 where
@@ -83,6 +99,10 @@ AreOptions name rows (options.Unpack wanted) = (name ≡ codes "unpack") × IsWa
 AreOptions name rows (options.Blocks shown) = (name ≡ codes "blocks") × IsBlockOptions rows shown
 AreOptions name rows options.BundleBlocks = (name ≡ codes "blocks")
     × (is_set (codes "bundles") rows ≡ true) × (is_for_recordings rows ≡ false)
+AreOptions name rows (options.Check judged) = (name ≡ codes "check") × IsCheckOptions rows judged
+AreOptions name rows (options.BundleCheck must) = (name ≡ codes "check")
+    × (is_set (codes "bundles") rows ≡ true) × (has_peer_limit rows ≡ false)
+    × (must ≡ is_set (codes "must") rows)
 AreOptions name rows (options.Pack packing) = (name ≡ codes "pack") × IsPackOptions rows packing
 
 pub record IsInvokedBy (name : Text) (rows : List Row) (invocation : Invocation) : Type 0 where

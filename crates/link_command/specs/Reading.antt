@@ -3,15 +3,16 @@ use Rattle.std.specs.Prelude.{◌≡◌, ◌<◌, ◌⊎◌, ⊤, true, false, L
 use Rattle.clap.specs.Words.{Row, Text}
 use Rattle.clap.specs.declared.error.kind.ErrorKind.{ErrorKind}
 use Rattle.clap.specs.declared.error.kind.ErrorKind.TheVariants.{OutOfMemory}
-use Rattle.link_command.specs.Usage.{is_request, mixes_inputs_of, node_of}
+use Rattle.link_command.specs.Usage.{is_request, limits_bundles_of, mixes_inputs_of, node_of}
 use Rattle.link_command.specs.declared.usage.UsageFault.{UsageFault}
-use Rattle.link_command.specs.declared.usage.UsageFault.TheVariants.{Help, Words, NodeTooLong, MixedInputs, Memory}
+use Rattle.link_command.specs.declared.usage.UsageFault.TheVariants.{Help, Words, NodeTooLong, MixedInputs, LimitedBundles, Memory}
 
 abbrev pub IsToolName : Text → Type 0
 IsToolName name = (name ≡ codes "list")
-    ⊎ ((name ≡ codes "unpack") ⊎ ((name ≡ codes "blocks") ⊎ (name ≡ codes "pack")))
+    ⊎ ((name ≡ codes "unpack")
+    ⊎ ((name ≡ codes "blocks") ⊎ ((name ≡ codes "check") ⊎ (name ≡ codes "pack"))))
 
--- the words name one of the four tools
+-- the words name one of the five tools
 abbrev pub NamesTool : Option (Text × List Row) → Type 0
 NamesTool None = ⊥
 NamesTool (Some tool) = IsToolName tool.0
@@ -19,7 +20,8 @@ NamesTool (Some tool) = IsToolName tool.0
 -- the faults that may be returned for the matches of a tool
 abbrev pub IsToolFault : Option (Text × List Row) → UsageFault → Type 0
 IsToolFault tool fault = ((fault ≡ NodeTooLong) × (1024 < length (node_of tool)))
-    ⊎ (((fault ≡ MixedInputs) × (mixes_inputs_of tool ≡ true)) ⊎ (fault ≡ Memory))
+    ⊎ (((fault ≡ MixedInputs) × (mixes_inputs_of tool ≡ true))
+    ⊎ (((fault ≡ LimitedBundles) × (limits_bundles_of tool ≡ true)) ⊎ (fault ≡ Memory)))
 
 -- The faults that may be returned for an error of `clap` of this kind. `Memory` may be returned for
 -- any kind.
@@ -28,4 +30,5 @@ StandsFor kind (Help text) = is_request kind ≡ true
 StandsFor kind (Words text) = (is_request kind ≡ false) × (kind ≡ OutOfMemory → ⊥)
 StandsFor kind NodeTooLong = ⊥
 StandsFor kind MixedInputs = ⊥
+StandsFor kind LimitedBundles = ⊥
 StandsFor kind Memory = ⊤

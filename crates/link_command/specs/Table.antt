@@ -66,6 +66,15 @@ blocks_words = tool (codes "blocks") (
     ∷ file
     ∷ [])
 
+unfoldable pub check_words : Shape
+check_words = tool (codes "check") (
+    flag (codes "must")
+    ∷ number (codes "peer-segment") one_or_more
+    ∷ number (codes "peer-transfer") any_u64
+    ∷ flag (codes "bundles")
+    ∷ file
+    ∷ [])
+
 unfoldable pub pack_words : Shape
 pack_words = tool (codes "pack") (
     record (option (codes "node")) { required = true }
@@ -93,5 +102,5 @@ unfoldable pub table : App
 table =
     record {
       top = record program { is_leaf = false };
-      subs = list_words ∷ unpack_words ∷ blocks_words ∷ pack_words ∷ [];
+      subs = list_words ∷ unpack_words ∷ blocks_words ∷ check_words ∷ pack_words ∷ [];
     }

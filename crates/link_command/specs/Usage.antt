@@ -5,9 +5,9 @@ use Rattle.clap.specs.Words.{IsAmong, Row, Text, fault_of, subcommand_of}
 use Rattle.clap.specs.declared.error.kind.ErrorKind.{ErrorKind}
 use Rattle.clap.specs.declared.error.kind.ErrorKind.TheVariants.{DisplayHelp, DisplayVersion}
 use Rattle.link_command.specs.Table.{table}
-use Rattle.link_command.specs.Invoked.{mixes_inputs, text_of}
+use Rattle.link_command.specs.Invoked.{limits_bundles, mixes_inputs, text_of}
 use Rattle.link_command.specs.declared.usage.UsageFault.{UsageFault}
-use Rattle.link_command.specs.declared.usage.UsageFault.TheVariants.{Help, Words, NodeTooLong, MixedInputs, Memory}
+use Rattle.link_command.specs.declared.usage.UsageFault.TheVariants.{Help, Words, NodeTooLong, MixedInputs, LimitedBundles, Memory}
 
 -- ---- errors that `clap` finds in the words
 
@@ -33,12 +33,19 @@ node_of tool = option_map_or (λ t. text_of (codes "node") t.1) tool []
 abbrev pub node_named : (words : List Text) → Text
 node_named words = node_of (subcommand_of table words)
 
--- whether the tool is given options for two kinds of input
+-- whether the tool is given `--bundles` and an option for recordings
 abbrev pub mixes_inputs_of : (tool : Option (Text × List Row)) → Bool
 mixes_inputs_of tool = option_map_or (λ t. mixes_inputs t.1) tool false
 
 abbrev pub mixed_inputs_named : (words : List Text) → Bool
 mixed_inputs_named words = mixes_inputs_of (subcommand_of table words)
+
+-- whether the tool is given `--bundles` and a limit of the peer
+abbrev pub limits_bundles_of : (tool : Option (Text × List Row)) → Bool
+limits_bundles_of tool = option_map_or (λ t. limits_bundles t.1) tool false
+
+abbrev pub limited_bundles_named : (words : List Text) → Bool
+limited_bundles_named words = limits_bundles_of (subcommand_of table words)
 
 -- when each fault may be returned; `Memory` may be returned for any words
 abbrev pub IsFaultOf : (words : List Text) → UsageFault → Type 0
@@ -46,6 +53,7 @@ IsFaultOf words (Help text) = Finds is_request true words
 IsFaultOf words (Words text) = Finds is_request false words
 IsFaultOf words NodeTooLong = AreAccepted words × (1024 < length (node_named words))
 IsFaultOf words MixedInputs = AreAccepted words × (mixed_inputs_named words ≡ true)
+IsFaultOf words LimitedBundles = AreAccepted words × (limited_bundles_named words ≡ true)
 IsFaultOf words Memory = ⊤
 
 -- ---- the end of the program
@@ -55,6 +63,7 @@ usage_status (Help text) = 0
 usage_status (Words text) = 2
 usage_status NodeTooLong = 2
 usage_status MixedInputs = 2
+usage_status LimitedBundles = 2
 usage_status Memory = 4
 
 -- the program's own message; it is empty for a fault that carries a text
@@ -63,4 +72,6 @@ usage_text (Help text) = []
 usage_text (Words text) = []
 usage_text NodeTooLong = codes "tcpclkit: node id longer than 1024 bytes"
 usage_text MixedInputs = codes "tcpclkit: --bundles goes with no other option"
+usage_text LimitedBundles =
+    codes "tcpclkit: --bundles goes with neither --peer-segment nor --peer-transfer"
 usage_text Memory = codes "tcpclkit: out of memory"

@@ -3,7 +3,7 @@
 ghost use Rattle.std.specs.Prelude.{◌≡◌, [], ◌∷◌, codes, IfOk, true};
 ghost use Rattle.clap.specs.Words.{app_of};
 ghost use Rattle.link_command.specs.Building.{AddsRules, HasRule, IsTool};
-ghost use Rattle.link_command.specs.Table.{any_u16, any_u64, blocks_words, file, flag, list_words, number, number_or, one_or_more, option, pack_words, program, table, tool, unpack_words, up_to_1048576};
+ghost use Rattle.link_command.specs.Table.{any_u16, any_u64, blocks_words, check_words, file, flag, list_words, number, number_or, one_or_more, option, pack_words, program, table, tool, unpack_words, up_to_1048576};
 
 use clap::builder::ValueParser;
 use clap::{Arg, ArgAction, Command, value_parser};
@@ -25,7 +25,7 @@ Example:
     };
 }
 
-const ABOUT: &str = "Lists, unpacks and makes recorded sessions of TCPCLv4 (RFC 9174)";
+const ABOUT: &str = "Lists, unpacks, checks and makes recorded sessions of TCPCLv4 (RFC 9174)";
 
 const HELP: &str = with_listing!(
     "Each command reads FILE, or standard input, and has its own --help.
@@ -38,7 +38,7 @@ out of a capture.
 Exit status:
   0  the input was read to its end, and nothing was wrong with it; or help was asked for
   1  unpack, blocks: some transfer is not good, or with --keep-going some message was
-     out of order
+     out of order; check: some rule is broken
   2  the arguments are wrong; standard error says how
   3  a fault of the input stopped the run
   4  the file could not be opened, reading or writing failed, the input is too long,
@@ -107,6 +107,33 @@ Example:
   0 block 1 at=22 length=11 type=1/payload flags=00 check=none data-at=28 data-length=5
   0 end length=34 good";
 
+const CHECK_ABOUT: &str =
+    "Writes a line for each rule of the RFCs that the sender of a recording breaks";
+
+const CHECK_HELP: &str =
+    "A line has an offset, the level (must or should), the rule, and what broke it. The offset is that
+of a message, or of the first segment of a transfer. The level is must if an RFC says so, and if
+the recording of one side proves that the rule is broken.
+
+The run goes on after a message that is out of order. Standard error has a line only for a fault
+that stops the run.
+
+With --bundles, FILE has bundles, one after another, such as the output of unpack. Only the rules
+of bundles are then judged, and an offset is that of a bundle in the input.
+
+Exit status:
+  0  no line was written, and nothing was wrong with the input
+  1  the input was read to its end, and some line was written
+  2  the arguments are wrong; standard error says how
+  3  a fault of the recording, or with --bundles a bad bundle, stopped the run
+  4  the file could not be opened, reading or writing failed, the input is too long,
+     or there was no memory
+
+Example:
+  $ tcpclkit check session.tcpcl
+  38 must primary-check transfer=0
+  38 must age transfer=0 blocks=0";
+
 const PACK_ABOUT: &str =
     "Writes bundles as the stream of a sender, and a line for each on standard error";
 
@@ -131,8 +158,10 @@ pub(crate) fn tcpclkit<'a>(alloc: Global) -> Result<Command<'a>, AllocError>
     let two = one.subcommand(unpack)?;
     let blocks = blocks_command(alloc)?;
     let three = two.subcommand(blocks)?;
+    let check = check_command(alloc)?;
+    let four = three.subcommand(check)?;
     let pack = pack_command(alloc)?;
-    three.subcommand(pack)
+    four.subcommand(pack)
 }
 
 /// The command `tcpclkit` without its tools.
@@ -185,12 +214,7 @@ fn blocks_command<'a>(alloc: Global) -> Result<Command<'a>, AllocError>
 {
     let tool = tool(alloc, "blocks", BLOCKS_ABOUT, BLOCKS_HELP);
     let one = with_shown(alloc, tool)?;
-    let bundles = flag(
-        alloc,
-        "bundles",
-        "Read bundles, one after another, in place of a recording",
-    );
-    let two = one.arg(bundles)?;
+    let two = one.arg(bundles(alloc))?;
     two.arg(file(alloc))
 }
 
@@ -207,6 +231,42 @@ fn with_shown<'a>(alloc: Global, tool: Command<'a>) -> Result<Command<'a>, Alloc
     );
     let one = tool.arg(transfer)?;
     one.arg(keep_going(alloc))
+}
+
+/// The tool `check`.
+fn check_command<'a>(alloc: Global) -> Result<Command<'a>, AllocError>
+    ensures { IfOk result (IsTool check_words) }
+{
+    let tool = tool(alloc, "check", CHECK_ABOUT, CHECK_HELP);
+    let one = with_judged(alloc, tool)?;
+    let two = one.arg(bundles(alloc))?;
+    two.arg(file(alloc))
+}
+
+/// Adds the options of `check` for the rules that are judged.
+fn with_judged<'a>(alloc: Global, tool: Command<'a>) -> Result<Command<'a>, AllocError>
+    ensures { IfOk result (AddsRules (
+        flag (codes "must")
+        ∷ number (codes "peer-segment") one_or_more
+        ∷ number (codes "peer-transfer") any_u64
+        ∷ []) tool.entry) }
+{
+    let must = flag(alloc, "must", "Leave out the rules of level should");
+    let one = tool.arg(must)?;
+    let segment = number(
+        alloc,
+        "peer-segment",
+        one_or_more(),
+        "The longest segment that the peer takes, 1 to 18446744073709551615 bytes [default: not judged]",
+    );
+    let two = one.arg(segment)?;
+    let transfer = number(
+        alloc,
+        "peer-transfer",
+        any_u64(),
+        "The longest transfer that the peer takes, 0 to 18446744073709551615 bytes [default: not judged]",
+    );
+    two.arg(transfer)
 }
 
 /// The tool `pack`.
@@ -281,6 +341,17 @@ fn keep_going<'a>(alloc: Global) -> Arg<'a>
         alloc,
         "keep-going",
         "Go on after a fault of the order of messages",
+    )
+}
+
+/// The flag `--bundles` of `blocks` and `check`.
+fn bundles<'a>(alloc: Global) -> Arg<'a>
+    ensures { HasRule (flag (codes "bundles")) result }
+{
+    flag(
+        alloc,
+        "bundles",
+        "Read bundles, one after another, in place of a recording",
     )
 }
 

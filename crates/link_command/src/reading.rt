@@ -3,7 +3,7 @@
 ghost use Rattle.std.specs.Prelude.{◌≡◌, ◌^◌, ◌<◌, ◌⊎◌, codes, length, map, option_map, string_bytes, true, IfErr, IfNone, IfOk, IfSome, Some};
 ghost use Rattle.clap.specs.Words.{first_of, found_of, kind_of, rows_of, subcommand_rows_of, takes};
 ghost use Rattle.link_command.specs.Table.{table};
-ghost use Rattle.link_command.specs.Invoked.{AreOptions, IsInvoked, IsInvokedBy, IsInvokedByTool, IsPackOptions, IsWanted, is_for_recordings, is_set, mixes_inputs, number_in, number_of, text_of};
+ghost use Rattle.link_command.specs.Invoked.{AreOptions, IsInvoked, IsInvokedBy, IsInvokedByTool, IsPackOptions, IsWanted, has_peer_limit, is_for_recordings, is_set, limits_bundles, mixes_inputs, number_in, number_of, text_of};
 ghost use Rattle.link_command.specs.Usage.{AreAccepted, IsFaultOf};
 ghost use Rattle.link_command.specs.Reading.{IsToolFault, IsToolName, NamesTool, StandsFor};
 
@@ -12,7 +12,7 @@ use crate::invocation::Invocation;
 use crate::usage::UsageFault;
 use clap::error::ErrorKind;
 use clap::{ArgMatches, Error};
-use link_tools::{BlockOptions, Options, PackOptions, Wanted};
+use link_tools::{BlockOptions, CheckOptions, Options, PackOptions, PeerLimits, Wanted};
 use link_wire::NodeId;
 use std::alloc::{AllocError, Global};
 
@@ -24,6 +24,7 @@ use std::alloc::{AllocError, Global};
 /// - [`UsageFault::Words`]: `clap` refuses the words. Its own definition decides which it takes.
 /// - [`UsageFault::NodeTooLong`]: the node ID has more than 1,024 bytes.
 /// - [`UsageFault::MixedInputs`]: `--bundles` comes with an option for recordings.
+/// - [`UsageFault::LimitedBundles`]: `--bundles` comes with a limit of the peer.
 /// - [`UsageFault::Memory`]: a request for memory was refused.
 pub fn options(alloc: Global, words: &[String]) -> Result<Invocation, UsageFault>
     ensures ok { IfOk result (IsInvoked (map string_bytes words.now)) }
@@ -31,7 +32,8 @@ pub fn options(alloc: Global, words: &[String]) -> Result<Invocation, UsageFault
     ensures err { IfErr result (IsFaultOf (map string_bytes words.now)) }
     ensures passes { takes table (map string_bytes words.now) ≡ true
         → IfErr result (λ fault. (fault ≡ UsageFault.NodeTooLong)
-        ⊎ ((fault ≡ UsageFault.MixedInputs) ⊎ (fault ≡ UsageFault.Memory))) }
+        ⊎ ((fault ≡ UsageFault.MixedInputs)
+        ⊎ ((fault ≡ UsageFault.LimitedBundles) ⊎ (fault ≡ UsageFault.Memory)))) }
 {
     let command = match tcpclkit(alloc) {
         Ok(command) => command,
@@ -77,6 +79,7 @@ fn options_of(name: &str, tool: &ArgMatches<'_>) -> Result<Options, UsageFault>
     match name {
         "unpack" => Ok(Options::Unpack(wanted(tool))),
         "blocks" => blocks(tool),
+        "check" => check(tool),
         "pack" => match pack_options(tool) {
             Some(options) => Ok(Options::Pack(options)),
             None => Err(UsageFault::NodeTooLong),
@@ -130,6 +133,33 @@ fn is_for_recordings(tool: &ArgMatches<'_>) -> bool
     ensures { result ≡ is_for_recordings (rows_of (found_of tool.now)) }
 {
     text(tool, "transfer").is_some() || is_set(tool, "keep-going")
+}
+
+/// The options of `check`.
+fn check(tool: &ArgMatches<'_>) -> Result<Options, UsageFault>
+    ensures ok { IfOk result (AreOptions (codes "check") (rows_of (found_of tool.now))) }
+    ensures err { IfErr result (λ fault. (fault ≡ UsageFault.LimitedBundles)
+        × (limits_bundles (rows_of (found_of tool.now)) ≡ true)) }
+{
+    let must = is_set(tool, "must");
+    if !is_set(tool, "bundles") {
+        let peer = PeerLimits {
+            segment: number_in(tool, "peer-segment"),
+            transfer: number_in(tool, "peer-transfer"),
+        };
+        return Ok(Options::Check(CheckOptions { must, peer }));
+    }
+    if has_peer_limit(tool) {
+        return Err(UsageFault::LimitedBundles);
+    }
+    Ok(Options::BundleCheck { must })
+}
+
+/// Whether a limit of the peer was given to `check`.
+fn has_peer_limit(tool: &ArgMatches<'_>) -> bool
+    ensures { result ≡ has_peer_limit (rows_of (found_of tool.now)) }
+{
+    text(tool, "peer-segment").is_some() || text(tool, "peer-transfer").is_some()
 }
 
 /// The options of `pack`. `None`: the node ID is too long.

@@ -21,6 +21,10 @@ pub enum UsageFault {
     /// recordings.
     #[error("--bundles goes with no other option")]
     MixedInputs,
+    /// `--bundles` was given together with `--peer-segment` or `--peer-transfer`, which are for
+    /// recordings.
+    #[error("--bundles goes with neither --peer-segment nor --peer-transfer")]
+    LimitedBundles,
     /// A request for memory was refused.
     #[error("out of memory")]
     Memory,
@@ -38,6 +42,10 @@ pub fn usage_exit(fault: &UsageFault) -> (u8, &'static str)
         UsageFault::Words(_) => (2, ""),
         UsageFault::NodeTooLong => (2, "tcpclkit: node id longer than 1024 bytes"),
         UsageFault::MixedInputs => (2, "tcpclkit: --bundles goes with no other option"),
+        UsageFault::LimitedBundles => (
+            2,
+            "tcpclkit: --bundles goes with neither --peer-segment nor --peer-transfer",
+        ),
         UsageFault::Memory => (4, "tcpclkit: out of memory"),
     }
 }

@@ -7,6 +7,8 @@ use Rattle.link_list.specs.Listing.{list_tool}
 use Rattle.link_unpack.specs.Unpacking.{unpack_tool}
 use Rattle.link_blocks.specs.Showing.{blocks_tool}
 use Rattle.link_blocks.specs.Bundles.{bundle_blocks_tool}
+use Rattle.link_check.specs.Checking.{check_tool}
+use Rattle.link_check.specs.Bundles.{bundle_check_tool}
 use Rattle.link_pack.specs.Packing.{pack_tool}
 use Rattle.link_pack.specs.Packer.{IsCutterFor}
 use Rattle.link_pack.specs.PackRun.{LacksMemory}
@@ -21,6 +23,8 @@ options_of job.List = chosen.List
 options_of (job.Unpack wanted) = chosen.Unpack wanted
 options_of (job.Blocks options) = chosen.Blocks options
 options_of job.BundleBlocks = chosen.BundleBlocks
+options_of (job.Check options) = chosen.Check options
+options_of (job.BundleCheck must) = chosen.BundleCheck must
 options_of (job.Pack options memory) = chosen.Pack options
 
 -- `pack` has a new cutter for its options, or its request for memory was refused. The other tools
@@ -30,6 +34,8 @@ IsReady job.List = ⊤
 IsReady (job.Unpack wanted) = ⊤
 IsReady (job.Blocks options) = ⊤
 IsReady job.BundleBlocks = ⊤
+IsReady (job.Check options) = ⊤
+IsReady (job.BundleCheck must) = ⊤
 IsReady (job.Pack options memory) = IfOk memory (IsCutterFor options)
 
 -- The tool of a job that has the memory that it needs. Only the request of `pack` may be refused.
@@ -38,6 +44,8 @@ job_tool job.List = Some list_tool
 job_tool (job.Unpack wanted) = Some (unpack_tool wanted)
 job_tool (job.Blocks options) = Some (blocks_tool options)
 job_tool job.BundleBlocks = Some bundle_blocks_tool
+job_tool (job.Check options) = Some (check_tool options)
+job_tool (job.BundleCheck must) = Some (bundle_check_tool must)
 job_tool (job.Pack options (Ok cutter)) = Some (pack_tool options)
 job_tool (job.Pack options (Err refused)) = None
 

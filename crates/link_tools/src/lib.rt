@@ -1,4 +1,5 @@
-//! The tools `list`, `unpack`, `blocks` and `pack` for recorded TCPCLv4 sessions (RFC 9174).
+//! The tools `list`, `unpack`, `blocks`, `check` and `pack` for recorded TCPCLv4 sessions (RFC
+//! 9174).
 //!
 //! Each tool reads an input device step by step, and writes an output and a report. [`Job::new`]
 //! makes the tool of the given options ready to run, and [`run_tool`] runs it to its end.
@@ -17,6 +18,10 @@ mod options;
 pub use exit::run_exit;
 pub use link_blocks::{
     BlockOptions, BlocksRun, BundleBlocksRun, blocks, blocks_run, bundle_blocks, bundle_blocks_run,
+};
+pub use link_check::{
+    BundleCheckRun, CheckOptions, CheckRun, PeerLimits, bundle_check, bundle_check_run, check,
+    check_run,
 };
 pub use link_list::{ListRun, list, list_run};
 pub use link_pack::{PackOptions, PackRun, cutter_for, pack, pack_run};

@@ -5,6 +5,7 @@ ghost use Rattle.link_run.specs.Run.{looks};
 ghost use Rattle.link_tools.specs.Options.{AfterJob, IsReady, options_of};
 
 use link_blocks::{BlockOptions, blocks, bundle_blocks};
+use link_check::{CheckOptions, bundle_check, check};
 use link_list::list;
 use link_pack::{PackOptions, cutter_for, pack};
 use link_run::RunEnd;
@@ -24,6 +25,13 @@ pub enum Options {
     Blocks(BlockOptions),
     /// `blocks` of bundles, one after another: a line for each of their blocks.
     BundleBlocks,
+    /// `check` of a recording: a line for each rule that its sender breaks.
+    Check(CheckOptions),
+    /// `check` of bundles, one after another: a line for each rule that they break.
+    BundleCheck {
+        /// Whether only rules of level `must` have a line, and count.
+        must: bool,
+    },
     /// `pack`: bundles as the stream of a sender, and a line for each bundle.
     Pack(PackOptions),
 }
@@ -39,6 +47,10 @@ pub enum Job {
     Blocks(BlockOptions),
     /// The tool of [`Options::BundleBlocks`].
     BundleBlocks,
+    /// The tool of [`Options::Check`].
+    Check(CheckOptions),
+    /// The tool of [`Options::BundleCheck`].
+    BundleCheck { must: bool },
     /// The tool of [`Options::Pack`], with the result of its one request for memory.
     Pack(PackOptions, Result<Cutter, AllocError>),
 }
@@ -56,6 +68,8 @@ impl Job {
             Options::Unpack(wanted) => Job::Unpack(wanted),
             Options::Blocks(options) => Job::Blocks(options),
             Options::BundleBlocks => Job::BundleBlocks,
+            Options::Check(options) => Job::Check(options),
+            Options::BundleCheck { must } => Job::BundleCheck { must },
             Options::Pack(options) => {
                 let memory = cutter_for(alloc, &options);
                 Job::Pack(options, memory)
@@ -88,6 +102,8 @@ pub fn run_tool<R: InDevice, W: OutDevice, E: OutDevice>(
         Job::Unpack(wanted) => unpack(wanted, reader, output, report),
         Job::Blocks(options) => blocks(options, reader, output, report),
         Job::BundleBlocks => bundle_blocks(reader, output, report),
+        Job::Check(options) => check(options, reader, output, report),
+        Job::BundleCheck { must } => bundle_check(must, reader, output, report),
         Job::Pack(options, memory) => pack(memory, options, reader, output, report),
     }
 }

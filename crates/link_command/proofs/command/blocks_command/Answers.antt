@@ -6,7 +6,7 @@ use Rattle.link_command.proofs.command.blocks_command.Goals as goal
 pub returns : goal.returns
 unfolding blocks_words
 returns c =
-    let two = one_more c.flag-bundles.ensures c.in_ok-two.ensures in
+    let two = one_more c.bundles.ensures c.in_ok-two.ensures in
     IfOk-weaker c.arg-2.result _ _
     (λ whole adds. whole_tool c.tool-tool.ensures (joined c.in_ok-one.ensures (joined two (one_more c.file.ensures adds))))
     c.arg-2.ensures

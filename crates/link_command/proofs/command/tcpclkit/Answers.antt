@@ -10,6 +10,7 @@ returns c =
     let one = c.in_ok-one.ensures.shape c.in_ok-list.ensures.local ∙ ap₂ with_subcommand c.program.ensures c.in_ok-list.ensures.shape in
     let two = c.in_ok-two.ensures.shape c.in_ok-unpack.ensures.local ∙ ap₂ with_subcommand one c.in_ok-unpack.ensures.shape in
     let three = c.in_ok-three.ensures.shape c.in_ok-blocks.ensures.local ∙ ap₂ with_subcommand two c.in_ok-blocks.ensures.shape in
-    IfOk-weaker c.subcommand-4.result _ _
-    (λ all adds. adds.shape c.in_ok-pack.ensures.local ∙ ap₂ with_subcommand three c.in_ok-pack.ensures.shape)
-    c.subcommand-4.ensures
+    let four = c.in_ok-four.ensures.shape c.in_ok-check.ensures.local ∙ ap₂ with_subcommand three c.in_ok-check.ensures.shape in
+    IfOk-weaker c.subcommand-5.result _ _
+    (λ all adds. adds.shape c.in_ok-pack.ensures.local ∙ ap₂ with_subcommand four c.in_ok-pack.ensures.shape)
+    c.subcommand-5.ensures

@@ -1,0 +1,5 @@
+mod Appends
+mod Blocks
+mod BundleTexts
+mod Closed
+mod Kept

@@ -1,0 +1,61 @@
+use Rattle.std.proofs.Common.{◌≡◌, [], ◌∷◌, ◌++◌, ap, sym, ◌∙◌, append-nil, length-append, arith}
+use Rattle.link_bundle_blocks.specs.Blocks.{PrimaryOf, CanonicalOf, viewed_primary, viewed_block, viewed_blocks}
+use Rattle.link_bundle_blocks.specs.Bundle.{blocks_in}
+use Rattle.link_bundle.specs.Scan.{ending}
+use Rattle.link_blocks.proofs.Reading.{lies_within}
+use Rattle.link_check.proofs.Blocks.{history_same, history_begins, history_none, history_adds}
+use Rattle.link_check.proofs.bundle.BundleReader.take_run.Goals as goal
+
+pub returns-in-Some-Primary-clause-reads : goal.returns-in-Some-Primary-clause-reads
+returns-in-Some-Primary-clause-reads c = λ seen before reads some goes come grown.
+    let block = c.in-Some-Primary.block in
+    let ended : ending c.args.scan.now ≡ PrimaryOf (viewed_primary block) block.check block.end ∷ [] =
+    sym c.ended_block-ended.ensures.block ∙ ap viewed_blocks c.in-Some-Primary.is
+    ∙ ap (λ view. viewed_block view ∷ []) (rw c.in-Some-Primary.is at c.in-Some-Primary.field-0-is) in
+    record {
+      reading = c.follow.ensures.reads seen before reads.reading goes come grown;
+      history = history_begins seen c.args.run.now c.begin.result (viewed_primary block) block.check
+          block.end (grown ∙ ap (λ new. blocks_in seen ++ new) ended) c.begin.ensures;
+    }
+
+pub returns-in-Some-clause-reads : goal.returns-in-Some-clause-reads
+returns-in-Some-clause-reads c = λ seen before reads some goes come grown.
+    let block = c.in-Some-Canonical.block in
+    let now = seen ++ c.args.run.now in
+    let ended : ending c.args.scan.now ≡ CanonicalOf block ∷ [] =
+    sym c.ended_block-ended.ensures.block ∙ ap viewed_blocks c.in-Some-Canonical.is
+    ∙ ap (λ view. viewed_block view ∷ []) (rw c.in-Some-Canonical.is at c.in-Some-Canonical.field-0-is) in
+    let more : blocks_in now ≡ blocks_in seen ++ CanonicalOf block ∷ [] =
+    grown ∙ ap (λ new. blocks_in seen ++ new) ended in
+    let reading = c.follow.ensures.reads seen before reads.reading goes come grown in
+    let within = lies_within now (blocks_in seen) block more in
+    record {
+      reading = reading;
+      history = history_adds seen c.args.run.now block more c.in-Some.history c.add.new.history some
+          (rw c.in-Some.is at reads.history)
+          (λ bundle remembers flags. c.add.ensures bundle now remembers (reading.flags ∙ sym flags)
+          (omega (arith, within, before, length-append seen c.args.run.now))
+          (c.follow.ensures.whole seen block before reads.reading goes grown ended));
+    }
+
+pub returns-in_default-clause-reads : goal.returns-in_default-clause-reads
+returns-in_default-clause-reads c = λ seen before reads some goes come grown.
+    let block = c.in-Some-Canonical.block in
+    let ended : ending c.args.scan.now ≡ CanonicalOf block ∷ [] =
+    sym c.ended_block-ended.ensures.block ∙ ap viewed_blocks c.in-Some-Canonical.is
+    ∙ ap (λ view. viewed_block view ∷ []) (rw c.in-Some-Canonical.is at c.in-Some-Canonical.field-0-is) in
+    record {
+      reading = c.follow.ensures.reads seen before reads.reading goes come grown;
+      history = rw c.in_default.is (history_none seen c.args.run.now block
+          (grown ∙ ap (λ new. blocks_in seen ++ new) ended) (rw c.in_default.is at reads.history));
+    }
+
+pub returns-in-None-clause-reads : goal.returns-in-None-clause-reads
+returns-in-None-clause-reads c = λ seen before reads some goes come grown.
+    let none : ending c.args.scan.now ≡ [] =
+    sym c.ended_block-ended.ensures.block ∙ ap viewed_blocks c.in-None.is in
+    record {
+      reading = c.follow.ensures.reads seen before reads.reading goes come grown;
+      history = history_same seen c.args.run.now c.args.self.now.history
+          (grown ∙ ap (λ new. blocks_in seen ++ new) none ∙ append-nil (blocks_in seen)) reads.history;
+    }

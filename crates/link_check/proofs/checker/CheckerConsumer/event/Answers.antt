@@ -1,0 +1,216 @@
+use Rattle.std.proofs.Common.{◌≡◌, ℕ, Bool, Option, Some, ◌+◌, ◌<◌, ◌≤◌, ◌^◌, ◌&&◌, ◌++◌, ◌∷◌, [], length, List, map, true, false, option_map, Err, refl, ap, sym, ◌∙◌, arith}
+use Rattle.std.proofs.lemmas.Bool.{false≢true}
+use Rattle.link_message_rules.specs.MessageRules.{broken_rules}
+use Rattle.link_message_rules.specs.Remembered.{Remembers}
+use Rattle.link_rule_report.specs.declared.line.RuleText.{RuleText}
+use Rattle.link_rule_report.specs.declared.rule.BrokenRule.TheVariants.{Message}
+use Rattle.link_run.specs.Writers.{on_output}
+use Rattle.link_run.proofs.Runs.{outputs_then, part_of_more}
+use Rattle.link_walk.specs.Telling.{ComesAfter, data_ends, viewed_head}
+use Rattle.link_walk.specs.Walk.{Head, WalkEvent, ContactHeader, LeftOpen, MessageHead, closes, data_size, has_open, is_beginning}
+use Rattle.link_check.specs.Checker.{IsAtLatest, KnowsChecked, closed_due, kept_of}
+use Rattle.link_check.specs.Checking.{Begun, begun_by, broken_by, judged, open_rules, rules_at, with_bytes}
+use Rattle.link_check.specs.Lines.{at_offset, lines_of, none_counts}
+use Rattle.link_check.specs.declared.checker.Checker.{Checker}
+use Rattle.link_check.specs.declared.options.CheckOptions.{CheckOptions}
+use Rattle.link_check.proofs.Appends.{and_assoc, counts_append, lines_append}
+use Rattle.link_check.proofs.Closed.{on_ok_by}
+use Rattle.link_check.proofs.Kept.{IsRead, closes_read, data_said, known_data, known_one, opens_read, read_after, said_one, tells}
+use Rattle.link_check.proofs.checker.CheckerConsumer.event.Given.{Over}
+use Rattle.link_check.proofs.checker.CheckerConsumer.event.Goals as goal
+use Rattle.link_check.proofs.checker.CheckerConsumer.event.Goals.{After-close, then-begins, else-begins}
+
+pub returns-in-Contact : goal.returns-in-Contact
+returns-in-Contact g c = rw c.in-Contact.is (λ before knows none.
+    let options = c.args.options.now in
+    let event = ContactHeader c.in-Contact.contact.now in
+    let old = c.args.self.now in
+    let now : Checker =
+    record { history = old.history; latest = old.latest; good = c.write_contact.new.good } in
+    let broken = broken_by options (kept_of options before) event in
+    tells options before g.W.OutDevice.state g.E.OutDevice.state c.args.writers.now
+    c.write_contact.new.writers c.write_contact.result now (event ∷ []) broken
+    (said_one options before event) c.write_contact.ensures.gives
+    (on_ok_by c.write_contact.result
+    (λ good. known_one options before event now knows.size
+    (good ∙ ap (λ b. b && none_counts options.must broken) knows.good) knows.history knows.at_open)
+    c.write_contact.ensures.good))
+
+-- ---- a head
+
+module _ (options : CheckOptions) (before : List WalkEvent) (head : Head) where
+  -- the rules that the head breaks, and those of the transfer that it closes
+  abbrev own : List RuleText
+  own = at_offset head.offset (map (λ rule. Message rule)
+      (broken_rules options.peer (kept_of options before).heads (judged head)))
+
+  abbrev latest : Option Begun
+  latest = begun_by head (kept_of options before).latest
+
+  abbrev closed : List RuleText
+  closed = closed_due (closes head) latest
+
+  head_lines : lines_of options.must (broken_by options (kept_of options before) (MessageHead head))
+      ≡ lines_of options.must own ++ lines_of options.must closed
+  head_lines = lines_append options.must own closed
+
+  head_counts : none_counts options.must (broken_by options (kept_of options before) (MessageHead head))
+      ≡ (none_counts options.must own && none_counts options.must closed)
+  head_counts = counts_append options.must own closed
+
+-- the state after the head, which may have begun a transfer
+record AtHead (now old : Checker) (written : Bool) (options : CheckOptions) (before : List WalkEvent) (head : Head)
+    : Type 0 where
+  read : IsRead now.latest (latest options before head) (is_beginning head.turn) (has_open before)
+  size : now.latest.judge.size ≤ old.latest.judge.size
+  history : Remembers now.history ((kept_of options before).heads ++ judged head ∷ [])
+  good : now.good ≡ written
+
+at_head : (g : Over) (c : After-close g) (before : List WalkEvent)
+    → KnowsChecked c.args.options.now c.args.self.now before
+    → ComesAfter before (viewed_head c.in-Head.head)
+    → AtHead c.if-begins.self c.args.self.now c.write_head-written.new.good c.args.options.now before (viewed_head c.in-Head.head)
+at_head g c before knows comes =
+    let options = c.args.options.now in
+    let head = viewed_head c.in-Head.head in
+    let old = c.args.self.now in
+    let kept = kept_of options before in
+    let history = c.take.ensures kept.heads knows.history in
+    elim c.if-begins.branch [
+      | then-begins w ↦ rw w.self-is (record {
+        read = read_after before head comes kept.latest old.latest w.begin.new.self knows.at_open
+            (λ first begins is starts. w.begin.ensures.follows first is starts)
+            (λ none. absurd (false≢true (sym none ∙ (sym c.begins.ensures ∙ w.if-begins.true))));
+        size = w.begin.ensures.size;
+        history = history;
+        good = refl;
+      })
+      | else-begins w ↦ rw w.self-is (record {
+        read = read_after before head comes kept.latest old.latest old.latest knows.at_open
+            (λ first begins is starts.
+            absurd (false≢true (sym (sym c.begins.ensures ∙ w.if-begins.false) ∙ begins)))
+            (λ none. refl);
+        size = omega arith;
+        history = history;
+        good = refl;
+      })
+    ]
+
+pub returns-in-Err : goal.returns-in-Err
+returns-in-Err g c = rw c.in-Head.is (λ before knows comes.
+    let options = c.args.options.now in
+    let head = viewed_head c.in-Head.head in
+    let first = lines_of options.must (own options before head) in
+    let second = lines_of options.must (closed options before head) in
+    tells options before g.W.OutDevice.state g.E.OutDevice.state c.args.writers.now
+    c.write_head-written.new.writers (Err c.in-Err.fault) _ (MessageHead head ∷ [])
+    (broken_by options (kept_of options before) (MessageHead head))
+    (said_one options before (MessageHead head))
+    (rw (head_lines options before head)
+    (part_of_more g.W.OutDevice.state g.E.OutDevice.state c.args.writers.now
+    c.write_head-written.new.writers (on_output first) (on_output second) c.in-Err.fault
+    (λ some. absurd (omega (arith, some)))
+    (c.in-Err.ensures.gives (kept_of options before).heads knows.history)))
+    tt)
+
+pub returns-in_default : goal.returns-in_default
+returns-in_default g c = rw c.in-Head.is (λ before knows comes.
+    let options = c.args.options.now in
+    let head = viewed_head c.in-Head.head in
+    let first = own options before head in
+    let second = closed options before head in
+    let state = at_head g c before knows comes in
+    let due = λ (is : c.closes.result ≡ true).
+    state.read (closes_read before head comes (latest options before head) c.if-begins.self.latest c.if-begins.self.latest (sym c.closes.ensures ∙ is)) in
+    let now : Checker = record {
+      history = c.if-begins.self.history;
+      latest = c.if-begins.self.latest;
+      good = c.close.new.good;
+    } in
+    tells options before g.W.OutDevice.state g.E.OutDevice.state c.args.writers.now
+    c.close.new.writers c.close.result now (MessageHead head ∷ [])
+    (broken_by options (kept_of options before) (MessageHead head))
+    (said_one options before (MessageHead head))
+    (rw (head_lines options before head)
+    (outputs_then g.W.OutDevice.state g.E.OutDevice.state c.args.writers.now
+    c.write_head-written.new.writers c.close.new.writers (lines_of options.must first)
+    (lines_of options.must second) c.close.result
+    (c.in_default.ensures.gives (kept_of options before).heads knows.history)
+    (rw (← c.closes.ensures) (c.close.ensures.gives (latest options before head) due))))
+    (on_ok_by c.close.result
+    (λ good. known_one options before (MessageHead head) now
+    (omega (arith, state.size, knows.size))
+    (head_good (kept_of options before).good _ _ _
+    (none_counts options.must first) (none_counts options.must second) (head_counts options before head)
+    knows.good
+    (state.good ∙ c.in_default.ensures.good (kept_of options before).heads knows.history)
+    (rw (← c.closes.ensures) good))
+    state.history
+    (λ opened. state.read (opens_read before head comes (latest options before head) c.if-begins.self.latest c.if-begins.self.latest opened)))
+    (c.close.ensures.good (latest options before head) due)))
+  where
+    head_good : (kept was mid new first second : Bool) {all : Bool} → all ≡ (first && second)
+        → was ≡ kept → mid ≡ (was && first) → new ≡ (mid && second) → new ≡ (kept && all)
+    head_good kept was mid new first second counts is one two =
+        two ∙ ap (λ b. b && second) (one ∙ ap (λ b. b && first) is)
+        ∙ sym (and_assoc kept first second) ∙ ap (λ b. kept && b) (sym counts)
+
+-- ---- data
+
+pub returns-in-Data : goal.returns-in-Data
+returns-in-Data g c = rw c.in-Data.is (λ before knows may.
+    let options = c.args.options.now in
+    let old = c.args.self.now in
+    let bytes = c.in-Data.bytes.now in
+    let whole = c.in-Data.whole in
+    let kept = kept_of options before in
+    let fits : old.latest.judge.size + length bytes < 2 ^ 63 =
+    let few = may.1 in omega (arith, knows.size) in
+    let at = knows.at_open may.0 in
+    let begun = with_bytes bytes at.begun in
+    let follows = c.take-in-Data.ensures.follows at.begun fits at.checks in
+    let read : IsAtLatest c.take-in-Data.new.self (Some begun) =
+    record { begun = begun; is = refl; checks = follows } in
+    let now : Checker = record {
+      history = old.history;
+      latest = c.take-in-Data.new.self;
+      good = c.close-in-Data.new.good;
+    } in
+    let same : option_map (with_bytes bytes) kept.latest ≡ Some begun =
+    ap (option_map (with_bytes bytes)) at.is in
+    let lines = λ (latest : Option Begun). lines_of options.must (closed_due whole latest) in
+    tells options before g.W.OutDevice.state g.E.OutDevice.state c.args.writers.now
+    c.close-in-Data.new.writers c.close-in-Data.result now (data_ends bytes whole)
+    (closed_due whole (option_map (with_bytes bytes) kept.latest))
+    (data_said options before bytes whole)
+    (rw (ap lines same) (c.close-in-Data.ensures.gives (Some begun) (λ is. read)))
+    (on_ok_by c.close-in-Data.result
+    (λ good. known_data options before bytes whole now at.begun at.is
+    (omega (arith, c.take-in-Data.ensures.size, knows.size))
+    (good ∙ ap (λ b. b && none_counts options.must (closed_due whole (Some begun))) knows.good)
+    knows.history follows)
+    (c.close-in-Data.ensures.good (Some begun) (λ is. read))))
+
+-- ---- the end of the stream
+
+pub returns-in-LeftOpen : goal.returns-in-LeftOpen
+returns-in-LeftOpen g c = rw c.in-LeftOpen.is (λ before knows opened.
+    let options = c.args.options.now in
+    let old = c.args.self.now in
+    let kept = kept_of options before in
+    let at = knows.at_open opened in
+    let now : Checker =
+    record { history = old.history; latest = old.latest; good = c.write_open.new.good } in
+    let broken = broken_by options kept LeftOpen in
+    let is : broken ≡ at_offset at.begun.offset (open_rules at.begun) =
+    ap (rules_at open_rules) at.is in
+    tells options before g.W.OutDevice.state g.E.OutDevice.state c.args.writers.now
+    c.write_open.new.writers c.write_open.result now (LeftOpen ∷ []) broken
+    (said_one options before LeftOpen)
+    (rw (ap (lines_of options.must) is) (c.write_open.ensures.gives at.begun at.checks))
+    (on_ok_by c.write_open.result
+    (λ good. known_one options before LeftOpen now knows.size
+    (good ∙ ap (λ b. b && none_counts options.must (at_offset at.begun.offset (open_rules at.begun))) knows.good
+    ∙ ap (λ b. kept.good && b) (sym (ap (none_counts options.must) is)))
+    knows.history (λ none. absurd (cc)))
+    (c.write_open.ensures.good at.begun at.checks)))

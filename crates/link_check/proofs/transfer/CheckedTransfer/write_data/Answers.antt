@@ -1,0 +1,63 @@
+use Rattle.std.proofs.Common.{◌≡◌, List, [], ◌∷◌, length, map, Some, Ok, Err, refl, sym, ap, ◌∙◌, arith}
+use Rattle.link_bundle_types.specs.BundleView.{viewed_info}
+use Rattle.link_bundle_blocks.specs.Bundle.{verdict}
+use Rattle.link_bundle.proofs.Pieces.{verdict_judged}
+use Rattle.link_message_rules.specs.TransferData.{data_rule}
+use Rattle.link_rule_report.specs.declared.rule.BrokenRule.TheVariants.{Bundle, Transfer}
+use Rattle.link_rule_report.specs.declared.rule.BundlePlace.TheVariants as place
+use Rattle.link_check.specs.BundleRules.{bundle_rules}
+use Rattle.link_check.specs.Checker.{IsChecking}
+use Rattle.link_check.specs.Checking.{Begun, data_rules, optional}
+use Rattle.link_check.specs.Lines.{at_offset}
+use Rattle.link_check.proofs.Closed.{same_rules}
+use Rattle.link_check.proofs.transfer.CheckedTransfer.write_data.Goals as goal
+
+-- the rules of a good bundle are those that were written
+good_are : (g : _) (c : goal.After-write_rules g) (begun : Begun) → IsChecking c.args.self.now begun
+    → at_offset c.args.self.now.offset
+    (map (λ rule. Bundle (place.Transfer c.args.self.now.judge.id) rule) c.as_slice.result.now)
+    ≡ at_offset begun.offset (data_rules begun.first.id begun.content (verdict begun.content))
+good_are g c begun checks =
+    let judge = c.args.self.now.judge in
+    let judged = checks.judging.judged in
+    let is : verdict begun.content ≡ Ok (viewed_info c.in-Ok.info) =
+    sym (c.in-Ok.ensures.seen judged.seen judged.scanned ∙ verdict_judged judge.scan begun.content judged) in
+    rw is (same_rules c.args.self.now.offset begun.offset _ _ c.as_slice.result.now _ checks.offset
+    (ap (λ id rule. Bundle (place.Transfer id) rule) checks.judging.id)
+    (c.as_slice.ensures.value ∙ c.rules-rules.ensures begun.content (viewed_info c.in-Ok.info)
+    checks.reading (omega (arith, checks.judging.size, judge.limit)) refl))
+
+pub returns-in-Ok-clause-gives : goal.returns-in-Ok-clause-gives
+returns-in-Ok-clause-gives g c = λ begun checks.
+    rw (good_are g c begun checks)
+    at c.write_rules.ensures.gives
+
+pub returns-in-Ok-clause-good : goal.returns-in-Ok-clause-good
+returns-in-Ok-clause-good g c = λ begun checks.
+    rw (good_are g c begun checks)
+    at c.write_rules.ensures.good
+
+-- the rule of data that is no bundle is the one that was written
+bad_are : (g : _) (c : goal.After-write_rules-in-Err g) (begun : Begun) → IsChecking c.args.self.now begun
+    → at_offset c.args.self.now.offset
+    (map (λ rule. Transfer c.args.self.now.judge.id rule) (c.data_rule-rule.result ∷ []))
+    ≡ at_offset begun.offset (data_rules begun.first.id begun.content (verdict begun.content))
+bad_are g c begun checks =
+    let judge = c.args.self.now.judge in
+    let judged = checks.judging.judged in
+    let is : verdict begun.content ≡ Err (c.in-Err.fault, c.in-Err.byte) =
+    sym (c.in-Err.ensures.seen judged.seen judged.scanned ∙ verdict_judged judge.scan begun.content judged) in
+    rw is (same_rules c.args.self.now.offset begun.offset _ _ (c.data_rule-rule.result ∷ []) _
+    checks.offset (ap (λ id rule. Transfer id rule) checks.judging.id)
+    (ap optional (c.data_rule-rule.ensures begun.content
+    (c.first_indefinite.ensures begun.content checks.reading))))
+
+pub returns-in-Err-clause-gives : goal.returns-in-Err-clause-gives
+returns-in-Err-clause-gives g c = λ begun checks.
+    rw (bad_are g c begun checks)
+    at c.write_rules-in-Err.ensures.gives
+
+pub returns-in-Err-clause-good : goal.returns-in-Err-clause-good
+returns-in-Err-clause-good g c = λ begun checks.
+    rw (bad_are g c begun checks)
+    at c.write_rules-in-Err.ensures.good

@@ -1,0 +1,7 @@
+pub mod BundleRules
+pub mod Lines
+pub mod Checking
+pub mod Bundles
+pub mod BundleReader
+pub mod Checker
+pub mod BundleChecker

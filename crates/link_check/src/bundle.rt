@@ -1,0 +1,157 @@
+//! What the rules for a bundle need of its bytes.
+
+ghost use Rattle.std.specs.Prelude.{◌≡◌, ◌+◌, ◌^◌, ◌≤◌, ◌<◌, ◌++◌, true, List, [], ℕ, length};
+ghost use Rattle.link_blocks.specs.BlockLines.{found_in};
+ghost use Rattle.link_blocks.specs.DataReader.{IsReadingBlock, read_size};
+ghost use Rattle.link_bundle_rules.specs.ReadBundle.{ReadBundle, with_block};
+ghost use Rattle.link_bundle_rules.specs.Remembered.{Remembers};
+
+use link_blocks::DataReader;
+use link_bundle::{BlockView, BundleScan, CanonicalBlock};
+use link_bundle_rules::{BrokenBundleRules, BundleHistory, ReadBlockView};
+use link_cbor::Piecewise;
+use link_rules::HeadWalk;
+
+/// Reads one bundle after another, as far as the rules for bundles need it.
+///
+/// It has a fixed size, and keeps no bytes.
+#[derive(Drop)]
+pub(crate) struct BundleReader {
+    blocks: DataReader,
+    /// The blocks so far, once the primary block is whole.
+    history: Option<BundleHistory>,
+    heads: HeadWalk,
+}
+
+/// Adds a whole block to a history. Its data was read.
+fn add<'a>(history: &mut BundleHistory, block: &'a CanonicalBlock, reader: &'a DataReader)
+    requires { read_size reader.now < 2 ^ 63 }
+    ensures { (bundle : ReadBundle) (seen : List ℕ) → Remembers history.old bundle
+        → reader.now.flags ≡ bundle.primary.flags → block.now.data_start < 2 ^ 63
+        → IsReadingBlock reader.now seen block.now
+        → Remembers history.new (with_block bundle (record {
+          block = block.now;
+          found = found_in bundle.primary.flags seen block.now;
+        })) }
+{
+    let found = reader.found();
+    history.take(&ReadBlockView { block, found });
+}
+
+impl BundleReader {
+    ghost use Rattle.link_bundle_types.specs.declared.info.BundleInfo.{BundleInfo};
+    ghost use Rattle.link_bundle_blocks.specs.Bundle.{blocks_in, bundle_goes};
+    ghost use Rattle.link_bundle.specs.Scan.{HasScanned, HasJudged, ending, scan_size};
+    ghost use Rattle.link_rules.specs.Heads.{first_indefinite};
+    ghost use Rattle.link_check.specs.BundleReader.{IsReadingBlocks, IsReadingBundle, data_size};
+    ghost use Rattle.link_check.specs.BundleRules.{bundle_rules};
+
+    /// Makes a reader for the first bundle.
+    pub(crate) fn new() -> BundleReader
+        ensures reads { IsReadingBundle result [] }
+        ensures size { data_size result ≡ 0 }
+    {
+        let mut blocks = DataReader::new();
+        blocks.restart();
+        BundleReader {
+            blocks,
+            history: None,
+            heads: HeadWalk::new(),
+        }
+    }
+
+    /// Begins another bundle.
+    pub(crate) fn restart(&mut self)
+        ensures reads { IsReadingBundle self.new [] }
+        ensures size { data_size self.new ≡ 0 }
+    {
+        self.blocks.restart();
+        self.history = None;
+        self.heads.restart();
+    }
+
+    /// Scans and reads the next piece of a bundle, which comes after its first `before` bytes.
+    pub(crate) fn take(&mut self, before: u64, piece: &[u8], scan: &mut BundleScan)
+        requires room { before + length piece.now < 2 ^ 63 }
+        requires scanned { scan_size scan.old ≤ before }
+        requires read { data_size self.old ≤ before }
+        ensures scanned { scan_size scan.new ≤ before + length piece.now }
+        ensures read { data_size self.new ≤ before + length piece.now }
+        ensures judged { (content : List ℕ) → length content ≡ before → HasJudged scan.old content
+            → HasJudged scan.new (content ++ piece.now) }
+        ensures reads { (content : List ℕ) → length content ≡ before → HasJudged scan.old content
+            → IsReadingBundle self.old content → IsReadingBundle self.new (content ++ piece.now) }
+    {
+        self.heads.take(piece);
+        self.take_blocks(before, piece, scan);
+    }
+
+    /// Scans the next piece, and reads its blocks.
+    fn take_blocks(&mut self, before: u64, piece: &[u8], scan: &mut BundleScan)
+        requires room { before + length piece.now < 2 ^ 63 }
+        requires scanned { scan_size scan.old ≤ before }
+        requires read { data_size self.old ≤ before }
+        ensures scanned { scan_size scan.new ≤ before + length piece.now }
+        ensures read { data_size self.new ≤ before + length piece.now }
+        ensures heads { self.new.heads ≡ self.old.heads }
+        ensures judged { (content : List ℕ) → length content ≡ before → HasJudged scan.old content
+            → HasJudged scan.new (content ++ piece.now) }
+        ensures reads { (content : List ℕ) → length content ≡ before → HasJudged scan.old content
+            → IsReadingBlocks self.old content → IsReadingBlocks self.new (content ++ piece.now) }
+    {
+        let mut taken = 0;
+        while taken < piece.len() && scan.going() {
+            let rest = &piece[taken..];
+            let count = scan.feed_block(rest);
+            self.take_run(before + taken as u64, &rest[..count], scan);
+            taken += count;
+        }
+        scan.judge_piece(&piece[taken..]);
+    }
+
+    /// Reads a run of a bundle that the scan has seen. A block may end with the run, and none ends
+    /// before.
+    fn take_run(&mut self, before: u64, run: &[u8], scan: &BundleScan)
+        requires room { before + length run.now < 2 ^ 63 }
+        requires read { data_size self.old ≤ before }
+        ensures read { data_size self.new ≤ before + length run.now }
+        ensures heads { self.new.heads ≡ self.old.heads }
+        ensures reads { (seen : List ℕ) → length seen ≡ before → IsReadingBlocks self.old seen
+            → 0 < length run.now → bundle_goes seen ≡ true
+            → HasScanned scan.now (seen ++ run.now)
+            → blocks_in (seen ++ run.now) ≡ blocks_in seen ++ ending scan.now
+            → IsReadingBlocks self.new (seen ++ run.now) }
+    {
+        let ended = scan.ended_block();
+        self.blocks.follow(before, run, &ended, scan);
+        match &ended {
+            Some(BlockView::Primary(block)) => self.history = Some(BundleHistory::begin(block)),
+            Some(BlockView::Canonical(block)) => {
+                if let Some(history) = &mut self.history {
+                    add(history, block, &self.blocks);
+                }
+            }
+            None => {}
+        }
+    }
+
+    /// The offset of the first head of indefinite length after the bundle's own.
+    pub(crate) fn first_indefinite(&self) -> Option<u64>
+        ensures { (content : List ℕ) → IsReadingBundle self.now content
+            → result ≡ first_indefinite content }
+    {
+        self.heads.first_indefinite()
+    }
+
+    /// The rules that the bundle breaks, if it is good, whole and has a payload of this length.
+    pub(crate) fn rules(&self, payload: u64) -> BrokenBundleRules
+        ensures { (content : List ℕ) (info : BundleInfo) → IsReadingBundle self.now content
+            → length content < 2 ^ 63 → payload ≡ info.payload
+            → result.items ≡ bundle_rules content info }
+    {
+        match &self.history {
+            Some(history) => history.rules(self.heads.first_long(), payload),
+            None => BrokenBundleRules::new(),
+        }
+    }
+}

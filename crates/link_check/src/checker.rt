@@ -1,0 +1,258 @@
+//! `check`: the lines of the rules that a recorded stream breaks.
+
+ghost use Rattle.std.specs.Prelude.{◌≡◌, ◌&&◌, true, false, [], List, OnOk, Option, map};
+ghost use Rattle.link_wire.specs.MessageBuffer.{SegmentHasTotals};
+ghost use Rattle.link_message_rules.specs.Flags.{contact_flags};
+ghost use Rattle.link_message_rules.specs.Heads.{JudgedHead, viewed_head};
+ghost use Rattle.link_message_rules.specs.MessageRules.{broken_rules};
+ghost use Rattle.link_message_rules.specs.Remembered.{Remembers};
+ghost use Rattle.link_rule_report.specs.declared.rule.BrokenRule.TheVariants.{Message};
+ghost use Rattle.link_run.specs.Run.{AfterRun, devices_at, looks};
+ghost use Rattle.link_run.specs.Writers.{AfterWrite, on_output};
+ghost use Rattle.link_check.specs.Checker.{IsAtLatest, KnowsChecked, closed_due};
+ghost use Rattle.link_check.specs.Checking.{Begun, check_telling, check_tool, optional};
+ghost use Rattle.link_check.specs.Lines.{at_offset, lines_of, none_counts};
+ghost use Rattle.link_check.specs.declared.options.CheckOptions.{CheckOptions};
+
+use crate::lines::write_rules;
+use crate::options::CheckOptions;
+use crate::transfer::CheckedTransfer;
+use link_message_rules::{JudgedHeadView, MessageHistory, contact_flags};
+use link_run::{Run, RunEnd, Writers};
+use link_walk::{Consumer, EventView, Manner, WalkRun, walk_run};
+use link_wire::{Contact, InDevice, IoFault, OutDevice};
+
+/// What is known about the messages and the transfers so far.
+#[derive(Drop)]
+pub struct Checker {
+    history: MessageHistory,
+    latest: CheckedTransfer,
+    /// Whether no rule that counts was broken.
+    good: bool,
+}
+
+impl Checker {
+    /// What is known before a stream has begun.
+    pub fn new() -> Checker
+        ensures { (options : CheckOptions) → KnowsChecked options result [] }
+    {
+        Checker {
+            history: MessageHistory::new(),
+            latest: CheckedTransfer::new(),
+            good: true,
+        }
+    }
+}
+
+impl Consumer for Checker {
+    type Options = CheckOptions;
+
+    ghost telling = { check_telling };
+
+    ghost knows = { KnowsChecked };
+
+    #[inline(always)]
+    fn manner(_options: &CheckOptions) -> Manner {
+        Manner {
+            goes_on: true,
+            all_heads: true,
+        }
+    }
+
+    #[inline(always)]
+    fn event<W: OutDevice, E: OutDevice>(
+        &mut self,
+        options: &CheckOptions,
+        event: EventView<'_>,
+        writers: &mut Writers<W, E>,
+    ) -> Result<(), IoFault> {
+        match event {
+            EventView::Contact(contact) => {
+                write_contact(options.must, contact, writers, &mut self.good)
+            }
+            EventView::Head(head) => {
+                let judged = JudgedHeadView {
+                    message: head.message,
+                    fault: head.fault,
+                    turn: head.turn,
+                };
+                let written = write_head(
+                    options,
+                    head.offset,
+                    &judged,
+                    &self.history,
+                    writers,
+                    &mut self.good,
+                );
+                self.history.take(&judged);
+                if head.begins() {
+                    self.latest.begin(&head);
+                }
+                if let Err(fault) = written {
+                    return Err(fault);
+                }
+                close(
+                    options.must,
+                    head.closes(),
+                    &self.latest,
+                    writers,
+                    &mut self.good,
+                )
+            }
+            EventView::Data { bytes, whole } => {
+                self.latest.take(bytes);
+                close(options.must, whole, &self.latest, writers, &mut self.good)
+            }
+            EventView::LeftOpen => {
+                self.latest
+                    .write_open(options.must, writers, &mut self.good)
+            }
+        }
+    }
+
+    #[inline(always)]
+    fn is_good(&self, _options: &CheckOptions) -> bool {
+        self.good
+    }
+}
+
+/// Writes the line of the rule of contact headers, if it is broken.
+fn write_contact<W: OutDevice, E: OutDevice>(
+    must: bool,
+    contact: &Contact,
+    writers: &mut Writers<W, E>,
+    good: &mut bool,
+) -> Result<(), IoFault>
+    ensures gives { AfterWrite W.state E.state writers.old writers.new (on_output (lines_of must
+        (at_offset 0 (map (λ rule. Message rule) (optional (contact_flags contact.now)))))) result }
+    ensures good { OnOk result (good.new ≡ (good.old && none_counts must
+        (at_offset 0 (map (λ rule. Message rule) (optional (contact_flags contact.now)))))) }
+{
+    match contact_flags(contact) {
+        Some(rule) => write_rules(must, 0, (), &[rule], writers, good),
+        None => Ok(()),
+    }
+}
+
+/// Writes the lines of the rules that a head breaks after those of the history. Most heads break
+/// none.
+#[inline(always)]
+fn write_head<W: OutDevice, E: OutDevice>(
+    options: &CheckOptions,
+    offset: u64,
+    head: &JudgedHeadView<'_>,
+    history: &MessageHistory,
+    writers: &mut Writers<W, E>,
+    good: &mut bool,
+) -> Result<(), IoFault>
+    requires { SegmentHasTotals head.now.message.now }
+    ensures gives { (before : List JudgedHead) → Remembers history.now before
+        → AfterWrite W.state E.state writers.old writers.new (on_output (lines_of options.now.must
+        (at_offset offset (map (λ rule. Message rule)
+        (broken_rules options.now.peer before (viewed_head head.now)))))) result }
+    ensures good { (before : List JudgedHead) → Remembers history.now before
+        → OnOk result (good.new ≡ (good.old && none_counts options.now.must
+        (at_offset offset (map (λ rule. Message rule)
+        (broken_rules options.now.peer before (viewed_head head.now)))))) }
+{
+    if history.keeps_rules(&options.peer, head) {
+        return Ok(());
+    }
+    write_broken(options, offset, head, history, writers, good)
+}
+
+/// Writes the lines of the rules that a head breaks, whether or not it breaks any.
+#[inline(never)]
+fn write_broken<W: OutDevice, E: OutDevice>(
+    options: &CheckOptions,
+    offset: u64,
+    head: &JudgedHeadView<'_>,
+    history: &MessageHistory,
+    writers: &mut Writers<W, E>,
+    good: &mut bool,
+) -> Result<(), IoFault>
+    requires { SegmentHasTotals head.now.message.now }
+    ensures gives { (before : List JudgedHead) → Remembers history.now before
+        → AfterWrite W.state E.state writers.old writers.new (on_output (lines_of options.now.must
+        (at_offset offset (map (λ rule. Message rule)
+        (broken_rules options.now.peer before (viewed_head head.now)))))) result }
+    ensures good { (before : List JudgedHead) → Remembers history.now before
+        → OnOk result (good.new ≡ (good.old && none_counts options.now.must
+        (at_offset offset (map (λ rule. Message rule)
+        (broken_rules options.now.peer before (viewed_head head.now)))))) }
+{
+    let rules = history.rules(&options.peer, head);
+    write_rules(options.must, offset, (), rules.as_slice(), writers, good)
+}
+
+/// Writes the lines of the latest transfer, if they are due since it is closed.
+#[inline(always)]
+fn close<W: OutDevice, E: OutDevice>(
+    must: bool,
+    due: bool,
+    latest: &CheckedTransfer,
+    writers: &mut Writers<W, E>,
+    good: &mut bool,
+) -> Result<(), IoFault>
+    ensures gives { (begun : Option Begun) → (due ≡ true → IsAtLatest latest.now begun)
+        → AfterWrite W.state E.state writers.old writers.new
+        (on_output (lines_of must (closed_due due begun))) result }
+    ensures good { (begun : Option Begun) → (due ≡ true → IsAtLatest latest.now begun)
+        → OnOk result (good.new ≡ (good.old && none_counts must (closed_due due begun))) }
+{
+    if due {
+        latest.write_closed(must, writers, good)
+    } else {
+        Ok(())
+    }
+}
+
+/// A run of `check`, step by step.
+pub type CheckRun<R, W, E> = WalkRun<R, W, E, Checker>;
+
+/// Makes a run of `check` that has read and written nothing.
+pub fn check_run<R: InDevice, W: OutDevice, E: OutDevice>(
+    options: CheckOptions,
+    reader: R,
+    output: W,
+    report: E,
+) -> CheckRun<R, W, E>
+    requires reader { (R.state reader).failed ≡ false }
+    requires output { (W.state output).failed ≡ false }
+    requires report { (E.state report).failed ≡ false }
+    ensures stands { ⟦<CheckRun<R, W, E> as Run<R, W, E>>⟧.stands result
+        (record { reader = reader; output = output; report = report }) [] }
+    ensures tool { ⟦<CheckRun<R, W, E> as Run<R, W, E>>⟧.tool result ≡ check_tool options }
+    ensures devices { devices_at (⟦<CheckRun<R, W, E> as Run<R, W, E>>⟧.place result)
+        ≡ record { reader = reader; output = output; report = report } }
+    ensures waits { ⟦<CheckRun<R, W, E> as Run<R, W, E>>⟧.waits result ≡ [] }
+{
+    walk_run(options, Checker::new(), reader, output, report)
+}
+
+/// Judges by which rules a recorded stream was sent, to the end of the run.
+///
+/// The output has a line for each rule that a message, a transfer or its bundle breaks, in the
+/// order in which this is known. [`CheckOptions`] says which rules have lines. A message that is
+/// not in order breaks a rule, and the run goes on. A fault of the wire stops the stream. Then the
+/// report has its line, and the status is 3. Otherwise the report is empty, and the status is 1 if
+/// the output has a line, and else 0.
+///
+/// The answer is an error if a device failed, or the input has more than 2^63 - 1 bytes.
+#[inline(never)]
+pub fn check<R: InDevice, W: OutDevice, E: OutDevice>(
+    options: CheckOptions,
+    reader: R,
+    output: W,
+    report: E,
+) -> RunEnd<R, W, E>
+    requires reader { (R.state reader).failed ≡ false }
+    requires output { (W.state output).failed ≡ false }
+    requires report { (E.state report).failed ≡ false }
+    ensures { AfterRun (looks R.state W.state E.state) (check_tool options)
+        (record { reader = reader; output = output; report = report })
+        (record { reader = result.reader; output = result.output; report = result.report })
+        result.waits.items result.answer }
+{
+    check_run(options, reader, output, report).run()
+}
