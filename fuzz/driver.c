@@ -587,19 +587,25 @@ static uint32_t call_tool(const uint8_t *bytes, size_t length, const uint64_t *n
                                            numbers[2] % 5, numbers[3] % 3, numbers[4] % 3};
   struct tcpclkit_blocks_options blocks = {sizeof blocks - numbers[5] % 6 * 8, numbers[1] % 3,
                                            numbers[2] % 5, numbers[3] % 3, numbers[4] % 3};
+  struct tcpclkit_check_options check = {sizeof check - numbers[5] % 8 * 8, numbers[1] % 3,
+                                         numbers[2] % 3, numbers[3] % 99, numbers[4] % 3,
+                                         numbers[1] % 999, numbers[3] % 3};
   struct tcpclkit_pack_options pack = {
       sizeof pack - numbers[5] % 9 * 8, numbers[1] % 65537, numbers[2],           numbers[3],
       numbers[4] % 4096,                numbers[5],         numbers[1] % 1048577, numbers[2] % 3};
   size_t node = least(numbers[3] % 1026, length);
-  if (numbers[0] % 4 == 0)
+  if (numbers[0] % 5 == 0)
     return tcpclkit_list(bytes, length, it->bytes[0], it->rooms[0], it->bytes[1], it->rooms[1],
                          &it->run);
-  if (numbers[0] % 4 == 1)
+  if (numbers[0] % 5 == 1)
     return tcpclkit_unpack(bytes, length, &unpack, it->bytes[0], it->rooms[0], it->bytes[1],
                            it->rooms[1], &it->run);
-  if (numbers[0] % 4 == 2)
+  if (numbers[0] % 5 == 2)
     return tcpclkit_blocks(bytes, length, &blocks, it->bytes[0], it->rooms[0], it->bytes[1],
                            it->rooms[1], &it->run);
+  if (numbers[0] % 5 == 3)
+    return tcpclkit_check(bytes, length, &check, it->bytes[0], it->rooms[0], it->bytes[1],
+                          it->rooms[1], &it->run);
   return tcpclkit_pack(bytes, length, &pack, bytes, node, it->bytes[0], it->rooms[0], it->bytes[1],
                        it->rooms[1], &it->run);
 }
@@ -642,7 +648,7 @@ static void ask_tool(const uint8_t *bytes, size_t length, const uint64_t *number
   CHECK(memcmp(kept[0], cut.bytes[0], least(it.run.output_length, cut.rooms[0])) == 0);
   CHECK(memcmp(kept[1], cut.bytes[1], least(it.run.report_length, cut.rooms[1])) == 0);
   if (status == TCPCLKIT_OK)
-    count(17 + numbers[0] % 4, it.run.exit_status, it.run.report_length, it.run.output_length);
+    count(22 + numbers[0] % 5, it.run.exit_status, it.run.report_length, it.run.output_length);
 }
 
 /* -- any numbers */

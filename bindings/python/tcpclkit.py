@@ -139,6 +139,7 @@ _PARAMETERS = {
     "list": [*_SLICE, *_TEXT, *_TEXT, POINTER(_Run)],
     "unpack": [*_SLICE, *_SLICE, *_TEXT, *_TEXT, POINTER(_Run)],
     "blocks": [*_SLICE, *_SLICE, *_TEXT, *_TEXT, POINTER(_Run)],
+    "check": [*_SLICE, *_SLICE, *_TEXT, *_TEXT, POINTER(_Run)],
     "pack": [*_SLICE, *_SLICE, *_SLICE, *_TEXT, *_TEXT, POINTER(_Run)],
 }
 
@@ -714,6 +715,20 @@ def blocks(content, transfer=None, keep_going=False, bundles=False):
     only_one, number = transfer is not None, _number(transfer or 0)
     options = _options(only_one, number, bool(keep_going), bool(bundles))
     return _run("blocks", content, *options)
+
+
+def check(content, must=False, peer_segment=None, peer_transfer=None, bundles=False):
+    """`tcpclkit check`: a line for each rule of the RFCs that the sender of a recording breaks.
+
+    With `must`, only the rules of level `must` have a line, and count. `peer_segment` and
+    `peer_transfer` are the longest data of a segment and the longest transfer that the peer
+    receives. A limit that is None is not judged. With `bundles`, the bytes are bundles, one after
+    another, and no recording; a limit of the peer is then a ValueError, as a `peer_segment` of 0
+    always is.
+    """
+    limits = [it for limit in (peer_segment, peer_transfer)
+              for it in (limit is not None, _number(limit or 0))]
+    return _run("check", content, *_options(bool(must), *limits, bool(bundles)))
 
 
 def unpack(content, transfer=None, payload=False, keep_going=False):

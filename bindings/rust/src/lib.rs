@@ -37,5 +37,6 @@ pub use recording::{
 };
 pub use scan::Scan;
 pub use tools::{
-    blocks, list, pack, unpack, BlocksOptions, PackOptions, Run, ToolError, UnpackOptions,
+    blocks, check, list, pack, unpack, BlocksOptions, CheckOptions, PackOptions, Run, ToolError,
+    UnpackOptions,
 };

@@ -206,6 +206,19 @@ extern "C" {
         report_room: usize,
         run: *mut Run,
     ) -> u32;
+    pub fn tcpclkit_raw_check(
+        bytes: *const u8,
+        length: usize,
+        options: *const u64,
+        option_count: usize,
+        wants_output: u64,
+        output: *mut u8,
+        output_room: usize,
+        wants_report: u64,
+        report: *mut u8,
+        report_room: usize,
+        run: *mut Run,
+    ) -> u32;
     pub fn tcpclkit_raw_pack(
         bytes: *const u8,
         length: usize,

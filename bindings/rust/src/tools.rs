@@ -38,6 +38,21 @@ pub struct BlocksOptions {
     pub bundles: bool,
 }
 
+/// What `check` judges, and of what. The default is every rule of a recording that needs no limit
+/// of the peer.
+#[derive(Clone, Copy, Debug, Default, PartialEq, Eq)]
+pub struct CheckOptions {
+    /// Whether only the rules of level `must` have a line, and count.
+    pub must: bool,
+    /// The longest data of a segment that the peer receives, if it is known: at least 1.
+    pub peer_segment: Option<u64>,
+    /// The longest transfer that the peer receives, if it is known.
+    pub peer_transfer: Option<u64>,
+    /// Whether the bytes are bundles, one after another, and no recording. The limits of the peer
+    /// are then not set.
+    pub bundles: bool,
+}
+
 /// What the stream of `pack` says. `docs/MANUAL.md` has each option.
 #[derive(Clone, Copy, Debug, PartialEq, Eq)]
 pub struct PackOptions {
@@ -75,8 +90,8 @@ impl Default for PackOptions {
 /// Why a tool did not run to its end.
 #[derive(Clone, Copy, Debug, PartialEq, Eq, Hash)]
 pub enum ToolError {
-    /// An option of `pack` or the length of its node ID is out of its range, or `blocks` was given
-    /// an option for recordings beside `bundles`.
+    /// An option of `pack` or `check` or the length of a node ID is out of its range, or `blocks`
+    /// or `check` was given an option for recordings beside `bundles`.
     Range,
     /// The memory that the tool asked for was refused.
     Memory,
@@ -210,6 +225,42 @@ pub fn blocks(bytes: &[u8], options: &BlocksOptions) -> Result<Run, ToolError> {
         // SAFETY: the slices and the structs are valid, and do not overlap.
         unsafe {
             raw::tcpclkit_raw_blocks(
+                bytes.as_ptr(),
+                bytes.len(),
+                lent.as_ptr(),
+                lent.len(),
+                output.wants,
+                output.start,
+                output.room,
+                report.wants,
+                report.start,
+                report.room,
+                run,
+            )
+        }
+    })
+}
+
+/// `tcpclkit check`: a line for each rule of the RFCs that the sender of a recording breaks, or
+/// that bundles break. The exit status is 0 if no line was written, and 3 after a fault.
+///
+/// # Errors
+///
+/// `bundles` is set beside a limit of the peer, or `peer_segment` is 0. This tool asks for no
+/// memory.
+pub fn check(bytes: &[u8], options: &CheckOptions) -> Result<Run, ToolError> {
+    let lent: [u64; 6] = [
+        options.must.into(),
+        options.peer_segment.is_some().into(),
+        options.peer_segment.unwrap_or_default(),
+        options.peer_transfer.is_some().into(),
+        options.peer_transfer.unwrap_or_default(),
+        options.bundles.into(),
+    ];
+    run(bytes.len() + 4096, |output, report, run| {
+        // SAFETY: the slices and the structs are valid, and do not overlap.
+        unsafe {
+            raw::tcpclkit_raw_check(
                 bytes.as_ptr(),
                 bytes.len(),
                 lent.as_ptr(),

@@ -1,6 +1,6 @@
 //! The tools, over slices.
 
-use tcpclkit::{list, pack, unpack, PackOptions, ToolError, UnpackOptions};
+use tcpclkit::{check, list, pack, unpack, CheckOptions, PackOptions, ToolError, UnpackOptions};
 
 fn example(name: &str) -> Vec<u8> {
     let path = format!("{}/../../examples/{name}", env!("CARGO_MANIFEST_DIR"));
@@ -71,6 +71,59 @@ fn unpack_goes_on_after_a_fault_of_the_order() {
     let text = String::from_utf8(run.report).unwrap();
     let faults = text.lines().filter(|line| line.starts_with("tcpclkit: "));
     assert_eq!((text.lines().count(), faults.count()), (47, 17));
+}
+
+#[test]
+fn check_writes_a_line_for_each_broken_rule() {
+    let options = CheckOptions {
+        must: true,
+        peer_segment: Some(33),
+        peer_transfer: Some(33),
+        ..CheckOptions::default()
+    };
+    let run = check(&example("prelude-and-transfer.tcpcl"), &options).unwrap();
+    let lines = "38 must peer-segment length=34 limit=33\n\
+                 38 must peer-transfer length=34 limit=33\n\
+                 38 must primary-check transfer=0\n38 must age transfer=0 blocks=0\n";
+    assert_eq!(String::from_utf8(run.output).unwrap(), lines);
+    assert_eq!((run.report, run.exit_status), (vec![], 1));
+    let early = check(b"dtn!\x04\x00\x04", &CheckOptions::default()).unwrap();
+    let line = b"6 should before-session type=04\n".to_vec();
+    assert_eq!((early.output, early.exit_status), (line, 1));
+    let within = CheckOptions {
+        peer_segment: Some(1),
+        peer_transfer: Some(0),
+        ..options
+    };
+    assert_eq!(check(b"dtn!\x04\x00\x04", &within).unwrap().exit_status, 0);
+}
+
+#[test]
+fn check_of_bundles_has_no_peer() {
+    let options = CheckOptions {
+        bundles: true,
+        ..CheckOptions::default()
+    };
+    let run = check(&example("two.bundles")[..34], &options).unwrap();
+    let lines = b"0 must primary-check bundle=0\n0 must age bundle=0 blocks=0\n";
+    assert_eq!((run.output, run.exit_status), (lines.to_vec(), 1));
+    assert_eq!(check(b"", &options).unwrap().exit_status, 0);
+    assert_eq!(check(b"\x00", &options).unwrap().exit_status, 3);
+    let segment = CheckOptions {
+        peer_segment: Some(1),
+        ..options
+    };
+    let transfer = CheckOptions {
+        peer_transfer: Some(0),
+        ..options
+    };
+    let nothing = CheckOptions {
+        peer_segment: Some(0),
+        ..CheckOptions::default()
+    };
+    for refused in [segment, transfer, nothing] {
+        assert_eq!(check(b"", &refused), Err(ToolError::Range));
+    }
 }
 
 #[test]

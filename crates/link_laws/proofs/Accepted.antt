@@ -16,11 +16,21 @@ record Kept (before : List Message) (heads : List Entry) (order : Ordered) : Typ
   pub again : ordered_after before order.heads ≡ all order.heads
   pub whole : order.refused ≡ None → order ≡ all heads
   pub none : heads ≡ [] → order.heads ≡ []
+  -- the head that is refused, and those after it
+  pub rest : List Entry
+  pub parts : heads ≡ order.heads ++ rest
 
 kept : (heads : List Entry) (before : List Message) → Kept before heads (ordered_after before heads)
 unfolding ordered_after
 kept [] before =
-    record { read = λ read. tt; again = refl; whole = λ is. refl; none = λ is. refl }
+    record {
+      read = λ read. tt;
+      again = refl;
+      whole = λ is. refl;
+      none = λ is. refl;
+      rest = [];
+      parts = refl;
+    }
 kept (head ∷ more) before =
     by_refusal (refusal before (event_of head.message)) refl
     (kept more (before ++ head.message ∷ []))
@@ -35,6 +45,8 @@ kept (head ∷ more) before =
           again = refl;
           whole = λ none. absurd (cc);
           none = λ none. refl;
+          rest = head ∷ more;
+          parts = refl;
         })
     by_refusal None is later =
         rw is (record {
@@ -43,6 +55,8 @@ kept (head ∷ more) before =
           again = rw is (ap (ordered_by None head) later.again);
           whole = λ none. ap (ordered_by None head) (later.whole none);
           none = λ none. absurd (cc);
+          rest = later.rest;
+          parts = ap (λ heads. head ∷ heads) later.parts;
         })
 
 module _ (heads : List Entry) where
@@ -57,3 +71,8 @@ module _ (heads : List Entry) where
   pub all_in_order : (ordered heads).refused ≡ None → AreInOrder heads
   unfolding ordered
   all_in_order = (kept heads []).whole
+
+  -- they come first
+  pub accepted_first : (rest : List Entry) × (heads ≡ (ordered heads).heads ++ rest)
+  unfolding ordered
+  accepted_first = let all_kept = kept heads [] in (all_kept.rest, all_kept.parts)

@@ -31,7 +31,7 @@ all_bytes segment size some = ⊎_elim
     (λ (enough : size ≤ chunk_count segment size * segment). enough)
     (cases_lt (chunk_count segment size * segment) size)
 
-some_chunk : (segment size : ℕ) → 0 < segment → 0 < size → 0 < chunk_count segment size
+pub some_chunk : (segment size : ℕ) → 0 < segment → 0 < size → 0 < chunk_count segment size
 some_chunk segment size some byte = chunk_left segment 0 size some (omega arith)
 
 -- the chunks that are due of a bundle that goes on are among its chunks

@@ -273,12 +273,16 @@ module _ (manner : Manner) where
   none_stands None = record { follow = tt; opened = refl }
   none_stands (Some contact) = record { follow = (refl, tt); opened = refl }
 
+  -- the events of heads follow one another
+  pub walk_told : (contact : Option Contact) (heads : List Entry) → AreRead heads
+      → Told (walked_of manner contact heads)
+  unfolding walked_of
+  walk_told contact heads read =
+      heads_told heads (none_walked contact) read (none_stands contact)
+
   -- the events of a reading follow one another, and so does the end of an open transfer
   pub reading_told : (reading : Reading) → ReadingReads reading → Told (walked manner reading)
-  unfolding walked_of
-  reading_told reading reads =
-      heads_told (heads_of reading) (none_walked reading.contact) reads.heads
-      (none_stands reading.contact)
+  reading_told reading reads = walk_told reading.contact (heads_of reading) reads.heads
 
   whole_stands : (heads : List Entry) (was : Walked) → AreWhole heads → Stands was
       → Stands (fold (with_next manner) was heads)

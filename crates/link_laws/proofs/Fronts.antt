@@ -55,3 +55,11 @@ fronts_then texts more whole is = record {
   output = (more.output, ap (λ (t : Texts). t.output) (sym is));
   report = (more.report, ap (λ (t : Texts). t.report) (sym is));
 }
+
+-- the same texts are put before both
+pub fronts_after : (before texts whole : Texts) → AreFronts texts whole
+    → AreFronts (before then texts) (before then whole)
+fronts_after before texts whole fronts = record {
+  output = front_after before.output texts.output whole.output fronts.output;
+  report = front_after before.report texts.report whole.report fronts.report;
+}

@@ -72,19 +72,28 @@ good_prefix bytes info good =
 
 -- ---- good bundles, one after another
 
-divided_all : (limit : ℕ) (bundles : List Numbered) → All IsGood bundles
-    → length (flat_map bytes_in bundles) ≤ limit
-    → divided limit (flat_map bytes_in bundles)
-    ≡ record { bundles = map (λ numbered. numbered.1) bundles; rest = None }
-divided_all limit [] good few = divided_none limit
-divided_all limit ((id, bundle) ∷ more) good few =
-    let first = All-head IsGood (id, bundle) more good in
-    let rest = flat_map bytes_in more in
-    let size = length-append bundle.bytes rest in
-    divided_whole limit bundle.bytes rest bundle.info (good_prefix bundle.bytes bundle.info first)
-    first (omega arith)
-    ∙ ap (with_bundle bundle)
-    (divided_all limit more (All-tail IsGood (id, bundle) more good) (omega arith))
+module _ {A : Type 0} (bundle_of : A → Packed) where
+  abbrev HasGood : A → Type 0
+  HasGood item = verdict (bundle_of item).bytes ≡ Ok (bundle_of item).info
+
+  abbrev its_bytes : A → List ℕ
+  its_bytes item = (bundle_of item).bytes
+
+  -- the bundles of these items, one after another, are divided into these bundles
+  pub divided_all : (limit : ℕ) (items : List A)
+      → All HasGood items → length (flat_map its_bytes items) ≤ limit
+      → divided limit (flat_map its_bytes items)
+      ≡ record { bundles = map bundle_of items; rest = None }
+  divided_all limit [] good few = divided_none limit
+  divided_all limit (item ∷ more) good few =
+      let bundle = bundle_of item in
+      let first = All-head HasGood item more good in
+      let rest = flat_map its_bytes more in
+      let size = length-append bundle.bytes rest in
+      divided_whole limit bundle.bytes rest bundle.info (good_prefix bundle.bytes bundle.info first)
+      first (omega arith)
+      ∙ ap (with_bundle bundle)
+      (divided_all limit more (All-tail HasGood item more good) (omega arith))
 
 lines_renumbered : (from : ℕ) (bundles : List Numbered)
     → bundle_lines from (map (λ numbered. numbered.1) bundles)
@@ -104,7 +113,7 @@ joined_lines bytes bundles good is few =
       rest = None;
     } =
     ap (divided bundle_limit) is
-    ∙ divided_all bundle_limit bundles good (rw (← is) few) in
+    ∙ divided_all (λ (numbered : Numbered). numbered.1) bundle_limit bundles good (rw (← is) few) in
     ap (λ (made : Made). whole_by made.stop made) (told_as bundle_blocks_telling bytes _ divides)
     ∙ ap (λ (lines : List ℕ). record { texts = on_output lines; status = 0 })
     (lines_renumbered 0 bundles)
@@ -134,6 +143,33 @@ transfer_good : (abandoned : Bool) (announced : Announced) (size : ℕ)
     × (judged_transfer abandoned announced size said ≡ Good info)
 transfer_good true announced size said good = absurd (cc)
 transfer_good false announced size said good = length_good announced size said good
+
+-- a good transfer is closed, and its data is a good bundle
+pub record IsGoodTransfer (transfer : Transfer) : Type 0 where
+  pub info : BundleInfo
+  pub is : verdict transfer.content ≡ Ok info
+  pub judged : judgement_of transfer ≡ Good info
+  pub closed : transfer.closed ≡ true
+
+pub good_transfer : (transfer : Transfer) → is_good (judgement_of transfer) ≡ true
+    → IsGoodTransfer transfer
+good_transfer transfer good =
+    let judged = transfer_good (not transfer.closed) (announced_of transfer.first.items.items)
+    (length transfer.content) (verdict transfer.content) good in
+    record {
+      info = judged.0;
+      is = judged.1;
+      judged = judged.2;
+      closed = by_closed transfer.closed
+          (announced_of transfer.first.items.items) (length transfer.content)
+          (verdict transfer.content) good;
+    }
+  where
+    by_closed : (closed : Bool) (announced : Announced) (size : ℕ)
+        (said : Result BundleInfo (BundleFault × ℕ))
+        → is_good (judged_transfer (not closed) announced size said) ≡ true → closed ≡ true
+    by_closed true announced size said good = refl
+    by_closed false announced size said good = absurd (cc)
 
 -- These transfers are these bundles, each under its ID. The latest transfer comes first in its list
 -- and last in the other.
@@ -176,6 +212,5 @@ unfolding are_good lines_of parts_of
 carries [] good = record { bundles = []; good = All-nil IsGood; lines = refl; parts = refl }
 carries (latest ∷ earlier) good =
     let both = and_parts (is_good (judgement_of latest)) (are_good earlier) good in
-    let judged = transfer_good (not latest.closed) (announced_of latest.first.items.items)
-    (length latest.content) (verdict latest.content) both.0 in
-    one_more latest earlier judged.0 judged.1 judged.2 (carries earlier both.1)
+    let first = good_transfer latest both.0 in
+    one_more latest earlier first.info first.is first.judged (carries earlier both.1)

@@ -78,11 +78,11 @@ module _ (options : PackOptions) where
 abbrev pub Announces : (whole : Bool) (size : ℕ) → Option ℕ → Type 0
 Announces whole size announce = (announced_of (announced announce) ≡ Absent) ⊎ ((whole ≡ true) × (announced_of (announced announce) ≡ Total size))
 
-none_announced : announced_of [] ≡ Absent
+pub none_announced : announced_of [] ≡ Absent
 unfolding announced_of
 none_announced = refl
 
-total_announced : (total : ℕ) → announced_of (announced (Some total)) ≡ Total total
+pub total_announced : (total : ℕ) → announced_of (announced (Some total)) ≡ Total total
 unfolding announced_of
 total_announced total = refl
 

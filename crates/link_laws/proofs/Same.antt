@@ -105,6 +105,14 @@ module _ (wanted : Wanted) where
       through wanted (TellsAll all) (tells_step all) heads read
       (record { events = contact_events contact; told = none_told contact; walked = refl })
 
+  -- all that is said of a stream that goes on, before its end
+  pub heads_said : (contact : Option Contact) (heads : List Entry) → AreRead heads
+      → told_after wanted (walked_of (manner true) contact heads).events
+      ≡ said (unpacked_of wanted heads)
+  heads_said contact heads read =
+      let tells = heads_tell contact heads read in
+      ap (λ (w : Walked). told_after wanted w.events) (sym tells.walked) ∙ tells.told
+
 -- ---- a run that ends at a fault of the order
 
 -- the walk ends at this fault, if there is one
@@ -281,15 +289,20 @@ module _ (wanted : Wanted) where
         ∙ ap (λ r. ended_at r (walked_of (manner true) reading.contact heads))
         (sym (unrefused _ _ tells))
 
+    -- the same, if no head ended the walk
+    pub walked_on : (walked_of (manner false) reading.contact heads).refused ≡ None
+        → walked_of (manner false) reading.contact heads
+        ≡ walked_of (manner true) reading.contact heads
+    walked_on unrefused =
+        walked_same (ap (λ (w : Walked). w.refused) (sym walked_ordered) ∙ unrefused)
+
     -- all that is said of a stream that ends without a fault
     pub clean_told : (walked_of (manner false) reading.contact heads).refused ≡ None
         → stop_of reading.end ≡ None
         → (let was = walked_of (manner false) reading.contact heads in
         told_after wanted (was.events ++ end_events was.taken) ≡ at_end (unpacked_of wanted heads))
     clean_told unrefused none =
-        let ordered_all : order.refused ≡ None =
-        ap (λ (w : Walked). w.refused) (sym walked_ordered) ∙ unrefused in
-        rw (walked_same ordered_all)
+        rw (walked_on unrefused)
         (end_told _ _ (heads_tell wanted reading.contact heads reads.heads) (whole_heads none))
 
     abbrev made_at : Option (ℕ × OrderFault) → List Entry → Made

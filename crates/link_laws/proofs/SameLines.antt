@@ -95,7 +95,7 @@ module _ (manner : Manner) (stops : manner.goes_on ≡ false) where
 
 -- ---- an input without a fault
 
-status_clean : (stop : Option StreamStop) (made : Made) → (whole_by stop made).status ≡ 0
+pub status_clean : (stop : Option StreamStop) (made : Made) → (whole_by stop made).status ≡ 0
     → (stop ≡ None) × (made.good ≡ true)
 status_clean (Some stop) made is = absurd (omega arith)
 status_clean None made is = (refl, by_good made.good is)
@@ -110,33 +110,34 @@ stop_clean None end is = (refl, is)
 stop_clean (Some (offset, fault)) end is = absurd (cc)
 
 module _ (bytes : List ℕ) where
-  abbrev reading : Reading
+  abbrev pub reading : Reading
   reading = reading_of bytes
 
-  abbrev stopping : Manner
+  abbrev pub stopping : Manner
   stopping = record { goes_on = false; all_heads = false }
 
-  abbrev was : Walked
+  abbrev pub was : Walked
   was = walked stopping reading
 
-  abbrev events : List WalkEvent
+  abbrev pub events : List WalkEvent
   events = was.events ++ end_events was.taken
 
-  abbrev told : Told
+  abbrev pub told : Told
   told = told_after all events
 
-  abbrev transfers : List Transfer
+  abbrev pub transfers : List Transfer
   transfers = (unpacked_of all (heads_of reading)).transfers
 
   -- there is no fault, and every transfer is over and good
-  record IsClean : Type 0 where
+  pub record IsClean : Type 0 where
     pub stop : stop_by was.refused reading.end ≡ None
+    pub unrefused : was.refused ≡ None
     pub end : stop_of reading.end ≡ None
     pub told_good : told.good ≡ true
     pub are : told.transfers ≡ transfers
     pub good : are_good transfers ≡ true
 
-  clean : ((unpack_tool all).whole bytes).status ≡ 0 → IsClean
+  pub clean : ((unpack_tool all).whole bytes).status ≡ 0 → IsClean
   unfolding told_of
   clean is =
       let both = status_clean (stop_by was.refused reading.end) (unpacking_of all bytes) is in
@@ -144,6 +145,7 @@ module _ (bytes : List ℕ) where
       let said = clean_told all reading (reading_read bytes) stops.0 stops.1 in
       record {
         stop = both.0;
+        unrefused = stops.0;
         end = stops.1;
         told_good = both.1;
         are = ap (λ (t : Told). t.transfers) said;
@@ -151,13 +153,13 @@ module _ (bytes : List ℕ) where
       }
 
   module _ (is : IsClean) where
-    unpacks : unpacked bytes ≡ parts_of all transfers
+    pub unpacks : unpacked bytes ≡ parts_of all transfers
     unfolding told_of
     unpacks =
         ap (λ stop. (whole_by stop (unpacking_of all bytes)).texts.output) is.stop
         ∙ ap (parts_of all) is.are
 
-    whole_heads : AreWhole (heads_of reading)
+    pub whole_heads : AreWhole (heads_of reading)
     whole_heads = rw (clean_end reading.end is.end, append-nil) (reading_read bytes).whole
 
     no_report : flat_map order_line_of events ≡ []
@@ -190,7 +192,7 @@ module _ (bytes : List ℕ) where
         }) is.told_good
         ∙ ap (λ (texts : Texts). record { texts = texts; status = 0 }) (texts_as said no_report)
 
-    fits : IsReading bytes reading → InputFits bytes → length (unpacked bytes) ≤ bundle_limit
+    pub fits : IsReading bytes reading → InputFits bytes → length (unpacked bytes) ≤ bundle_limit
     fits spelled input =
         let heads = ap (λ hs. reading.entries ++ hs) (clean_end reading.end is.end)
         ∙ append-nil reading.entries in

@@ -19,25 +19,25 @@ use Rattle.link_laws.proofs.Standing.{Stands, carrying, stands_more}
 
 -- ---- flags
 
-starts_as : (first last : Bool) → is_start (flags_of first last) ≡ first
+pub starts_as : (first last : Bool) → is_start (flags_of first last) ≡ first
 starts_as true true = refl
 starts_as true false = refl
 starts_as false true = refl
 starts_as false false = refl
 
-ends_as : (first last : Bool) → is_end (flags_of first last) ≡ last
+pub ends_as : (first last : Bool) → is_end (flags_of first last) ≡ last
 ends_as true true = refl
 ends_as true false = refl
 ends_as false true = refl
 ends_as false false = refl
 
 -- a first segment may come if no transfer is open, and another one if its own transfer is open
-first_may : (last : Bool) (id : ℕ)
+pub first_may : (last : Bool) (id : ℕ)
     → refusal_by true false None (Segment (flags_of true last) id) ≡ None
 first_may true id = refl
 first_may false id = refl
 
-next_may : (last : Bool) (id : ℕ)
+pub next_may : (last : Bool) (id : ℕ)
     → refusal_by true false (Some id) (Segment (flags_of false last) id) ≡ None
 next_may true id = rw (eq-eqb id id refl) refl
 next_may false id = rw (eq-eqb id id refl) refl
@@ -46,7 +46,7 @@ next_may false id = rw (eq-eqb id id refl) refl
 abbrev pub open_by : (id : ℕ) (last : Bool) → Option ℕ
 open_by id last = if last then None else Some id
 
-opens_by : (first last : Bool) (id : ℕ)
+pub opens_by : (first last : Bool) (id : ℕ)
     → open_after (Segment (flags_of first last) id) ≡ open_by id last
 opens_by first last id = ap (λ test. if test then None else Some id) (ends_as first last)
 
@@ -73,12 +73,12 @@ abbrev pub sent : (id : ℕ) → Sending → (count : ℕ) → (closed : Bool) �
 sent id sending count closed = record { first = head_of id sending 0; content = take (count * sending.segment) sending.bundle; closed = closed }
 
 -- one more chunk
-taken_more : (segment k : ℕ) (bundle : List ℕ)
+pub taken_more : (segment k : ℕ) (bundle : List ℕ)
     → take (k * segment) bundle ++ chunk_at segment k bundle ≡ take (suc k * segment) bundle
 taken_more segment k bundle =
     sym (take-add (k * segment) segment bundle) ∙ ap (λ n. take n bundle) (omega arith)
 
-taken_first : (segment : ℕ) (bundle : List ℕ)
+pub taken_first : (segment : ℕ) (bundle : List ℕ)
     → chunk_at segment 0 bundle ≡ take (1 * segment) bundle
 taken_first segment bundle =
     ap (λ n. take n bundle ++ chunk_at segment 0 bundle) {x = 0} {y = 0 * segment} (omega arith) ∙ taken_more segment 0 bundle

@@ -52,7 +52,7 @@ content_grows (Some (turn.Continue last)) size content piece short =
 module _ (manner : Manner) where
   -- ---- more heads
 
-  abbrev Grows : (before after : Walked) → Type 0
+  abbrev pub Grows : (before after : Walked) → Type 0
   Grows before after = IsFront before.events after.events
 
   -- one more head, with this data or more
@@ -87,7 +87,7 @@ module _ (manner : Manner) where
     next_grows None None is = rw is taken_grows
     next_grows None (Some fault) is = rw is (refused_grows manner.goes_on _)
 
-  heads_grow : (heads : List Entry) (was : Walked) → Grows was (fold (with_next manner) was heads)
+  pub heads_grow : (heads : List Entry) (was : Walked) → Grows was (fold (with_next manner) was heads)
   heads_grow [] was = front_same _ _ refl
   heads_grow (head ∷ more) was =
       front_trans _ _ _ (next_grows was head [] was.refused _ refl).0

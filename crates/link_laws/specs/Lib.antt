@@ -1,8 +1,11 @@
 pub mod Prefix
 pub mod SameLines
+pub mod SameRules
 pub mod Transfers
 pub mod PackedStream
+pub mod PackedRules
 pub mod Ranges
 pub mod RoundTrip
 pub mod Listed
 pub mod Cuts
+pub mod Checked

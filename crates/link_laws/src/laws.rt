@@ -3,7 +3,7 @@
 //! The contract of each function is a law, and the function does nothing when it runs. The calls in
 //! it do nothing either: the proof of the law uses their contracts.
 
-ghost use Rattle.std.specs.Prelude.{◌≡◌, ◌<◌, ◌≤◌, ◌^◌, List, ℕ, length};
+ghost use Rattle.std.specs.Prelude.{◌≡◌, ◌<◌, ◌≤◌, ◌^◌, Bool, true, List, ℕ, length};
 ghost use Rattle.link_wire.specs.Bytes.{AreBytes};
 ghost use Rattle.link_list.specs.Listing.{list_tool};
 ghost use Rattle.link_run.specs.Made.{tool_of};
@@ -12,15 +12,22 @@ ghost use Rattle.link_unpack.specs.declared.wanted.Wanted.{Wanted};
 ghost use Rattle.link_blocks.specs.Bundles.{bundle_blocks_tool};
 ghost use Rattle.link_blocks.specs.Showing.{blocks_tool};
 ghost use Rattle.link_blocks.specs.declared.options.BlockOptions.{BlockOptions};
+ghost use Rattle.link_check.specs.Bundles.{bundle_check_tool};
+ghost use Rattle.link_check.specs.Checking.{check_tool};
+ghost use Rattle.link_check.specs.declared.options.CheckOptions.{CheckOptions};
 ghost use Rattle.link_pack.specs.Packing.{pack_tool};
 ghost use Rattle.link_pack.specs.declared.options.PackOptions.{PackOptions};
+ghost use Rattle.link_laws.specs.Checked.{HasOnlyAllowed};
 ghost use Rattle.link_laws.specs.Cuts.{going_on, stopping, HasEveryByte, HasEveryTakenByte, CutsOutput, CutsOutputOn, IsSameInOrder};
 ghost use Rattle.link_laws.specs.Listed.{IsListed};
+ghost use Rattle.link_laws.specs.PackedRules.{AllowsLimits, KeepsNodeId, BreaksNoMore};
 ghost use Rattle.link_laws.specs.PackedStream.{KeepsLimits};
 ghost use Rattle.link_laws.specs.Prefix.{IsPrefixed};
 ghost use Rattle.link_laws.specs.Ranges.{OptionsFit, InputFits};
 ghost use Rattle.link_laws.specs.RoundTrip.{all, GivesBack};
 ghost use Rattle.link_laws.specs.SameLines.{HasSameLines};
+ghost use Rattle.link_laws.specs.SameRules.{HasSameRules};
+ghost use Rattle.link_message_rules.specs.declared.limits.PeerLimits.{PeerLimits};
 ghost use Rattle.link_laws.specs.Transfers.{by_transfers};
 
 use link_pack::PackOptions;
@@ -38,6 +45,10 @@ pub fn sofar_is_prefix()
     ensures blocks { (options : BlockOptions) (bytes more : List ℕ)
         → IsPrefixed (blocks_tool options) bytes more }
     ensures bundle_blocks { (bytes more : List ℕ) → IsPrefixed bundle_blocks_tool bytes more }
+    ensures check { (options : CheckOptions) (bytes more : List ℕ)
+        → IsPrefixed (check_tool options) bytes more }
+    ensures bundle_check { (must : Bool) (bytes more : List ℕ)
+        → IsPrefixed (bundle_check_tool must) bytes more }
     ensures pack { (options : PackOptions) (bytes more : List ℕ)
         → IsPrefixed (pack_tool options) bytes more }
 {}
@@ -63,6 +74,21 @@ pub fn keeps_limits(options: &PackOptions, bytes: &[u8])
 pub fn unpack_of_pack(options: &PackOptions, bytes: &[u8])
     ensures { ((pack_tool options.now).whole bytes.now).status ≡ 0
         → GivesBack options.now bytes.now ((pack_tool options.now).whole bytes.now).texts.output }
+{
+    options_fit(options);
+    input_fits(bytes);
+    exactly_one_reading();
+}
+
+/// A packed stream breaks no rule but those that its bundles break.
+///
+/// Let the input be packed without a fault, let the node ID be one that `check` accepts, and let
+/// the limits of the peer be no less than those of packing. Then `check` of the stream has a line
+/// for each rule that a bundle of the input breaks, and no other line.
+pub fn check_of_pack(options: &PackOptions, bytes: &[u8])
+    ensures { (peer : PeerLimits) → ((pack_tool options.now).whole bytes.now).status ≡ 0
+        → AllowsLimits options.now peer → KeepsNodeId options.now
+        → BreaksNoMore peer bytes.now ((pack_tool options.now).whole bytes.now).texts.output }
 {
     options_fit(options);
     input_fits(bytes);
@@ -97,6 +123,31 @@ pub fn bundles_of_unpack(bytes: &[u8])
     input_fits(bytes);
     exactly_one_reading();
 }
+
+/// The bundles that `unpack` joins break the same rules as in the recording.
+///
+/// Let every transfer of a recording be over and good, and let there be no fault: `unpack` without
+/// options has status 0. Then `check --bundles`, for the output of `unpack`, writes the lines of
+/// the rules of bundles that `check` writes for the recording, in the same order. Only the offset
+/// differs, and the number of the bundle takes the place of the ID of its transfer.
+pub fn check_of_unpack(bytes: &[u8])
+    ensures { (peer : PeerLimits) → ((unpack_tool all).whole bytes.now).status ≡ 0
+        → HasSameRules peer bytes.now }
+{
+    input_fits(bytes);
+    exactly_one_reading();
+}
+
+/// A recording that breaks no rule of level `must` is unpacked with three kinds of faults at most.
+///
+/// Let `check --must` have status 0. Then `unpack` finds no fault of the wire, with `--keep-going`
+/// and without. The only faults in its report are abandoned transfers, data that may be a bundle
+/// which this toolkit does not read, and a second SESS_INIT.
+pub fn unpack_of_checked()
+    ensures { (peer : PeerLimits) (bytes : List ℕ)
+        → ((check_tool (record { must = true; peer = peer })).whole bytes).status ≡ 0
+        → HasOnlyAllowed bytes }
+{}
 
 /// `unpack` without options loses no byte of data, and repeats none.
 ///

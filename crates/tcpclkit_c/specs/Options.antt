@@ -3,16 +3,22 @@
 use Rattle.std.specs.Prelude.{◌≡◌, ℕ, ◌^◌, ◌-◌, Bool, not, ◌&&◌, ◌||◌, ◌==◌, nat_lt, nat_le, List, drop, get_or, Option, Some, None, if◌then◌else◌}
 use Rattle.std.specs.List.{list_any}
 use Rattle.link_blocks.specs.declared.options.BlockOptions.{BlockOptions}
+use Rattle.link_check.specs.declared.options.CheckOptions.{CheckOptions}
 use Rattle.link_pack.specs.declared.options.PackOptions.{PackOptions}
 use Rattle.link_tools.specs.declared.options.Job.{Job}
 use Rattle.link_tools.specs.declared.options.Job.TheVariants as job
 use Rattle.link_unpack.specs.declared.wanted.Wanted.{Wanted}
 use Rattle.tcpclkit_c.specs.declared.options.BlocksNumbers.{BlocksNumbers}
+use Rattle.tcpclkit_c.specs.declared.options.CheckNumbers.{CheckNumbers}
 use Rattle.tcpclkit_c.specs.declared.options.PackNumbers.{PackNumbers}
 use Rattle.tcpclkit_c.specs.declared.options.UnpackNumbers.{UnpackNumbers}
 
 abbrev pub has_nonzero : List ℕ → Bool
 has_nonzero words = list_any (λ word. nat_lt 0 word) words
+
+-- the number of an option that has a word of its own to say whether it is set
+abbrev pub number_if : (is_set number : ℕ) → Option ℕ
+number_if is_set number = if is_set == 1 then Some number else None
 
 -- ---- unpack
 
@@ -30,15 +36,11 @@ abbrev pub unpack_numbers_fit : UnpackNumbers → Bool
 unpack_numbers_fit numbers =
     nat_le numbers.only_one 1 && (nat_le numbers.payload 1 && nat_le numbers.keep_going 1)
 
--- the ID of the transfers that are wanted, unless all are
-abbrev pub only_of : (only_one transfer : ℕ) → Option ℕ
-only_of only_one transfer = if only_one == 1 then Some transfer else None
-
 -- what is wanted of the recording
 abbrev pub wanted_of : UnpackNumbers → Wanted
 wanted_of numbers =
     record {
-      only = only_of numbers.only_one numbers.transfer;
+      only = number_if numbers.only_one numbers.transfer;
       payload = numbers.payload == 1;
       keep_going = numbers.keep_going == 1;
     }
@@ -78,7 +80,7 @@ blocks_in_range words =
 abbrev pub block_options_of : BlocksNumbers → BlockOptions
 block_options_of numbers =
     record {
-      only = only_of numbers.only_one numbers.transfer;
+      only = number_if numbers.only_one numbers.transfer;
       keep_going = numbers.keep_going == 1;
     }
 
@@ -89,6 +91,54 @@ blocks_job_of numbers =
 abbrev pub blocks_job_in : List ℕ → Option Job
 blocks_job_in words =
     if blocks_in_range words then Some (blocks_job_of (blocks_numbers words)) else None
+
+-- ---- check
+
+-- the options that the words are
+abbrev pub check_numbers : List ℕ → CheckNumbers
+check_numbers words =
+    record {
+      must = get_or words 0 0;
+      has_peer_segment = get_or words 1 0;
+      peer_segment = get_or words 2 0;
+      has_peer_transfer = get_or words 3 0;
+      peer_transfer = get_or words 4 0;
+      bundles = get_or words 5 0;
+    }
+
+-- A limit of segments is at least 1. With `bundles`, no limit of the peer is set.
+abbrev pub check_numbers_fit : CheckNumbers → Bool
+check_numbers_fit numbers =
+    nat_le numbers.must 1 && (nat_le numbers.has_peer_segment 1
+    && (nat_le numbers.has_peer_transfer 1 && (nat_le numbers.bundles 1
+    && ((numbers.has_peer_segment == 0 || nat_le 1 numbers.peer_segment)
+    && (numbers.bundles == 0
+    || (numbers.has_peer_segment == 0 && numbers.has_peer_transfer == 0))))))
+
+-- the words are in their ranges
+abbrev pub check_in_range : List ℕ → Bool
+check_in_range words =
+    check_numbers_fit (check_numbers words) && not (has_nonzero (drop 6 words))
+
+-- what is judged of the recording
+abbrev pub check_options_of : CheckNumbers → CheckOptions
+check_options_of numbers =
+    record {
+      must = numbers.must == 1;
+      peer = record {
+        segment = number_if numbers.has_peer_segment numbers.peer_segment;
+        transfer = number_if numbers.has_peer_transfer numbers.peer_transfer;
+      };
+    }
+
+abbrev pub check_job_of : CheckNumbers → Job
+check_job_of numbers =
+    if numbers.bundles == 1 then job.BundleCheck (numbers.must == 1)
+    else job.Check (check_options_of numbers)
+
+abbrev pub check_job_in : List ℕ → Option Job
+check_job_in words =
+    if check_in_range words then Some (check_job_of (check_numbers words)) else None
 
 -- ---- pack
 

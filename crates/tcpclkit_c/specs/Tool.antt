@@ -2,13 +2,16 @@
 use Rattle.std.specs.Prelude.{◌≡◌, ℕ, ◌^◌, ◌-◌, ◌==◌, ◌||◌, ◌&&◌, ◌⊎◌, Bool, nat_le, min, List, length, if◌then◌else◌}
 use Rattle.link_blocks.specs.Bundles.{bundle_blocks_tool}
 use Rattle.link_blocks.specs.Showing.{blocks_tool}
+use Rattle.link_check.specs.Bundles.{bundle_check_tool}
+use Rattle.link_check.specs.Checking.{check_tool}
 use Rattle.link_pack.specs.Packing.{pack_tool}
 use Rattle.link_pack.specs.declared.options.PackOptions.{PackOptions}
 use Rattle.link_run.specs.Run.{Tool, Outcome}
 use Rattle.link_unpack.specs.Unpacking.{unpack_tool}
-use Rattle.tcpclkit_c.specs.Options.{unpack_numbers, wanted_of, blocks_numbers, block_options_of, pack_numbers, HasOptions}
+use Rattle.tcpclkit_c.specs.Options.{unpack_numbers, wanted_of, blocks_numbers, block_options_of, check_numbers, check_options_of, pack_numbers, HasOptions}
 use Rattle.tcpclkit_c.specs.Slice.{HoldsFront, KeepsRest}
 use Rattle.tcpclkit_c.specs.declared.options.BlocksNumbers.{BlocksNumbers}
+use Rattle.tcpclkit_c.specs.declared.options.CheckNumbers.{CheckNumbers}
 use Rattle.tcpclkit_c.specs.declared.running.Run.{Run}
 use Rattle.tcpclkit_c.specs.declared.running.Wants.{Wants}
 
@@ -68,6 +71,17 @@ blocks_tool_of numbers =
 abbrev pub ShowsBlocks : (options bytes : List ℕ) → Wants → (old new : Slices) → Run → ℕ → Type 0
 ShowsBlocks options bytes wants old new run status =
     ReturnsTexts ((blocks_tool_of (blocks_numbers options)).whole bytes) wants old new run status
+
+-- the tool that these options of `check` ask for
+abbrev pub check_tool_of : CheckNumbers → Tool
+check_tool_of numbers =
+    if numbers.bundles == 1 then bundle_check_tool (numbers.must == 1)
+    else check_tool (check_options_of numbers)
+
+-- the rules were judged with these options
+abbrev pub JudgesRules : (options bytes : List ℕ) → Wants → (old new : Slices) → Run → ℕ → Type 0
+JudgesRules options bytes wants old new run status =
+    ReturnsTexts ((check_tool_of (check_numbers options)).whole bytes) wants old new run status
 
 -- The bundles were packed with these options, and the texts are returned as by the other tools. Or
 -- nothing was written, and the status is TCPCLKIT_MEMORY.

@@ -1,9 +1,9 @@
 //! The options of the whole tools, as numbers.
 
 ghost use Rattle.std.specs.Prelude.{◌≡◌, true, List, length, drop, get_or};
-ghost use Rattle.tcpclkit_c.specs.Options.{has_nonzero, unpack_numbers, unpack_numbers_fit, only_of, wanted_of, wanted_in, blocks_numbers, blocks_numbers_fit, blocks_job_of, blocks_job_in, pack_numbers, pack_numbers_fit, pack_in_range, HasOptions};
+ghost use Rattle.tcpclkit_c.specs.Options.{has_nonzero, number_if, unpack_numbers, unpack_numbers_fit, wanted_of, wanted_in, blocks_numbers, blocks_numbers_fit, blocks_job_of, blocks_job_in, check_numbers, check_numbers_fit, check_options_of, check_job_of, check_job_in, pack_numbers, pack_numbers_fit, pack_in_range, HasOptions};
 
-use link_tools::{BlockOptions, Job, PackOptions, Wanted};
+use link_tools::{BlockOptions, CheckOptions, Job, PackOptions, PeerLimits, Wanted};
 use link_wire::{MAX_NODE_ID, NodeId};
 
 /// The options of `unpack`, in the order of `struct tcpclkit_unpack_options`.
@@ -28,6 +28,23 @@ pub struct BlocksNumbers {
     pub transfer: u64,
     /// 1 if the run goes on after a fault of the order, and else 0.
     pub keep_going: u64,
+    /// 1 if the input is bundles, one after another, and 0 if it is a recording.
+    pub bundles: u64,
+}
+
+/// The options of `check`, in the order of `struct tcpclkit_check_options`.
+#[derive(Clone, Copy, Debug, PartialEq, Eq)]
+pub struct CheckNumbers {
+    /// 1 for the rules of level `must` alone, and else 0.
+    pub must: u64,
+    /// 1 if the longest segment that the peer takes is known, and else 0.
+    pub has_peer_segment: u64,
+    /// The greatest length of its data, in bytes.
+    pub peer_segment: u64,
+    /// 1 if the longest transfer that the peer takes is known, and else 0.
+    pub has_peer_transfer: u64,
+    /// The greatest length of its data, in bytes.
+    pub peer_transfer: u64,
     /// 1 if the input is bundles, one after another, and 0 if it is a recording.
     pub bundles: u64,
 }
@@ -82,6 +99,13 @@ fn words_after(words: &[u64], known: usize) -> &[u64]
     &words[known.min(words.len())..]
 }
 
+/// The number of an option that may be unset, or `None` if `is_set` is not 1.
+fn number_if(is_set: u64, number: u64) -> Option<u64>
+    ensures { result ≡ number_if is_set number }
+{
+    if is_set == 1 { Some(number) } else { None }
+}
+
 /// The options of `unpack` that these words are.
 fn unpack_numbers(words: &[u64]) -> UnpackNumbers
     ensures { result ≡ unpack_numbers words.now }
@@ -101,19 +125,12 @@ fn unpack_numbers_fit(numbers: &UnpackNumbers) -> bool
     numbers.only_one <= 1 && numbers.payload <= 1 && numbers.keep_going <= 1
 }
 
-/// The ID of the transfers that are wanted, or `None` if all are.
-fn only_of(only_one: u64, transfer: u64) -> Option<u64>
-    ensures { result ≡ only_of only_one transfer }
-{
-    if only_one == 1 { Some(transfer) } else { None }
-}
-
 /// What these options of `unpack` want of a recording.
 fn wanted_of(numbers: &UnpackNumbers) -> Wanted
     ensures { result ≡ wanted_of numbers.now }
 {
     Wanted {
-        only: only_of(numbers.only_one, numbers.transfer),
+        only: number_if(numbers.only_one, numbers.transfer),
         payload: numbers.payload == 1,
         keep_going: numbers.keep_going == 1,
     }
@@ -163,7 +180,7 @@ fn blocks_job_of(numbers: &BlocksNumbers) -> Job
         return Job::BundleBlocks;
     }
     Job::Blocks(BlockOptions {
-        only: only_of(numbers.only_one, numbers.transfer),
+        only: number_if(numbers.only_one, numbers.transfer),
         keep_going: numbers.keep_going == 1,
     })
 }
@@ -175,6 +192,71 @@ pub fn blocks_job_in(words: &[u64]) -> Option<Job>
     let numbers = blocks_numbers(words);
     if blocks_numbers_fit(&numbers) && !has_nonzero(words_after(words, 4)) {
         Some(blocks_job_of(&numbers))
+    } else {
+        None
+    }
+}
+
+/// The options of `check` that these words are.
+fn check_numbers(words: &[u64]) -> CheckNumbers
+    ensures { result ≡ check_numbers words.now }
+{
+    CheckNumbers {
+        must: word(words, 0, 0),
+        has_peer_segment: word(words, 1, 0),
+        peer_segment: word(words, 2, 0),
+        has_peer_transfer: word(words, 3, 0),
+        peer_transfer: word(words, 4, 0),
+        bundles: word(words, 5, 0),
+    }
+}
+
+/// Whether the options of `check` are in their ranges.
+///
+/// Bundles that are no recording have no peer.
+fn check_numbers_fit(numbers: &CheckNumbers) -> bool
+    ensures { result ≡ check_numbers_fit numbers.now }
+{
+    numbers.must <= 1
+        && numbers.has_peer_segment <= 1
+        && numbers.has_peer_transfer <= 1
+        && numbers.bundles <= 1
+        && (numbers.has_peer_segment == 0 || numbers.peer_segment >= 1)
+        && (numbers.bundles == 0 || numbers.has_peer_segment == 0 && numbers.has_peer_transfer == 0)
+}
+
+/// What these options of `check` judge of a recording.
+fn check_options_of(numbers: &CheckNumbers) -> CheckOptions
+    ensures { result ≡ check_options_of numbers.now }
+{
+    CheckOptions {
+        must: numbers.must == 1,
+        peer: PeerLimits {
+            segment: number_if(numbers.has_peer_segment, numbers.peer_segment),
+            transfer: number_if(numbers.has_peer_transfer, numbers.peer_transfer),
+        },
+    }
+}
+
+/// The job of these options of `check`.
+fn check_job_of(numbers: &CheckNumbers) -> Job
+    ensures { result ≡ check_job_of numbers.now }
+{
+    if numbers.bundles == 1 {
+        return Job::BundleCheck {
+            must: numbers.must == 1,
+        };
+    }
+    Job::Check(check_options_of(numbers))
+}
+
+/// The job of `check` with the options that the words are, if these are in their ranges.
+pub fn check_job_in(words: &[u64]) -> Option<Job>
+    ensures { result ≡ check_job_in words.now }
+{
+    let numbers = check_numbers(words);
+    if check_numbers_fit(&numbers) && !has_nonzero(words_after(words, 6)) {
+        Some(check_job_of(&numbers))
     } else {
         None
     }

@@ -2,10 +2,12 @@
 
 ghost use Rattle.std.specs.Prelude.{◌≡◌, true, false, None, Some, length};
 ghost use Rattle.link_list.specs.Listing.{list_tool};
-ghost use Rattle.tcpclkit_c.specs.Options.{unpack_in_range, blocks_in_range, pack_in_range};
-ghost use Rattle.tcpclkit_c.specs.Tool.{ReturnsTexts, Unpacks, ShowsBlocks, ReturnsPacked};
+ghost use Rattle.tcpclkit_c.specs.Options.{unpack_in_range, blocks_in_range, check_in_range, pack_in_range};
+ghost use Rattle.tcpclkit_c.specs.Tool.{ReturnsTexts, Unpacks, ShowsBlocks, JudgesRules, ReturnsPacked};
 
-use crate::options::{blocks_job_in, pack_in_range, pack_numbers, packing_of, wanted_in};
+use crate::options::{
+    blocks_job_in, check_job_in, pack_in_range, pack_numbers, packing_of, wanted_in,
+};
 use crate::running::{Run, Wants, run_job};
 use link_numbers::status::RANGE;
 use link_tools::{Job, cutter_for};
@@ -85,6 +87,35 @@ pub extern "C" fn tcpclkit_raw_blocks(
     ensures unwritten { result ≡ 6 → (output.new ≡ output.old) × (report.new ≡ report.old) }
 {
     let Some(job) = blocks_job_in(options) else {
+        return RANGE;
+    };
+    let wants = Wants {
+        output: wants_output,
+        report: wants_report,
+    };
+    run_job(job, bytes, wants, output, report, answer)
+}
+
+/// `check`. The words are the options, in the order of the header, as many as the caller has.
+#[unsafe(no_mangle)]
+pub extern "C" fn tcpclkit_raw_check(
+    bytes: &[u8],
+    options: &[u64],
+    wants_output: u64,
+    output: &mut [u8],
+    wants_report: u64,
+    report: &mut [u8],
+    answer: &mut Run,
+) -> u32
+    ensures range { check_in_range options.now ≡ false → (result ≡ 6) × (answer.new ≡ answer.old) }
+    ensures run { check_in_range options.now ≡ true → JudgesRules options.now bytes.now
+        (record { output = wants_output; report = wants_report })
+        (record { output = output.old; report = report.old })
+        (record { output = output.new; report = report.new })
+        answer.new result }
+    ensures unwritten { result ≡ 6 → (output.new ≡ output.old) × (report.new ≡ report.old) }
+{
+    let Some(job) = check_job_in(options) else {
         return RANGE;
     };
     let wants = Wants {

@@ -132,10 +132,19 @@ const AT_THE_END: [&[u8]; 3] = [
     b": B1 input ends inside a bundle\n",
 ];
 
+/// The rule of `check` whose line only the end of the input determines.
+const RULE_AT_THE_END: &[u8] = b"unfinished";
+
+/// Whether only the end of the input determines this line.
+fn is_at_the_end(line: &[u8]) -> bool {
+    AT_THE_END.iter().any(|end| line.ends_with(end))
+        || line.split(|byte| *byte == b' ').nth(2) == Some(RULE_AT_THE_END)
+}
+
 /// A text without the line that only the end of the input determines.
 fn lasting(text: &[u8]) -> &[u8] {
     match text.split_inclusive(|byte| *byte == b'\n').last() {
-        Some(line) if AT_THE_END.iter().any(|end| line.ends_with(end)) => {
+        Some(line) if is_at_the_end(line) => {
             text.strip_suffix(line).unwrap_or(text)
         }
         _ => text,

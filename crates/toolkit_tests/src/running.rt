@@ -7,8 +7,9 @@ use crate::packing::Packing;
 use crate::stepping::ended;
 use crate::{Failing, HoldingReader, TestReader, TestWriter};
 use link_tools::{
-    BlockOptions, RunEnd, Status, Wanted, blocks, blocks_run, bundle_blocks, bundle_blocks_run,
-    cutter_for, list, list_run, pack, pack_run, unpack, unpack_run,
+    BlockOptions, CheckOptions, RunEnd, Status, Wanted, blocks, blocks_run, bundle_blocks,
+    bundle_blocks_run, bundle_check, bundle_check_run, check, check_run, cutter_for, list,
+    list_run, pack, pack_run, unpack, unpack_run,
 };
 use link_wire::{InDevice, IoFault, OutDevice};
 use std::alloc::Global;
@@ -24,6 +25,10 @@ pub enum Tool {
     Unpack(Wanted),
     Blocks(BlockOptions),
     BundleBlocks,
+    Check(CheckOptions),
+    BundleCheck {
+        must: bool,
+    },
     Pack(Packing),
 }
 
@@ -45,6 +50,8 @@ impl Tool {
             Tool::Unpack(wanted) => unpack(wanted, reader, output, report),
             Tool::Blocks(options) => blocks(options, reader, output, report),
             Tool::BundleBlocks => bundle_blocks(reader, output, report),
+            Tool::Check(options) => check(options, reader, output, report),
+            Tool::BundleCheck { must } => bundle_check(must, reader, output, report),
             Tool::Pack(packing) => {
                 let options = packing.options();
                 pack(cutter_for(alloc, &options), options, reader, output, report)
@@ -73,6 +80,10 @@ impl Tool {
             Tool::Unpack(wanted) => ended(unpack_run(wanted, reader, output, report), steps),
             Tool::Blocks(options) => ended(blocks_run(options, reader, output, report), steps),
             Tool::BundleBlocks => ended(bundle_blocks_run(reader, output, report), steps),
+            Tool::Check(options) => ended(check_run(options, reader, output, report), steps),
+            Tool::BundleCheck { must } => {
+                ended(bundle_check_run(must, reader, output, report), steps)
+            }
             Tool::Pack(packing) => packed(alloc, packing, steps, reader, output, report),
         }
     }

@@ -1,4 +1,5 @@
 use Rattle.link_laws.proofs.BlockTexts.{blocks_prefix, bundle_blocks_prefix}
+use Rattle.link_laws.proofs.CheckTexts.{check_prefix, bundle_check_prefix}
 use Rattle.link_laws.proofs.Listings.{list_prefix}
 use Rattle.link_laws.proofs.Packings.{pack_prefix}
 use Rattle.link_laws.proofs.Unpackings.{unpack_prefix}
@@ -15,6 +16,12 @@ returns-clause-blocks c = blocks_prefix
 
 pub returns-clause-bundle_blocks : goal.returns-clause-bundle_blocks
 returns-clause-bundle_blocks c = bundle_blocks_prefix
+
+pub returns-clause-check : goal.returns-clause-check
+returns-clause-check c = check_prefix
+
+pub returns-clause-bundle_check : goal.returns-clause-bundle_check
+returns-clause-bundle_check c = bundle_check_prefix
 
 pub returns-clause-pack : goal.returns-clause-pack
 returns-clause-pack c = pack_prefix

@@ -1,0 +1,348 @@
+-- What `unpack` reports of a recording in which `check --must` finds no rule broken.
+use Rattle.std.proofs.Common.{◌≡◌, ℕ, Bool, true, false, List, [], ◌∷◌, ◌++◌, map, filter_map, option_map, Option, Some, None, if◌then◌else◌, refl, ap, sym, ◌∙◌, subst, append-nil, append_assoc}
+use Rattle.std.specs.List.{All, flat_map, fold}
+use Rattle.std.proofs.lemmas.Bool.{and_parts}
+use Rattle.std.proofs.lemmas.Grind.{flat_map-append, fold-append}
+use Rattle.std.proofs.lemmas.List.Elements.{All-nil, All-cons, All-append, All-head, All-tail}
+use Rattle.link_wire.specs.Message.{data_length}
+use Rattle.link_wire.specs.Stream.{Entry, End, Reading, reading_of, heads_of}
+use Rattle.link_wire.specs.declared.message.Contact.{Contact}
+use Rattle.link_wire.specs.declared.message.Message.{Message}
+use Rattle.link_transfer.specs.Event.{event_of}
+use Rattle.link_transfer.specs.Order.{refusal, with_taken}
+use Rattle.link_transfer.specs.declared.fault.OrderFault.{OrderFault}
+use Rattle.link_transfer.specs.declared.fault.OrderFault.TheVariants.{SecondSessInit, SegmentBeforeSessInit, NoSuchOpenTransfer, StartRepeatsOpenId, StartAfterSessTerm}
+use Rattle.link_transfer.specs.declared.joiner.Turn.{Turn}
+use Rattle.link_transfer.specs.declared.joiner.Turn.TheVariants as turn
+use Rattle.link_message_rules.specs.Flags.{item_flags}
+use Rattle.link_message_rules.specs.Heads.{JudgedHead}
+use Rattle.link_message_rules.specs.MessageRules.{broken_rules, judged_rules, level_of}
+use Rattle.link_message_rules.specs.NodeIds.{node_id}
+use Rattle.link_message_rules.specs.Session.{order}
+use Rattle.link_message_rules.specs.declared.limits.PeerLimits.{PeerLimits}
+use Rattle.link_message_rules.specs.declared.rule.MessageRule.{MessageRule}
+use Rattle.link_message_rules.specs.declared.rule.MessageRule.TheVariants as message_rule
+use Rattle.link_report.specs.declared.fault.Fault.TheVariants.{Order}
+use Rattle.link_rule_report.specs.Names.{rule_level}
+use Rattle.link_rule_report.specs.declared.line.RuleText.{RuleText}
+use Rattle.link_rule_report.specs.declared.rule.BrokenRule.TheVariants as rule
+use Rattle.link_run.specs.Made.{StreamStop, stop_of}
+use Rattle.link_walk.specs.Walk.{head_at, closes, WalkEvent, ContactHeader, MessageHead, Data, Whole, LeftOpen, data_events, content_events, Walked, none_walked, with_next, walked_of, end_events, has_open, stop_by, told_of}
+use Rattle.link_unpack.specs.Transfers.{Transfer}
+use Rattle.link_unpack.specs.Unpacking.{Told}
+use Rattle.link_unpack.specs.declared.wanted.Wanted.{Wanted}
+use Rattle.link_check.specs.Checking.{Begun, begun_by, closed_rules, heads_with, judged, latest_with, rules_at, none_kept, check_of, check_tool}
+use Rattle.link_check.specs.Lines.{none_counts, at_offset}
+use Rattle.link_laws.specs.Checked.{IsAllowed, IsSecondInit, MayStop, HasOnlyAllowed}
+use Rattle.link_laws.specs.Cuts.{fault_at, faults_after, lined}
+use Rattle.link_laws.specs.RoundTrip.{all}
+use Rattle.link_laws.specs.Transfers.{ordered_by, ordered_after, ordered, transfers_of, unpacked_of}
+use Rattle.link_laws.proofs.Accepted.{accepted_first, accepted_in_order, accepted_read}
+use Rattle.link_laws.proofs.BrokenRules.{options, broken_with, broken_from, counts_append, good_kept, none_before}
+use Rattle.link_laws.proofs.DueRules.{is_due, never_message, never_unfinished, none_due, all_allowed}
+use Rattle.link_laws.proofs.Following.{walk_told}
+use Rattle.link_laws.proofs.Fronts.{front_first}
+use Rattle.link_laws.proofs.InOrder.{not_stray, taken_more, unpacked_in_order}
+use Rattle.link_laws.proofs.Placed.{after_events, transfers_in, told_transfers, AfterAll, all_after}
+use Rattle.link_laws.proofs.PlainHeads.{going, judged_taken, quieter}
+use Rattle.link_laws.proofs.Same.{heads_said}
+use Rattle.link_laws.proofs.SameLines.{status_clean}
+use Rattle.link_laws.proofs.Walks.{heads_grow}
+use Rattle.link_laws.proofs.Whole.{AreRead, reading_read}
+
+-- ---- the transfers of heads
+
+module _ (peer : PeerLimits) (contact : Option Contact) where
+  abbrev every : List Entry → Walked
+  every heads = walked_of (going true) contact heads
+
+  -- none of the rules counts that these heads break
+  abbrev KeepsMusts : List Entry → Type 0
+  KeepsMusts heads = none_counts true (broken_from peer [] None (every heads).events) ≡ true
+
+  none_open : has_open [] ≡ true → ⊥
+  unfolding has_open
+  none_open opened = absurd (cc)
+
+  module _ (heads : List Entry) (read : AreRead heads) where
+    placed : AfterAll is_due never_message never_unfinished peer [] [] None (every heads).events
+    placed =
+        all_after is_due never_message never_unfinished peer (every heads).events [] [] [] None
+        (walk_told (going true) contact heads read).follow (λ opened. absurd (none_open opened))
+
+    same_transfers : (wanted : Wanted)
+        → transfers_in placed.after ≡ (unpacked_of wanted heads).transfers
+    same_transfers wanted =
+        placed.are
+        ∙ ap (after_events []) (sym (quieter contact heads).events)
+        ∙ sym (told_transfers wanted (walked_of (going false) contact heads).events)
+        ∙ ap (λ (told : Told). told.transfers) (heads_said wanted contact heads read)
+
+    transfers_allowed : KeepsMusts heads → (wanted : Wanted)
+        → All IsAllowed (unpacked_of wanted heads).transfers
+    transfers_allowed keeps wanted =
+        subst (All IsAllowed) (same_transfers wanted)
+        (all_allowed peer placed.after
+        (placed.rules ∙ none_due (broken_from peer [] None (every heads).events) keeps))
+
+  -- the first heads keep what all keep
+  first_keep : (first rest : List Entry) → KeepsMusts (first ++ rest) → KeepsMusts first
+  unfolding walked_of
+  first_keep first rest keeps =
+      none_before peer true [] None (every first).events (every (first ++ rest)).events
+      (rw (fold-append (with_next (going true)) (none_walked contact) first rest)
+      (heads_grow (going true) rest (every first)))
+      keeps
+
+-- ---- the faults of heads
+
+abbrev faults_of : WalkEvent → List (ℕ × OrderFault)
+faults_of (ContactHeader contact) = []
+faults_of (MessageHead head) = fault_at head.offset head.fault
+faults_of (Data byte) = []
+faults_of Whole = []
+faults_of LeftOpen = []
+
+abbrev all_faults : List WalkEvent → List (ℕ × OrderFault)
+all_faults events = flat_map faults_of events
+
+bytes_none : (bytes : List ℕ) (test : Bool)
+    → all_faults (data_events bytes ++ (if test then Whole ∷ [] else [])) ≡ []
+bytes_none [] true = refl
+bytes_none [] false = refl
+bytes_none (byte ∷ bytes) test = bytes_none bytes test
+
+content_none : (effect : Option Turn) (size : ℕ) (content : List ℕ)
+    → all_faults (content_events effect size content) ≡ []
+content_none None size content = refl
+content_none (Some turn.Other) size content = refl
+content_none (Some (turn.Begin abandoned last)) size content = bytes_none content _
+content_none (Some (turn.Continue last)) size content = bytes_none content _
+
+faults_from : (heads : List Entry) (taken : List Message) (events : List WalkEvent)
+    → all_faults (fold (with_next (going true))
+    (record { taken = taken; events = events; refused = None }) heads).events
+    ≡ all_faults events ++ faults_after taken heads
+unfolding faults_after
+faults_from [] taken events = sym (append-nil (all_faults events))
+faults_from (head ∷ more) taken events =
+    let at = head_at taken head.offset head.message in
+    let content = content_events at.turn (data_length head.message) head.content in
+    let later = faults_after (with_taken taken head.message) more in
+    ap (λ (was : Walked). all_faults (fold (with_next (going true)) was more).events)
+    (judged_taken true (refusal taken (event_of head.message))
+    (record { taken = taken; events = events; refused = None }) head)
+    ∙ faults_from more (with_taken taken head.message) (events ++ (MessageHead at ∷ content))
+    ∙ ap (λ (faults : List (ℕ × OrderFault)). faults ++ later)
+    (flat_map-append faults_of events (MessageHead at ∷ content)
+    ∙ ap (λ (faults : List (ℕ × OrderFault)).
+    all_faults events ++ (fault_at at.offset at.fault ++ faults))
+    (content_none at.turn (data_length head.message) head.content)
+    ∙ ap (λ (faults : List (ℕ × OrderFault)). all_faults events ++ faults)
+    (append-nil (fault_at at.offset at.fault)))
+    ∙ append_assoc (all_faults events) (fault_at at.offset at.fault) later
+
+heads_faults : (contact : Option Contact) (heads : List Entry)
+    → all_faults (walked_of (going true) contact heads).events ≡ faults_after [] heads
+unfolding walked_of
+heads_faults None heads = faults_from heads [] []
+heads_faults (Some contact) heads = faults_from heads [] (ContactHeader contact ∷ [])
+
+-- ---- rules of messages of level `must`
+
+module _ (offset : ℕ) where
+  abbrev lines_for : List MessageRule → List RuleText
+  lines_for broken = at_offset offset (map (λ one. rule.Message one) broken)
+
+  -- rules after others
+  later_rules : (first : Option MessageRule) (others : List (Option MessageRule))
+      → none_counts true (lines_for (filter_map (λ judged. judged) (first ∷ others))) ≡ true
+      → none_counts true (lines_for (filter_map (λ judged. judged) others)) ≡ true
+  unfolding none_counts
+  later_rules None others none = none
+  later_rules (Some first) others none = (and_parts _ _ none).1
+
+  -- the fault of a head, whose rule comes before others
+  order_rule : (fault : Option OrderFault) (others : List (Option MessageRule))
+      → none_counts true (lines_for (filter_map (λ judged. judged)
+      (option_map message_rule.Order fault ∷ others))) ≡ true
+      → All IsSecondInit (fault_at offset fault)
+  unfolding none_counts rule_level level_of
+  order_rule None others none = All-nil IsSecondInit
+  order_rule (Some SecondSessInit) others none =
+      All-cons IsSecondInit (offset, SecondSessInit) [] refl (All-nil IsSecondInit)
+  order_rule (Some SegmentBeforeSessInit) others none = absurd (cc)
+  order_rule (Some NoSuchOpenTransfer) others none = absurd (cc)
+  order_rule (Some StartRepeatsOpenId) others none = absurd (cc)
+  order_rule (Some StartAfterSessTerm) others none = absurd (cc)
+
+  third_rule : (first second : Option MessageRule) (fault : Option OrderFault)
+      (others : List (Option MessageRule))
+      → none_counts true (lines_for (filter_map (λ judged. judged)
+      (first ∷ second ∷ option_map message_rule.Order fault ∷ others))) ≡ true
+      → All IsSecondInit (fault_at offset fault)
+  third_rule first second fault others none =
+      order_rule fault others
+      (later_rules second (option_map message_rule.Order fault ∷ others)
+      (later_rules first (second ∷ option_map message_rule.Order fault ∷ others) none))
+
+-- the rules after the first three
+abbrev after_third : List (Option MessageRule) → List (Option MessageRule)
+after_third [] = []
+after_third (first ∷ []) = []
+after_third (first ∷ second ∷ []) = []
+after_third (first ∷ second ∷ third ∷ others) = others
+
+module _ (peer : PeerLimits) where
+  head_allowed : (heads : List JudgedHead) (offset : ℕ) (head : JudgedHead)
+      → none_counts true (lines_for offset (broken_rules peer heads head)) ≡ true
+      → All IsSecondInit (fault_at offset head.fault)
+  unfolding broken_rules order
+  head_allowed heads offset head none =
+      third_rule offset (node_id head.message) (item_flags head.message) head.fault
+      (after_third (judged_rules peer heads head)) none
+
+  event_allowed : (heads : List JudgedHead) (latest : Option Begun) (event : WalkEvent)
+      → none_counts true (broken_with peer heads latest event) ≡ true
+      → All IsSecondInit (faults_of event)
+  event_allowed heads latest (ContactHeader contact) none = All-nil IsSecondInit
+  event_allowed heads latest (MessageHead head) none =
+      let of_head = lines_for head.offset (broken_rules peer heads (judged head)) in
+      let of_transfer : List RuleText =
+      if closes head then rules_at closed_rules (begun_by head latest) else [] in
+      head_allowed heads head.offset (judged head)
+      (and_parts (none_counts true of_head) (none_counts true of_transfer)
+      (sym (counts_append true of_head of_transfer) ∙ none)).0
+  event_allowed heads latest (Data byte) none = All-nil IsSecondInit
+  event_allowed heads latest Whole none = All-nil IsSecondInit
+  event_allowed heads latest LeftOpen none = All-nil IsSecondInit
+
+  events_allowed : (events : List WalkEvent) (heads : List JudgedHead) (latest : Option Begun)
+      → none_counts true (broken_from peer heads latest events) ≡ true
+      → All IsSecondInit (all_faults events)
+  events_allowed [] heads latest none = All-nil IsSecondInit
+  events_allowed (event ∷ more) heads latest none =
+      let now = broken_with peer heads latest event in
+      let later = broken_from peer (heads_with heads event) (latest_with latest event) more in
+      let both = and_parts (none_counts true now) (none_counts true later)
+      (sym (counts_append true now later) ∙ none) in
+      All-append IsSecondInit (faults_of event) (all_faults more)
+      (event_allowed heads latest event both.0)
+      (events_allowed more (heads_with heads event) (latest_with latest event) both.1)
+
+-- ---- a run that ends at a fault of the order
+
+-- the fault at which the walk ends, if there is one
+abbrev MayRefuse : Option (ℕ × OrderFault) → Type 0
+MayRefuse None = Unit {0}
+MayRefuse (Some fault) = IsSecondInit fault
+
+may_refuse : (heads : List Entry) (before : List Message)
+    → All IsSecondInit (faults_after before heads) → MayRefuse (ordered_after before heads).refused
+unfolding ordered_after faults_after
+may_refuse [] before faults = tt
+may_refuse (head ∷ more) before faults =
+    by_refusal (refusal before (event_of head.message)) refl
+    (may_refuse more (before ++ head.message ∷ [])) faults
+  where
+    by_refusal : (refused : Option OrderFault) → refusal before (event_of head.message) ≡ refused
+        → (All IsSecondInit (faults_after (before ++ head.message ∷ []) more)
+        → MayRefuse (ordered_after (before ++ head.message ∷ []) more).refused)
+        → All IsSecondInit (fault_at head.offset refused
+        ++ faults_after (with_taken before head.message) more)
+        → MayRefuse (ordered_by refused head
+        (ordered_after (before ++ head.message ∷ []) more)).refused
+    by_refusal (Some fault) is later faults =
+        All-head IsSecondInit (head.offset, fault) _ faults
+    by_refusal None is later faults =
+        later
+        (subst (λ taken. All IsSecondInit (faults_after taken more))
+        (taken_more before head.message (not_stray before (event_of head.message) is)) faults)
+
+may_stop : (refused : Option (ℕ × OrderFault)) (end : End) → stop_of end ≡ None
+    → MayRefuse refused → MayStop (stop_by refused end)
+may_stop None end none may = rw none tt
+may_stop (Some (offset, fault)) end none may = (offset, ap (λ f. Order offset f) may)
+
+lined_allowed : (stop : Option StreamStop) (transfers : List Transfer) → All IsAllowed transfers
+    → All IsAllowed (lined stop transfers)
+lined_allowed None transfers allowed = allowed
+lined_allowed (Some stop) [] allowed = allowed
+lined_allowed (Some stop) (latest ∷ earlier) allowed = by_closed latest.closed
+  where
+    by_closed : (closed : Bool)
+        → All IsAllowed (if closed then latest ∷ earlier else earlier)
+    by_closed true = allowed
+    by_closed false = All-tail IsAllowed latest earlier allowed
+
+-- ---- a recording
+
+module _ (peer : PeerLimits) (bytes : List ℕ)
+    (is : ((check_tool (options peer true)).whole bytes).status ≡ 0) where
+  abbrev reading : Reading
+  reading = reading_of bytes
+
+  abbrev heads : List Entry
+  heads = heads_of reading
+
+  abbrev walk : Walked
+  walk = every peer reading.contact heads
+
+  -- there is no fault of the wire, and no rule that counts is broken
+  record IsKept : Type 0 where
+    pub unstopped : stop_of reading.end ≡ None
+    pub none : none_counts true
+        (broken_from peer [] None (walk.events ++ end_events walk.taken)) ≡ true
+
+  kept : IsKept
+  unfolding told_of
+  kept =
+      let both = status_clean (stop_by walk.refused reading.end) (check_of (options peer true) bytes)
+      is in
+      record {
+        unstopped =
+            ap (λ refused. stop_by refused reading.end)
+            (sym (quieter reading.contact heads).unrefused)
+            ∙ both.0;
+        none = sym (good_kept peer true (walk.events ++ end_events walk.taken) none_kept) ∙ both.1;
+      }
+
+  keeps : KeepsMusts peer reading.contact heads
+  keeps =
+      none_before peer true [] None walk.events (walk.events ++ end_events walk.taken)
+      (front_first walk.events (end_events walk.taken)) kept.none
+
+  faults : All IsSecondInit (faults_after [] heads)
+  faults =
+      subst (All IsSecondInit) (heads_faults reading.contact heads)
+      (events_allowed peer walk.events [] None keeps)
+
+  -- the heads before the first that is refused
+  abbrev accepted : List Entry
+  accepted = (ordered heads).heads
+
+  accepted_allowed : All IsAllowed (transfers_of accepted)
+  accepted_allowed =
+      let first = accepted_first heads in
+      let read = accepted_read heads (reading_read bytes).heads in
+      let made = (unpacked_in_order all accepted read (accepted_in_order heads)).made in
+      subst (All IsAllowed) made
+      (transfers_allowed peer reading.contact accepted read
+      (first_keep peer reading.contact accepted first.0
+      (subst (KeepsMusts peer reading.contact) first.1 keeps)) all)
+
+  refused_allowed : MayRefuse (ordered heads).refused
+  unfolding ordered
+  refused_allowed = may_refuse heads [] faults
+
+  pub only_allowed : HasOnlyAllowed bytes
+  only_allowed = record {
+    stop = may_stop (ordered heads).refused reading.end kept.unstopped refused_allowed;
+    transfers = lined_allowed (stop_by (ordered heads).refused reading.end) (transfers_of accepted)
+        accepted_allowed;
+    unstopped = kept.unstopped;
+    faults = faults;
+    transfers_on = λ wanted.
+        rw kept.unstopped
+        (transfers_allowed peer reading.contact heads (reading_read bytes).heads keeps wanted);
+  }

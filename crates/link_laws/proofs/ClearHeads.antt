@@ -1,0 +1,339 @@
+-- The messages of a packed stream break no rule of messages.
+use Rattle.std.proofs.Common.{◌≡◌, ℕ, suc, ◌+◌, ◌<◌, ◌≤◌, Bool, true, false, ◌&&◌, ◌==◌, nat_lt, nat_le, is_some, List, [], ◌∷◌, ◌++◌, reverse, filter_map, Option, Some, None, if◌then◌else◌, refl, ap, sym, ◌∙◌, arith}
+use Rattle.std.specs.Prelude.{IfSome}
+use Rattle.std.specs.List.{All, list_any}
+use Rattle.std.proofs.lemmas.Bool.{ne_eqb, ltb-true}
+use Rattle.std.proofs.lemmas.List.{map-append, reverse-append}
+use Rattle.std.proofs.lemmas.List.Elements.{All-nil, All-cons, All-head, All-tail}
+use Rattle.link_wire.specs.Spelling.{segment_with, sess_init_with}
+use Rattle.link_wire.specs.Stream.{Entry}
+use Rattle.link_wire.specs.declared.message.Message.{Message}
+use Rattle.link_wire.specs.declared.message.Message.TheVariants as message
+use Rattle.link_wire.specs.declared.message.SegmentHead.{SegmentHead}
+use Rattle.link_transfer.specs.Event.{event_of}
+use Rattle.link_transfer.specs.Joiner.{IsJoinerAt, joiner_after}
+use Rattle.link_transfer.specs.Order.{refusal, refusal_by, is_stray, turn_by, effect_of, with_taken, has_sess_init, open_of}
+use Rattle.link_transfer.specs.declared.announcement.Announced.{Announced}
+use Rattle.link_transfer.specs.declared.announcement.Announced.TheVariants.{Absent, Total, Malformed}
+use Rattle.link_transfer.specs.declared.event.Event.{Event}
+use Rattle.link_transfer.specs.declared.joiner.Joiner.{Joiner}
+use Rattle.link_transfer.specs.declared.joiner.Turn.{Turn}
+use Rattle.link_transfer.specs.declared.joiner.Turn.TheVariants as turn
+use Rattle.link_transfer.proofs.Joining.{refusal-at, stray-at, effect-at, IsJoinerAt-then}
+use Rattle.link_message_rules.specs.Flags.{item_flags, segment_flags, term_flags}
+use Rattle.link_message_rules.specs.Heads.{JudgedHead, messages_of, start_id}
+use Rattle.link_message_rules.specs.Lengths.{peer_segment, size_of, if_passed, if_exceeded, peer_transfer, ack_length}
+use Rattle.link_message_rules.specs.MessageRules.{judged_rules, broken_rules}
+use Rattle.link_message_rules.specs.NodeIds.{node_id}
+use Rattle.link_message_rules.specs.Session.{order, before_session, keepalive}
+use Rattle.link_message_rules.specs.TransferIds.{abandoned_by, interleaved, descending, transfer_id}
+use Rattle.link_message_rules.specs.declared.limits.PeerLimits.{PeerLimits}
+use Rattle.link_message_rules.specs.declared.rule.MessageRule.{MessageRule}
+use Rattle.link_message_rules.specs.declared.rule.MessageRule.TheVariants.{PeerTransferLength}
+use Rattle.link_run.proofs.Continued.{entry}
+use Rattle.link_walk.specs.Walk.{head_at}
+use Rattle.link_check.specs.Checking.{judged}
+use Rattle.link_pack.specs.Segments.{flags_of}
+use Rattle.link_laws.proofs.InOrder.{not_stray, taken_more}
+use Rattle.link_laws.proofs.Sent.{starts_as}
+
+-- ---- rules, one by one
+
+abbrev AllNone : List (Option MessageRule) → Type 0
+AllNone [] = Unit {0}
+AllNone (first ∷ others) = (first ≡ None) × AllNone others
+
+none_left : (rules : List (Option MessageRule)) → AllNone rules
+    → filter_map (λ judged. judged) rules ≡ []
+none_left [] none = refl
+none_left (first ∷ others) none = rw none.0 (none_left others none.1)
+
+none_if : (test : Bool) → ◌≡◌ {A = Option MessageRule} (if test then None else None) None
+none_if true = refl
+none_if false = refl
+
+module _ (peer : PeerLimits) (before : List JudgedHead) where
+  module _ (first last : Bool) (id size : ℕ) (announce : Option ℕ) (turn : Turn) where
+    abbrev segment : Message
+    segment = segment_with (flags_of first last) id size announce
+
+    abbrev segment_head : JudgedHead
+    segment_head = record { message = segment; fault = None; turn = Some turn }
+
+    items_none : item_flags segment ≡ None
+    unfolding item_flags
+    items_none = by_announce announce
+      where
+        by_announce : (total : Option ℕ)
+            → item_flags (segment_with (flags_of first last) id size total) ≡ None
+        by_announce None = refl
+        by_announce (Some total) = refl
+
+    flags_none : segment_flags segment ≡ None
+    unfolding segment_flags
+    flags_none = by_flags first last
+      where
+        by_flags : (first last : Bool)
+            → segment_flags (segment_with (flags_of first last) id size announce) ≡ None
+        by_flags true true = refl
+        by_flags true false = refl
+        by_flags false true = refl
+        by_flags false false = refl
+
+    -- in order, and it abandons no transfer
+    pub segment_clear : abandoned_by (Some turn) ≡ None → transfer_id before segment ≡ None
+        → peer_segment peer.segment segment ≡ None
+        → peer_transfer peer.transfer before segment_head ≡ None
+        → broken_rules peer before segment_head ≡ []
+    unfolding broken_rules node_id order before_session interleaved ack_length keepalive term_flags
+    segment_clear none new short within =
+        none_left (judged_rules peer before segment_head) (
+          refl,
+          (
+            items_none,
+            (
+              refl,
+              (
+                none_if (has_sess_init (messages_of before)),
+                (rw none refl, (flags_none, (new, (short, (within, (refl, (refl, (refl, tt)))))))),
+              ),
+            ),
+          ),
+        )
+
+  -- ---- messages that are no segments
+
+  module _ (interval segment_mru transfer_mru : ℕ) (node : List ℕ) where
+    abbrev init : Message
+    init = sess_init_with interval segment_mru transfer_mru node
+
+    abbrev init_head : JudgedHead
+    init_head = record { message = init; fault = None; turn = Some turn.Other }
+
+    init_short : (limit : Option ℕ) → peer_segment limit init ≡ None
+    unfolding peer_segment
+    init_short None = refl
+    init_short (Some limit) = refl
+
+    init_within : (limit : Option ℕ) → peer_transfer limit before init_head ≡ None
+    unfolding peer_transfer
+    init_within None = refl
+    init_within (Some limit) = refl
+
+    pub init_clear : node_id init ≡ None → broken_rules peer before init_head ≡ []
+    unfolding broken_rules item_flags order before_session interleaved segment_flags transfer_id ack_length keepalive term_flags
+    init_clear keeps =
+        none_left (judged_rules peer before init_head) (
+          keeps,
+          (
+            refl,
+            (
+              refl,
+              (
+                none_if (has_sess_init (messages_of before)),
+                (
+                  refl,
+                  (
+                    refl,
+                    (
+                      refl,
+                      (
+                        init_short peer.segment,
+                        (
+                          init_within peer.transfer,
+                          (refl, (refl, (refl, tt))),
+                        ),
+                      ),
+                    ),
+                  ),
+                ),
+              ),
+            ),
+          ),
+        )
+
+  abbrev term_head : JudgedHead
+  term_head = record { message = message.SessTerm 0 0; fault = None; turn = Some turn.Other }
+
+  term_short : (limit : Option ℕ) → peer_segment limit (message.SessTerm 0 0) ≡ None
+  unfolding peer_segment
+  term_short None = refl
+  term_short (Some limit) = refl
+
+  term_within : (limit : Option ℕ) → peer_transfer limit before term_head ≡ None
+  unfolding peer_transfer
+  term_within None = refl
+  term_within (Some limit) = refl
+
+  pub term_clear : broken_rules peer before term_head ≡ []
+  unfolding broken_rules node_id item_flags order before_session interleaved segment_flags transfer_id ack_length keepalive term_flags
+  term_clear =
+      none_left (judged_rules peer before term_head) (
+        refl,
+        (
+          refl,
+          (
+            refl,
+            (
+              none_if (has_sess_init (messages_of before)),
+              (
+                refl,
+                (
+                  refl,
+                  (
+                    refl,
+                    (
+                      term_short peer.segment,
+                      (
+                        term_within peer.transfer,
+                        (refl, (refl, (refl, tt))),
+                      ),
+                    ),
+                  ),
+                ),
+              ),
+            ),
+          ),
+        ),
+      )
+
+-- ---- transfer IDs
+
+-- the IDs of the transfers that began, the newest first
+abbrev pub ids_of : List JudgedHead → List ℕ
+ids_of before = filter_map start_id (reverse (messages_of before))
+
+pub ids_then : (before : List JudgedHead) (head : JudgedHead)
+    → ids_of (before ++ head ∷ [])
+    ≡ filter_map start_id (head.message ∷ reverse (messages_of before))
+ids_then before head =
+    ap (filter_map start_id)
+    (ap reverse (map-append (λ (one : JudgedHead). one.message) before (head ∷ []))
+    ∙ reverse-append (messages_of before) (head.message ∷ []))
+
+abbrev pub AreBelow : (next : ℕ) → List ℕ → Type 0
+AreBelow next ids = All (λ id. id < next) ids
+
+pub below_more : (next : ℕ) (ids : List ℕ) → AreBelow next ids → AreBelow (suc next) ids
+below_more next [] below = All-nil (λ id. id < suc next)
+below_more next (id ∷ ids) below =
+    let first = All-head (λ id. id < next) id ids below in
+    All-cons (λ id. id < suc next) id ids (omega arith)
+    (below_more next ids (All-tail (λ id. id < next) id ids below))
+
+not_among : (next : ℕ) (ids : List ℕ) → AreBelow next ids
+    → list_any (λ earlier. earlier == next) (descending ids) ≡ false
+not_among next [] below = refl
+not_among next (id ∷ []) below =
+    let first = All-head (λ id. id < next) id [] below in
+    rw (ne_eqb id next (λ same. absurd (omega arith))) refl
+not_among next (id ∷ second ∷ more) below =
+    let first = All-head (λ id. id < next) id (second ∷ more) below in
+    by_test (id == second + 1) (ne_eqb id next (λ same. absurd (omega arith)))
+    (not_among next (second ∷ more) (All-tail (λ id. id < next) id (second ∷ more) below))
+  where
+    by_test : (test : Bool) → (id == next) ≡ false
+        → list_any (λ earlier. earlier == next) (descending (second ∷ more)) ≡ false
+        → list_any (λ earlier. earlier == next)
+        (if test then id ∷ descending (second ∷ more) else id ∷ []) ≡ false
+    by_test true differs rest = rw differs rest
+    by_test false differs rest = rw differs refl
+
+module _ (before : List JudgedHead) (last : Bool) (id size : ℕ) (announce : Option ℕ) where
+  -- a transfer begins whose ID is above those before it
+  pub new_id : AreBelow id (ids_of before)
+      → transfer_id before (segment_with (flags_of true last) id size announce) ≡ None
+  unfolding transfer_id
+  new_id below =
+      rw (starts_as true last, not_among id (ids_of before) below) refl
+
+  pub no_id : transfer_id before (segment_with (flags_of false last) id size announce) ≡ None
+  unfolding transfer_id
+  no_id = rw (starts_as false last) refl
+
+-- ---- lengths
+
+abbrev pub IsAtMost : (limit : ℕ) → Announced → Type 0
+IsAtMost limit Absent = Unit {0}
+IsAtMost limit (Total total) = total ≤ limit
+IsAtMost limit Malformed = Unit {0}
+
+no_more : (limit size : ℕ) → size ≤ limit → nat_lt limit size ≡ false
+no_more limit size within = by_test (nat_lt limit size) refl
+  where
+    by_test : (test : Bool) → nat_lt limit size ≡ test → test ≡ false
+    by_test false is = refl
+    by_test true is = absurd (let more = ltb-true limit size is in omega arith)
+
+passes_none : (limit before size : ℕ) → before + size ≤ limit → if_passed limit before size ≡ None
+passes_none limit before size within =
+    rw (no_more limit (before + size) within)
+    (by_test (nat_le before limit) (PeerTransferLength (before + size) limit))
+  where
+    by_test : (test : Bool) (broken : MessageRule)
+        → ◌≡◌ {A = Option MessageRule} (if test && false then Some broken else None) None
+    by_test true broken = refl
+    by_test false broken = refl
+
+pub exceeds_none : (limit : ℕ) (said : Announced) (head : SegmentHead) (earlier : List SegmentHead)
+    → IsAtMost limit said → size_of earlier + head.length ≤ limit
+    → if_exceeded limit said head earlier ≡ None
+exceeds_none limit Absent head earlier most within =
+    passes_none limit (size_of earlier) head.length within
+exceeds_none limit (Total total) head earlier most within =
+    rw (no_more limit total most) (passes_none limit (size_of earlier) head.length within)
+exceeds_none limit Malformed head earlier most within =
+    passes_none limit (size_of earlier) head.length within
+
+pub short_none : (limit : Option ℕ) (head : SegmentHead) → IfSome limit (λ most. head.length ≤ most)
+    → peer_segment limit (message.Segment head) ≡ None
+unfolding peer_segment
+short_none None head short = refl
+short_none (Some limit) head short = rw (no_more limit head.length short) refl
+
+-- ---- one head of a walk
+
+module _ (peer : PeerLimits) where
+  abbrev pub judged_at : (taken : List Message) → Entry → JudgedHead
+  judged_at taken head = judged (head_at taken head.offset head.message)
+
+  -- These heads break no rule of messages, and leave no transfer open. They come after these
+  -- messages and heads.
+  abbrev pub AreClear : (taken : List Message) → (before : List JudgedHead) → List Entry → Type 0
+  AreClear taken before [] = is_some (open_of taken) ≡ false
+  AreClear taken before (head ∷ more) =
+      (broken_rules peer before (judged_at taken head) ≡ [])
+      × AreClear (with_taken taken head.message) (before ++ judged_at taken head ∷ []) more
+
+module _ (joiner : Joiner) (taken : List Message) (offset : ℕ) (sent : Message)
+    (content : List ℕ) (joins : IsJoinerAt joiner taken)
+    (may : refusal_by joiner.initiated joiner.terminated joiner.transfer (event_of sent) ≡ None)
+  where
+    abbrev here : Entry
+    here = entry offset sent content
+
+    pub in_order : refusal taken (event_of sent) ≡ None
+    in_order = sym (refusal-at joiner taken (event_of sent) joins) ∙ may
+
+    belongs : is_stray taken (event_of sent) ≡ false
+    belongs = not_stray taken (event_of sent) in_order
+
+    pub turn_at : effect_of taken (event_of sent) ≡ Some (turn_by joiner.transfer (event_of sent))
+    turn_at =
+        sym (effect-at joiner taken (event_of sent) joins false
+        (stray-at joiner taken (event_of sent) joins ∙ belongs))
+
+    pub judged_is : judged (head_at taken offset sent) ≡ record {
+      message = sent;
+      fault = None;
+      turn = Some (turn_by joiner.transfer (event_of sent));
+    }
+    judged_is =
+        ap (λ fault. record { message = sent; fault = fault; turn = effect_of taken (event_of sent) })
+        in_order
+        ∙ ap (λ turn. record { message = sent; fault = None; turn = turn }) turn_at
+
+    pub joins_then : (happened : Event) → event_of sent ≡ happened
+        → IsJoinerAt (joiner_after joiner happened) (with_taken taken sent)
+    joins_then happened is =
+        rw (taken_more taken sent belongs) (IsJoinerAt-then joiner taken sent happened is joins)

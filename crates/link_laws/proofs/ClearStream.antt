@@ -1,0 +1,462 @@
+-- The heads of a packed stream break no rule of messages, one after another.
+use Rattle.std.proofs.Common.{◌≡◌, ℕ, zero, suc, ◌+◌, ◌*◌, ◌<◌, ◌≤◌, inl, inr, ◌⊎◌, Bool, true, false, ◌==◌, is_some, List, [], ◌∷◌, ◌++◌, length, take, drop, reverse, Option, Some, None, if◌then◌else◌, refl, ap, sym, ◌∙◌, subst, append-nil, append_assoc, length-append, length-take, arith}
+use Rattle.std.specs.Prelude.{IfSome}
+use Rattle.std.proofs.lemmas.Bool.{eq-eqb, ne_eqb}
+use Rattle.std.proofs.lemmas.List.{reverse-append}
+use Rattle.std.proofs.lemmas.List.Elements.{All-nil, All-cons}
+use Rattle.std.proofs.lemmas.List.Sums.{sum_by-cons}
+use Rattle.link_wire.specs.Codes.{is_end}
+use Rattle.link_wire.specs.Spelling.{announced, segment_with}
+use Rattle.link_wire.specs.Stream.{Entry}
+use Rattle.link_wire.specs.declared.message.Message.{Message}
+use Rattle.link_wire.specs.declared.message.Message.TheVariants as message
+use Rattle.link_wire.specs.declared.message.SegmentHead.{SegmentHead}
+use Rattle.link_transfer.specs.Announced.{announced_of}
+use Rattle.link_transfer.specs.Chunks.{chunk_count}
+use Rattle.link_transfer.specs.Cutting.{announcement, due}
+use Rattle.link_transfer.specs.Joiner.{IsJoinerAt}
+use Rattle.link_transfer.specs.Order.{with_taken, effect_of}
+use Rattle.link_transfer.specs.Event.{event_of}
+use Rattle.link_transfer.specs.declared.announcement.Announced.{Announced}
+use Rattle.link_transfer.specs.declared.announcement.Announced.TheVariants.{Absent, Total}
+use Rattle.link_transfer.specs.declared.event.Event.TheVariants as event
+use Rattle.link_transfer.specs.declared.joiner.Turn.{Turn}
+use Rattle.link_transfer.specs.declared.joiner.Turn.TheVariants as turn
+use Rattle.link_transfer.proofs.Joining.{IsJoinerAt-none}
+use Rattle.link_message_rules.specs.Heads.{JudgedHead}
+use Rattle.link_message_rules.specs.Lengths.{earlier_of, joined, segments_back, segments_of, first_segment, size_of, if_exceeded, announced_first, peer_transfer}
+use Rattle.link_message_rules.specs.MessageRules.{broken_rules}
+use Rattle.link_message_rules.specs.declared.limits.PeerLimits.{PeerLimits}
+use Rattle.link_run.proofs.Continued.{entry}
+use Rattle.link_bundle_walk.specs.Bundles.{Packed, Divided}
+use Rattle.link_pack.specs.Packing.{sending}
+use Rattle.link_pack.specs.Segments.{Sending, cutting_of, cut_at, flags_of, segment_bytes, segments_of as bytes_of_segments}
+use Rattle.link_pack.specs.declared.options.PackOptions.{PackOptions}
+use Rattle.link_laws.specs.PackedRules.{AllowsLimits, KeepsNodeId}
+use Rattle.link_laws.proofs.Carried.{some_chunk}
+use Rattle.link_laws.proofs.ClearHeads.{segment_clear, init_clear, term_clear, ids_of, ids_then, AreBelow, below_more, new_id, no_id, IsAtMost, exceeds_none, short_none, judged_at, AreClear, turn_at, judged_is, joins_then}
+use Rattle.link_laws.proofs.Divided.{AreBundles}
+use Rattle.link_laws.proofs.Entries.{bundle_entries, due_entries, first_entries, init_bytes, init_entry, last_entries, packed_entries, term_entries, some_size}
+use Rattle.link_laws.proofs.Limits.{announces}
+use Rattle.link_laws.proofs.Segments.{chunk_of, message_of, segment_entries}
+use Rattle.link_laws.proofs.Sent.{starts_as, first_may, next_may, open_by, opens_by, taken_more, taken_first, head_of, last_at}
+use Rattle.link_laws.proofs.Standing.{fresh, carrying}
+
+if_some : {P Q : ℕ → Type 0} (limit : Option ℕ) → ((most : ℕ) → P most → Q most)
+    → IfSome limit P → IfSome limit Q
+if_some None step holds = tt
+if_some (Some most) step holds = step most holds
+
+-- ---- the segments so far
+
+segments_then : (before : List JudgedHead) (head : JudgedHead)
+    → segments_of (before ++ head ∷ []) ≡ segments_back (head ∷ reverse before)
+segments_then before head = ap segments_back (reverse-append before (head ∷ []))
+
+-- no transfer is open, and the IDs of all are below this one
+record Between (next : ℕ) (taken : List Message) (before : List JudgedHead) : Type 0 where
+  pub joins : IsJoinerAt (carrying None) taken
+  pub ids : AreBelow next (ids_of before)
+
+module _ (id : ℕ) (begun : SegmentHead) where
+  -- the transfer with this ID is open, which began with this segment and has `size` bytes
+  record Within (size : ℕ) (taken : List Message) (before : List JudgedHead) : Type 0 where
+    pub joins : IsJoinerAt (carrying (Some id)) taken
+    pub ids : AreBelow (suc id) (ids_of before)
+    pub last : SegmentHead
+    pub earlier : List SegmentHead
+    pub segments : segments_of before ≡ last ∷ earlier
+    pub sized : size_of (last ∷ earlier) ≡ size
+    pub first : first_segment last earlier ≡ begun
+
+  -- what one segment does, if the transfer has `size` bytes with it
+  record AfterSegment (peer : PeerLimits) (last : Bool) (size : ℕ) (taken : List Message)
+      (before : List JudgedHead) (head : Entry) : Type 0 where
+    pub clear : broken_rules peer before (judged_at peer taken head) ≡ []
+    pub ended : last ≡ true
+        → Between (suc id) (with_taken taken head.message) (before ++ judged_at peer taken head ∷ [])
+    pub goes : last ≡ false
+        → Within size (with_taken taken head.message) (before ++ judged_at peer taken head ∷ [])
+
+-- ---- the first segment of a transfer
+
+module _ (peer : PeerLimits) (id : ℕ) (last : Bool) (offset : ℕ) (chunk : List ℕ)
+    (announce : Option ℕ) (taken : List Message) (before : List JudgedHead)
+    (at : Between id taken before)
+    (short : IfSome peer.segment (λ most. length chunk ≤ most))
+    (most : IfSome peer.transfer (λ limit. IsAtMost limit (announced_of (announced announce))
+    × (length chunk ≤ limit))) where
+  abbrev begins : SegmentHead
+  begins = record {
+    flags = flags_of true last;
+    id = id;
+    items = record { items = announced announce };
+    length = length chunk;
+  }
+
+  abbrev first_entry : Entry
+  first_entry = entry offset (message.Segment begins) chunk
+
+  abbrev begin_turn : Turn
+  begin_turn = turn.Begin None (is_end begins.flags)
+
+  begin_within : (limit : Option ℕ)
+      → IfSome limit (λ limit. IsAtMost limit (announced_of (announced announce))
+      × (length chunk ≤ limit))
+      → peer_transfer limit before (record {
+        message = message.Segment begins;
+        fault = None;
+        turn = Some begin_turn;
+      }) ≡ None
+  unfolding peer_transfer
+  begin_within None most = refl
+  begin_within (Some limit) most =
+      exceeds_none limit (announced_of (announced announce)) begins [] most.0 (omega arith)
+
+  first_turn : effect_of taken (event_of (message.Segment begins)) ≡ Some begin_turn
+  first_turn =
+      turn_at (carrying None) taken offset (message.Segment begins) chunk at.joins (first_may last id)
+      ∙ ap (λ starts. Some (if starts then begin_turn else turn.Continue (is_end begins.flags)))
+      (starts_as true last)
+
+  first_judged : judged_at peer taken first_entry ≡ record {
+    message = message.Segment begins;
+    fault = None;
+    turn = Some begin_turn;
+  }
+  first_judged =
+      judged_is (carrying None) taken offset (message.Segment begins) chunk at.joins
+      (first_may last id)
+      ∙ ap (λ starts. record {
+        message = message.Segment begins;
+        fault = None;
+        turn = Some (if starts then begin_turn else turn.Continue (is_end begins.flags));
+      }) (starts_as true last)
+
+  first_ids : AreBelow (suc id) (ids_of (before ++ judged_at peer taken first_entry ∷ []))
+  first_ids =
+      rw (ids_then before (judged_at peer taken first_entry), starts_as true last)
+      (All-cons (λ earlier. earlier < suc id) id (ids_of before) (omega arith)
+      (below_more id (ids_of before) at.ids))
+
+  first_joins : IsJoinerAt (carrying (open_by id last)) (with_taken taken (message.Segment begins))
+  first_joins =
+      subst (λ transfer. IsJoinerAt (carrying transfer) (with_taken taken (message.Segment begins)))
+      (opens_by true last id)
+      (joins_then (carrying None) taken offset (message.Segment begins) chunk at.joins
+      (first_may last id) (event.Segment begins.flags id) refl)
+
+  first_after : AfterSegment id begins peer last (length chunk) taken before first_entry
+  first_after = record {
+    clear =
+        ap (broken_rules peer before) first_judged
+        ∙ segment_clear peer before true last id (length chunk) announce begin_turn refl
+        (new_id before last id (length chunk) announce at.ids)
+        (short_none peer.segment begins short)
+        (begin_within peer.transfer most);
+    ended = λ is. record {
+      joins = subst (λ over. IsJoinerAt (carrying (open_by id over))
+          (with_taken taken (message.Segment begins))) is first_joins;
+      ids = first_ids;
+    };
+    goes = λ is. record {
+      joins = subst (λ over. IsJoinerAt (carrying (open_by id over))
+          (with_taken taken (message.Segment begins))) is first_joins;
+      ids = first_ids;
+      last = begins;
+      earlier = [];
+      segments = segments_then before (judged_at peer taken first_entry)
+          ∙ ap (λ effect. joined (Some begins) (earlier_of effect (segments_of before))
+          (segments_of before)) first_turn;
+      sized = omega (arith, sum_by-cons (λ (segment : SegmentHead). segment.length) begins []);
+      first = refl;
+    };
+  }
+
+-- ---- another segment of it
+
+module _ (peer : PeerLimits) (id : ℕ) (begun : SegmentHead) (last : Bool) (offset : ℕ)
+    (chunk : List ℕ) (had size : ℕ) (taken : List Message) (before : List JudgedHead)
+    (at : Within id begun had taken before) (more : had + length chunk ≡ size)
+    (short : IfSome peer.segment (λ most. length chunk ≤ most))
+    (most : IfSome peer.transfer (λ limit. IsAtMost limit (announced_of begun.items.items)
+    × (size ≤ limit))) where
+  abbrev continues : SegmentHead
+  continues = record {
+    flags = flags_of false last;
+    id = id;
+    items = record { items = announced None };
+    length = length chunk;
+  }
+
+  abbrev next_entry : Entry
+  next_entry = entry offset (message.Segment continues) chunk
+
+  abbrev next_turn : Turn
+  next_turn = turn.Continue (is_end continues.flags)
+
+  next_within : (limit : Option ℕ)
+      → IfSome limit (λ limit. IsAtMost limit (announced_of begun.items.items) × (size ≤ limit))
+      → peer_transfer limit before (record {
+        message = message.Segment continues;
+        fault = None;
+        turn = Some next_turn;
+      }) ≡ None
+  unfolding peer_transfer
+  next_within None most = refl
+  next_within (Some limit) most =
+      ap (λ (segments : List SegmentHead).
+      if_exceeded limit (announced_first continues segments) continues segments) at.segments
+      ∙ ap (λ (first : SegmentHead).
+      if_exceeded limit (announced_of first.items.items) continues (at.last ∷ at.earlier)) at.first
+      ∙ exceeds_none limit (announced_of begun.items.items) continues (at.last ∷ at.earlier) most.0
+      (omega (arith, at.sized))
+
+  later_turn : effect_of taken (event_of (message.Segment continues)) ≡ Some next_turn
+  later_turn =
+      turn_at (carrying (Some id)) taken offset (message.Segment continues) chunk at.joins
+      (next_may last id)
+      ∙ ap (λ starts. Some (if starts then turn.Begin (Some id) (is_end continues.flags)
+      else next_turn)) (starts_as false last)
+
+  next_judged : judged_at peer taken next_entry ≡ record {
+    message = message.Segment continues;
+    fault = None;
+    turn = Some next_turn;
+  }
+  next_judged =
+      judged_is (carrying (Some id)) taken offset (message.Segment continues) chunk at.joins
+      (next_may last id)
+      ∙ ap (λ starts. record {
+        message = message.Segment continues;
+        fault = None;
+        turn = Some (if starts then turn.Begin (Some id) (is_end continues.flags) else next_turn);
+      }) (starts_as false last)
+
+  next_ids : AreBelow (suc id) (ids_of (before ++ judged_at peer taken next_entry ∷ []))
+  next_ids =
+      rw (ids_then before (judged_at peer taken next_entry), starts_as false last) at.ids
+
+  next_joins : IsJoinerAt (carrying (open_by id last)) (with_taken taken (message.Segment continues))
+  next_joins =
+      subst (λ transfer. IsJoinerAt (carrying transfer)
+      (with_taken taken (message.Segment continues))) (opens_by false last id)
+      (joins_then (carrying (Some id)) taken offset (message.Segment continues) chunk at.joins
+      (next_may last id) (event.Segment continues.flags id) refl)
+
+  next_after : AfterSegment id begun peer last size taken before next_entry
+  next_after = record {
+    clear =
+        ap (broken_rules peer before) next_judged
+        ∙ segment_clear peer before false last id (length chunk) None next_turn refl
+        (no_id before last id (length chunk) None)
+        (short_none peer.segment continues short)
+        (next_within peer.transfer most);
+    ended = λ is. record {
+      joins = subst (λ over. IsJoinerAt (carrying (open_by id over))
+          (with_taken taken (message.Segment continues))) is next_joins;
+      ids = next_ids;
+    };
+    goes = λ is. record {
+      joins = subst (λ over. IsJoinerAt (carrying (open_by id over))
+          (with_taken taken (message.Segment continues))) is next_joins;
+      ids = next_ids;
+      last = continues;
+      earlier = at.last ∷ at.earlier;
+      segments = segments_then before (judged_at peer taken next_entry)
+          ∙ ap (λ effect. joined (Some continues) (earlier_of effect (segments_of before))
+          (segments_of before)) later_turn
+          ∙ ap (λ (segments : List SegmentHead). continues ∷ segments) at.segments;
+      sized = omega (
+        arith,
+        sum_by-cons (λ (segment : SegmentHead). segment.length) continues (at.last ∷ at.earlier),
+        at.sized,
+      );
+      first = at.first;
+    };
+  }
+
+-- ---- all segments of a bundle
+
+-- what comes after these heads is clear, whatever transfers came before
+abbrev ClearAfter : PeerLimits → (next : ℕ) → List Entry → Type 0
+ClearAfter peer next more =
+    (taken : List Message) (before : List JudgedHead) → Between next taken before
+    → AreClear peer taken before more
+
+module _ (options : PackOptions) (peer : PeerLimits) (allows : AllowsLimits options peer)
+    (id : ℕ) (bundle : List ℕ) (within : length bundle ≤ options.peer_transfer)
+    (more : List Entry) (then_clear : ClearAfter peer (suc id) more) where
+  abbrev whole : Sending
+  whole = sending options true bundle
+
+  abbrev begun : SegmentHead
+  begun = head_of id whole 0
+
+  abbrev chunks : ℕ
+  chunks = chunk_count whole.segment (length bundle)
+
+  -- the number of bytes of the first `count` chunks
+  abbrev size_at : (count : ℕ) → ℕ
+  size_at count = length (take (count * whole.segment) bundle)
+
+  short_chunk : (k : ℕ) → IfSome peer.segment (λ most. length (chunk_of whole k) ≤ most)
+  short_chunk k =
+      if_some peer.segment
+      (λ most allowed. omega (arith, length-take whole.segment (drop (k * whole.segment) bundle)))
+      allows.segment
+
+  announced_most : (limit : ℕ) → length bundle ≤ limit
+      → IsAtMost limit (announced_of begun.items.items)
+  announced_most limit fits = by_case (announced_of begun.items.items) (announces (cutting_of whole))
+    where
+      by_case : (said : Announced)
+          → (said ≡ Absent) ⊎ ((true ≡ true) × (said ≡ Total (length bundle)))
+          → IsAtMost limit said
+      by_case said (inl absent) = rw absent tt
+      by_case said (inr total) = rw total.1 fits
+
+  most_at : (count : ℕ) → IfSome peer.transfer (λ limit.
+      IsAtMost limit (announced_of begun.items.items) × (size_at count ≤ limit))
+  most_at count =
+      if_some peer.transfer
+      (λ limit allowed. (
+        announced_most limit (omega arith),
+        omega (arith, length-take (count * whole.segment) bundle),
+      )) allows.transfer
+
+  later_message : (k : ℕ) → (k == 0) ≡ false
+      → message_of id whole k
+      ≡ segment_with (flags_of false (last_at id whole k)) id (length (chunk_of whole k)) None
+  later_message k later =
+      ap (λ first. segment_with (flags_of first (last_at id whole k)) id (length (chunk_of whole k))
+      (if first then announcement (cutting_of whole) else None)) later
+
+  sizes : (k : ℕ) → size_at k + length (chunk_of whole k) ≡ size_at (suc k)
+  sizes k =
+      sym (length-append (take (k * whole.segment) bundle) (chunk_of whole k))
+      ∙ ap length (taken_more whole.segment k bundle)
+
+  is_last_at : (k : ℕ) → k + 1 ≡ chunks → last_at id whole k ≡ true
+  is_last_at k is = eq-eqb (k + 1) chunks is
+
+  not_last_at : (k : ℕ) → k + 1 < chunks → last_at id whole k ≡ false
+  not_last_at k fewer = ne_eqb (k + 1) chunks (λ same. absurd (omega arith))
+
+  -- chunk number `suc j`
+  next_step : (j offset : ℕ) (taken : List Message) (before : List JudgedHead)
+      → Within id begun (size_at (suc j)) taken before
+      → AfterSegment id begun peer (last_at id whole (suc j)) (size_at (suc (suc j))) taken before
+      (entry offset (message_of id whole (suc j)) (chunk_of whole (suc j)))
+  next_step j offset taken before at =
+      let k = suc j in
+      let chunk = chunk_of whole k in
+      subst (λ (sent : Message). AfterSegment id begun peer (last_at id whole k) (size_at (suc k))
+      taken before (entry offset sent chunk))
+      (sym (later_message k (ne_eqb (suc j) 0 (λ same. absurd (omega arith)))))
+      (next_after peer id begun (last_at id whole k) offset chunk (size_at k) (size_at (suc k)) taken
+      before at (sizes k) (short_chunk k) (most_at (suc k)))
+
+  -- chunk number `suc j` and the `count` chunks after it
+  next_clear : (count j offset : ℕ) → suc j + suc count ≡ chunks
+      → (taken : List Message) (before : List JudgedHead)
+      → Within id begun (size_at (suc j)) taken before
+      → AreClear peer taken before (segment_entries id whole (suc j) (suc count) offset ++ more)
+  unfolding segment_entries
+  next_clear zero j offset all taken before at =
+      let step = next_step j offset taken before at in
+      (step.clear, then_clear _ _ (step.ended (is_last_at (suc j) (omega arith))))
+  next_clear (suc count) j offset all taken before at =
+      let step = next_step j offset taken before at in
+      let after = offset + length (segment_bytes id (cut_at whole (suc j)) (chunk_of whole (suc j))) in (
+        step.clear,
+        next_clear count (suc j) after (omega arith) _ _
+            (step.goes (not_last_at (suc j) (omega arith))),
+      )
+
+  first_step : (offset : ℕ) (taken : List Message) (before : List JudgedHead)
+      → Between id taken before
+      → AfterSegment id begun peer (last_at id whole 0) (size_at 1) taken before
+      (entry offset (message_of id whole 0) (chunk_of whole 0))
+  first_step offset taken before at =
+      let chunk = chunk_of whole 0 in
+      let same : length chunk ≡ size_at 1 = ap length (taken_first whole.segment bundle) in
+      subst (λ size. AfterSegment id begun peer (last_at id whole 0) size taken before
+      (entry offset (message_of id whole 0) chunk)) same
+      (first_after peer id (last_at id whole 0) offset chunk (announcement (cutting_of whole)) taken
+      before at (short_chunk 0)
+      (if_some peer.transfer (λ limit most. (most.0, omega (arith, same, most.1))) (most_at 1)))
+
+  chunks_clear : (count offset : ℕ) → 0 < count → count ≡ chunks
+      → (taken : List Message) (before : List JudgedHead) → Between id taken before
+      → AreClear peer taken before (segment_entries id whole 0 count offset ++ more)
+  unfolding segment_entries
+  chunks_clear zero offset some all taken before at = absurd (omega arith)
+  chunks_clear (suc zero) offset some all taken before at =
+      let step = first_step offset taken before at in
+      (step.clear, then_clear _ _ (step.ended (is_last_at 0 (omega arith))))
+  chunks_clear (suc (suc count)) offset some all taken before at =
+      let step = first_step offset taken before at in
+      let after = offset + length (segment_bytes id (cut_at whole 0) (chunk_of whole 0)) in (
+        step.clear,
+        next_clear count 0 after (omega arith) _ _
+            (step.goes (not_last_at 0 (omega arith))),
+      )
+
+  bundle_clear : (offset : ℕ) → 0 < length bundle
+      → ClearAfter peer id (due_entries id whole offset ++ more)
+  unfolding due
+  bundle_clear offset some taken before at =
+      chunks_clear chunks offset (some_chunk whole.segment (length bundle) (some_size options) some)
+      refl taken before at
+
+-- ---- a stream
+
+module _ (options : PackOptions) (peer : PeerLimits) (allows : AllowsLimits options peer) where
+  term_after : (asked : Bool) (offset next : ℕ)
+      → ClearAfter peer next (term_entries options asked offset)
+  term_after false offset next taken before at = sym (ap is_some at.joins.transfer)
+  term_after true offset next taken before at = (
+    ap (broken_rules peer before)
+        (judged_is (carrying None) taken offset (message.SessTerm 0 0) [] at.joins refl)
+        ∙ term_clear peer before,
+    sym (ap is_some (joins_then (carrying None) taken offset (message.SessTerm 0 0) [] at.joins refl
+        event.SessTerm refl).transfer),
+  )
+
+  bundles_clear : (number : ℕ) (bundles : List Packed) (offset : ℕ) (more : List Entry)
+      → AreBundles options.peer_transfer bundles
+      → ((next : ℕ) → ClearAfter peer next more)
+      → ClearAfter peer number (bundle_entries options number bundles offset ++ more)
+  unfolding bundle_entries
+  bundles_clear number [] offset more are then_clear = then_clear number
+  bundles_clear number (bundle ∷ bundles) offset more are then_clear =
+      let one = sending options true bundle.bytes in
+      let after = offset + length (bytes_of_segments number one) in
+      let rest = bundle_entries options (suc number) bundles after in
+      subst (ClearAfter peer number)
+      (sym (append_assoc (due_entries number one offset) rest more))
+      (bundle_clear options peer allows number bundle.bytes are.0.within (rest ++ more)
+      (bundles_clear (suc number) bundles after more are.1 then_clear) offset are.0.some)
+
+  -- the messages of a packed stream whose input has no fault
+  pub packed_clear : KeepsNodeId options → (bundles : List Packed)
+      → AreBundles options.peer_transfer bundles
+      → AreClear peer [] [] (packed_entries options (record { bundles = bundles; rest = None }))
+  packed_clear keeps bundles are =
+      let input : Divided = record { bundles = bundles; rest = None } in
+      let start = 6 + length (init_bytes options) in
+      let sent = (init_entry options).message in
+      let inits = judged_is fresh [] 6 sent [] IsJoinerAt-none refl in
+      subst (AreClear peer [] [])
+      (ap (λ (entries : List Entry). entries ++ last_entries options input)
+      (sym (append-nil (first_entries options input)))) (
+        ap (broken_rules peer []) inits
+            ∙ init_clear peer [] options.keepalive options.segment_mru options.transfer_mru
+            options.node.items keeps,
+        bundles_clear 0 bundles start (last_entries options input) are
+            (λ next. term_after options.send_term _ next) _ _ (record {
+              joins = joins_then fresh [] 6 sent [] IsJoinerAt-none refl event.SessInit refl;
+              ids = All-nil (λ id. id < 0);
+            }),
+      )

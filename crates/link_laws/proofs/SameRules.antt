@@ -1,0 +1,249 @@
+-- If every transfer of a recording is over and good, `check --bundles` finds the same rules broken
+-- in the bundles that `unpack` joins as `check` does in the recording.
+use Rattle.std.proofs.Common.{◌≡◌, ℕ, ◌≤◌, Bool, true, false, List, [], ◌∷◌, ◌++◌, length, map, None, Ok, if◌then◌else◌, refl, ap, ap₂, sym, ◌∙◌, append-nil}
+use Rattle.std.specs.List.{All, filter, flat_map}
+use Rattle.std.proofs.lemmas.Bool.{and_parts}
+use Rattle.std.proofs.lemmas.Grind.{flat_map-append}
+use Rattle.std.proofs.lemmas.List.Elements.{All-nil, All-cons, All-append, filter-append}
+use Rattle.std.proofs.lemmas.List.{map-append}
+use Rattle.link_bundle_blocks.specs.Bundle.{verdict}
+use Rattle.link_bundle_types.specs.declared.info.BundleInfo.{BundleInfo}
+use Rattle.link_bundle_rules.specs.declared.rule.BundleRule.{BundleRule}
+use Rattle.link_message_rules.specs.TransferRules.{broken_transfer_rules}
+use Rattle.link_message_rules.specs.declared.limits.PeerLimits.{PeerLimits}
+use Rattle.link_message_rules.specs.declared.rule.MessageRule.{MessageRule}
+use Rattle.link_message_rules.specs.declared.rule.TransferRule.{TransferRule}
+use Rattle.link_message_rules.specs.declared.rule.TransferRule.TheVariants.{Unfinished}
+use Rattle.link_rule_report.specs.declared.rule.BrokenRule.{BrokenRule}
+use Rattle.link_rule_report.specs.declared.line.RuleText.{RuleText}
+use Rattle.link_rule_report.specs.declared.rule.BrokenRule.TheVariants as rule
+use Rattle.link_rule_report.specs.declared.rule.BundlePlace.{BundlePlace}
+use Rattle.link_rule_report.specs.declared.rule.BundlePlace.TheVariants as place
+use Rattle.link_wire.specs.Bytes.{AreBytes}
+use Rattle.link_wire.specs.SpelledStream.{IsReading}
+use Rattle.link_wire.specs.Stream.{Reading, reading_of, heads_of}
+use Rattle.link_run.specs.Made.{Made, whole_by}
+use Rattle.link_run.specs.Run.{Texts}
+use Rattle.link_walk.specs.Walk.{Walked, WalkEvent, walked, end_events, has_open, stop_by, told_of}
+use Rattle.link_unpack.specs.Unpacking.{unpack_tool, parts_of}
+use Rattle.link_bundle_walk.specs.Bundles.{divided}
+use Rattle.link_bundle_walk.proofs.Outcomes.{told_as}
+use Rattle.link_blocks.specs.Bundles.{bundle_limit}
+use Rattle.link_check.specs.BundleRules.{bundle_rules}
+use Rattle.link_check.specs.Bundles.{broken_bundles, bundle_check_telling, bundle_check_tool}
+use Rattle.link_check.specs.Checking.{closed_rules, data_rules, none_kept, check_of, check_tool}
+use Rattle.link_check.specs.Lines.{at_offset}
+use Rattle.link_laws.specs.Ranges.{InputFits}
+use Rattle.link_laws.specs.RoundTrip.{all}
+use Rattle.link_laws.specs.SameLines.{unpacked}
+use Rattle.link_laws.specs.SameRules.{Carried, broken_in_transfer, is_of_bundle, reports, HasSameRules}
+use Rattle.link_laws.specs.Transfers.{are_good}
+use Rattle.link_laws.proofs.BrokenRules.{options, broken_from, lines_said, good_kept}
+use Rattle.link_laws.proofs.Following.{follow_both, reading_told, end_follows}
+use Rattle.link_laws.proofs.GoodBundles.{divided_all, good_transfer}
+use Rattle.link_laws.proofs.Placed.{after_events, Placed, transfers_in, begun_of, told_transfers, rules_of, due_of, AfterAll, all_after}
+use Rattle.link_laws.proofs.PlainHeads.{going, quieter, all_matter}
+use Rattle.link_laws.proofs.Same.{walked_on}
+use Rattle.link_laws.proofs.SameLines as recording
+use Rattle.link_laws.proofs.Whole.{reading_read}
+
+-- ---- the rules of bundles among others
+
+abbrev pub of_bundles : List RuleText → List RuleText
+of_bundles lines = filter (λ (line : RuleText). is_of_bundle line.rule) lines
+
+of_transfer : (offset id : ℕ) (rules : List TransferRule)
+    → of_bundles (at_offset offset (map (λ one. rule.Transfer id one) rules)) ≡ []
+of_transfer offset id [] = refl
+of_transfer offset id (one ∷ more) = of_transfer offset id more
+
+of_bundle : (offset : ℕ) (where_it_is : BundlePlace) (rules : List BundleRule)
+    → of_bundles (at_offset offset (map (λ one. rule.Bundle where_it_is one) rules))
+    ≡ at_offset offset (map (λ one. rule.Bundle where_it_is one) rules)
+of_bundle offset where_it_is [] = refl
+of_bundle offset where_it_is (one ∷ more) =
+    ap (λ (lines : List RuleText).
+    record { offset = offset; rule = rule.Bundle where_it_is one } ∷ lines)
+    (of_bundle offset where_it_is more)
+
+-- ---- good transfers
+
+module _ (peer : PeerLimits) where
+  abbrev due : Placed → List RuleText
+  due placed = due_of is_of_bundle (λ broken. refl) (λ id size. refl) peer placed
+
+  abbrev pub rules : List Placed → List RuleText
+  rules placed = rules_of is_of_bundle (λ broken. refl) (λ id size. refl) peer placed
+
+  module _ (placed : Placed) (info : BundleInfo)
+      (good : verdict placed.transfer.content ≡ Ok info)
+      (closed : placed.transfer.closed ≡ true) where
+    abbrev carried : Carried
+    carried = record {
+      offset = placed.offset;
+      id = placed.transfer.first.id;
+      bundle = record { bytes = placed.transfer.content; info = info };
+    }
+
+    due_broken : due placed ≡ broken_in_transfer carried
+    due_broken =
+        let id = placed.transfer.first.id in
+        let of_length = map (λ one. rule.Transfer id one)
+        (broken_transfer_rules placed.transfer.first (length placed.transfer.content)) in
+        let broken = map (λ one. rule.Bundle (place.Transfer id) one)
+        (bundle_rules placed.transfer.content info) in
+        ap (λ test. if test then of_bundles (at_offset placed.offset
+        (closed_rules (begun_of placed))) else []) closed
+        ∙ ap (λ said. of_bundles (at_offset placed.offset
+        (of_length ++ data_rules id placed.transfer.content said))) good
+        ∙ ap of_bundles (map-append (λ one. record { offset = placed.offset; rule = one }) of_length
+        broken)
+        ∙ filter-append (λ (line : RuleText). is_of_bundle line.rule)
+        (at_offset placed.offset of_length) (at_offset placed.offset broken)
+        ∙ ap₂ (λ (first second : List RuleText). first ++ second)
+        (of_transfer placed.offset id
+        (broken_transfer_rules placed.transfer.first (length placed.transfer.content)))
+        (of_bundle placed.offset (place.Transfer id) (bundle_rules placed.transfer.content info))
+
+  abbrev pub IsGood : Carried → Type 0
+  IsGood carried = verdict carried.bundle.bytes ≡ Ok carried.bundle.info
+
+  abbrev pub bytes_in : Carried → List ℕ
+  bytes_in carried = carried.bundle.bytes
+
+  -- these transfers carry these bundles; the latest transfer comes first in its list
+  pub record CarryAll (placed : List Placed) : Type 0 where
+    pub transfers : List Carried
+    pub good : All IsGood transfers
+    pub parts : parts_of all (transfers_in placed) ≡ flat_map bytes_in transfers
+    pub broken : rules placed ≡ flat_map broken_in_transfer transfers
+
+  carry_all : (placed : List Placed) → are_good (transfers_in placed) ≡ true → CarryAll placed
+  unfolding are_good parts_of
+  carry_all [] good = record { transfers = []; good = All-nil IsGood; parts = refl; broken = refl }
+  carry_all (latest ∷ earlier) good =
+      let both = and_parts _ (are_good (transfers_in earlier)) good in
+      let first = good_transfer latest.transfer both.0 in
+      let before = carry_all earlier both.1 in
+      let one = carried latest first.info first.is first.closed in
+      record {
+        transfers = before.transfers ++ one ∷ [];
+        good = All-append IsGood before.transfers (one ∷ []) before.good
+            (All-cons IsGood one [] first.is (All-nil IsGood));
+        parts =
+            ap (λ (bytes : List ℕ). bytes ++ latest.transfer.content) before.parts
+            ∙ ap (λ (bytes : List ℕ). flat_map bytes_in before.transfers ++ bytes)
+            (sym (append-nil latest.transfer.content))
+            ∙ sym (flat_map-append bytes_in before.transfers (one ∷ []));
+        broken =
+            ap₂ (λ (first second : List RuleText). first ++ second) before.broken
+            (due_broken latest first.info first.is first.closed
+            ∙ sym (append-nil (broken_in_transfer one)))
+            ∙ sym (flat_map-append broken_in_transfer before.transfers (one ∷ []));
+      }
+
+  -- ---- the output of `unpack`
+
+  joined_rules : (must : Bool) (bytes : List ℕ) (transfers : List Carried) → All IsGood transfers
+      → bytes ≡ flat_map bytes_in transfers → length bytes ≤ bundle_limit
+      → (bundle_check_tool must).whole bytes
+      ≡ reports must (broken_bundles 0 0 (map (λ (carried : Carried). carried.bundle) transfers))
+  joined_rules must bytes transfers good is few =
+      let divides : divided bundle_limit bytes ≡ record {
+        bundles = map (λ (carried : Carried). carried.bundle) transfers;
+        rest = None;
+      } =
+      ap (divided bundle_limit) is
+      ∙ divided_all (λ (carried : Carried). carried.bundle) bundle_limit transfers good
+      (rw (← is) few) in
+      ap (λ (made : Made). whole_by made.stop made) (told_as (bundle_check_telling must) bytes _ divides)
+
+  -- ---- a recording
+
+  module _ (bytes : List ℕ) (clean : recording.IsClean bytes) where
+    abbrev pub reading : Reading
+    reading = reading_of bytes
+
+    abbrev few : Walked
+    few = walked (going false) reading
+
+    abbrev pub every : Walked
+    every = walked (going true) reading
+
+    abbrev pub events : List WalkEvent
+    events = every.events ++ end_events every.taken
+
+    abbrev pub broken : List RuleText
+    broken = broken_from peer [] None events
+
+    pub unrefused : every.refused ≡ None
+    unrefused = (quieter reading.contact (heads_of reading)).unrefused
+
+    pub recorded : (must : Bool) → (check_tool (options peer must)).whole bytes ≡ reports must broken
+    unfolding told_of
+    recorded must =
+        ap (λ stop. whole_by stop (check_of (options peer must) bytes))
+        (ap (λ refused. stop_by refused reading.end) unrefused ∙ clean.end)
+        ∙ ap₂ (λ (texts : Texts) (good : Bool). record {
+          texts = texts;
+          status = if good then 0 else 1;
+        }) (lines_said peer must events none_kept) (good_kept peer must events none_kept)
+
+    none_open : has_open [] ≡ true → ⊥
+    unfolding has_open
+    none_open opened = absurd (cc)
+
+    -- the transfers of the recording, and the rules of a choice that they break
+    module _ (chosen : BrokenRule → Bool)
+        (no_message : (broken : MessageRule) → chosen (rule.Message broken) ≡ false)
+        (no_unfinished : (id size : ℕ) → chosen (rule.Transfer id (Unfinished size)) ≡ false) where
+      pub placed_by : AfterAll chosen no_message no_unfinished peer [] [] None events
+      placed_by =
+          let told = reading_told (going true) reading (reading_read bytes) in
+          all_after chosen no_message no_unfinished peer events [] [] [] None
+          (follow_both [] every.events (end_events every.taken) told.follow
+          (end_follows every told))
+          (λ opened. absurd (none_open opened))
+
+      pub transfers_by : transfers_in placed_by.after ≡ recording.transfers bytes
+      transfers_by =
+          placed_by.are
+          ∙ ap (after_events [])
+          (sym (all_matter few every (quieter reading.contact (heads_of reading))))
+          ∙ ap (λ (was : Walked). after_events [] (was.events ++ end_events was.taken))
+          (sym (walked_on all reading (reading_read bytes) clean.unrefused))
+          ∙ sym (told_transfers all (recording.events bytes))
+          ∙ clean.are
+
+    pub placed : AfterAll is_of_bundle (λ broken. refl) (λ id size. refl) peer [] [] None events
+    placed = placed_by is_of_bundle (λ broken. refl) (λ id size. refl)
+
+    pub same_transfers : transfers_in placed.after ≡ recording.transfers bytes
+    unfolding placed
+    same_transfers = transfers_by is_of_bundle (λ broken. refl) (λ id size. refl)
+
+    pub carries : CarryAll placed.after
+    carries = carry_all placed.after (ap are_good same_transfers ∙ clean.good)
+
+    pub unpacks : unpacked bytes ≡ flat_map bytes_in carries.transfers
+    unpacks =
+        recording.unpacks bytes clean ∙ ap (parts_of all) (sym same_transfers) ∙ carries.parts
+
+    same_by : IsReading bytes reading → InputFits bytes → HasSameRules peer bytes
+    same_by spelled input = record {
+      transfers = carries.transfers;
+      good = carries.good;
+      unpacks = unpacks;
+      broken = broken;
+      recorded = recorded;
+      of_bundles = sym placed.rules ∙ carries.broken;
+      joined = λ must.
+          joined_rules must (unpacked bytes) carries.transfers carries.good unpacks
+          (recording.fits bytes clean spelled input);
+    }
+
+  pub same_rules : (bytes : List ℕ)
+      → ((bytes : List ℕ) → AreBytes bytes → IsReading bytes (reading_of bytes))
+      → InputFits bytes → ((unpack_tool all).whole bytes).status ≡ 0 → HasSameRules peer bytes
+  same_rules bytes spelled input is =
+      same_by bytes (recording.clean bytes is) (spelled bytes input.are) input

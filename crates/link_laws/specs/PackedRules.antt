@@ -1,0 +1,33 @@
+-- The rules that `check` finds broken in a packed stream.
+use Rattle.std.specs.Prelude.{◌≡◌, ℕ, ◌≤◌, Bool, List, None, Ok, IfSome}
+use Rattle.std.specs.List.{All, flat_map}
+use Rattle.link_wire.specs.Spelling.{sess_init_with}
+use Rattle.link_bundle_blocks.specs.Bundle.{verdict}
+use Rattle.link_message_rules.specs.NodeIds.{node_id}
+use Rattle.link_message_rules.specs.declared.limits.PeerLimits.{PeerLimits}
+use Rattle.link_check.specs.Checking.{check_tool}
+use Rattle.link_pack.specs.declared.options.PackOptions.{PackOptions}
+use Rattle.link_laws.specs.SameRules.{Carried, broken_in_transfer, reports}
+
+-- the limits that are known are at least those for which the stream was packed
+pub record AllowsLimits (options : PackOptions) (peer : PeerLimits) : Type 0 where
+  pub segment : IfSome peer.segment (λ limit. options.peer_segment ≤ limit)
+  pub transfer : IfSome peer.transfer (λ limit. options.peer_transfer ≤ limit)
+
+-- the SESS_INIT of the stream keeps `node-id`
+abbrev pub KeepsNodeId : PackOptions → Type 0
+KeepsNodeId options =
+    node_id (sess_init_with options.keepalive options.segment_mru options.transfer_mru
+    options.node.items)
+    ≡ None
+
+-- The transfers of the stream carry the bundles of the input, one after another. `check` writes the
+-- lines of the rules that these bundles break, and no others.
+pub record BreaksNoMore (peer : PeerLimits) (bytes stream : List ℕ) : Type 0 where
+  pub transfers : List Carried
+  pub good : All (λ (carried : Carried). verdict carried.bundle.bytes ≡ Ok carried.bundle.info)
+      transfers
+  pub carries : flat_map (λ (carried : Carried). carried.bundle.bytes) transfers ≡ bytes
+  pub checked : (must : Bool)
+      → (check_tool (record { must = must; peer = peer })).whole stream
+      ≡ reports must (flat_map broken_in_transfer transfers)
