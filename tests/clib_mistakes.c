@@ -241,6 +241,7 @@ static void one_slice_for_both(void) {
   struct tcpclkit_bundle info;
   struct tcpclkit_unpack_options options;
   struct tcpclkit_blocks_options blocks;
+  struct tcpclkit_check_options check;
   struct tcpclkit_pack_options pack;
   struct tcpclkit_run run;
   uint8_t slice[300];
@@ -250,6 +251,7 @@ static void one_slice_for_both(void) {
   memset(slice, MARK, sizeof slice);
   tcpclkit_unpack_defaults(&options);
   tcpclkit_blocks_defaults(&blocks);
+  tcpclkit_check_defaults(&check);
   tcpclkit_pack_defaults(&pack);
   tcpclkit_start_scan(&scan);
   tcpclkit_feed_scan(&scan, named, sizeof named, &written);
@@ -263,6 +265,8 @@ static void one_slice_for_both(void) {
     LEAVES(tcpclkit_unpack(recording, sizeof recording, &options, other, 100, slice, 100, &run),
            TCPCLKIT_RANGE, run);
     LEAVES(tcpclkit_blocks(recording, sizeof recording, &blocks, other, 100, slice, 100, &run),
+           TCPCLKIT_RANGE, run);
+    LEAVES(tcpclkit_check(recording, sizeof recording, &check, slice, 100, other, 100, &run),
            TCPCLKIT_RANGE, run);
     LEAVES(tcpclkit_pack(bundle, BUNDLE_LENGTH, &pack, slice, 100, NULL, 0, other, 100, &run),
            TCPCLKIT_RANGE, run);

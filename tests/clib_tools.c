@@ -161,6 +161,84 @@ static void shows_blocks(void) {
   CHECK(begins(report, "tcpclkit: bundle 0 byte 0: B3 not a bundle\n"));
 }
 
+/* The rules that the bundle breaks, in a transfer whose START is at 38, and in an input. */
+#define RULE_LINES "38 must primary-check transfer=0\n38 must age transfer=0 blocks=0\n"
+#define BUNDLE_RULE_LINES "0 must primary-check bundle=0\n0 must age bundle=0 blocks=0\n"
+
+static void judges_rules(void) {
+  struct tcpclkit_check_options usual, options;
+  struct tcpclkit_run run;
+  uint8_t output[400], report[200];
+  const char *lines = "38 must peer-segment length=34 limit=33\n" RULE_LINES;
+  CHECK(tcpclkit_check_defaults(&usual) == TCPCLKIT_OK);
+  CHECK(tcpclkit_check(recording, sizeof recording, &usual, output, sizeof output, report,
+                       sizeof report, &run) == TCPCLKIT_OK);
+  CHECK(run.exit_status == 1 && run.report_length == 0);
+  CHECK(run.output_length == strlen(RULE_LINES) && begins(output, RULE_LINES));
+  options = usual;
+  options.has_peer_segment = 1;
+  options.peer_segment = 33;
+  CHECK(tcpclkit_check(recording, sizeof recording, &options, output, sizeof output, report,
+                       sizeof report, &run) == TCPCLKIT_OK);
+  CHECK(run.output_length == strlen(lines) && begins(output, lines));
+  /* A limit that is not set is not judged, whatever its number is. */
+  options.has_peer_segment = 0;
+  options.has_peer_transfer = 1;
+  options.peer_transfer = 34;
+  CHECK(tcpclkit_check(recording, sizeof recording, &options, output, sizeof output, report,
+                       sizeof report, &run) == TCPCLKIT_OK);
+  CHECK(run.output_length == strlen(RULE_LINES) && begins(output, RULE_LINES));
+  lines = "38 must peer-transfer length=34 limit=0\n" RULE_LINES;
+  options.peer_transfer = 0;
+  CHECK(tcpclkit_check(recording, sizeof recording, &options, output, sizeof output, report,
+                       sizeof report, &run) == TCPCLKIT_OK);
+  CHECK(run.output_length == strlen(lines) && begins(output, lines));
+  CHECK(tcpclkit_check(recording, 70, &usual, output, sizeof output, report, sizeof report,
+                       &run) == TCPCLKIT_OK);
+  CHECK(run.exit_status == 3 && run.output_length == 0);
+  CHECK(run.report_length == 29 && begins(report, "tcpclkit: byte 38: truncated\n"));
+}
+
+/* A KEEPALIVE without a SESS_INIT before it, which only a rule of level `should` is about. */
+static void judges_rules_of_level_must(void) {
+  static const uint8_t early[] = {0x64, 0x74, 0x6e, 0x21, 0x04, 0x00, 0x04};
+  static const char line[] = "6 should before-session type=04\n";
+  struct tcpclkit_check_options options;
+  struct tcpclkit_run run;
+  uint8_t output[400], report[200];
+  CHECK(tcpclkit_check_defaults(&options) == TCPCLKIT_OK);
+  CHECK(tcpclkit_check(early, sizeof early, &options, output, sizeof output, report,
+                       sizeof report, &run) == TCPCLKIT_OK);
+  CHECK(run.exit_status == 1 && run.output_length == strlen(line) && begins(output, line));
+  options.must = 1;
+  CHECK(tcpclkit_check(early, sizeof early, &options, output, sizeof output, report,
+                       sizeof report, &run) == TCPCLKIT_OK);
+  CHECK(run.exit_status == 0 && run.output_length == 0 && run.report_length == 0);
+}
+
+static void judges_rules_of_bundles(void) {
+  struct tcpclkit_check_options options;
+  struct tcpclkit_run run;
+  uint8_t output[400], report[200];
+  CHECK(tcpclkit_check_defaults(&options) == TCPCLKIT_OK);
+  options.bundles = 1;
+  CHECK(tcpclkit_check(bundle, BUNDLE_LENGTH, &options, output, sizeof output, report,
+                       sizeof report, &run) == TCPCLKIT_OK);
+  CHECK(run.exit_status == 1 && run.report_length == 0);
+  CHECK(run.output_length == strlen(BUNDLE_RULE_LINES) && begins(output, BUNDLE_RULE_LINES));
+  options.must = 1;
+  CHECK(tcpclkit_check(bundle, BUNDLE_LENGTH, &options, output, sizeof output, report,
+                       sizeof report, &run) == TCPCLKIT_OK);
+  CHECK(run.output_length == strlen(BUNDLE_RULE_LINES) && begins(output, BUNDLE_RULE_LINES));
+  CHECK(tcpclkit_check(bundle, 0, &options, output, sizeof output, report, sizeof report,
+                       &run) == TCPCLKIT_OK);
+  CHECK(run.exit_status == 0 && run.output_length == 0 && run.report_length == 0);
+  CHECK(tcpclkit_check(recording, sizeof recording, &options, output, sizeof output, report,
+                       sizeof report, &run) == TCPCLKIT_OK);
+  CHECK(run.exit_status == 3 && run.output_length == 0);
+  CHECK(begins(report, "tcpclkit: bundle 0 byte 0: B3 not a bundle\n"));
+}
+
 static uint32_t pack(const struct tcpclkit_pack_options *options, size_t node_length,
                      uint8_t *output, size_t room, struct tcpclkit_run *run) {
   static const uint8_t node[TCPCLKIT_NODE_ID_LIMIT + 1] = "ipn:1.0";
@@ -209,24 +287,31 @@ struct lent {
   struct tcpclkit_run run;
 };
 
-/* Runs a tool: 0 is list, 1 is unpack, 2 is pack, 3 is blocks. The input of pack is the bundle. */
+enum tool { LIST, UNPACK, PACK, BLOCKS, CHECKS, TOOLS };
+
+/* Runs a tool. The input of pack is the bundle. */
 static uint32_t run_tool(int tool, struct lent *it, size_t output_room, size_t report_room) {
   struct tcpclkit_pack_options usual;
   struct tcpclkit_unpack_options all;
   struct tcpclkit_blocks_options blocks;
+  struct tcpclkit_check_options check;
   tcpclkit_pack_defaults(&usual);
   tcpclkit_unpack_defaults(&all);
   tcpclkit_blocks_defaults(&blocks);
+  tcpclkit_check_defaults(&check);
   memset(it, MARK, sizeof *it);
-  if (tool == 0)
+  if (tool == LIST)
     return tcpclkit_list(recording, sizeof recording, it->output, output_room, it->report,
                          report_room, &it->run);
-  if (tool == 1)
+  if (tool == UNPACK)
     return tcpclkit_unpack(recording, sizeof recording, &all, it->output, output_room, it->report,
                            report_room, &it->run);
-  if (tool == 3)
+  if (tool == BLOCKS)
     return tcpclkit_blocks(recording, sizeof recording, &blocks, it->output, output_room,
                            it->report, report_room, &it->run);
+  if (tool == CHECKS)
+    return tcpclkit_check(recording, sizeof recording, &check, it->output, output_room,
+                          it->report, report_room, &it->run);
   return tcpclkit_pack(bundle, BUNDLE_LENGTH, &usual, (const uint8_t *)"ipn:1.0", 7, it->output,
                        output_room, it->report, report_room, &it->run);
 }
@@ -261,6 +346,44 @@ static void rooms(int tool) {
     room(tool, &whole, output, at);
   room(tool, &whole, 0, 0);
   room(tool, &whole, output - 1, report > 0 ? report - 1 : 0);
+}
+
+/* Options of `check` that are out of their ranges, or go with no other, leave all as it was. */
+static void unwritten_rules(void) {
+  struct tcpclkit_check_options usual, limit, nothing, segment, transfer;
+  struct tcpclkit_check_options above[4], unmade[3];
+  struct lent it;
+  uint8_t *to = it.output, *report = it.report;
+  size_t at;
+  CHECK(tcpclkit_check_defaults(NULL) == TCPCLKIT_NULL);
+  tcpclkit_check_defaults(&usual);
+  limit = nothing = segment = transfer = usual;
+  limit.has_peer_segment = limit.peer_segment = 1;
+  nothing.has_peer_segment = 1;
+  segment.bundles = segment.has_peer_segment = segment.peer_segment = 1;
+  transfer.bundles = transfer.has_peer_transfer = 1;
+  above[0] = above[2] = above[3] = usual;
+  above[1] = limit;
+  above[0].must = above[1].has_peer_segment = above[2].has_peer_transfer = above[3].bundles = 2;
+  unmade[0] = unmade[1] = unmade[2] = usual;
+  unmade[0].size = 0;
+  unmade[1].size = sizeof usual - 4;
+  unmade[2].size = sizeof usual + 8;
+  memset(&it, MARK, sizeof it);
+  for (at = 0; at < 4; at++)
+    LEAVES(tcpclkit_check(recording, sizeof recording, &above[at], to, 9, report, 9, &it.run),
+           TCPCLKIT_RANGE, it);
+  for (at = 0; at < 3; at++)
+    LEAVES(tcpclkit_check(recording, sizeof recording, &unmade[at], to, 9, report, 9, &it.run),
+           TCPCLKIT_RANGE, it);
+  LEAVES(tcpclkit_check(recording, sizeof recording, &nothing, to, 9, report, 9, &it.run),
+         TCPCLKIT_RANGE, it);
+  LEAVES(tcpclkit_check(bundle, 9, &segment, to, 9, report, 9, &it.run), TCPCLKIT_RANGE, it);
+  LEAVES(tcpclkit_check(bundle, 9, &transfer, to, 9, report, 9, &it.run), TCPCLKIT_RANGE, it);
+  LEAVES(tcpclkit_check(recording, 9, NULL, to, 9, report, 9, &it.run), TCPCLKIT_NULL, it);
+  LEAVES(tcpclkit_check(NULL, 1, &usual, to, 9, report, 9, &it.run), TCPCLKIT_NULL, it);
+  LEAVES(tcpclkit_check(recording, 9, &usual, to, 9, report, 9, NULL), TCPCLKIT_NULL, it);
+  CHECK(tcpclkit_check(recording, 9, &limit, to, 9, report, 9, &it.run) == TCPCLKIT_TOO_SMALL);
 }
 
 static void unwritten_runs(void) {
@@ -355,7 +478,7 @@ static void small_calls(void) {
 static void tool_calls(void) {
   static struct lent it;
   int tool;
-  for (tool = 0; tool < 4; tool++)
+  for (tool = 0; tool < TOOLS; tool++)
     run_tool(tool, &it, sizeof it.output, sizeof it.report);
 }
 
@@ -395,14 +518,14 @@ static void refusals(void) {
   static const struct tcpclkit_run zeros = {0, 0, 0};
   struct lent it;
   int tool;
-  for (tool = 0; tool < 4; tool++) {
+  for (tool = 0; tool < TOOLS; tool++) {
     requests = 0;
     CHECK(run_tool(tool, &it, sizeof it.output, sizeof it.report) == TCPCLKIT_OK);
-    CHECK(requests == (tool == 2 ? 1 : 0));
+    CHECK(requests == (tool == PACK ? 1 : 0));
   }
   requests = 0;
   refused_request = 1;
-  CHECK(run_tool(2, &it, sizeof it.output, sizeof it.report) == TCPCLKIT_MEMORY);
+  CHECK(run_tool(PACK, &it, sizeof it.output, sizeof it.report) == TCPCLKIT_MEMORY);
   CHECK(memcmp(&it.run, &zeros, sizeof zeros) == 0);
   CHECK(IS_MARKED(it.output) && IS_MARKED(it.report));
   refused_request = 0;
@@ -416,7 +539,7 @@ static void numbers_of_options(void) {
   const uint8_t *node = (const uint8_t *)"ipn:1.0";
   struct lent whole, it;
   size_t words;
-  CHECK(run_tool(1, &whole, sizeof whole.output, sizeof whole.report) == TCPCLKIT_OK);
+  CHECK(run_tool(UNPACK, &whole, sizeof whole.output, sizeof whole.report) == TCPCLKIT_OK);
   for (words = 0; words <= 6; words++) {
     memset(&it, MARK, sizeof it);
     CHECK(tcpclkit_raw_unpack(recording, sizeof recording, more, words, 1, it.output,
@@ -427,7 +550,7 @@ static void numbers_of_options(void) {
   CHECK(tcpclkit_raw_unpack(recording, sizeof recording, unknown, 5, 1, it.output,
                             sizeof it.output, 1, it.report, sizeof it.report, &it.run) ==
         TCPCLKIT_RANGE);
-  CHECK(run_tool(3, &whole, sizeof whole.output, sizeof whole.report) == TCPCLKIT_OK);
+  CHECK(run_tool(BLOCKS, &whole, sizeof whole.output, sizeof whole.report) == TCPCLKIT_OK);
   for (words = 0; words <= 6; words++) {
     memset(&it, MARK, sizeof it);
     CHECK(tcpclkit_raw_blocks(recording, sizeof recording, more, words, 1, it.output,
@@ -438,7 +561,7 @@ static void numbers_of_options(void) {
   CHECK(tcpclkit_raw_blocks(recording, sizeof recording, unknown, 5, 1, it.output,
                             sizeof it.output, 1, it.report, sizeof it.report, &it.run) ==
         TCPCLKIT_RANGE);
-  CHECK(run_tool(2, &whole, sizeof whole.output, sizeof whole.report) == TCPCLKIT_OK);
+  CHECK(run_tool(PACK, &whole, sizeof whole.output, sizeof whole.report) == TCPCLKIT_OK);
   for (words = 0; words <= 9; words++) {
     memset(&it, MARK, sizeof it);
     CHECK(tcpclkit_raw_pack(bundle, BUNDLE_LENGTH, pack, words, node, 7, 1, it.output,
@@ -448,18 +571,39 @@ static void numbers_of_options(void) {
   }
 }
 
+static void numbers_of_check_options(void) {
+  static const uint64_t more[] = {0, 0, 0, 0, 0, 0, 0, 0}, unknown[] = {0, 0, 0, 0, 0, 0, 1};
+  struct lent whole, it;
+  size_t words;
+  CHECK(run_tool(CHECKS, &whole, sizeof whole.output, sizeof whole.report) == TCPCLKIT_OK);
+  for (words = 0; words <= 8; words++) {
+    memset(&it, MARK, sizeof it);
+    CHECK(tcpclkit_raw_check(recording, sizeof recording, more, words, 1, it.output,
+                             sizeof it.output, 1, it.report, sizeof it.report, &it.run) ==
+          TCPCLKIT_OK);
+    CHECK(memcmp(&it, &whole, sizeof it) == 0);
+  }
+  CHECK(tcpclkit_raw_check(recording, sizeof recording, unknown, 7, 1, it.output,
+                           sizeof it.output, 1, it.report, sizeof it.report, &it.run) ==
+        TCPCLKIT_RANGE);
+}
+
 void test_tools(int measures_stacks) {
+  int tool;
   lists();
   unpacks();
   goes_on();
   shows_blocks();
+  judges_rules();
+  judges_rules_of_level_must();
+  judges_rules_of_bundles();
   packs();
-  rooms(0);
-  rooms(1);
-  rooms(2);
-  rooms(3);
+  for (tool = 0; tool < TOOLS; tool++)
+    rooms(tool);
   unwritten_runs();
+  unwritten_rules();
   numbers_of_options();
+  numbers_of_check_options();
   if (measures_stacks)
     stacks();
 #ifdef REFUSES_MEMORY

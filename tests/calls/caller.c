@@ -9,8 +9,9 @@
  *   judge   the verdict on the bytes, where the payload is, and further fields of a good bundle
  *   read    what `list` writes of a recording, made of its messages
  *   walk    what `unpack` writes of a recording, made of its messages and bundles
- *   list, unpack, blocks, pack   the tools; NUMBER.. are the options in the order of their struct.
- *           The bytes of `pack` begin with the node ID, and its last number is the length of that.
+ *   list, unpack, blocks, check, pack   the tools; NUMBER.. are the options in the order of their
+ *           struct. The bytes of `pack` begin with the node ID, and its last number is the length
+ *           of that.
  *
  * Reasons are written without their names.
  */
@@ -450,6 +451,8 @@ static uint32_t call_tool(const struct job *job, struct tcpclkit_run *run) {
                                            numbers[3]};
   struct tcpclkit_blocks_options blocks = {sizeof blocks, numbers[0], numbers[1], numbers[2],
                                            numbers[3]};
+  struct tcpclkit_check_options check = {sizeof check, numbers[0], numbers[1], numbers[2],
+                                         numbers[3],   numbers[4], numbers[5]};
   struct tcpclkit_pack_options pack = {sizeof pack, numbers[0], numbers[1], numbers[2],
                                        numbers[3],  numbers[4], numbers[5], numbers[6]};
   size_t node = (size_t)numbers[7];
@@ -462,6 +465,9 @@ static uint32_t call_tool(const struct job *job, struct tcpclkit_run *run) {
   if (strcmp(job->name, "blocks") == 0)
     return tcpclkit_blocks(job->bytes, job->length, &blocks, output.bytes, output.room,
                            report.bytes, report.room, run);
+  if (strcmp(job->name, "check") == 0)
+    return tcpclkit_check(job->bytes, job->length, &check, output.bytes, output.room,
+                          report.bytes, report.room, run);
   return tcpclkit_pack(job->bytes + node, job->length - node, &pack, job->bytes, node,
                        output.bytes, output.room, report.bytes, report.room, run);
 }

@@ -248,6 +248,10 @@ def tool(name, numbers, content):
         only_one, transfer, keep_going, bundles = numbers
         wanted = transfer if only_one else None
         run = tcpclkit.blocks(content, wanted, keep_going == 1, bundles == 1)
+    elif name == "check":
+        must, has_segment, segment, has_transfer, transfer, bundles = numbers
+        limits = segment if has_segment else None, transfer if has_transfer else None
+        run = tcpclkit.check(content, must == 1, *limits, bundles == 1)
     else:
         length = numbers[-1]
         run = tcpclkit.pack(content[length:], content[:length], *numbers[:-2], numbers[-2] == 1)

@@ -6,9 +6,10 @@ use std::fmt::Write as _;
 use std::io::{BufRead, Read, Write};
 use std::ops::Range;
 use tcpclkit::{
-    blocks, blocks_of, bundle, contact, list, messages, pack, primary, unpack, verdict, Block,
-    BlockKind, BlocksOptions, Bundle, CheckType, Fault, Fields, Items, Message, Order, PackOptions,
-    Primary, Run, Scan, ToolError, Turn, UnpackOptions, CONTACT_LENGTH, SEGMENT_START,
+    blocks, blocks_of, bundle, check, contact, list, messages, pack, primary, unpack, verdict,
+    Block, BlockKind, BlocksOptions, Bundle, CheckOptions, CheckType, Fault, Fields, Items,
+    Message, Order, PackOptions, Primary, Run, Scan, ToolError, Turn, UnpackOptions,
+    CONTACT_LENGTH, SEGMENT_START,
 };
 
 /// A status and two texts.
@@ -407,6 +408,15 @@ fn tool(name: &str, numbers: &[u64], bytes: &[u8]) -> Result<Run, ToolError> {
                 bundles: bundles == 1,
             };
             blocks(bytes, &options)
+        }
+        [must, has_peer_segment, peer_segment, has_peer_transfer, peer_transfer, bundles] => {
+            let options = CheckOptions {
+                must: must == 1,
+                peer_segment: (has_peer_segment == 1).then_some(peer_segment),
+                peer_transfer: (has_peer_transfer == 1).then_some(peer_transfer),
+                bundles: bundles == 1,
+            };
+            check(bytes, &options)
         }
         [only_one, transfer, payload, keep_going] => {
             let options = UnpackOptions {

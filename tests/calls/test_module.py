@@ -325,6 +325,26 @@ class Tools(unittest.TestCase):
         for options in ({"transfer": 0}, {"keep_going": True}):
             self.assertRaises(ValueError, tcpclkit.blocks, SEVERAL, bundles=True, **options)
 
+    def test_check(self):
+        lines = b"38 must primary-check transfer=0\n38 must age transfer=0 blocks=0\n"
+        content = example("prelude-and-transfer.tcpcl")
+        self.assertEqual(tcpclkit.check(content), (lines, b"", 1))
+        within = tcpclkit.check(content, peer_segment=34, peer_transfer=34)
+        self.assertEqual(within, (lines, b"", 1))
+        run = tcpclkit.check(content, peer_segment=33, peer_transfer=0)
+        segment = b"38 must peer-segment length=34 limit=33\n"
+        transfer = b"38 must peer-transfer length=34 limit=0\n"
+        self.assertEqual(run.output, segment + transfer + lines)
+        early = b"dtn!\4\0\4"
+        self.assertEqual(tcpclkit.check(early), (b"6 should before-session type=04\n", b"", 1))
+        self.assertEqual(tcpclkit.check(early, must=True), (b"", b"", 0))
+        run = tcpclkit.check(2 * SEVERAL, bundles=True)
+        lines = b"0 must primary-check bundle=0\n55 must primary-check bundle=1\n"
+        self.assertEqual(run, (lines, b"", 1))
+        for options in ({"peer_segment": 1}, {"peer_transfer": 0}):
+            self.assertRaises(ValueError, tcpclkit.check, SEVERAL, bundles=True, **options)
+        self.assertRaises(ValueError, tcpclkit.check, content, peer_segment=0)
+
     def test_ranges(self):
         for options in [
             {"peer_segment": 0}, {"keepalive": 65536}, {"announce": 2**20 + 1},

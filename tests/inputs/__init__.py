@@ -8,5 +8,6 @@ with its options.
     lengths    each length field of a stream, and each head of a bundle, at hostile values
     block_data the data of blocks, with each head changed and cut at each byte
     limits     counts and sizes at their limits, and past them
+    rules      what the rules of `check` depend on, at its limits and in each combination
     randoms    random streams and bundles
 """

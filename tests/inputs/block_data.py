@@ -1,12 +1,14 @@
 """The data of each block whose data is read, with each of its heads changed, and cut at each byte.
 
-A bundle, alone or as the data of a transfer, has it in an extension block, or in its payload block if the data is a status report.
+A bundle, alone or as the data of a transfer, has it in an extension block, or in its payload block
+if the data is a status report.
 """
 
 from .lengths import KINDS, spellings
+from .prefixes import BLOCKS, BUNDLE_BLOCKS, BUNDLE_CHECKS
 from .spelling import canonical, carried, encoded, endpoint, hop_count, primary, security, spelled, status_report, unsigned
 
-RUNS, CARRIED = [("blocks", {"bundles": True})], [("blocks", {})]
+RUNS, CARRIED = BUNDLE_BLOCKS + BUNDLE_CHECKS[:1], BLOCKS[:1]
 
 SUBJECT = (4, 1, 300)
 

@@ -3,7 +3,7 @@
 After it comes nothing, one byte, or all that it says.
 """
 
-from .prefixes import BLOCKS, BUNDLE_BLOCKS, LISTS, PACKS, UNPACKS
+from .prefixes import BLOCKS, BUNDLE_BLOCKS, CHECKS, LISTS, PACKS, UNPACKS
 from .spelling import (
     CONTACT, END, START, canonical, carried, head, item, laid, primary, segment, sess_init, spelled, total,
 )
@@ -64,7 +64,7 @@ def of_field(stream, field):
         full = length.fill(value) + stream[begin + says:] if value <= MOST else None
         before = stream[:field.at] + value.to_bytes(length.width, "big")
         for changed in tails(before, stream[begin:], full):
-            yield changed, LISTS + UNPACKS[::2] + BLOCKS[:1]
+            yield changed, LISTS + UNPACKS[::2] + BLOCKS[:1] + CHECKS[:1]
 
 
 def of_fields(name):
@@ -90,7 +90,7 @@ def resized(value):
 def bundle_runs(content):
     """A bundle alone, and as the data of a transfer."""
     yield content, PACKS[2:3] + BUNDLE_BLOCKS
-    yield carried(content), UNPACKS[2:3] + BLOCKS[:1]
+    yield carried(content), UNPACKS[2:3] + BLOCKS[:1] + CHECKS[:1]
 
 
 def of_head(blocks, number, it):

@@ -7,16 +7,16 @@ import itertools
 import struct
 
 from .lengths import CHECKED
-from .prefixes import BLOCKS, BUNDLE_BLOCKS, GOES_ON, LISTS, PACKS, UNPACKS, prefixes
+from .prefixes import BLOCKS, BUNDLE_BLOCKS, BUNDLE_CHECKS, CHECKS, GOES_ON, LISTS, PACKS, UNPACKS, prefixes
 from .spelling import (
     CONTACT, END, START, array, canonical, carried, item, laid, primary, segment, sess_init, spelled, total, unsigned,
 )
 
-STREAM_RUNS = LISTS + UNPACKS[::2] + BLOCKS[:1]
+STREAM_RUNS = LISTS + UNPACKS[::2] + BLOCKS[:1] + CHECKS[:1]
 LONG_RUNS = [("pack", {"node": "", **it}) for it in [
     {}, {"peer_segment": 2**64 - 1, "announce": 65537}, {"peer_segment": 30000, "announce": 1048576},
     {"peer_segment": 32768, "announce": 65536, "peer_transfer": 65536},
-]] + BUNDLE_BLOCKS
+]] + BUNDLE_BLOCKS + BUNDLE_CHECKS[:1]
 
 
 def stream(*pieces):
@@ -76,8 +76,8 @@ def longest_lines():
         for fragment in ((), (number, number)):
             block = primary(*names, names[0], flags=number if fragment else number - 1, stamp=(number, number), fragment=fragment)
             content, _ = spelled([block, canonical(1, 1, b"x")])
-            yield content, PACKS + BUNDLE_BLOCKS
-            yield carried(content), UNPACKS + BLOCKS[:1]
+            yield content, PACKS + BUNDLE_BLOCKS + BUNDLE_CHECKS[:1]
+            yield carried(content), UNPACKS + BLOCKS[:1] + CHECKS[:1]
 
 
 def block_counts():
@@ -95,7 +95,7 @@ def block_counts():
 def both(content):
     """A bundle alone, and as the data of a transfer."""
     yield content, PACKS[:1] + BUNDLE_BLOCKS
-    yield carried(content), UNPACKS[::2] + BLOCKS[:1]
+    yield carried(content), UNPACKS[::2] + BLOCKS[:1] + CHECKS[:1]
 
 
 def block_numbers():
@@ -135,7 +135,7 @@ def damaged():
         for bit in (0x01, 0x80):
             changed = whole[:at] + bytes([byte ^ bit]) + whole[at + 1:]
             yield changed, runs
-            yield carried(changed), UNPACKS[::2] + BLOCKS[:1]
+            yield carried(changed), UNPACKS[::2] + BLOCKS[:1] + CHECKS[:1]
 
 
 def order():
@@ -147,10 +147,10 @@ def order():
         segment(START | END, 1, whole)[:-1] + [struct.pack(">Q", 99) + whole], segment(END, 0, b"")[:-1] + [struct.pack(">Q", 9)],
     ]]
     for first in messages:
-        yield CONTACT + first, UNPACKS + BLOCKS
+        yield CONTACT + first, UNPACKS + BLOCKS + CHECKS
         for second in messages:
             for last in (b"", messages[3], messages[5], messages[7]):
-                yield CONTACT + messages[0] + first + second + last, UNPACKS[:3] + GOES_ON[:1] + BLOCKS
+                yield CONTACT + messages[0] + first + second + last, UNPACKS[:3] + GOES_ON[:1] + BLOCKS + CHECKS
 
 
 def going_on():
@@ -166,7 +166,7 @@ def going_on():
     lasts = [b"", *messages[3:8:2], messages[6], messages[3][:-1], messages[7][:-1], b"\x16"]
     for first in itertools.product(messages, repeat=3):
         for last in lasts:
-            yield CONTACT + b"".join(first) + last, GOES_ON[:2] + BLOCKS[2:]
+            yield CONTACT + b"".join(first) + last, GOES_ON[:2] + BLOCKS[2:] + CHECKS[:1]
 
 
 def worked_rows():
@@ -184,7 +184,7 @@ def worked_rows():
     ]]
     for content in streams:
         for it in prefixes(content):
-            yield it, UNPACKS + GOES_ON + BLOCKS
+            yield it, UNPACKS + GOES_ON + BLOCKS + CHECKS
 
 
 def refused_and_cut():
@@ -200,9 +200,9 @@ def refused_and_cut():
         (begun + opened, rest), (begun + late, start), (begun + opened + late, start), (begun + start, rest),
     ]:
         for length in range(len(it) + 1):
-            yield before + it[:length], UNPACKS[::2] + GOES_ON[:1] + BLOCKS[2:]
+            yield before + it[:length], UNPACKS[::2] + GOES_ON[:1] + BLOCKS[2:] + CHECKS[:1]
         for at in range(len(it)):
-            yield before + it[:at] + b"\xff" * 4 + it[at + 4:], UNPACKS[::2] + GOES_ON[:1] + BLOCKS[2:]
+            yield before + it[:at] + b"\xff" * 4 + it[at + 4:], UNPACKS[::2] + GOES_ON[:1] + BLOCKS[2:] + CHECKS[:1]
 
 
 def every_byte():
@@ -210,15 +210,15 @@ def every_byte():
 
     It is a version, flags, a message type, a reason, or a byte of a node ID or of a dtn name.
     """
-    runs = LISTS + UNPACKS[:1]
+    runs, lines = LISTS + UNPACKS[:1] + CHECKS[:1], LISTS + CHECKS[:1]
     for byte in range(256):
         it = bytes([byte])
         yield b"dtn!" + it + b"\x00", runs
         yield CONTACT[:5] + it, runs
         yield stream([it + bytes(40)]), runs
-        yield stream([b"\x03" + it + bytes(8), b"\x05\x00" + it, b"\x06" + it + it, b"\x05" + it, b"\x00"]), LISTS
+        yield stream([b"\x03" + it + bytes(8), b"\x05\x00" + it, b"\x06" + it + it, b"\x05" + it, b"\x00"]), lines
         yield stream([b"\x02" + it + bytes(16)], segment(byte, 5, b"x")), runs
-        yield laid([CONTACT, *sess_init(node=b"a" + it)])[0], LISTS
+        yield laid([CONTACT, *sess_init(node=b"a" + it)])[0], lines
     names = bytes(range(256))
     yield from both(spelled([primary(names, names[::-1], None), canonical(1, 1, b"")])[0])
 
@@ -268,6 +268,7 @@ def option_values():
             yield stream(segment(START | END, value, whole)), selected
         names = [name for name, limit in limits.items() if (name == "peer_segment") <= value < limit]
         yield whole, [("pack", {"node": "", name: value}) for name in names]
+        yield stream(segment(START | END, 0, whole)), [("check", {name: value}) for name in names if name.startswith("peer")]
 
 
 def groups():

@@ -18,6 +18,8 @@ UNPACKS = [("unpack", it) for it in [{}, {"transfer": 0}, {"payload": True}, {"t
 GOES_ON = [("unpack", {"keep_going": True, **it}) for it in [{}, {"transfer": 0}, {"payload": True}]]
 BLOCKS = [("blocks", it) for it in [{}, {"transfer": 0}, {"keep_going": True}]]
 BUNDLE_BLOCKS = [("blocks", {"bundles": True})]
+CHECKS = [("check", it) for it in [{}, {"must": True}, {"peer_segment": 20, "peer_transfer": 36}]]
+BUNDLE_CHECKS = [("check", {"bundles": True, **it}) for it in [{}, {"must": True}]]
 PACKS = [("pack", it) for it in [
     {"node": "ipn:1.0"},
     {"node": "", "peer_segment": 1, "peer_transfer": 36, "end": True},
@@ -34,15 +36,16 @@ def prefixes(content):
 def of_file(name):
     """The prefixes of an example, through all tools, with all options of those that are for it.
 
-    Those of a long recording go through `unpack` and `blocks` alone, with and without going on.
+    Those of a long recording go through `unpack` and `blocks`, with and without going on, and
+    through `check`.
     """
-    of_recording = LISTS + UNPACKS + GOES_ON + BLOCKS + PACKS[:1] + BUNDLE_BLOCKS
-    of_bundles = LISTS + UNPACKS[:1] + BLOCKS[:1] + PACKS + BUNDLE_BLOCKS
+    of_recording = LISTS + UNPACKS + GOES_ON + BLOCKS + CHECKS + PACKS[:1] + BUNDLE_BLOCKS + BUNDLE_CHECKS[:1]
+    of_bundles = LISTS + UNPACKS[:1] + BLOCKS[:1] + CHECKS[:1] + PACKS + BUNDLE_BLOCKS + BUNDLE_CHECKS
     runs = of_recording if name.endswith(RECORDING) else of_bundles
     with open(f"{EXAMPLES}/{name}", "rb") as it:
         content = it.read()
     for prefix in prefixes(content):
-        yield prefix, runs if len(content) <= LONG else UNPACKS[:1] + GOES_ON[:1] + BLOCKS[::2]
+        yield prefix, runs if len(content) <= LONG else UNPACKS[:1] + GOES_ON[:1] + BLOCKS[::2] + CHECKS[:1]
 
 
 def bundles():
@@ -61,7 +64,7 @@ def of_bundle(bundle):
     """The prefixes of a bundle, alone and as the data of a transfer."""
     for prefix in prefixes(bundle):
         yield prefix, PACKS + BUNDLE_BLOCKS
-        yield carried(prefix), UNPACKS[::2] + BLOCKS[:1]
+        yield carried(prefix), UNPACKS[::2] + BLOCKS[:1] + CHECKS[:1]
 
 
 def groups():

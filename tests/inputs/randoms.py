@@ -198,24 +198,31 @@ def pack_options(rng, length):
     return options
 
 
+def check_options(rng):
+    """Options of `check` around the lengths of small segments and transfers."""
+    sizes = (1, 30, 70, 200, 1000, 2**64 - 1)
+    values = {"must": True, "peer_segment": rng.choice(sizes), "peer_transfer": rng.choice((0, *sizes))}
+    return {name: value for name, value in values.items() if rng.random() < 0.3}
+
+
 def run_of_stream(rng):
     """A random stream, through a tool that reads streams."""
     options = rng.choice([{"payload": True}, {"transfer": rng.randint(0, 3)}, {"transfer": rng.randint(0, 3), "payload": True}])
-    return stream(rng), [("list", {}), ("unpack", {}), ("unpack", options), ("blocks", {})]
+    return stream(rng), [("list", {}), ("unpack", {}), ("unpack", options), ("blocks", {}), ("check", check_options(rng))]
 
 
 def run_of_order(rng):
-    """A random stream out of order, through `unpack` that stops and that goes on."""
+    """A random stream out of order, through `unpack` that stops and that goes on, and others."""
     options = rng.choice([{"payload": True}, {"transfer": rng.randint(0, 2)}, {"transfer": rng.randint(0, 2), "payload": True}])
     return disordered(rng), [("unpack", {}), ("unpack", {"keep_going": True}), ("unpack", {"keep_going": True, **options}),
-                            ("blocks", {"keep_going": True, "transfer": rng.randint(0, 2)})]
+                            ("blocks", {"keep_going": True, "transfer": rng.randint(0, 2)}), ("check", check_options(rng))]
 
 
 def run_of_bundles(rng):
-    """Random bundles, packed with random options, and their blocks."""
+    """Random bundles, packed with random options, their blocks, and the rules that they break."""
     content = bundles(rng)
     packs = [("pack", pack_options(rng, len(content))) for _ in range(3)]
-    return content, [*packs, ("blocks", {"bundles": True})]
+    return content, [*packs, ("blocks", {"bundles": True}), ("check", {"bundles": True})]
 
 
 def group(seed, runs, make):

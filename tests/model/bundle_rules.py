@@ -28,8 +28,8 @@ BLOCK_FLAGS = 0x01 | BLOCK_REPORT | 0x04 | 0x10
 # The number of the primary block among the targets of a security block (RFC 9172 section 3.6)
 PRIMARY = 0
 
-# A dtn name: `//`, a node name, `/`, and a demux (section 4.2.5.1.1)
-NAME = re.compile(rb"//[\x21-\x2e\x30-\x7e]+/[\x21-\x7e]*")
+# A dtn name: `//`, a node name, `/`, and a demux (section 4.2.5.1.1). Either may be empty.
+NAME = re.compile(rb"//[\x21-\x7e]*/[\x21-\x7e]*")
 
 
 def of_kind(it, kind):
@@ -74,7 +74,7 @@ def flags_of(it):
 
 
 def long_head(it):
-    """Each head is the shortest for its number (section 4.1)."""
+    """Each head is the shortest for its number (section 4)."""
     return None if it.long_head is None else f"byte={it.long_head}"
 
 
@@ -145,7 +145,7 @@ def age(it):
 
 
 def previous_node(it):
-    """A bundle has one previous node block at most (section 4.4.1)."""
+    """A bundle has one previous node block at most (section 4.4.1). The RFC forbids no second one."""
     blocks = len(of_kind(it, PREVIOUS_NODE))
     return f"blocks={blocks}" if blocks > 1 else None
 

@@ -55,7 +55,7 @@ BUNDLES = [
     Rule("dtn-name", MUST, bundle_rules.dtn_name),
     Rule("fragment", MUST, bundle_rules.fragment),
     Rule("age", MUST, bundle_rules.age),
-    Rule("previous-node", MUST, bundle_rules.previous_node),
+    Rule("previous-node", SHOULD, bundle_rules.previous_node),
     Rule("hop-count", MUST, bundle_rules.hop_count),
     Rule("confidential-primary", MUST, bundle_rules.confidential_primary),
     Rule("hops", SHOULD, bundle_rules.hops),

@@ -1,12 +1,14 @@
 """`check`: for each rule, small recordings that break it alone, and some that just keep it.
 
+The shortest one that breaks a rule and the first one that keeps it are in examples/faults too.
+
 Offsets: a recording begins with a contact header of 6 bytes and a SESS_INIT of 32. The lengths
 before the data of a segment are in `lines`, an XFER_ACK has 18 bytes, and a SESS_TERM has 3. The
 bundle CLEAN has 33 bytes. So a transfer of it in one segment ends at 93.
 """
 
 import make
-from inputs.spelling import canonical, encoded, head, hop_count, primary, security, spelled
+from inputs.spelling import array, canonical, encoded, endpoint, head, hop_count, primary, security, spelled
 
 from . import Row
 from .lines import BOTH, END, HEAD, START
@@ -41,14 +43,22 @@ def block(kind, number, data, flags=0):
     return canonical(kind, number, data if isinstance(data, bytes) else encoded(data), flags=flags)
 
 
+def hiding(number, target):
+    """A block confidentiality block with one target, and no results (RFC 9172 section 3.6)."""
+    return block(12, number, [*security([target], 2, (1, 1)), array(1), array(0)])
+
+
 # A bundle that breaks no rule: 33 bytes. The payload's head is at 25, and its data at 31.
 CLEAN = bundle()
 
 # Blocks by their types: previous node, bundle age, hop count, integrity, confidentiality
-NODE = block(6, 2, b"\x82\x01\x00")
+NODE = block(6, 2, endpoint((1, 0)))
 AGE = block(7, 2, b"\x05")
 HOPS = block(10, 2, hop_count(30, 1))
-HIDDEN = block(12, 9, security([1], 2, (1, 1)))
+HIDDEN = hiding(9, 1)
+
+# An administrative record (RFC 9171 section 6.1), of a type that is not read
+RECORD = b"\x82\x02\x00"
 
 # The greatest transfer ID
 LAST = 2**64 - 1
@@ -73,7 +83,7 @@ MESSAGES = {
             (b"dtn!\x04\xff", ["0 must contact-flags flags=ff"]),
             (b"dtn!\x04\x02" + INIT, ["0 must contact-flags flags=02"]),
         ],
-        [CONTACT, b"dtn!\x04\x01"],
+        [b"dtn!\x04\x01", CONTACT],
     ),
     "node-id": (
         [
@@ -82,22 +92,26 @@ MESSAGES = {
                 b"1pn:1.0", b"ipn", b"ip_n:1", b":", b"ipn:1 0", b"ipn:\x7f", b"a:\xc3\xa4", b"\x00", b"//n/", b"+a:",
             ]
         ],
-        [CONTACT + make.sess_init(node=node) for node in [b"", b"a:", b"Z+-.9:!~", b"dtn://n/", b"a::"]],
+        [CONTACT + make.sess_init(node=node) for node in [b"a:", b"", b"Z+-.9:!~", b"dtn://n/", b"a::"]],
     ),
     "item-flags": (
         [
             (CONTACT + make.sess_init(make.item(1, 2, b""), make.item(3, 2, b""), make.item(4, 2, b"")),
              ["6 must item-flags item=1 flags=03"]),
             (HEAD + sent(CLEAN, 0, make.item(0x80, 2, b"a")), ["38 must item-flags item=0 flags=80"]),
+            (CONTACT + make.sess_init(make.item(0x80, 2, b"")), ["6 must item-flags item=0 flags=80"]),
         ],
         [
+            CONTACT + make.sess_init(make.item(0, 2, b"")),
             CONTACT + make.sess_init(make.item(1, 2, b""), make.item(0, 3, b"")),
             HEAD + sent(CLEAN, 0, make.item(1, 2, b"")),
         ],
     ),
     "order": (
         [
+            (CONTACT + sent(CLEAN), ["6 must order fault=segment-before-session-initiation"]),
             (CONTACT + sent(CLEAN) + INIT, ["6 must order fault=segment-before-session-initiation"]),
+            (CONTACT + make.xfer_segment(END, 0, b""), ["6 must order fault=segment-before-session-initiation"]),
             (HEAD + make.xfer_segment(END, 0, b""), ["38 must order fault=no-such-open-transfer"]),
             (HEAD + make.sess_term(0, 0) + sent(CLEAN), ["41 must order fault=start-after-session-termination"]),
             (HEAD + INIT, ["38 should order fault=second-session-initiation"]),
@@ -106,19 +120,21 @@ MESSAGES = {
             ]),
         ],
         [
-            HEAD + sent(CLEAN),
             HEAD + make.xfer_segment(START, 0, CLEAN[:9]) + make.sess_term(0, 0) + make.xfer_segment(END, 0, CLEAN[9:]),
+            HEAD + sent(CLEAN),
         ],
     ),
     "before-session": (
         [
             (CONTACT + make.xfer_ack(3, 0, 1), ["6 should before-session type=02"]),
             (CONTACT + make.xfer_refuse(0, 0), ["6 should before-session type=03"]),
+            (CONTACT + KEEPALIVE, ["6 should before-session type=04"]),
             (CONTACT + KEEPALIVE + KEEPALIVE + INIT, [
                 "6 should before-session type=04", "7 should before-session type=04",
             ]),
         ],
         [
+            HEAD + KEEPALIVE,
             HEAD + make.xfer_ack(3, 0, 1) + make.xfer_refuse(0, 0) + KEEPALIVE,
             CONTACT + make.sess_term(0, 4) + make.msg_reject(3, 7),
         ],
@@ -143,6 +159,7 @@ MESSAGES = {
             (HEAD + sent(CLEAN, LAST) + sent(CLEAN, LAST), [f"93 must transfer-id id={LAST}"]),
         ],
         [
+            HEAD + sent(CLEAN) + sent(CLEAN, 1),
             HEAD + b"".join(sent(CLEAN, it) for it in [5, 7, 5]),
             HEAD + b"".join(sent(CLEAN, it) for it in [1, 0, 1]),
             HEAD + sent(CLEAN, LAST) + sent(CLEAN),
@@ -164,6 +181,7 @@ MESSAGES = {
             (HEAD + two(CLEAN, 9), ["38 must peer-transfer length=9 limit=0"], {"peer_transfer": 0}),
         ],
         [
+            (HEAD + sent(CLEAN), {"peer_transfer": 33}),
             (HEAD + two(CLEAN, 9), {"peer_transfer": 33}),
             (HEAD + two(CLEAN, 9, make.length_item(33)), {"peer_transfer": 33}),
             HEAD + two(CLEAN, 9, make.length_item(33)),
@@ -179,11 +197,17 @@ MESSAGES = {
         ],
     ),
     "keepalive": (
-        [(CONTACT + make.sess_init(keepalive=0) + KEEPALIVE + KEEPALIVE, ["38 should keepalive"])],
+        [
+            (CONTACT + make.sess_init(keepalive=0) + KEEPALIVE, ["38 should keepalive"]),
+            (CONTACT + make.sess_init(keepalive=0) + KEEPALIVE + KEEPALIVE, ["38 should keepalive"]),
+        ],
         [CONTACT + make.sess_init(keepalive=1) + KEEPALIVE, CONTACT + make.sess_init(keepalive=0)],
     ),
     "term-flags": (
-        [(HEAD + make.sess_term(0x02, 0), ["38 must term-flags flags=02"])],
+        [
+            (HEAD + make.sess_term(0x02, 0), ["38 must term-flags flags=02"]),
+            (CONTACT + make.sess_term(0x02, 0), ["6 must term-flags flags=02"]),
+        ],
         [HEAD + make.sess_term(0x00, 0), HEAD + make.sess_term(0x01, 0), HEAD + make.sess_term(0xFF, 0)],
     ),
 }
@@ -193,6 +217,7 @@ MESSAGES = {
 TRANSFERS = {
     "unfinished": (
         [
+            (make.xfer_segment(START, 0, b""), "should unfinished: length=0"),
             (make.xfer_segment(START, 0, b"ab"), "should unfinished: length=2"),
             (make.xfer_segment(START, 0, CLEAN) + make.sess_term(0, 0), "should unfinished: length=33"),
         ],
@@ -202,8 +227,9 @@ TRANSFERS = {
         [
             (two(CLEAN, 9, make.length_item(33), make.length_item(33)), "must length-item:"),
             (two(CLEAN, 9, make.item(0, 1, bytes(7))), "must length-item:"),
+            (two(CLEAN, 9, make.item(0, 1, b"")), "must length-item:"),
         ],
-        [two(CLEAN, 9, make.length_item(33), make.item(0, 2, b""))],
+        [two(CLEAN, 9, make.length_item(33)), two(CLEAN, 9, make.length_item(33), make.item(0, 2, b""))],
     ),
     "length-differs": (
         [(two(CLEAN, 9, make.length_item(34)), "must length-differs: announced=34 length=33")],
@@ -211,7 +237,7 @@ TRANSFERS = {
     ),
     "length-of-one-segment": (
         [(sent(CLEAN, 0, make.length_item(33)), "should length-of-one-segment:")],
-        [sent(CLEAN, 0, make.item(0, 2, bytes(8))), two(CLEAN, 9, make.length_item(33))],
+        [two(CLEAN, 9, make.length_item(33)), sent(CLEAN, 0, make.item(0, 2, bytes(8)))],
     ),
     "bundle": (
         [
@@ -240,7 +266,7 @@ TRANSFERS = {
             (sent(b"\x9f\x88\x07\x00\x00\x82\x01\x7f"), "should not-read: code=B10 byte=7"),
             (sent(b"\x9f\x88\x07\x00\x00\x82\x02\x9f"), "should not-read: code=B10 byte=7"),
         ],
-        [sent(bundle(*[block(0, number, b"") for number in range(2, 65)]))],
+        [sent(bundle(*[block(192, number, b"") for number in range(2, 65)]))],
     ),
 }
 
@@ -285,16 +311,17 @@ BUNDLES = {
             (bundle(source=None, flags=0x020004), "must anonymous: flags=020004"),
             (bundle(source=None, flags=0x040004), "must anonymous: flags=040004"),
         ],
-        [bundle(source=None, flags=0x64), bundle(flags=0x074000)],
+        [bundle(source=None, flags=0x04), bundle(source=None, flags=0x64), bundle(flags=0x074000)],
     ),
     "record-reports": (
-        [(bundle(flags=0x4002, payload=b"\x82\x02"), "must record-reports: flags=4002")],
-        [bundle(flags=0x02, payload=b"\x82\x02"), bundle(flags=0x4000)],
+        [(bundle(flags=0x4002, payload=RECORD), "must record-reports: flags=4002")],
+        [bundle(flags=0x02, payload=RECORD), bundle(flags=0x4000)],
     ),
     "block-reports": (
         [
-            (bundle(block(7, 3, b"\x05"), block(192, 2, b"", flags=0x02), flags=0x02, payload=b"\x82\x02"),
+            (bundle(block(7, 3, b"\x05"), block(192, 2, b"", flags=0x02), flags=0x02, payload=RECORD),
              "must block-reports: block=2"),
+            (bundle(block(192, 2, b"", flags=0x02), source=None, flags=0x04), "must block-reports: block=2"),
             (bundle(block(192, 2, b"", flags=0x07), source=None, flags=0x04), "must block-reports: block=2"),
         ],
         [bundle(block(192, 2, b"", flags=0x02)), bundle(source=None, flags=0x04, payload_flags=0x02)],
@@ -303,14 +330,15 @@ BUNDLES = {
         [
             (bundle(block(192, 3, b""), block(192, 2, b"", flags=0x08)), "should block-flags: block=2 flags=08"),
             (bundle(payload_flags=0x0100), "should block-flags: block=1 flags=0100"),
+            (bundle(payload_flags=0x08), "should block-flags: block=1 flags=08"),
         ],
-        [bundle(block(192, 2, b"", flags=0x17), payload_flags=0x17)],
+        [bundle(payload_flags=0x17), bundle(block(192, 2, b"", flags=0x17), payload_flags=0x17)],
     ),
     "dtn-name": (
         [
             (bundle(destination=name), "must dtn-name: of=destination")
             for name in [
-                b"", b"none", b"//n", b"//", b"///", b"////", b"///n/", b"n/", b"/n/", b"//n /", b"//n/\x7f",
+                b"", b"none", b"//n", b"//", b"n/", b"/n/", b"//n /", b"//n/\x7f",
                 b"//\xc3\xa4/",
             ]
         ] + [
@@ -318,7 +346,10 @@ BUNDLES = {
             (bundle(report=b"n"), "must dtn-name: of=report-to"),
             (bundle(source=b"n", report=b"n"), "must dtn-name: of=source"),
         ],
-        [bundle(destination=b"//n/", source=b"//n/~a", report=b"//n//a/!~")],
+        [
+            bundle(destination=b"//n/"), bundle(destination=b"//n/", source=b"//n/~a", report=b"//n//a/!~"),
+            bundle(destination=b"///", source=b"////", report=b"///n/"),
+        ],
     ),
     "fragment": (
         [
@@ -338,7 +369,7 @@ BUNDLES = {
         [bundle(AGE, stamp=(0, 0)), bundle(AGE), bundle(stamp=(1, 0))],
     ),
     "previous-node": (
-        [(bundle(NODE, block(6, 3, b"\x82\x01\x00")), "must previous-node: blocks=2")],
+        [(bundle(NODE, block(6, 3, endpoint((5, 0)))), "should previous-node: blocks=2")],
         [bundle(NODE)],
     ),
     "hop-count": (
@@ -354,7 +385,10 @@ BUNDLES = {
         ],
     ),
     "confidential-primary": (
-        [(bundle(HIDDEN, block(12, 2, security([1, 0], 2, (1, 1)))), "must confidential-primary: block=2")],
+        [
+            (bundle(HIDDEN, block(12, 2, security([1, 0], 2, (1, 1)))), "must confidential-primary: block=2"),
+            (bundle(hiding(2, 0)), "must confidential-primary: block=2"),
+        ],
         [bundle(HIDDEN), bundle(block(12, 2, b"\x81\x00"))],
     ),
     "hops": (
@@ -368,6 +402,7 @@ BUNDLES = {
             (bundle(block(10, 2, b"\x82\x05\x05\x05")), "must block-data: block=2 byte=34"),
         ],
         [
+            bundle(AGE),
             bundle(NODE, block(7, 3, b"\x05"), block(10, 4, hop_count(9, 0))),
             bundle(block(7, 2, b""), HIDDEN),
             bundle(block(11, 2, b"")),
@@ -379,8 +414,8 @@ BUNDLES = {
             (bundle(flags=0x02, payload=b"\x82\x01\x84"), "must record: byte=34"),
         ],
         [
-            bundle(flags=0x02, payload=b"\x82\x02"), bundle(flags=0x03, fragment=(0, 2)), bundle(HIDDEN, flags=0x02),
-            bundle(payload=b"\x00"),
+            bundle(flags=0x02, payload=RECORD), bundle(flags=0x02, payload=b"\x82\x02"),
+            bundle(flags=0x03, fragment=(0, 2)), bundle(HIDDEN, flags=0x02), bundle(payload=b"\x00"),
         ],
     ),
 }
@@ -391,12 +426,29 @@ def row(name, content, lines, options=None):
     return Row(name, "check", options or {}, content, lines, [], int(bool(lines)))
 
 
+def kept(recordings):
+    """The recordings that keep a rule, each with its options, if it has any."""
+    return [it if isinstance(it, tuple) else (it,) for it in recordings]
+
+
 def named(rules):
     """Yields a name, a recording, and its lines and options, for each of some rules."""
     for rule, (breaking, keeping) in rules.items():
         yield from ((f"{rule}, broken {number}", *it) for number, it in enumerate(breaking))
-        kept = [it if isinstance(it, tuple) else (it,) for it in keeping]
-        yield from ((f"{rule}, kept {number}", it, [], *options) for number, (it, *options) in enumerate(kept))
+        yield from ((f"{rule}, kept {number}", it, [], *options) for number, (it, *options) in enumerate(kept(keeping)))
+
+
+def smallest():
+    """Yields each rule, the shortest recording that breaks it, and the first that keeps it.
+
+    Each recording has its options, if it has any.
+    """
+    wholes = [(MESSAGES, lambda it: it), (TRANSFERS, lambda it: HEAD + it), (BUNDLES, lambda it: HEAD + sent(it))]
+    for rules, whole in wholes:
+        for rule, (breaking, keeping) in rules.items():
+            content, _, *options = min(breaking, key=lambda it: len(it[0]))
+            other, *others = kept(keeping)[0]
+            yield rule, (whole(content), *options), (whole(other), *others)
 
 
 def of(line, at, word):

@@ -43,7 +43,7 @@ EVERY_LINE = [
     "0 must dtn-name bundle=0 of=destination",
     "0 must fragment bundle=0 offset=0 length=1 total=1",
     "0 must age bundle=0 blocks=0",
-    "0 must previous-node bundle=0 blocks=2",
+    "0 should previous-node bundle=0 blocks=2",
     "0 must hop-count bundle=0 blocks=2 limit=0",
     "0 should hops bundle=0 limit=0 count=1",
     "0 must block-data bundle=0 block=2 byte=30",

@@ -7,7 +7,7 @@ import sys
 
 from .common import HEAD, PROGRAM, TOP, empty_room, read, run, write
 
-SCRIPTS = ["split", "pair", "resync", "capture", "json"]
+SCRIPTS = ["split", "pair", "resync", "capture", "json", "faults"]
 
 
 def help_texts():

@@ -4,6 +4,7 @@ json.lines has a line of each form, and the JSON that was worked out for it from
 The lines of the examples are compared with the messages that the model of tests/model reads.
 """
 
+import glob
 import json
 import random
 import re
@@ -100,11 +101,12 @@ def each_line():
 PLACES = {
     **dict.fromkeys(["OFF", "ID", "N", "NUMBER"], r"\d+"),
     "H": "(?:[0-9a-f]{2})+",
+    "LEVEL": "(?:must|should)",
     "K": "(?:none|crc16|crc32c)",
     "EID": r"\S+",
     "WORDS": ".*",
     "HH": "[0-9a-f]{2}",
-    "NAME": "[a-z?-]+",
+    **dict.fromkeys(["NAME", "RULE"], "[a-z?-]+"),
     "CODE": r"B\d+",
     "ESCAPED": r"\S*",
     "ITEMS": r"items=\d+(?: item=\S+)*",
@@ -134,6 +136,19 @@ def each_form():
         yield f"json: a line of the form {form}", True, found
 
 
+def each_rule():
+    """json.lines has a line of each rule of docs/FORMATS.md, with each of its words."""
+    heads = ["| Rule | Level | RFC 9174 |", "| Rule | Level | RFC |", "| Rule | Level | RFC 9171 |"]
+    rules = [it for head in heads for it in rows_of("FORMATS.md", f"{head} Broken if | WORDS |")]
+    yield "json: rules of docs/FORMATS.md", 35, len(rules)
+    lines = [line.split(" ") for line, _ in PAIRS if " must " in line or " should " in line]
+    for name, *_, words in rules:
+        shown = {word.partition("=")[0] for it in lines if it[2] == name.strip("`") for word in it[3:]}
+        wanted = set(re.findall(r"([a-z]+)=", words))
+        found = any(it[2] == name.strip("`") for it in lines), shown - {"transfer", "bundle"}
+        yield f"json: a line of the rule {name}", (True, wanted), found
+
+
 def faults():
     """Each text of a fault is in the object of its line."""
     shown = [cells[1] for cells in rows_of("FORMATS.md", "| Fault of the wire | TEXT |")]
@@ -152,7 +167,7 @@ def faults():
 def messages_of_failures():
     """A message of the program about a device or a word has its text in the object."""
     shown = [cells[0].strip("`") for cells in rows_of("MANUAL.md", "| Message | When |")]
-    yield "json: 8 messages", 8, len(shown)
+    yield "json: 9 messages", 9, len(shown)
     wanted = [{"error": it.partition(": ")[2]} for it in shown]
     yield "json: messages", (0, wanted, ""), objects(joined(shown))
 
@@ -265,6 +280,28 @@ def examples_reported():
         yield name, (0, lines, "", True), (status, back, errors, bool(got))
 
 
+def rule_line_of(it):
+    """Returns the line of an object of `check`."""
+    fields = dict(it)
+    words = [str(fields.pop(name)) for name in ("offset", "level", "rule")]
+    for name, value in fields.items():
+        value = texts.hexadecimal(value) if name in ("flags", "type") else value
+        words.append(f"{name.replace('fragment-', '')}={value}")
+    return " ".join(words)
+
+
+def examples_checked():
+    """The lines of `check` come back from their objects."""
+    runs = [[path] for path in sorted(glob.glob(f"{TOP}/examples/**/*.tcpcl", recursive=True))]
+    runs += [["--bundles", f"{TOP}/examples/two.bundles"]]
+    runs += [["--peer-segment", "9", "--peer-transfer", "9", f"{TOP}/examples/transfers.tcpcl"]]
+    lines = "".join(run(TOP, PROGRAM, "check", *words)[1] for words in runs)
+    status, got, errors = objects(lines.encode())
+    back = joined(rule_line_of(it) for it in got).decode()
+    yield "json: the lines of check", (0, lines, ""), (status, back, errors)
+    yield "json: the rules in them", 35, len({it["rule"] for it in got})
+
+
 # ---- what is wrong with a line
 
 
@@ -347,12 +384,14 @@ def files():
 PARTS = [
     each_line,
     each_form,
+    each_rule,
     faults,
     messages_of_failures,
     escapes,
     any_texts,
     examples_listed,
     examples_reported,
+    examples_checked,
     bad_lines,
     long_numbers,
     line_by_line,
