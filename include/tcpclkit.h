@@ -744,6 +744,17 @@ struct tcpclkit_blocks_options {
   uint64_t bundles;    /* 1: the bytes are bundles, one after another, and no recording */
 };
 
+/* What `check` judges, and of what. tcpclkit_check_defaults fills in the defaults. */
+struct tcpclkit_check_options {
+  uint64_t size;              /* sizeof (struct tcpclkit_check_options), for later versions */
+  uint64_t must;              /* 1: the rules of level `must` alone */
+  uint64_t has_peer_segment;  /* 1: no segment may have more data than `peer_segment` */
+  uint64_t peer_segment;      /* at least 1, if it is set */
+  uint64_t has_peer_transfer; /* 1: no transfer may have more data than `peer_transfer` */
+  uint64_t peer_transfer;
+  uint64_t bundles;           /* 1: the bytes are bundles, one after another, and no recording */
+};
+
 /* What the stream of `pack` says (docs/MANUAL.md). tcpclkit_pack_defaults fills in the defaults. */
 struct tcpclkit_pack_options {
   uint64_t size;          /* sizeof (struct tcpclkit_pack_options), for later versions */
@@ -765,6 +776,13 @@ static inline uint32_t tcpclkit_unpack_defaults(struct tcpclkit_unpack_options *
 
 static inline uint32_t tcpclkit_blocks_defaults(struct tcpclkit_blocks_options *options) {
   const struct tcpclkit_blocks_options defaults = {sizeof defaults, 0, 0, 0, 0};
+  if (options == NULL) return TCPCLKIT_NULL;
+  *options = defaults;
+  return TCPCLKIT_OK;
+}
+
+static inline uint32_t tcpclkit_check_defaults(struct tcpclkit_check_options *options) {
+  const struct tcpclkit_check_options defaults = {sizeof defaults, 0, 0, 0, 0, 0, 0};
   if (options == NULL) return TCPCLKIT_NULL;
   *options = defaults;
   return TCPCLKIT_OK;
@@ -878,6 +896,38 @@ static inline uint32_t tcpclkit_blocks(const uint8_t *bytes, size_t length,
                              (const uint64_t *)options + 1, (size_t)options->size / 8 - 1,
                              output != NULL, tcpclkit_start(output), output_room,
                              report != NULL, tcpclkit_start(report), report_room, run);
+}
+
+/*
+ * `tcpclkit check`: a line for each rule of the RFCs that the sender of a recording breaks, or that
+ * bundles break.
+ *
+ * The exit status is 3 after a fault, whose line is the report. Otherwise it is 1 if the output has
+ * a line, and else 0. The statuses are those of tcpclkit_list; also TCPCLKIT_RANGE if `must`,
+ * `has_peer_segment`, `has_peer_transfer` or `bundles` is above 1, if `peer_segment` is set and 0,
+ * if `bundles` is 1 beside a limit of the peer, or `size` is of no such struct.
+ *
+ * Proved of tcpclkit_raw_check: as for tcpclkit_raw_unpack, of `check_tool` of the options and the
+ * bytes, or of `bundle_check_tool` of `must` and the bytes if `bundles` is 1.
+ */
+uint32_t tcpclkit_raw_check(const uint8_t *bytes, size_t length,
+                            const uint64_t *options, size_t option_count,
+                            uint64_t wants_output, uint8_t *output, size_t output_room,
+                            uint64_t wants_report, uint8_t *report, size_t report_room,
+                            struct tcpclkit_run *run);
+static inline uint32_t tcpclkit_check(const uint8_t *bytes, size_t length,
+                                      const struct tcpclkit_check_options *options,
+                                      uint8_t *output, size_t output_room,
+                                      uint8_t *report, size_t report_room,
+                                      struct tcpclkit_run *run) {
+  uint32_t status = tcpclkit_slices_status(bytes, length, output, output_room, report, report_room);
+  status = tcpclkit_struct_status(status, run, run);
+  status = tcpclkit_options_status(status, (const uint64_t *)options, sizeof *options);
+  if (status != TCPCLKIT_OK) return status;
+  return tcpclkit_raw_check(tcpclkit_start(bytes), length,
+                            (const uint64_t *)options + 1, (size_t)options->size / 8 - 1,
+                            output != NULL, tcpclkit_start(output), output_room,
+                            report != NULL, tcpclkit_start(report), report_room, run);
 }
 
 /*
