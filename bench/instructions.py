@@ -24,7 +24,7 @@ from pathlib import Path
 sys.dont_write_bytecode = True
 
 import make
-from measure import MEASURED
+from measure import MEASURED, has_failed
 
 BUILT = Path(__file__).resolve().parent.parent / "crates/tcpclkit/out/tcpclkit"
 MIB = 1 << 20
@@ -42,7 +42,7 @@ def counted(program, words, path):
             stdin=given, stdout=subprocess.DEVNULL, stderr=subprocess.DEVNULL,
         )
         found = re.search(r"Collected : (\d+)", log.read())
-    if run.returncode != 0 or not found:
+    if has_failed(words, run.returncode) or not found:
         sys.exit(f"{program} {' '.join(words)}: it ended with {run.returncode}, or was not counted")
     return int(found[1])
 
@@ -67,7 +67,7 @@ def measure(programs, folder, only):
             continue
         words, path = command.split(), folder / name
         least = folder / f"least{path.suffix}"
-        tool = command if words[0] == "blocks" else words[0]
+        tool = command if "--bundles" in words else words[0]
         if tool not in starts:
             starts[tool] = [counted(it, words, least) for it in programs]
         counts = [counted(it, words, path) for it in programs]

@@ -9,14 +9,15 @@ bundles.tcpcl: transfers of one bundle of 200 bytes, an acknowledgement and a KE
 short.tcpcl: one transfer in segments of 1 to 16 bytes.
 answers.tcpcl: only acknowledgements, refusals and KEEPALIVEs.
 
-For unpack and blocks, some 256 MiB each, and each transfer is a good bundle:
+For unpack, blocks and check, some 256 MiB each, and each transfer is a good bundle:
 plain.tcpcl: bundles of 1 MiB in segments of 64 KiB, without a check.
 crc16.tcpcl, crc32.tcpcl: the same with a check over the payload.
 small.tcpcl: bundles of 100 to 300 bytes with a CRC-32C in the primary block. Each transfer has one,
     and an acknowledgement follows it.
 crumbs.tcpcl: bundles of 1 MiB in segments of 1 to 16 bytes.
 
-For pack and blocks --bundles, some 256 MiB each, the same bundles, one after another:
+For pack, and for blocks and check with --bundles, some 256 MiB each, the same bundles, one after
+another:
 plain.bundles, crc16.bundles, crc32.bundles, small.bundles.
 
 The script uses only python's standard library.

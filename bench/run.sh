@@ -1,5 +1,5 @@
 #!/usr/bin/env bash
-# Measures `tcpclkit list`, `unpack`, `blocks` and `pack`: bench/run.sh [PROGRAM [ROUNDS]]
+# Measures `tcpclkit list`, `unpack`, `blocks`, `check` and `pack`: bench/run.sh [PROGRAM [ROUNDS]]
 # PROGRAM is by default the one that `./build` left in crates/tcpclkit/out.
 set -eu
 here=$(cd "$(dirname "$0")" && pwd)

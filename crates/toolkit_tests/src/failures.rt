@@ -144,9 +144,7 @@ fn is_at_the_end(line: &[u8]) -> bool {
 /// A text without the line that only the end of the input determines.
 fn lasting(text: &[u8]) -> &[u8] {
     match text.split_inclusive(|byte| *byte == b'\n').last() {
-        Some(line) if is_at_the_end(line) => {
-            text.strip_suffix(line).unwrap_or(text)
-        }
+        Some(line) if is_at_the_end(line) => text.strip_suffix(line).unwrap_or(text),
         _ => text,
     }
 }

@@ -26,9 +26,7 @@ pub enum Tool {
     Blocks(BlockOptions),
     BundleBlocks,
     Check(CheckOptions),
-    BundleCheck {
-        must: bool,
-    },
+    BundleCheck { must: bool },
     Pack(Packing),
 }
 
