@@ -319,8 +319,13 @@ module _ {R W E : Type 0} {look : Looks R W E} {start : Devices R W E} (telling 
           rest = (divided telling.limit rest).rest;
         }) (sym (append_assoc bundles (bundle ∷ []) (divided telling.limit rest).bundles)))
         (omega (arith, length-append bundles (bundle ∷ []), length-append history run))
-        (omega (arith, at.sized, size_with bundles bundle, length-append at.so_far.begun run,
-        length-append history run)) gave.2
+        (omega (
+          arith,
+          at.sized,
+          size_with bundles bundle,
+          length-append at.so_far.begun run,
+          length-append history run,
+        )) gave.2
     came mid numbered (found.Refused fault) took gave =
         let bytes = history ++ run in
         let now = with_bytes run in
