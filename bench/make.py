@@ -15,14 +15,17 @@ crc16.tcpcl, crc32.tcpcl: the same with a check over the payload.
 small.tcpcl: bundles of 100 to 300 bytes with a CRC-32C in the primary block. Each transfer has one,
     and an acknowledgement follows it.
 crumbs.tcpcl: bundles of 1 MiB in segments of 1 to 16 bytes.
+kept.tcpcl: as small.tcpcl, but nothing breaks a rule that check judges: the transfer IDs count up,
+    each bundle has a creation time, and each number has its shortest spelling.
 
 For pack, and for blocks and check with --bundles, some 256 MiB each, the same bundles, one after
 another:
-plain.bundles, crc16.bundles, crc32.bundles, small.bundles.
+plain.bundles, crc16.bundles, crc32.bundles, small.bundles, kept.bundles.
 
 The script uses only python's standard library.
 """
 
+import itertools
 import struct
 import sys
 from pathlib import Path
@@ -80,6 +83,19 @@ def checked(block, check):
     return open_block + check_value(check, open_block + bytes(size))
 
 
+def kept_bundle(payload):
+    """A bundle like that of `bundle`, with a CRC-32C in its primary block, that keeps all rules.
+
+    Its creation time is 2026-01-01, in milliseconds since 2000-01-01, and its lifetime is an hour. The
+    payload has 24 to 255 bytes.
+    """
+    created = bytes([0x82, 0x1B]) + struct.pack(">Q", 820540800000) + bytes([0])
+    lifetime = bytes([0x1A]) + struct.pack(">I", 3600000)
+    first = bytes([0x89, 7, 0, CRC32[0]]) + bytes.fromhex("82028202018202820101820100") + created + lifetime
+    second = bytes([0x85, 1, 1, 0, 0, 0x58, len(payload)]) + payload
+    return b"\x9f" + checked(first, CRC32) + second + b"\xff"
+
+
 def bundle(payload, primary=NO_CHECK, content=NO_CHECK):
     """A bundle (section 4) from ipn:1.1 to ipn:2.1 with this payload and with these checks."""
     first = bytes([0x88 + (primary[0] > 0), 7, 0, primary[0]]) + bytes.fromhex("82028202018202820101820100") + bytes.fromhex("82000000")
@@ -134,6 +150,17 @@ def bundles():
     yield "crc16", [bundle(payload, content=CRC16)]
     yield "crc32", [bundle(payload, content=CRC32)]
     yield "small", [bundle(DATA[:length], primary=CRC32) for length in range(60, 260, 10)]
+    yield "kept", [kept_bundle(DATA[:length]) for length in range(50, 250, 10)]
+
+
+def kept_transfers(kept, size):
+    """Transfers of these bundles in turn, with IDs from 0 on, and an acknowledgement after each."""
+    made, length = [], 0
+    for number, data in enumerate(itertools.cycle(kept)):
+        if length >= size:
+            return b"".join(made)
+        made.append(segment(START | END, number, data) + ack(START | END, number, len(data)))
+        length += len(made[-1])
 
 
 def recordings(list_size, bundles_size):
@@ -147,6 +174,7 @@ def recordings(list_size, bundles_size):
     for name in ("plain", "crc16", "crc32"):
         yield name + ".tcpcl", repeated(transfer(7, kinds[name][0], [65536]), bundles_size)
     yield "small.tcpcl", repeated(b"".join(segment(START | END, 7, it) + ack(START | END, 7, len(it)) for it in kinds["small"]), bundles_size)
+    yield "kept.tcpcl", kept_transfers(kinds["kept"], bundles_size)
     yield "crumbs.tcpcl", repeated(transfer(7, kinds["plain"][0], range(1, 17)), bundles_size)
 
 
