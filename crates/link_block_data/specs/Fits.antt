@@ -1,4 +1,4 @@
--- The bounds of a scan at each stage.
+-- Relations: the bounds of a scan at each stage.
 
 use Rattle.std.specs.Prelude.{ℕ, Bool, true, ◌&&◌, nat_lt, nat_le}
 use Rattle.link_cbor.specs.declared.head_scan.HeadScan.{HeadScan}

@@ -1,6 +1,6 @@
--- The rest of the data at each stage of a scan: the reading by BlockData from there on. A draft has
--- the values of the heads before. These definitions join the code to `data_of`. The promises need
--- none of them.
+-- Relations: the rest of the data at each stage of a scan, which is the reading by BlockData from
+-- there on. A draft has the values of the heads before. These definitions join the code to
+-- `data_of`. The promises need none of them.
 
 use Rattle.std.specs.Prelude.{ℕ, ◌-◌, ◌==◌, Bool, true, false, List, Option, Some, Result, Ok, Err, if◌then◌else◌}
 use Rattle.std.specs.List.{list_any}

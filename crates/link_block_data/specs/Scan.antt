@@ -1,5 +1,5 @@
--- The bytes that a scan of block data has seen. The promises need only two facts: `new` and
--- `restart` have seen nothing, and `take` adds its bytes.
+-- Relations: the bytes that a scan of block data has seen. The promises need only two facts: `new`
+-- and `restart` have seen nothing, and `take` adds its bytes.
 
 use Rattle.std.specs.Prelude.{◌≡◌, ℕ, ◌+◌, ◌≤◌, ◌||◌, ◌==◌, List, ◌++◌, length, drop, IsTrue}
 use Rattle.link_cbor.specs.declared.head_scan.HeadScan.{HeadScan}

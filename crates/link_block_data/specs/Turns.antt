@@ -1,5 +1,5 @@
--- What is due after a head, by the values of the heads so far. These definitions join the code to
--- `Left`. The promises need none of them.
+-- Relations: what is due after a head, by the values of the heads so far. These definitions join
+-- the code to `Left`. The promises need none of them.
 
 use Rattle.std.specs.Prelude.{ℕ, ◌-◌, ◌==◌, Bool, true, false, List, [], ◌++◌, length, Option, Some, None, ◌||◌, Result, Ok, Err, if◌then◌else◌}
 use Rattle.link_cbor.specs.declared.head.Head.{Head as HeadItem}

@@ -1,4 +1,5 @@
--- What a line needs to have room in a text. Each has at most one proof, as a fact in a struct must.
+-- Relations: what a line needs to have room in a text. Each has at most one proof, as a fact in a
+-- struct must.
 
 use Rattle.std.specs.Prelude.{ℕ, ◌+◌, ◌^◌, ◌<◌, Option, Some, None, Result, Ok, Err}
 use Rattle.std.specs.Coded.{Unit-prop, le_prop}

@@ -1,4 +1,4 @@
--- What is kept of the bundles of an input.
+-- Relations: what is kept of the bundles of an input.
 use Rattle.std.specs.Prelude.{◌≡◌, ℕ, List, length}
 use Rattle.link_bundle.specs.Scan.{HasJudged}
 use Rattle.link_blocks.specs.DataReader.{IsReading}

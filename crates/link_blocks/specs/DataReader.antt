@@ -1,4 +1,4 @@
--- What a reader of block data has read.
+-- Relations: what a reader of block data has read.
 use Rattle.std.specs.Prelude.{◌≡◌, ℕ, true, List, Option, Some, None}
 use Rattle.std.specs.List.{fold}
 use Rattle.link_bundle_blocks.specs.Bundle.{blocks_in, cut_block_in, bundle_goes}

@@ -1,4 +1,4 @@
--- What is kept of the events of a stream.
+-- Relations: what is kept of the events of a stream.
 use Rattle.std.specs.Prelude.{◌≡◌, ℕ, ◌≤◌, Bool, true, false, not, List, [], ◌∷◌, Option, if◌then◌else◌}
 use Rattle.link_walk.specs.Walk.{WalkEvent, data_size, has_open}
 use Rattle.link_unpack.specs.Transfers.{Transfer}

@@ -1,4 +1,4 @@
--- What is written for a piece of a bundle.
+-- Relations: what is written for a piece of a bundle.
 use Rattle.std.specs.Prelude.{◌≡◌, ℕ, List, ◌++◌, Result}
 use Rattle.link_wire.specs.Device.{Output}
 use Rattle.link_wire.specs.declared.IoFault.{IoFault}

@@ -1,4 +1,4 @@
--- What is known about the latest transfer, and what is written for its data.
+-- Relations: what is known about the latest transfer, and what is written for its data.
 use Rattle.std.specs.Prelude.{◌≡◌, ℕ, Bool, true, List, ◌++◌, Option, Result}
 use Rattle.link_wire.specs.Device.{Output}
 use Rattle.link_wire.specs.declared.IoFault.{IoFault}

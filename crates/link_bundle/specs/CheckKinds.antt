@@ -1,4 +1,4 @@
--- The kind of a block's check, as far as it is known.
+-- Relations: the kind of a block's check, as far as it is known.
 
 use Rattle.std.specs.Prelude.{Bool, true, false, Option, None, Some}
 use Rattle.link_cbor.specs.declared.check.CheckKind.{CheckKind}

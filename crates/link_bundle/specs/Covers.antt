@@ -1,4 +1,4 @@
--- The bytes that the checks of a block cover.
+-- Relations: the bytes that the checks of a block cover.
 
 use Rattle.std.specs.Prelude.{ℕ, List, None, Some}
 use Rattle.link_cbor.specs.declared.check.CheckKind.TheVariants.{Crc16, Crc32}

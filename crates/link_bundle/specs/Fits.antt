@@ -1,4 +1,4 @@
--- The bounds of a scan at each stage.
+-- Relations: the bounds of a scan at each stage.
 
 use Rattle.std.specs.Prelude.{◌≡◌, ℕ, ◌-◌, ◌^◌, Bool, true, false, ◌&&◌, ◌==◌, nat_lt, nat_le, List, length, is_none, is_some, Result, MatchResult, IsTrue}
 use Rattle.link_cbor.specs.declared.head_scan.HeadScan.{HeadScan}

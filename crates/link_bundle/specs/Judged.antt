@@ -1,4 +1,4 @@
--- The promise of every function that judges a head of a bundle.
+-- Relations: the promise of every function that judges a head of a bundle.
 
 use Rattle.std.specs.Prelude.{◌≡◌, ℕ, Result, IfOk}
 use Rattle.link_cbor.specs.declared.head.Head.{Head as HeadItem}

@@ -1,6 +1,6 @@
--- The rest of a bundle at each stage of a scan: the reading by Primary, Canonical and Bundle from
--- there on. A draft has the values of the heads before. These definitions join the code to
--- `judged_bundle`. The promises need none of them.
+-- Relations: the rest of a bundle at each stage of a scan, which is the reading by Primary,
+-- Canonical and Bundle from there on. A draft has the values of the heads before. These definitions
+-- join the code to `judged_bundle`. The promises need none of them.
 
 use Rattle.std.specs.Prelude.{◌≡◌, ◌≤◌, ℕ, ◌+◌, ◌-◌, ◌==◌, Bool, true, false, List, [], ◌∷◌, ◌++◌, length, replicate, slice_range, drop, unwrap_or, Option, Some, None, Result, Ok, Err, if◌then◌else◌}
 use Rattle.std.specs.Bool.{then_some}

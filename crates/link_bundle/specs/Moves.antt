@@ -1,4 +1,4 @@
--- How a step changes the cursor of a scan.
+-- Relations: how a step changes the cursor of a scan.
 
 use Rattle.std.specs.Prelude.{◌≡◌, ℕ, ◌+◌, List, [], ◌++◌, length, IsTrue}
 use Rattle.std.specs.Bool.{MatchBool}

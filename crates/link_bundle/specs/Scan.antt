@@ -1,5 +1,5 @@
--- The bytes that a scan of a bundle has seen. The promises need only two facts: `new` has seen
--- nothing, and a step adds its byte.
+-- Relations, but for HasScanned, ending: the bytes that a scan of a bundle has seen. The promises
+-- need only two facts: `new` has seen nothing, and a step adds its byte.
 
 use Rattle.std.specs.Prelude.{◌≡◌, ℕ, ◌+◌, ◌-◌, ◌^◌, ◌<◌, ◌≤◌, ◌==◌, if◌then◌else◌, ◌⊎◌, Bool, true, false, List, [], ◌++◌, length, replicate, slice_range, take, drop}
 use Rattle.link_cbor.specs.Head.{AreBytes, Cut, head_front}

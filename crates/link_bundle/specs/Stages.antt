@@ -1,4 +1,4 @@
--- The state that a caller sees at a stage.
+-- Relations: the state that a caller sees at a stage.
 
 use Rattle.std.specs.Prelude.{Bool, true, false}
 use Rattle.link_bundle_types.specs.declared.fault.State.{State}

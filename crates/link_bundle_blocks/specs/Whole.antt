@@ -1,4 +1,4 @@
--- A bundle that is read at once. The promises need none of these definitions.
+-- Relations: a bundle that is read at once. The promises need none of these definitions.
 
 use Rattle.std.specs.Prelude.{ℕ, ◌+◌, List, Option, Ok}
 use Rattle.link_cbor.specs.declared.check.CheckKind.{CheckKind}

@@ -1,4 +1,4 @@
--- What a history keeps of the blocks so far: as much as the rules need.
+-- Relations: what a history keeps of the blocks so far, which is as much as the rules need.
 use Rattle.std.specs.Prelude.{◌≡◌, ℕ, ◌+◌, ◌-◌, ◌^◌, ◌==◌, min, List, is_some, Option, if◌then◌else◌}
 use Rattle.std.specs.List.{list_any}
 use Rattle.link_cbor.specs.declared.check.CheckKind.{CheckKind}

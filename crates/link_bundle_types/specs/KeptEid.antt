@@ -1,4 +1,4 @@
--- An endpoint ID by its form and the bytes of its dtn name.
+-- Relations: an endpoint ID by its form and the bytes of its dtn name.
 
 use Rattle.std.specs.Prelude.{ℕ, ◌+◌, Bool, false, nat_le, List, [], length}
 use Rattle.link_bundle_types.specs.declared.eid.Eid.{Eid}

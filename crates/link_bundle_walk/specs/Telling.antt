@@ -1,4 +1,5 @@
--- A tool over bundles: what it says of the bundles of an input, and what it makes of the input.
+-- Relations, but for BundleTelling, stop_by, told_of: a tool over bundles, what it says of the
+-- bundles of an input, and what it makes of the input.
 use Rattle.std.specs.Prelude.{◌≡◌, ℕ, ◌+◌, ◌^◌, ◌<◌, Bool, true, List, [], ◌∷◌, ◌++◌, length, Option, Some, None, OnOk, Result, Ok}
 use Rattle.link_wire.specs.Device.{Output}
 use Rattle.link_wire.specs.declared.IoFault.{IoFault}

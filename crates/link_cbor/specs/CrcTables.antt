@@ -1,4 +1,4 @@
--- The tables of registers that a check looks bytes up in.
+-- Relations: the tables of registers that a check looks bytes up in.
 
 use Rattle.std.specs.Prelude.{◌≡◌, ℕ, ◌<◌, List, [], ◌∷◌, replicate, slice_index, slice_index_or}
 use Rattle.link_cbor.specs.declared.check.CheckKind.{CheckKind}

@@ -1,4 +1,4 @@
--- The bytes that a scan of a head has seen.
+-- Relations: the bytes that a scan of a head has seen.
 
 use Rattle.std.specs.Prelude.{◌≡◌, ℕ, Bool, List, ◌++◌, length}
 use Rattle.link_cbor.specs.declared.head_scan.HeadScan.{HeadScan}

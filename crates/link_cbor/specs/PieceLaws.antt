@@ -1,5 +1,5 @@
--- The laws of `taken`, over lists alone. They are in this folder because the trait `Piecewise`
--- cites them in its own laws.
+-- Relations: the laws of `taken`, over lists alone. They are in this folder because the trait
+-- `Piecewise` cites them in its own laws.
 
 use Rattle.std.proofs.Common.{◌≡◌, ℕ, zero, suc, ◌<◌, Bool, true, false, List, [], ◌∷◌, ◌++◌, length, take, refl, sym, ap, ◌∙◌, ◌⊎◌, inl, inr, ⊎_elim, append_assoc, arith}
 use Rattle.std.proofs.lemmas.List.{append-nil, take-take, length-take}

@@ -1,4 +1,4 @@
--- The bytes that were pushed to a check.
+-- Relations: the bytes that were pushed to a check.
 
 use Rattle.std.specs.Prelude.{◌≡◌, ℕ, List}
 use Rattle.link_cbor.specs.declared.check.Check.{Check}

@@ -1,4 +1,4 @@
--- The head that a stage of a scan determines.
+-- Relations: the head that a stage of a scan determines.
 
 use Rattle.std.specs.Prelude.{◌≡◌, IsTrue, ℕ, ◌+◌, ◌-◌, ◌*◌, ◌^◌, Bool, true, false, ◌&&◌, ◌==◌, nat_lt, nat_le, List, length, take, Some, if◌then◌else◌}
 use Rattle.link_cbor.specs.declared.head.HeadStep.{HeadStep}

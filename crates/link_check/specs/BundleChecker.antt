@@ -1,4 +1,4 @@
--- What is kept of the bundles of an input.
+-- Relations: what is kept of the bundles of an input.
 use Rattle.std.specs.Prelude.{◌≡◌, Bool, List, length}
 use Rattle.link_bundle.specs.Scan.{HasJudged}
 use Rattle.link_bundle_walk.specs.Bundles.{Packed, size_of}

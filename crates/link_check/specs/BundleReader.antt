@@ -1,4 +1,4 @@
--- What a reader keeps of the bytes of a bundle.
+-- Relations: what a reader keeps of the bytes of a bundle.
 use Rattle.std.specs.Prelude.{◌≡◌, ℕ, ◌≤◌, List, length, Option, Some, None, fold}
 use Rattle.link_bundle_blocks.specs.Bundle.{blocks_in}
 use Rattle.link_blocks.specs.BlockLines.{flags_after}

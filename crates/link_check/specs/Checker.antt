@@ -1,4 +1,4 @@
--- What is kept of the events of a stream.
+-- Relations: what is kept of the events of a stream.
 use Rattle.std.specs.Prelude.{◌≡◌, ◌≤◌, Bool, true, false, List, [], Option, Some, if◌then◌else◌}
 use Rattle.link_walk.specs.Saying.{kept_after}
 use Rattle.link_walk.specs.Walk.{WalkEvent, data_size, has_open}

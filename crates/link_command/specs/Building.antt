@@ -1,4 +1,4 @@
--- Facts about the arguments and commands that src/command.rt builds.
+-- Relations: facts about the arguments and commands that src/command.rt builds.
 use Rattle.std.specs.Prelude.{◌≡◌, false, List, fold}
 use Rattle.clap.specs.Words.{Rule, Shape, app_of, rule_of, shape_of, with_rule}
 use Rattle.clap.specs.declared.builder.arg.Arg.{Arg}

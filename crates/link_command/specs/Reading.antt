@@ -1,4 +1,4 @@
--- Conditions on the functions that read the matches, and on their results.
+-- Relations: conditions on the functions that read the matches, and on their results.
 use Rattle.std.specs.Prelude.{◌≡◌, ◌<◌, ◌⊎◌, ⊤, true, false, List, Option, Some, None, codes, length}
 use Rattle.clap.specs.Words.{Row, Text}
 use Rattle.clap.specs.declared.error.kind.ErrorKind.{ErrorKind}

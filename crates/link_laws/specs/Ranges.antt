@@ -1,4 +1,4 @@
--- Bounds that the types of the options and of the input imply.
+-- Relations: bounds that the types of the options and of the input imply.
 use Rattle.std.specs.Prelude.{ℕ, ◌^◌, ◌<◌, ◌≤◌, List, length}
 use Rattle.link_wire.specs.Bytes.{AreBytes}
 use Rattle.link_wire.specs.Limits.{longest_node}

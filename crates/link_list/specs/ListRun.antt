@@ -1,4 +1,4 @@
--- The state of a run of `list`.
+-- Relations, but for Begins, Lists, most_given: the state of a run of `list`.
 use Rattle.std.specs.Prelude.{◌≡◌, ℕ, ◌<◌, ◌≤◌, Bool, true, false, List, [], ◌++◌, length, Result}
 use Rattle.link_wire.specs.Device.{Input}
 use Rattle.link_wire.specs.Limits.{longest_head, window_size}

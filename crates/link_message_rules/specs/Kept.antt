@@ -1,4 +1,4 @@
--- The rules that a message after these heads keeps.
+-- Relations: the rules that a message after these heads keeps.
 use Rattle.std.specs.Prelude.{◌≡◌, List, None}
 use Rattle.link_message_rules.specs.Flags.{item_flags, segment_flags, term_flags}
 use Rattle.link_message_rules.specs.Heads.{JudgedHead}

@@ -1,4 +1,5 @@
--- What a history keeps of the heads so far: as much as the rules for the next one need.
+-- Relations: what a history keeps of the heads so far, which is as much as the rules for the next
+-- one need.
 use Rattle.std.specs.Prelude.{◌≡◌, ℕ, ◌^◌, not, nat_lt, List, [], ◌∷◌, Option, Some, None, if◌then◌else◌}
 use Rattle.std.specs.List.{list_any}
 use Rattle.link_wire.specs.declared.message.SegmentHead.{SegmentHead}

@@ -1,4 +1,4 @@
--- What `pack` says of the bundles so far.
+-- Relations, but for LacksMemory: what `pack` says of the bundles so far.
 use Rattle.std.specs.Prelude.{◌≡◌, ℕ, true, false, List, [], ◌++◌, length, OnOk, Result, Err}
 use Rattle.link_wire.specs.Device.{Output}
 use Rattle.link_wire.specs.declared.IoFault.{IoFault}

@@ -1,4 +1,5 @@
--- That the names of a bundle are short has at most one proof, as a fact in a struct must.
+-- Relations: that the names of a bundle are short has at most one proof, as a fact in a struct
+-- must.
 use Rattle.std.specs.Coded.{Unit-prop, le_prop}
 use Rattle.link_bundle_types.specs.ShortNames.{IsShort, HasShortNames}
 use Rattle.link_bundle_types.specs.declared.eid.Eid.{Eid}

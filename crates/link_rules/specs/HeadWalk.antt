@@ -1,5 +1,5 @@
--- The bytes that a walk over heads has seen. The promises need only two facts: `new` and `restart`
--- have seen nothing, and `take` adds its bytes.
+-- Relations: the bytes that a walk over heads has seen. The promises need only two facts: `new` and
+-- `restart` have seen nothing, and `take` adds its bytes.
 
 use Rattle.std.specs.Prelude.{◌≡◌, ℕ, ◌^◌, ◌<◌, ◌≤◌, Bool, List, [], ◌++◌, length, drop, Option, None}
 use Rattle.std.specs.Bool.{then_some}

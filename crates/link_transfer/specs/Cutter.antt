@@ -1,4 +1,4 @@
--- The history of a cutter, and what follows from its fields.
+-- Relations: the history of a cutter, and what follows from its fields.
 use Rattle.std.specs.Prelude.{◌≡◌, ℕ, ◌+◌, ◌<◌, ◌≤◌, max, Bool, true, nat_lt, List, [], length, Option, Some, None}
 use Rattle.link_wire.specs.Bytes.{AreBytes}
 use Rattle.link_transfer.specs.Chunks.{first_chunks}

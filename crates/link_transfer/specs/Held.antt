@@ -1,4 +1,4 @@
--- The bytes that a cutter holds, and what follows from their number.
+-- Relations: the bytes that a cutter holds, and what follows from their number.
 use Rattle.std.specs.Prelude.{ℕ, ◌+◌, ◌-◌, max, Bool, not, ◌||◌, ◌&&◌, ◌==◌, nat_lt, nat_le, List, Option, Some, None, if◌then◌else◌}
 use Rattle.link_transfer.specs.declared.cut.Cut.{Cut}
 

@@ -1,4 +1,4 @@
--- The messages that a joiner has accepted.
+-- Relations: the messages that a joiner has accepted.
 use Rattle.std.specs.Prelude.{◌≡◌, true, List}
 use Rattle.link_wire.specs.declared.message.Message.{Message}
 use Rattle.link_transfer.specs.Order.{has_sess_init, has_sess_term, open_of, open_after}

@@ -1,4 +1,4 @@
--- The payload's bytes of a piece of the data.
+-- Relations: the payload's bytes of a piece of the data.
 use Rattle.std.specs.Prelude.{ℕ, ◌+◌, ◌-◌, min, List, length, slice_range}
 
 -- The piece comes after the first `before` bytes of the data. These are its bytes among the `count`

@@ -1,4 +1,4 @@
--- What is known about the transfer that is judged.
+-- Relations: what is known about the transfer that is judged.
 use Rattle.std.specs.Prelude.{◌≡◌, ℕ, Bool, List, [], ◌++◌, length}
 use Rattle.link_bundle.specs.Scan.{HasJudged}
 use Rattle.link_transfer.specs.Announced.{announced_of}

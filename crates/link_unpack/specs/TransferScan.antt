@@ -1,4 +1,4 @@
--- What is known about the latest transfer.
+-- Relations: what is known about the latest transfer.
 use Rattle.std.specs.Prelude.{◌≡◌, List, length}
 use Rattle.link_unpack.specs.Transfers.{Transfer}
 use Rattle.link_unpack.specs.TransferJudge.{IsJudging}

@@ -1,4 +1,4 @@
--- What is kept of the events of a stream.
+-- Relations: what is kept of the events of a stream.
 use Rattle.std.specs.Prelude.{◌≡◌, ◌+◌, ◌≤◌, Bool, true, not, List, ◌∷◌, length}
 use Rattle.link_walk.specs.Walk.{WalkEvent, data_size, has_open}
 use Rattle.link_unpack.specs.Transfers.{Transfer}

@@ -1,4 +1,4 @@
--- What a consumer is told of an event, and what it writes.
+-- Relations, but for Tells: what a consumer is told of an event, and what it writes.
 use Rattle.std.specs.Prelude.{◌≡◌, ℕ, ◌+◌, ◌^◌, ◌<◌, Bool, true, is_some, List, [], ◌∷◌, ◌++◌, length, Result, OnOk, if◌then◌else◌}
 use Rattle.link_wire.specs.Device.{Output}
 use Rattle.link_wire.specs.MessageBuffer.{SegmentHasTotals, message_of}

@@ -1,4 +1,4 @@
--- The state of a walk over the transfers of a stream.
+-- Relations, but for Begins, Walks, most_given: the state of a walk over the transfers of a stream.
 use Rattle.std.specs.Prelude.{◌≡◌, ℕ, ◌<◌, ◌≤◌, ◌⊎◌, Bool, true, is_some, if◌then◌else◌, zero, suc, List, [], ◌++◌, length, Option, Some, None, Result, Ok, Err}
 use Rattle.link_wire.specs.Device.{Input as Seen, Output}
 use Rattle.link_wire.specs.Limits.{longest_head}

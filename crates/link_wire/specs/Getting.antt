@@ -1,4 +1,5 @@
--- A part that is read from a source, compared with its definition over lists.
+-- Relations, but for MayFollow: a part that is read from a source, compared with its definition
+-- over lists.
 use Rattle.std.specs.Prelude.{◌≡◌, ℕ, ◌<◌, List, [], ◌∷◌, ◌++◌, length, take, Option, Some, None, Result, Ok, Err}
 use Rattle.link_io.specs.Device.{Input}
 use Rattle.link_wire.specs.Part.{Part}

@@ -1,3 +1,4 @@
+-- Relations: the stop of a session in which the reading of a part of a message halts.
 use Rattle.std.specs.Prelude.{ℕ}
 use Rattle.link_wire.specs.declared.fault.Stop.{Stop}
 use Rattle.link_wire.specs.declared.fault.Stop.TheVariants as stop

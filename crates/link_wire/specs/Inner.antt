@@ -1,4 +1,4 @@
--- Segments in the middle of a transfer that lie whole in a window, with their data.
+-- Relations: segments in the middle of a transfer that lie whole in a window, with their data.
 use Rattle.std.specs.Prelude.{◌≡◌, ℕ, ◌+◌, ◌<◌, ◌≤◌, List, [], ◌++◌, length, take, drop}
 use Rattle.link_io.specs.Device.{Input}
 use Rattle.link_wire.specs.Getting.{IsPart}

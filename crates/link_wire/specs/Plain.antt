@@ -1,4 +1,4 @@
--- Heads of messages that are whole in a window.
+-- Relations: heads of messages that are whole in a window.
 use Rattle.std.specs.Prelude.{ℕ, ◌<◌, ◌≤◌, List, [], length, take}
 use Rattle.arrayvec.specs.ArrayVec.{ArrayVec}
 use Rattle.link_wire.specs.Getting.{IsPart}

@@ -1,4 +1,5 @@
--- Whole messages that are passed over in the window: a head with its data, or quiet messages.
+-- Relations: whole messages that are passed over in the window (a head with its data, or quiet
+-- messages).
 use Rattle.std.specs.Prelude.{◌≡◌, ℕ, ◌+◌, ◌^◌, ◌<◌, ◌≤◌, Bool, true, false, List, [], ◌∷◌, ◌++◌, All, length, take, ◌==◌, if◌then◌else◌}
 use Rattle.link_io.specs.Device.{Input}
 use Rattle.link_io.specs.Source.{Takes}

@@ -1,4 +1,5 @@
--- A run of a whole tool over a slice, into two slices: what it has written, and what is returned.
+-- Relations: what a run of a whole tool over a slice, into two slices, has written, and what is
+-- returned.
 use Rattle.std.specs.Prelude.{◌≡◌, ℕ, ◌^◌, ◌-◌, nat_le, min, List, [], length, Option, Some, None, Result, Ok, Err}
 use Rattle.link_run.specs.Run.{Tool, Outcome}
 use Rattle.link_run.specs.declared.run.Status.{Status}
