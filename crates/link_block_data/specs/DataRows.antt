@@ -26,7 +26,8 @@ boolean size head = do
   simple ← valued ((head.major == 7) && (size == 1)) head.value
   boolean_of simple
 
--- the Boolean of a status assertion (RFC 9171 section 6.1.1), which is true if a time follows it
+-- The Boolean of a status assertion (RFC 9171 section 6.1.1), whose head has `size` bytes. It has
+-- to be true if a time follows it.
 unfoldable pub assertion : Bool → ℕ → Head → Result Bool BundleFault
 assertion has_time size head = do
   asserted ← boolean size head

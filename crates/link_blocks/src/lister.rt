@@ -83,6 +83,7 @@ impl Consumer for BlockLister {
                 }
                 show_end(options, whole, false, writers, self)
             }
+            // The line is due, and the transfer was abandoned.
             EventView::LeftOpen => show_end(options, true, true, writers, self),
         }
     }

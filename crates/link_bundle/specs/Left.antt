@@ -1,6 +1,7 @@
--- Relations: the rest of a bundle at each stage of a scan, which is the reading by Primary,
--- Canonical and Bundle from there on. A draft has the values of the heads before. These definitions
--- join the code to `judged_bundle`. The promises need none of them.
+-- Relations: what is left to be read of a bundle, at each stage of a scan. For a head X, `X_left`
+-- reads `bytes` from X on, which begins at `offset`, as EndpointId, Primary, Canonical and Bundle
+-- read them. A draft has the values of the heads before. These definitions join the code to
+-- `judged_bundle`.
 
 use Rattle.std.specs.Prelude.{◌≡◌, ◌≤◌, ℕ, ◌+◌, ◌-◌, ◌==◌, Bool, true, false, List, [], ◌∷◌, ◌++◌, length, replicate, slice_range, drop, unwrap_or, Option, Some, None, Result, Ok, Err, if◌then◌else◌}
 use Rattle.std.specs.Bool.{then_some}
@@ -92,12 +93,15 @@ abbrev pub block_of : BlockKind → Draft → Option CheckKind → ℕ → Block
 block_of PrimaryKind draft check end = PrimaryOf (primary_of draft) check end
 block_of Canonical draft check end = CanonicalOf (ended (current draft check) end)
 
--- a part of the current block, after the heads before its data
+-- The last part of the current block: its check field, or its data and its check field. If the
+-- bytes end in it, the stop says in which canonical block (`cut_block`).
 abbrev pub in_block : BlockKind → Draft → Option CheckKind → ReadAt Bool → ReadAt Bool
 in_block PrimaryKind draft check reading = reading
 in_block Canonical draft check reading = inside (current draft check) reading
 
--- the rest after the check field of the current block, or after the place of one
+-- What is left of the bundle, from the last part of the current block on. `field` reads that part:
+-- the check field, or the data and the check field. A block without a check has no check field
+-- there.
 abbrev pub after_field : BlockKind → Draft → Option CheckKind → List ℕ → ReadAt Bool
     → Result Bundle Stop
 after_field kind draft check bytes field = do
@@ -438,7 +442,8 @@ unfoldable pub zeroed_check : CheckKind → ℕ → ℕ → ℕ → List ℕ →
 zeroed_check kind start content zeros bytes =
     crc kind (slice_range bytes start content ++ replicate zeros 0)
 
--- the rest of the content of a check field whose head is at `head`
+-- the last `left` bytes of the content of a check field whose head is at `head`; the bytes before
+-- them spell `stored`
 unfoldable pub stored_left : ℕ → ℕ → ℕ → ℕ → List ℕ → ℕ → ReadAt Bool
 stored_left left stored expected head bytes offset = do
   (rest, next) ← bytes_at left bytes offset

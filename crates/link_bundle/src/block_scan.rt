@@ -108,6 +108,9 @@ impl BundleScan {
     }
 
     /// Takes a canonical block that lies whole in a piece.
+    ///
+    /// `run` has exactly the bytes of the block. `block` was read from `run`, so its offsets count
+    /// from the first byte of `run`.
     #[inline(always)]
     fn canonical_run(&mut self, block: CanonicalBlock, run: &[u8])
         requires stage { self.old.stage ≡ Stage.Head (Field.Canonical CanonicalField.Block) }

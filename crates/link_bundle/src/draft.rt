@@ -245,6 +245,9 @@ impl Draft {
 }
 
 /// The primary block (RFC 9171 section 4.3.1).
+///
+/// Each function without a comment judges the head that it is named after, and returns the next
+/// stage. Most of them keep the value of the head in the draft.
 impl Draft {
     ghost use Rattle.link_bundle.specs.Fits.{stage_fits};
     ghost use Rattle.link_bundle.specs.Judged.{Judged, JudgedAfter};
@@ -367,6 +370,10 @@ impl Draft {
 }
 
 /// Endpoint IDs (RFC 9171 section 4.2.5.1).
+///
+/// Each function without a comment judges the head that it is named after, and returns the next
+/// stage. Most of them keep the value of the head in the draft. `eid` judges the array that
+/// encloses an endpoint ID, and `dtn` and `ipn` the head of its specific part.
 impl Draft {
     ghost use Rattle.link_bundle.specs.Fits.{stage_fits, rest_fits, KeepsCheck};
     ghost use Rattle.link_bundle.specs.Judged.{Judged};
@@ -527,6 +534,9 @@ impl Draft {
 }
 
 /// Canonical blocks (RFC 9171 section 4.3.2).
+///
+/// Each function without a comment judges the head that it is named after, and returns the next
+/// stage. Most of them keep the value of the head in the draft.
 impl Draft {
     ghost use Rattle.link_bundle.specs.Fits.{stage_fits, KeepsCheck};
     ghost use Rattle.link_bundle.specs.Judged.{Judged, JudgedAfter, JudgedAt, JudgedFrom};

@@ -81,7 +81,8 @@ impl BundleScan {
 
     /// The verdict on the bytes seen: the bundle that they are, or the first fault and its offset.
     ///
-    /// If the bytes end inside a bundle, this is [`BundleFault::Cut`] at their number.
+    /// If the bytes end inside a bundle, the fault is [`BundleFault::Cut`], with the number of
+    /// bytes as its offset.
     pub fn finish(&self) -> Result<BundleInfo, (BundleFault, u64)>
         ensures { (seen : List ℕ) → HasScanned self.now seen → result ≡ verdict seen }
     {

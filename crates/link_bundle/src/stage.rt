@@ -112,7 +112,9 @@ pub(crate) enum Stage {
         block: BlockKind,
         kind: CheckKind,
     },
+    /// After the break. No byte has come after it.
     Ended,
+    /// The bytes have this fault, at this offset.
     Failed(BundleFault, u64),
 }
 

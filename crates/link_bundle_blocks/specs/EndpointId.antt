@@ -15,7 +15,8 @@ dtn_at (Some count) bytes offset = do
   (name, offset) ← bytes_at count bytes offset
   Ok (DtnName (record { items = name }), offset)
 
--- a node number and a service number, after an allocator identifier if there is one
+-- The numbers of an ipn endpoint ID. RFC 9171 has two, a node number and a service number. Three,
+-- the first of them an allocator identifier, are the project's own rule (docs/RFCS.md).
 unfoldable pub ipn_at : Bool → List ℕ → ℕ → ReadAt Eid
 ipn_at false bytes offset = do
   (node, offset) ← row_at unsigned bytes offset

@@ -152,7 +152,8 @@ pub fn check_of(kind: CheckKind, block: &[u8]) -> u32
 
 /// Reads the check field of a block, if it has one (RFC 9171 section 4.2.1).
 ///
-/// The block begins at `start`. Returns the offset after the field.
+/// The block begins at `start`. Returns the offset after the field. The `true` of the contract has
+/// no meaning: the definition of `field_at` has no other value.
 #[inline(always)]
 #[tactic(auto, unfolding(crate::specs::CheckField::field_at))]
 pub fn field_at(
@@ -171,7 +172,8 @@ pub fn field_at(
 
 /// Reads the check field of a block that has a check of this kind.
 ///
-/// The block begins at `start`. Returns the offset after the field.
+/// The block begins at `start`. Returns the offset after the field. The `true` of the contract has
+/// no meaning: the definition of `field_at` has no other value.
 #[inline(always)]
 fn stored_at(
     kind: CheckKind,
@@ -192,7 +194,8 @@ fn stored_at(
 
 /// Reads the data of a canonical block and its check field.
 ///
-/// The block begins at `start`. Returns the offset after the field.
+/// The block begins at `start`. Returns the offset after the field. The `true` of the contract has
+/// no meaning: the definition of `content_at` has no other value.
 #[inline(always)]
 #[tactic(auto, unfolding(crate::specs::Canonical::content_at))]
 fn content_at(
@@ -247,8 +250,8 @@ fn heads_at(
 
 /// Reads a canonical block with its data and its check field.
 ///
-/// `numbers` are the numbers of the blocks before it, and have room for one more. Returns the
-/// offset after the block too.
+/// `numbers` are the numbers of the blocks before it. If they have no room for one more, there are
+/// too many blocks. Returns the offset after the block too.
 #[inline(always)]
 pub fn whole_canonical(
     numbers: &BlockNumbers,

@@ -39,7 +39,8 @@ hops_found None = None
 hops_found (Some (Ok said)) = hops_of said
 hops_found (Some (Err offset)) = None
 
--- what a block says, if it is a hop count block; it says nothing if its data is malformed
+-- `None` for a block that is no hop count block. For a hop count block, `Some` of what its data
+-- says, which is `None` if the data is malformed. So a malformed block can be the first one.
 abbrev pub found_hops : ReadBlock → Option (Option Hops)
 found_hops read = if is_of_type block.hop_count read then Some (hops_found read.found) else None
 

@@ -76,8 +76,8 @@ impl KeptEid {
 
     /// Appends bytes to the dtn name.
     ///
-    /// The endpoint ID has a dtn name, which has at most 1,024 bytes with them.
-    // Names are rare, and a copy of them is a call.
+    /// The endpoint ID must have a dtn name. With these bytes, the name must have at most 1,024.
+    // Kept out of line: dtn names are rare, and copying one calls a function anyway.
     #[cold]
     #[inline(never)]
     pub fn extend(&mut self, bytes: &[u8])

@@ -1,5 +1,5 @@
--- Relations, but for Walks: the state of a walk over bundles, and what a stretch of bytes shows of
--- the current bundle.
+-- Relations, but for Begins, Walks, most_given: the state of a walk over bundles, and what a
+-- stretch of bytes shows of the current bundle.
 use Rattle.std.specs.Prelude.{◌≡◌, ℕ, ◌+◌, ◌-◌, ◌^◌, ◌<◌, ◌≤◌, Bool, true, false, List, [], ◌++◌, length, take, Option, Some, None, if◌then◌else◌, Result, Ok}
 use Rattle.link_wire.specs.Device.{Input as Seen, Output}
 use Rattle.link_wire.specs.Source.{window_of, IsSourceAt, IsLive}

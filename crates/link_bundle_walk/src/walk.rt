@@ -15,7 +15,7 @@ use crate::current::{Current, Found};
 use link_run::{Input, PIECE, Progress, Run, Stages, Status, ToolRun, Writers};
 use link_wire::{InDevice, IoFault, OutDevice, Source, WINDOW};
 
-/// What a step does.
+/// What the next step of a walk over bundles does.
 #[derive(Clone, Copy, Debug, PartialEq, Eq)]
 enum Stage {
     /// Write what comes before the first bundle.
@@ -31,7 +31,7 @@ struct Walker<C> {
     consumer: C,
 }
 
-/// The stages of a walk.
+/// A walk over the bundles of an input: its stage, and what it keeps between two steps.
 #[derive(Drop)]
 pub struct BundleWalk<C: BundleConsumer> {
     options: C::Options,

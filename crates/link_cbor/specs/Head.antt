@@ -62,12 +62,13 @@ whole_of Cut = None
 whole_of IllFormed = None
 whole_of (Whole head size) = Some (head, size)
 
--- the outcome of a scan that has seen these bytes
+-- the outcome of a scan, by what the bytes that it has seen begin with
 abbrev pub step_at : HeadFront → HeadStep
 step_at Cut = More
 step_at IllFormed = Bad
 step_at (Whole head size) = Done head
 
+-- the outcome of a scan that has seen these bytes
 abbrev pub step_of : List ℕ → HeadStep
 step_of bytes = step_at (head_front bytes)
 

@@ -63,6 +63,8 @@ impl Rule for BundleRule {
 }
 
 /// Whether a broken rule has a line, and counts for the status.
+///
+/// `must` is whether only rules of level `must` count.
 fn counts(must: bool, broken: &RuleText) -> bool
     ensures { result ≡ counts must broken.now }
 {
@@ -70,6 +72,8 @@ fn counts(must: bool, broken: &RuleText) -> bool
 }
 
 /// Writes the line of a broken rule, if it counts. Then `good` becomes false.
+///
+/// `must` is whether only rules of level `must` count.
 fn write_line<W: OutDevice, E: OutDevice>(
     must: bool,
     broken: &RuleText,
@@ -89,6 +93,8 @@ fn write_line<W: OutDevice, E: OutDevice>(
 
 /// Writes the lines of rules that are broken at an offset, if they count. Then `good` becomes
 /// false.
+///
+/// `must` is whether only rules of level `must` count.
 #[inline(never)]
 pub(crate) fn write_rules<T: Rule, W: OutDevice, E: OutDevice>(
     must: bool,

@@ -209,7 +209,8 @@ impl<R: InDevice> Source<R> {
         ensures live { IsLive R.state self.old → IsLive R.state self.new }
         ensures unread { reach R.state self.new ≡ reach R.state self.old }
     {
-        // This call is for the proof: by its contract, the elements of the front are bytes.
+        // Only the proof needs this call. Its contract says that each number of the front is a
+        // byte, which `takes` needs.
         let _front = self.front();
         self.reader.pass_held(size);
         self.given += size as u64;
@@ -226,7 +227,8 @@ impl<R: InDevice> Source<R> {
         ensures none { count ≡ 0 → self.new ≡ self.old }
         ensures unread { reach R.state self.new ≡ reach R.state self.old }
     {
-        // This call is for the proof: by its contract, the elements of the window are bytes.
+        // Only the proof needs this call. Its contract says that each number of the window is a
+        // byte, which `takes` needs.
         let _window = self.window();
         self.start += count;
         self.given += count as u64;

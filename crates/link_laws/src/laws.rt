@@ -226,5 +226,6 @@ fn options_fit(options: &PackOptions)
 fn input_fits(bytes: &[u8])
     ensures { InputFits bytes.now }
 {
+    // Only the proof needs this call. By the contract of `len`, the length fits in 64 bits.
     let _length = bytes.len();
 }

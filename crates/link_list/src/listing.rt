@@ -13,7 +13,7 @@ use link_report::{KeptDigits, MessageText, contact_line};
 use link_run::{Input, PIECE, Progress, Run, RunEnd, Stages, Status, ToolRun, Writers};
 use link_wire::{InDevice, IoFault, MessageBuffer, OutDevice, Session, Source};
 
-/// What a step reads.
+/// What the next step of `list` reads.
 #[derive(Clone, Copy, Debug, PartialEq, Eq)]
 enum Stage {
     /// The contact header.
@@ -45,7 +45,7 @@ struct Latest {
     message: MessageBuffer,
 }
 
-/// The stages of `list`.
+/// `list` between two steps: its stage, and the message that was read last.
 #[derive(Drop)]
 pub struct Listing {
     stage: Stage,

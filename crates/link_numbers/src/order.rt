@@ -10,7 +10,7 @@ ghost use Rattle.link_numbers.specs.Order.{order_code, event_by, no_turn, turn_s
 use crate::status::{FAULT, OK};
 use link_transfer::{Event, Joiner, OrderFault, Turn as Effect};
 
-/// `struct tcpclkit_order`: what of the messages so far decides which may come next.
+/// `struct tcpclkit_order`: the part of the history that decides which message may come next.
 #[repr(C)]
 #[derive(Clone, Copy, Debug, PartialEq, Eq)]
 pub struct Order {
@@ -139,7 +139,11 @@ fn order_of(joiner: &Joiner) -> Order
     }
 }
 
-/// Judges a message of this event, and counts it among those that came if it may come.
+/// Judges a message of this event, and returns the status.
+///
+/// If the message is accepted, the status is `OK`, `order` counts the message, and `answer` gets
+/// what it does. If it is refused, the status is `FAULT`, `order` stays as it is, and `answer` gets
+/// only the code of the fault.
 pub fn judge(order: &mut Order, event: Event, answer: &mut Turn) -> u32
     ensures judged { (before : List Message) → IsOrderAt order.old before
         → ReturnsTurn (judged_message before event) answer.new result }
@@ -188,7 +192,10 @@ fn fault_shown(fault: Option<OrderFault>) -> (u64, u32)
     }
 }
 
-/// Takes a message of this event, whether or not it may come.
+/// Takes a message of this event, even if it is refused, and returns the status.
+///
+/// The status is `FAULT` if the message is refused, and else `OK`. `answer` gets the code of the
+/// fault, or 0, and what the message does to the transfers.
 pub fn take(order: &mut Order, event: Event, answer: &mut Turn) -> u32
     ensures taken { (before : List Message) → IsOrderAt order.old before
         → ReturnsTaken (refusal before event) (effect_of before event) answer.new result }

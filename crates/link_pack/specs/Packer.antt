@@ -1,4 +1,4 @@
--- Relations, but for IsCutterFor: what the cutter of a packer has.
+-- Relations, but for IsCutterFor, Keeps: what the cutter of a packer has.
 use Rattle.std.specs.Prelude.{◌≡◌, ℕ, ◌-◌, ◌≤◌, max, false, List}
 use Rattle.link_transfer.specs.Cutter.{IsCutterAt, cut_waits, kept_size}
 use Rattle.link_transfer.specs.Cutting.{Cutting, beginning}

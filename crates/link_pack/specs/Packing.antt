@@ -72,6 +72,8 @@ bundles_output options input =
     prelude_bytes options ++ transfer_bytes options 0 input.bundles
     ++ rest_segments options (length input.bundles) input.rest
 
+-- What `pack` makes of an input, by its bundles and what follows them. If no fault stops the input,
+-- everything is good. Then `input.rest` is `None`, so the output has whole transfers only.
 abbrev pub packing_by : PackOptions → Divided → Made
 packing_by options input = record {
   texts = record {

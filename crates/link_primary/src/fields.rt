@@ -2,6 +2,9 @@
 //!
 //! Each function has the name of its definition. It returns the fields so far and the offset after
 //! them, or as an error the fields before the first fault.
+//!
+//! `accepted` is the number of array elements that were accepted so far. The creation timestamp is
+//! one element, though it has two numbers. The check value is not counted.
 ghost use Rattle.std.specs.Prelude.{◌≡◌, true};
 ghost use Rattle.std.specs.Bool.{then_some};
 ghost use Rattle.link_bundle_blocks.specs.Bundle.{opening_at};

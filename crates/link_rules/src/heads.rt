@@ -118,7 +118,7 @@ impl Found {
     }
 }
 
-/// Where a walk is.
+/// The position of a walk over the heads of a bundle.
 #[derive(Clone, Copy, Debug)]
 enum Stage {
     /// This many more bytes belong to the last head and to its string. Then a head begins.

@@ -1,5 +1,5 @@
--- Relations, but for HasEnough: what a run reads from a session or a source, after it has handed on
--- what was written.
+-- Relations, but for HasEnough, CallWaits: what a run reads from a session or a source, after it
+-- has handed on what was written.
 use Rattle.std.specs.Prelude.{◌≡◌, ℕ, ◌<◌, ◌⊎◌, true, List, [], length, Option, Result, Ok, Err, IfOk, IfErr, IfSome, IsTrue}
 use Rattle.link_wire.specs.Device.{Input as Seen}
 use Rattle.link_wire.specs.Limits.{window_size}

@@ -82,6 +82,7 @@ impl Consumer for Unpacker {
                 }
                 report(options, whole, false, writers, self)
             }
+            // The line is due, and the transfer was abandoned.
             EventView::LeftOpen => report(options, true, true, writers, self),
         }
     }

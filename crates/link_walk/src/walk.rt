@@ -22,7 +22,7 @@ use link_run::{Input, PIECE, Progress, Run, Stages, Status, ToolRun, Writers};
 use link_transfer::{Event, Joiner, OrderFault, Turn};
 use link_wire::{InDevice, IoFault, MessageBuffer, OutDevice, Session, Source};
 
-/// What a step reads.
+/// What the next step of a walk over transfers reads.
 #[derive(Clone, Copy, Debug, PartialEq, Eq)]
 enum Stage {
     /// The contact header.
@@ -52,7 +52,7 @@ struct Walker<C> {
     consumer: C,
 }
 
-/// The stages of a walk.
+/// A walk over the transfers of a stream: its stage, and what it keeps between two steps.
 #[derive(Drop)]
 pub struct Walk<C: Consumer> {
     options: C::Options,

@@ -81,7 +81,7 @@ impl<R: InDevice> Session<R> {
         self.left
     }
 
-    /// The number of bytes given.
+    /// The number of bytes given, which is the offset of the next byte.
     #[inline(always)]
     pub fn given(&self) -> u64
         ensures { result ≡ given_by (source_of self.now) }
@@ -231,10 +231,11 @@ impl<R: InDevice> Session<R> {
         }
     }
 
-    /// Gives the next message if its head is frequent and at hand, and has more data than a window.
+    /// Gives the next message if its head is frequent and at hand, and its data is longer than a
+    /// window. Otherwise, and after a stop, it returns `None` and gives nothing.
     ///
-    /// The reader may hold that head and data. Then the data is not copied into the window with the
-    /// head, as in [`Session::read_fields`].
+    /// The head is read where it lies, also in the memory of the reader. [`Session::read_fields`]
+    /// would first fill the window, and so copy data that the caller can take in place.
     #[cold]
     #[inline(never)]
     fn next_ahead(&mut self, message: &mut MessageBuffer) -> Option<u64>

@@ -49,7 +49,8 @@ pub record HasRun (job : Job) (bytes output report : List ℕ)
     (answer : Result Status IoFault) : Type 0 where
   pub wrote : HasWritten (job_tool job) bytes output report answer
 
--- the text was written to the slice as far as it fits, and this is its length
+-- The slice was `before`, and now is `slice`: the text was written to its start, as far as it fits.
+-- `written` has the length of the whole text, up to 2^64 - 1, and whether all of it fits.
 pub record Leaves (text before slice : List ℕ) (written : Written) : Type 0 where
   pub slice_is : slice ≡ overlaid before text
   pub count : written.count ≡ min (length text) (2 ^ 64 - 1)
