@@ -12,7 +12,7 @@ use Rattle.link_bundle_blocks.specs.Reading.{stopped, head_at}
 use Rattle.link_bundle_blocks.specs.Blocks.{Primary}
 use Rattle.link_bundle_blocks.specs.Bundle.{blocks_at}
 use Rattle.link_bundle_blocks.specs.Canonical.{heads_at}
-use Rattle.link_bundle.specs.Left.{primary_of, begun, after_heads, type_left, number_left, block_flags_left, block_check_left, data_left}
+use Rattle.link_bundle.specs.Left.{primary_of, begun, after_heads, type_left, number_left, block_flags_left, block_check_type_left, data_left}
 use Rattle.link_bundle_blocks.proofs.Heads.{row_at-accepted, row_at-refused}
 
 pub blocks_at-refused : (left : ℕ) (numbers : List ℕ) (primary : Primary) (bytes : List ℕ)
@@ -42,7 +42,7 @@ pub blocks_at-open : (draft : Draft) (bytes : List ℕ) (offset next : ℕ) (hea
     → blocks_at (64 - length draft.numbers) draft.numbers (primary_of draft) bytes offset
     ≡ after_heads (begun draft offset count) bytes
     (type_left (begun draft offset count) bytes next)
-unfolding blocks_at heads_at type_left number_left block_flags_left block_check_left data_left
+unfolding blocks_at heads_at type_left number_left block_flags_left block_check_type_left data_left
 blocks_at-open draft bytes offset next head count room outcome judged =
     let more : 64 - length draft.numbers ≡ suc (63 - length draft.numbers) = omega arith in
     rw (more, row_at-accepted block bytes offset next head count outcome judged) refl

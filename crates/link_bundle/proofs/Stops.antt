@@ -21,7 +21,7 @@ use Rattle.link_bundle_blocks.specs.Bundle.{cut_in, blocks_at}
 use Rattle.link_bundle_blocks.specs.Canonical.{heads_at}
 use Rattle.link_bundle.specs.declared.stage.BlockKind.TheVariants.{Primary as PrimaryKind, Canonical}
 use Rattle.link_bundle_types.specs.declared.fault.BundleFault.TheVariants.{Cut, BadHead}
-use Rattle.link_bundle.specs.Left.{current, field_block, field_left, primary_of, primary_block_left, version_left, flags_left, check_type_left, timestamp_left, time_left, sequence_left, lifetime_left, offset_left, total_left, scheme_left, allocator_left, node_left, service_left, type_left, number_left, block_flags_left, block_check_left, data_left}
+use Rattle.link_bundle.specs.Left.{current, field_block, field_left, primary_of, primary_block_left, version_left, flags_left, check_type_left, timestamp_left, time_left, sequence_left, lifetime_left, fragment_offset_left, total_length_left, scheme_left, allocator_left, node_left, service_left, type_left, number_left, block_flags_left, block_check_type_left, data_left}
 
 row_at-stopped : {A : Type 0} (row : Head → Result A BundleFault) (bytes : List ℕ)
     (offset : ℕ) (stop : Stop)
@@ -72,9 +72,9 @@ pub field_left-stopped : (which : Field) (draft : Draft) (bytes : List ℕ)
     → head_at bytes offset ≡ Err stop
     → field_left which draft bytes offset ≡ Err (stop_at which draft stop)
 unfolding field_left primary_block_left version_left flags_left check_type_left timestamp_left
-    time_left sequence_left lifetime_left offset_left total_left fragment_at eid_at specific_at
-    scheme_left allocator_left node_left service_left type_left number_left block_flags_left
-    block_check_left data_left field_at
+    time_left sequence_left lifetime_left fragment_offset_left total_length_left fragment_at eid_at
+    specific_at scheme_left allocator_left node_left service_left type_left number_left
+    block_flags_left block_check_type_left data_left field_at
 field_left-stopped (field.Primary primary.Block) draft bytes offset stop outcome =
     rw (row_at-stopped primary_block bytes offset stop outcome) refl
 field_left-stopped (field.Primary primary.Version) draft bytes offset stop outcome =

@@ -140,13 +140,13 @@ after_fragment draft reading = do
   (fragment, offset) ← reading
   fields_of (record draft { fragment = fragment }) offset
 
-unfoldable pub total_left : Draft → List ℕ → ℕ → ReadAt (Primary × Option CheckKind)
-total_left draft bytes offset = after_fragment draft do
+unfoldable pub total_length_left : Draft → List ℕ → ℕ → ReadAt (Primary × Option CheckKind)
+total_length_left draft bytes offset = after_fragment draft do
   (total, offset) ← row_at unsigned bytes offset
   Ok (Some (draft.fragment_offset, total), offset)
 
-unfoldable pub offset_left : Draft → List ℕ → ℕ → ReadAt (Primary × Option CheckKind)
-offset_left draft bytes offset = after_fragment draft (fragment_at true bytes offset)
+unfoldable pub fragment_offset_left : Draft → List ℕ → ℕ → ReadAt (Primary × Option CheckKind)
+fragment_offset_left draft bytes offset = after_fragment draft (fragment_at true bytes offset)
 
 unfoldable pub lifetime_left : Draft → List ℕ → ℕ → ReadAt (Primary × Option CheckKind)
 lifetime_left draft bytes offset = do
@@ -190,13 +190,13 @@ with_eid Destination draft eid = record draft { destination = eid }
 with_eid Source draft eid = record draft { source = eid }
 with_eid ReportTo draft eid = record draft { report_to = eid }
 
-abbrev pub role_left : Role → Draft → List ℕ → ℕ → ReadAt (Primary × Option CheckKind)
-role_left Destination draft bytes offset = source_left draft bytes offset
-role_left Source draft bytes offset = report_to_left draft bytes offset
-role_left ReportTo draft bytes offset = timestamp_left draft bytes offset
+abbrev pub left_after_role : Role → Draft → List ℕ → ℕ → ReadAt (Primary × Option CheckKind)
+left_after_role Destination draft bytes offset = source_left draft bytes offset
+left_after_role Source draft bytes offset = report_to_left draft bytes offset
+left_after_role ReportTo draft bytes offset = timestamp_left draft bytes offset
 
 abbrev pub after_role : Role → Draft → Eid → List ℕ → ℕ → ReadAt (Primary × Option CheckKind)
-after_role role draft eid bytes offset = role_left role (with_eid role draft eid) bytes offset
+after_role role draft eid bytes offset = left_after_role role (with_eid role draft eid) bytes offset
 
 abbrev pub after_eid : Role → Draft → List ℕ → ReadAt Eid → ReadAt (Primary × Option CheckKind)
 after_eid role draft bytes reading = do
@@ -239,8 +239,8 @@ primary_left primary.Timestamp draft bytes offset = timestamp_left draft bytes o
 primary_left primary.Time draft bytes offset = time_left draft bytes offset
 primary_left primary.Sequence draft bytes offset = sequence_left draft bytes offset
 primary_left primary.Lifetime draft bytes offset = lifetime_left draft bytes offset
-primary_left primary.FragmentOffset draft bytes offset = offset_left draft bytes offset
-primary_left primary.TotalLength draft bytes offset = total_left draft bytes offset
+primary_left primary.FragmentOffset draft bytes offset = fragment_offset_left draft bytes offset
+primary_left primary.TotalLength draft bytes offset = total_length_left draft bytes offset
 
 -- the rest of an endpoint ID, from each of its heads on
 
@@ -298,15 +298,15 @@ data_left draft bytes offset = do
     offset,
   )
 
-unfoldable pub block_check_left : Draft → List ℕ → ℕ → ReadAt CanonicalBlock
-block_check_left draft bytes offset = do
+unfoldable pub block_check_type_left : Draft → List ℕ → ℕ → ReadAt CanonicalBlock
+block_check_type_left draft bytes offset = do
   (check, offset) ← row_at (block_check_type draft.count) bytes offset
   data_left (record draft { check = Is check }) bytes offset
 
 unfoldable pub block_flags_left : Draft → List ℕ → ℕ → ReadAt CanonicalBlock
 block_flags_left draft bytes offset = do
   (flags, offset) ← row_at unsigned bytes offset
-  block_check_left (record draft { block = record draft.block { flags = flags } }) bytes offset
+  block_check_type_left (record draft { block = record draft.block { flags = flags } }) bytes offset
 
 unfoldable pub number_left : Draft → List ℕ → ℕ → ReadAt CanonicalBlock
 number_left draft bytes offset = do
@@ -328,7 +328,7 @@ canonical_left canonical.Number draft bytes offset =
 canonical_left canonical.Flags draft bytes offset =
     after_heads draft bytes (block_flags_left draft bytes offset)
 canonical_left canonical.CheckType draft bytes offset =
-    after_heads draft bytes (block_check_left draft bytes offset)
+    after_heads draft bytes (block_check_type_left draft bytes offset)
 canonical_left canonical.Data draft bytes offset =
     after_heads draft bytes (data_left draft bytes offset)
 

@@ -339,7 +339,7 @@ impl Draft {
         Ok(Stage::Head(Field::Primary(PrimaryField::Lifetime)))
     }
 
-    #[tactic(auto, using(link_bundle_blocks::proofs::Heads::heads), unfolding(crate::specs::Left::field_left, crate::specs::Left::stage_left, crate::specs::Left::lifetime_left, crate::specs::Left::offset_left, link_bundle_blocks::specs::Primary::fragment_at))]
+    #[tactic(auto, using(link_bundle_blocks::proofs::Heads::heads), unfolding(crate::specs::Left::field_left, crate::specs::Left::stage_left, crate::specs::Left::lifetime_left, crate::specs::Left::fragment_offset_left, link_bundle_blocks::specs::Primary::fragment_at))]
     fn lifetime(&mut self, head: Head) -> Result<Stage, BundleFault>
         ensures { Judged (Field.Primary PrimaryField.Lifetime) self.old head result self.new }
     {
@@ -351,7 +351,7 @@ impl Draft {
         Ok(self.after_fields(BlockKind::Primary))
     }
 
-    #[tactic(auto, using(link_bundle_blocks::proofs::Heads::heads), unfolding(crate::specs::Left::field_left, crate::specs::Left::stage_left, crate::specs::Left::offset_left, crate::specs::Left::total_left, link_bundle_blocks::specs::Primary::fragment_at))]
+    #[tactic(auto, using(link_bundle_blocks::proofs::Heads::heads), unfolding(crate::specs::Left::field_left, crate::specs::Left::stage_left, crate::specs::Left::fragment_offset_left, crate::specs::Left::total_length_left, link_bundle_blocks::specs::Primary::fragment_at))]
     fn fragment_offset(&mut self, head: Head) -> Result<Stage, BundleFault>
         ensures { Judged (Field.Primary PrimaryField.FragmentOffset) self.old head result self.new }
     {
@@ -359,7 +359,7 @@ impl Draft {
         Ok(Stage::Head(Field::Primary(PrimaryField::TotalLength)))
     }
 
-    #[tactic(auto, using(link_bundle_blocks::proofs::Heads::heads), unfolding(crate::specs::Left::field_left, crate::specs::Left::stage_left, crate::specs::Left::total_left))]
+    #[tactic(auto, using(link_bundle_blocks::proofs::Heads::heads), unfolding(crate::specs::Left::field_left, crate::specs::Left::stage_left, crate::specs::Left::total_length_left))]
     fn total_length(&mut self, head: Head) -> Result<Stage, BundleFault>
         ensures { Judged (Field.Primary PrimaryField.TotalLength) self.old head result self.new }
     {
@@ -608,7 +608,7 @@ impl Draft {
         Ok(Stage::Head(Field::Canonical(CanonicalField::CheckType)))
     }
 
-    #[tactic(auto, using(link_bundle_blocks::proofs::Heads::heads), unfolding(crate::specs::Left::field_left, crate::specs::Left::stage_left, crate::specs::Left::block_check_left))]
+    #[tactic(auto, using(link_bundle_blocks::proofs::Heads::heads), unfolding(crate::specs::Left::field_left, crate::specs::Left::stage_left, crate::specs::Left::block_check_type_left))]
     fn block_check_type(&mut self, head: Head) -> Result<Stage, BundleFault>
         requires { IsTrue (stage_fits (Stage.Head (Field.Canonical CanonicalField.CheckType))
             self.old) }

@@ -34,20 +34,21 @@ hops_of (Security block source) = None
 hops_of (StatusReport report source) = None
 hops_of (OtherRecord type) = None
 
-abbrev pub hops_found : Option (Result BlockData ℕ) → Option Hops
-hops_found None = None
-hops_found (Some (Ok said)) = hops_of said
-hops_found (Some (Err offset)) = None
+abbrev pub hops_in_data : Option (Result BlockData ℕ) → Option Hops
+hops_in_data None = None
+hops_in_data (Some (Ok said)) = hops_of said
+hops_in_data (Some (Err offset)) = None
 
 -- `None` for a block that is no hop count block. For a hop count block, `Some` of what its data
 -- says, which is `None` if the data is malformed. So a malformed block can be the first one.
-abbrev pub found_hops : ReadBlock → Option (Option Hops)
-found_hops read = if is_of_type block.hop_count read then Some (hops_found read.found) else None
+abbrev pub hops_of_block : ReadBlock → Option (Option Hops)
+hops_of_block read =
+    if is_of_type block.hop_count read then Some (hops_in_data read.found) else None
 
 -- what the first hop count block says, unless its data is malformed or may be ciphertext
 abbrev pub first_hops : List ReadBlock → Option Hops
 first_hops blocks =
-    if is_hidden blocks then None else option_flatten (find_map found_hops blocks)
+    if is_hidden blocks then None else option_flatten (find_map hops_of_block blocks)
 
 -- a hop limit is from 1 to 255
 abbrev pub has_bad_limit : Option Hops → Bool

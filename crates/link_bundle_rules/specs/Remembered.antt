@@ -5,7 +5,7 @@ use Rattle.link_cbor.specs.declared.check.CheckKind.{CheckKind}
 use Rattle.link_bundle_blocks.specs.Blocks.{Primary}
 use Rattle.arrayvec.specs.ArrayVec.{ArrayVec}
 use Rattle.link_bundle_rules.specs.BundleRules.{broken_of}
-use Rattle.link_bundle_rules.specs.Extensions.{found_hops, if_malformed_extension, if_malformed_payload}
+use Rattle.link_bundle_rules.specs.Extensions.{hops_of_block, if_malformed_extension, if_malformed_payload}
 use Rattle.link_bundle_rules.specs.Flags.{if_reporting, if_other_block_flags}
 use Rattle.link_bundle_rules.specs.Names.{bad_name}
 use Rattle.link_bundle_rules.specs.ReadBundle as block
@@ -45,7 +45,7 @@ pub record IsOfExtensions (facts : ExtensionFacts) (blocks : List ReadBlock) : T
   pub previous_nodes : facts.previous_nodes
       ≡ within_64_bits (count_of_type block.previous_node blocks)
   pub hop_counts : facts.hop_counts ≡ within_64_bits (count_of_type block.hop_count blocks)
-  pub first_hops : facts.first_hops ≡ find_map found_hops blocks
+  pub first_hops : facts.first_hops ≡ find_map hops_of_block blocks
   pub malformed : facts.malformed ≡ find_map if_malformed_extension blocks
   pub malformed_payload : facts.malformed_payload ≡ find_map if_malformed_payload blocks
 

@@ -2,7 +2,7 @@
 
 ghost use Rattle.std.specs.Prelude.{◌≡◌, ◌^◌, ◌<◌, ◌==◌, ◌&&◌, ◌||◌, nat_lt, IfSome, option_map};
 ghost use Rattle.link_block_data.specs.DataView.{viewed_result};
-ghost use Rattle.link_bundle_rules.specs.Extensions.{hops_found, has_bad_limit, if_exceeded, is_extension, if_malformed_extension, if_malformed_payload, found_hops};
+ghost use Rattle.link_bundle_rules.specs.Extensions.{hops_in_data, has_bad_limit, if_exceeded, is_extension, if_malformed_extension, if_malformed_payload, hops_of_block};
 ghost use Rattle.link_bundle_rules.specs.ReadBundle.{viewed_read_block, malformed_at};
 ghost use Rattle.link_bundle_rules.specs.Remembered.{within_64_bits, count_with};
 
@@ -28,8 +28,8 @@ fn is_wrong_number_of_ages(blocks: u64, has_zero_time: bool) -> bool
 }
 
 /// What a block says as a hop count block, if it is not malformed.
-fn hops_found(found: &Option<Result<DataView<'_>, u64>>) -> Option<Hops>
-    ensures { result ≡ hops_found (option_map viewed_result found.now) }
+fn hops_in_data(found: &Option<Result<DataView<'_>, u64>>) -> Option<Hops>
+    ensures { result ≡ hops_in_data (option_map viewed_result found.now) }
 {
     match found {
         Some(Ok(DataView::HopCount(limit, count))) => Some(Hops {
@@ -41,10 +41,10 @@ fn hops_found(found: &Option<Result<DataView<'_>, u64>>) -> Option<Hops>
 }
 
 /// What a block says, if it is a hop count block.
-fn found_hops(read: &ReadBlockView<'_>) -> Option<Option<Hops>>
-    ensures { result ≡ found_hops (viewed_read_block read.now) }
+fn hops_of_block(read: &ReadBlockView<'_>) -> Option<Option<Hops>>
+    ensures { result ≡ hops_of_block (viewed_read_block read.now) }
 {
-    is_of_type(HOP_COUNT, read).then_some(hops_found(&read.found))
+    is_of_type(HOP_COUNT, read).then_some(hops_in_data(&read.found))
 }
 
 /// Whether there is a hop limit that is not from 1 to 255.
@@ -150,7 +150,7 @@ impl ExtensionFacts {
         self.ages = count_with(BUNDLE_AGE, self.ages, read);
         self.previous_nodes = count_with(PREVIOUS_NODE, self.previous_nodes, read);
         self.hop_counts = count_with(HOP_COUNT, self.hop_counts, read);
-        self.first_hops = self.first_hops.or(found_hops(read));
+        self.first_hops = self.first_hops.or(hops_of_block(read));
         self.malformed = self.malformed.or(if_malformed_extension(read));
         self.malformed_payload = self.malformed_payload.or(if_malformed_payload(read));
     }

@@ -16,7 +16,7 @@ use Rattle.link_wire.specs.declared.IoFault.{IoFault}
 use Rattle.link_wire.specs.declared.IoFault.TheVariants.{Read, InputTooLong, Write, Memory}
 use Rattle.tcpclkit_c.specs.Slice.{HoldsFront, KeepsRest, overlaid}
 use Rattle.tcpclkit_c.specs.Tool.{Slices, texts_status, ReturnsTexts, ReturnsNothing}
-use Rattle.tcpclkit_c.specs.Run.{HasWritten, Leaves, ReturnsTool, ReturnsJob}
+use Rattle.tcpclkit_c.specs.Run.{HasWritten, IsWrittenOver, ReturnsTool, ReturnsJob}
 use Rattle.tcpclkit_c.specs.declared.running.Run.{Run}
 use Rattle.tcpclkit_c.specs.declared.running.Wants.{Wants}
 use Rattle.tcpclkit_c.specs.declared.running.Written.{Written}
@@ -134,15 +134,15 @@ module _ {R W E : Type 0} (look : Looks R W E)
 
 -- a text is left in the slice of its writer
 pub left_in : {text before old slice last : List ℕ} {written : Written} → before ≡ old → last ≡ slice
-    → Leaves text before slice written → Leaves text old last written
+    → IsWrittenOver text before slice written → IsWrittenOver text old last written
 left_in {text} {before} {old} {slice} {last} {written} same_before same_slice left =
-    subst (λ (xs : List ℕ). Leaves text old xs written) (sym same_slice)
-    (subst (λ (xs : List ℕ). Leaves text xs slice written) same_before left)
+    subst (λ (xs : List ℕ). IsWrittenOver text old xs written) (sym same_slice)
+    (subst (λ (xs : List ℕ). IsWrittenOver text xs slice written) same_before left)
 
 module _ (wants : Wants) (old new : Slices) (output_text report_text : List ℕ)
     (output report : Written) (run : Run) (code : ℕ)
-    (left_output : Leaves output_text old.output new.output output)
-    (left_report : Leaves report_text old.report new.report report) where
+    (left_output : IsWrittenOver output_text old.output new.output output)
+    (left_report : IsWrittenOver report_text old.report new.report report) where
   module _ (status : Status)
       (numbers : run ≡ record {
         exit_status = status.0;

@@ -51,7 +51,7 @@ pub record HasRun (job : Job) (bytes output report : List ℕ)
 
 -- The slice was `before`, and now is `slice`: the text was written to its start, as far as it fits.
 -- `written` has the length of the whole text, up to 2^64 - 1, and whether all of it fits.
-pub record Leaves (text before slice : List ℕ) (written : Written) : Type 0 where
+pub record IsWrittenOver (text before slice : List ℕ) (written : Written) : Type 0 where
   pub slice_is : slice ≡ overlaid before text
   pub count : written.count ≡ min (length text) (2 ^ 64 - 1)
   pub fits : written.fits ≡ nat_le (length text) (length slice)
@@ -61,8 +61,8 @@ pub record RanWhole (job : Job) (bytes : List ℕ) (old new : Slices) (ended : E
   pub output_text : List ℕ
   pub report_text : List ℕ
   pub wrote : HasWritten (job_tool job) bytes output_text report_text ended.answer
-  pub output : Leaves output_text old.output new.output ended.output
-  pub report : Leaves report_text old.report new.report ended.report
+  pub output : IsWrittenOver output_text old.output new.output ended.output
+  pub report : IsWrittenOver report_text old.report new.report ended.report
 
 -- ---- what a call returns
 

@@ -3,7 +3,7 @@
 ghost use Rattle.std.specs.Prelude.{◌≡◌, [], length};
 ghost use Rattle.link_tools.specs.Options.{IsReady};
 ghost use Rattle.tcpclkit_c.specs.Tool.{texts_status};
-ghost use Rattle.tcpclkit_c.specs.Run.{HasRun, Leaves, RanWhole, ReturnsJob};
+ghost use Rattle.tcpclkit_c.specs.Run.{HasRun, IsWrittenOver, RanWhole, ReturnsJob};
 
 use crate::device::{SliceReader, SliceWriter};
 use link_numbers::status::{MEMORY, OK, TOO_SMALL};
@@ -107,7 +107,8 @@ fn run_into<'a, 'b, 'c>(
 
 /// What was written by this writer.
 fn written_by(writer: &SliceWriter<'_>) -> Written
-    ensures { Leaves writer.now.history.text writer.now.history.before writer.now.room.now result }
+    ensures { IsWrittenOver writer.now.history.text writer.now.history.before writer.now.room.now
+        result }
 {
     Written {
         count: writer.count(),
