@@ -27,7 +27,7 @@ fn data_of<'a>(rt: &impl Abort, bytes: &'a [u8], block: &CanonicalBlock) -> &'a 
     &bytes[start..start + block.data_length as usize]
 }
 
-/// What the data says that was scanned, if data of this kind is read.
+/// What the scanned data says, if data of this kind is read.
 fn found(kind: Option<DataKind>, scan: &DataScan) -> Option<Result<DataView<'_>, u64>> {
     match kind {
         Some(_) => Some(scan.view()),

@@ -77,7 +77,7 @@ impl Draft {
 
     /// Judges a complete head of `size` bytes, and returns the stage after it.
     ///
-    /// The fault of a head that is not the one due is that of its row.
+    /// If the head is not the one that is due, the fault is that of the row by which it is judged.
     pub fn head(&mut self, due: Due, size: u64, head: Head) -> Result<Stage, BundleFault>
         ensures judged { turned result self.new ≡ turns.judged due size head self.old }
         ensures fits { IfOk result (λ stage. IsTrue (stage_fits stage self.new)) }

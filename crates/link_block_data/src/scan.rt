@@ -68,7 +68,8 @@ impl DataScan {
         self.head = HeadScan::new();
     }
 
-    /// What the data says that ends after the bytes seen, or the offset at which it is malformed.
+    /// What the bytes seen say if they are all of the data, or the offset at which that data is
+    /// malformed.
     ///
     /// It is malformed at the first byte of a head that is ill-formed or not the one due. Data that
     /// ends inside its item is malformed at its end. If bytes follow an item that has to be the

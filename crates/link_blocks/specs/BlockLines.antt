@@ -7,7 +7,7 @@ use Rattle.link_block_data.specs.BlockData.{BlockData, data_of}
 use Rattle.link_block_report.specs.Blocks.{primary_text, block_text}
 use Rattle.link_block_report.specs.Kinds.{kind_of}
 
--- the data of a block that the content has: all of it if the block is whole
+-- the bytes of a block's data that are in the content: all of them if the block is whole
 abbrev pub data_in : (content : List ℕ) → CanonicalBlock → List ℕ
 data_in content block = take block.data_length (drop block.data_start content)
 

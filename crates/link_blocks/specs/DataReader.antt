@@ -18,7 +18,8 @@ size_by (Some kind) scan = scan_size scan
 abbrev pub read_size : DataReader → ℕ
 read_size now = size_by now.kind now.scan
 
--- the reader has read the data of this block that the bytes of the bundle have
+-- the reader has read the bytes of this block's data that are in `seen`, the bytes of the bundle so
+-- far
 pub record IsReadingBlock (now : DataReader) (seen : List ℕ) (block : CanonicalBlock) : Type 0 where
   pub kind : now.kind ≡ kind_of now.flags block.block_type
   pub scanned : (kind : DataKind) → now.kind ≡ Some kind

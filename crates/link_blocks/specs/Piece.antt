@@ -7,7 +7,8 @@ use Rattle.link_run.specs.declared.writers.Writers.{Writers}
 use Rattle.link_blocks.specs.BlockLines.{block_lines}
 
 module _ {W E : Type 0} (out_look : W → Output) (report_look : E → Output) where
-  -- the lines of the blocks that the piece completes were written, or a writer failed in that
+  -- the lines of the blocks that the piece completes were written, or a writer failed while writing
+  -- them
   pub record ShowsMore (id : ℕ) (content piece : List ℕ) (old new : Writers W E)
       (result : Result (Unit {0}) IoFault) : Type 0 where
     pub lines : List ℕ

@@ -17,7 +17,7 @@ pub record IsShowing (only : Option ℕ) (now : TransferBlocks) (transfer : Tran
   pub reading : is_selected only transfer.first.id ≡ true → IsReading now.reader transfer.content
 
 module _ {W E : Type 0} (out_look : W → Output) (report_look : E → Output) where
-  -- the lines that an open transfer has more with more data were written, or a writer failed
+  -- the lines that more data adds to an open transfer were written, or a writer failed
   pub record Shows (only : Option ℕ) (transfer : Transfer) (piece : List ℕ) (old new : Writers W E)
       (result : Result (Unit {0}) IoFault) : Type 0 where
     pub lines : List ℕ

@@ -66,8 +66,8 @@ impl DataReader {
         }
     }
 
-    /// Reads the bytes of a block's data that a run of the bundle has. The run comes after the
-    /// first `before` bytes.
+    /// Reads those bytes of a block's data that are in `run`, which follows the first `before`
+    /// bytes of the bundle.
     fn take(&mut self, block: &CanonicalBlock, before: u64, run: &[u8])
         requires room { before + length run.now < 2 ^ 63 }
         requires size { read_size self.old ≤ before }

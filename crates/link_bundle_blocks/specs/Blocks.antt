@@ -65,8 +65,8 @@ abbrev pub HasShortBlock : Block → Type 0
 HasShortBlock (PrimaryOf primary check end) = HasShortEids primary
 HasShortBlock (CanonicalOf block) = Unit {0}
 
--- The block that comes after others, if it is a canonical block: the first of these blocks, or else
--- the one that the bytes cut.
+-- The next block, if it is a canonical block: the first of these blocks, or if there are none,
+-- `cut`, the block that the bytes cut short.
 abbrev pub next_of : List Block → Option CanonicalBlock → Option CanonicalBlock
 next_of [] cut = cut
 next_of (PrimaryOf primary check end ∷ rest) cut = None

@@ -151,7 +151,7 @@ abbrev pub payload_of : Result Bundle Stop → Option (ℕ × ℕ)
 payload_of (Ok bundle) = Some bundle.payload_span
 payload_of (Err stop) = stop.payload_span
 
--- those of the bytes that have this offset and this length
+-- the bytes from the offset on, at most `size` of them
 abbrev pub bytes_of : Option (ℕ × ℕ) → List ℕ → List ℕ
 bytes_of None bytes = []
 bytes_of (Some (offset, size)) bytes = take size (drop offset bytes)

@@ -58,7 +58,7 @@ BlocksEnd =
 abbrev pub BlocksWithin : Type 0
 BlocksWithin = (bytes : List ℕ) → All (LiesWithin (length bytes)) (blocks_in bytes)
 
--- The canonical block that comes next when more bytes follow: it is the one that the bytes cut, or
+-- When more bytes follow, the next canonical block is the one that the first bytes cut short, or
 -- its data begins after them.
 abbrev pub BlockPlaced : Type 0
 BlockPlaced =

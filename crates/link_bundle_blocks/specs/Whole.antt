@@ -26,7 +26,7 @@ whole_canonical numbers bytes start = do
   (_, next) ← content_at block.data_length block.check block.start bytes block.data_start
   Ok (block, next)
 
--- a block if `count` more bytes come before it
+-- a block with `count` added to both offsets: as it is after `count` more bytes
 abbrev pub moved : ℕ → CanonicalBlock → CanonicalBlock
 moved count block =
     record block { start = count + block.start; data_start = count + block.data_start }

@@ -30,7 +30,7 @@ pub struct CanonicalBlock {
 impl CanonicalBlock {
     ghost use Rattle.link_bundle_blocks.specs.Whole.{moved};
 
-    /// The block if `count` more bytes come before it.
+    /// Returns the block with `count` added to both offsets: as it is after `count` more bytes.
     #[inline(always)]
     pub fn moved(self, count: u64) -> CanonicalBlock
         requires start { count + self.start < 2 ^ 64 }

@@ -25,8 +25,7 @@ pub fn verdict_lasts()
 /// - More bytes leave the whole blocks as they are, and may add some.
 /// - Once the bytes do not end inside a bundle, no more blocks come.
 /// - The whole blocks lie within the bytes.
-/// - The canonical block that comes next is the one that the bytes cut, or its data begins after
-///   them.
+/// - The next canonical block is the one that the bytes cut short, or its data begins after them.
 pub fn blocks_last()
     ensures grow { BlocksGrow }
     ensures end { BlocksEnd }

@@ -1,9 +1,9 @@
 //! The blocks of a bundle (RFC 9171 section 4): what they are, and how they are read from a slice.
 //!
-//! specs/Bundle.antt defines the bundle that some bytes are, and the verdict on bytes that are
-//! none. The functions with names in `_at` read the parts of a bundle where they lie. Each has the
-//! name of its definition. An error of one means only that nothing was read: the part is cut or has
-//! a fault, or a head in it is spelled at greater length than it has to be.
+//! specs/Bundle.antt defines which bytes are a bundle, which bundle they are, and the verdict on
+//! all other bytes. The functions with names in `_at` read the parts of a bundle where they lie.
+//! Each has the name of its definition. An error of one means only that nothing was read: the part
+//! is cut or has a fault, or a head in it is spelled at greater length than it has to be.
 #![tactic(auto)]
 
 mod block;

@@ -20,8 +20,8 @@ no_fragments = 0x000004
 abbrev pub report_requests : ℕ
 report_requests = 0x074000
 
--- all that are defined: with these, that of a fragment, and those that request an acknowledgement
--- by the application, and times in status reports
+-- all flags that are defined: these, the flag of a fragment, and those that request an
+-- acknowledgement by the application, and times in status reports
 abbrev pub bundle_flags_defined : ℕ
 bundle_flags_defined = 0x074067
 
@@ -31,8 +31,8 @@ bundle_flags_defined = 0x074067
 abbrev pub block_report : ℕ
 block_report = 0x02
 
--- all that are defined: with this, those that copy the block into every fragment, and that delete
--- the bundle or discard the block if the block cannot be processed
+-- all flags that are defined: this one, those that copy the block into every fragment, and that
+-- delete the bundle or discard the block if the block cannot be processed
 abbrev pub block_flags_defined : ℕ
 block_flags_defined = 0x17
 

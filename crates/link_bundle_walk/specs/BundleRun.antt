@@ -146,7 +146,7 @@ module _ {R : Type 0} (look : R → Seen) (telling : BundleTelling) (knows : SoF
 
 -- ---- what the parts of a step do
 
--- the texts of an input that ends so, and its status
+-- the texts and the status of an input that ends here, with this fault or without one
 abbrev pub ended_by : BundleTelling → SoFar → Option Fault → Outcome
 ended_by telling now None =
     record { texts = telling.ended now.bundles; status = if telling.good now.bundles then 0 else 1 }
@@ -155,7 +155,7 @@ ended_by telling now (Some fault) =
 
 module _ {W E : Type 0} (out_look : W → Output) (report_look : E → Output)
     (telling : BundleTelling) (old new : Writers W E) (before : SoFar) where
-  -- the texts up to `now` were written, and the step is not the last; or a writer failed in them
+  -- the texts up to `now` were written, and the step is not the last; or a writer failed
   pub record GoesOn (knows : SoFar → Type 0) (current : Current) (now : SoFar)
       (result : Result Progress IoFault) : Type 0 where
     pub written : Result (Unit {0}) IoFault
@@ -165,7 +165,7 @@ module _ {W E : Type 0} (out_look : W → Output) (report_look : E → Output)
     pub number : current.number ≡ length now.bundles
     pub reading : IsReading telling.limit current now.begun
 
-  -- the texts of an input that ends so were written, or a writer failed in them
+  -- the texts of an input with this end were written, or a writer failed while writing them
   pub record Ends (now : SoFar) (why : Option Fault) (answer : Result Status IoFault)
       : Type 0 where
     pub texts : Texts
@@ -173,7 +173,7 @@ module _ {W E : Type 0} (out_look : W → Output) (report_look : E → Output)
     pub gives : AfterLastWrite out_look report_look old new texts
         (ended_by telling now why).status answer
 
-  -- what is written once the bytes `run` have come, after what has come before
+  -- what is written for the bytes `run`, which follow the bytes of `before`
   abbrev pub WritesFound : (knows : SoFar → Type 0) → Current → (run : List ℕ) → Found
       → Result Progress IoFault → Type 0
   WritesFound knows current run found.Part result =

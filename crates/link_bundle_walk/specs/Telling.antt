@@ -22,8 +22,8 @@ abbrev pub refusal_fault : (number : ℕ) → Refusal → Fault
 refusal_fault number (Longer limit) = TooLong number limit
 refusal_fault number (Faulty fault offset) = Bundle number offset fault
 
--- Whether the refusal stays, whatever bytes follow. Only that of bytes that end inside a bundle
--- does not.
+-- Whether the refusal stays, whatever bytes follow. A refusal stays unless its reason is that the
+-- bytes end inside a bundle.
 abbrev pub lasting : Refusal → Bool
 lasting (Longer limit) = true
 lasting (Faulty fault offset) = lasts fault
@@ -98,7 +98,7 @@ abbrev pub IsAccepted : (limit : ℕ) → (begun run : List ℕ) → Option Whol
 IsAccepted limit begun run None = IsOpen limit (begun ++ run)
 IsAccepted limit begun run (Some whole) = (0 < length run) × IsShown (begun ++ run) whole
 
--- these bytes of the bundle with this number come after what has come so far
+-- the bytes `run` of the bundle with this number follow the bytes so far
 pub record ComesAfter (limit : ℕ) (before : SoFar) (number : ℕ) (run : List ℕ)
     (whole : Option WholeView) : Type 0 where
   pub numbered : number ≡ length before.bundles
@@ -107,8 +107,8 @@ pub record ComesAfter (limit : ℕ) (before : SoFar) (number : ℕ) (run : List 
   pub few : length before.bundles + length (before.begun ++ run) < 2 ^ 63
   pub sized : size_of before.bundles + length (before.begun ++ run) < 2 ^ 63
 
--- Of the texts `due`, those of `had` were written before. The others were written, and `stands`
--- holds; or a writer failed in them.
+-- Of the texts `due`, the part `had` was written before. The rest was written, and `stands` holds;
+-- or a writer failed while writing it.
 pub record Tells {W E : Type 0} (out_look : W → Output) (report_look : E → Output)
     (had due : Texts) (stands : Type 0) (old new : Writers W E)
     (result : Result (Unit {0}) IoFault) : Type 0 where

@@ -26,7 +26,7 @@ JoinsPieces goes =
     taken goes seen (first ++ second) ≡ taken goes seen first
     ++ taken goes (seen ++ taken goes seen first) second
 
--- a list is that prefix exactly if it is the one taken
+-- `taken` is the only list with the properties of `IsShortestFront`
 abbrev pub TakesShortest : (List ℕ → Bool) → Type 0
 TakesShortest goes =
     (seen bytes front : List ℕ)

@@ -10,7 +10,7 @@ use Rattle.link_bundle_rules.specs.declared.history.BundleHistory.{BundleHistory
 use Rattle.link_check.specs.BundleRules.{read_bundle}
 use Rattle.link_check.specs.declared.bundle.BundleReader.{BundleReader}
 
--- the history has exactly the blocks of this bundle, which are those that the content has whole
+-- the history has exactly the blocks of this bundle: those that are whole in the content
 pub record IsHistory (history : BundleHistory) (bundle : ReadBundle) (content : List ℕ)
     : Type 0 where
   pub remembers : Remembers history bundle

@@ -18,7 +18,7 @@ broken_in number offset bundle =
     at_offset offset
     (map (λ rule. Bundle (place.Input number) rule) (bundle_rules bundle.bytes bundle.info))
 
--- those of bundles that follow one another; the number and the offset are those of the first
+-- the rules that successive bundles break; the number and the offset are those of the first bundle
 unfoldable pub broken_bundles : (number offset : ℕ) → List Packed → List RuleText
 broken_bundles number offset [] = []
 broken_bundles number offset (bundle ∷ more) =

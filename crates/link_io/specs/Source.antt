@@ -72,8 +72,8 @@ module _ {R : Type 0} where
       else held_from source.flow (longest_input - source.given) (look source.reader).held
 
   -- How far the input is at hand: the offset after the bytes of the window and those that the
-  -- reader holds, and whether more may come. Nothing but a read changes it, and each read that
-  -- brings more bytes, the end or a fault does.
+  -- reader holds, and whether more may come. Only a read changes it. A read that brings more bytes,
+  -- the end or a fault always changes it.
   abbrev pub reach : (R → Input) → Source R → ℕ × Flow
   reach look source =
       (source.given + (length (window_of source) + length (look source.reader).held), source.flow)
@@ -206,7 +206,7 @@ module _ {R : Type 0} where
   AfterFill look old new buffer (Ok (filled.Ended n)) = EndedSlice look old new buffer n
   AfterFill look old new buffer (Err fault) = StoppedSlice look old new buffer fault
 
-  -- What each call ensures that fills a slice, which has `before` and then `after`.
+  -- What each call that fills a slice ensures. The slice has `before`, and then `after`.
   pub record Fills (look : R → Input) (old new : Source R) (before after : List ℕ)
       (result : Result Filled IoFault) : Type 0 where
     pub gives : IsLive look old → AfterFill look old new after result

@@ -128,8 +128,8 @@ pub fn bundles_of_unpack(bytes: &[u8])
 ///
 /// Let every transfer of a recording be over and good, and let there be no fault: `unpack` without
 /// options has status 0. Then `check --bundles`, for the output of `unpack`, writes the lines of
-/// the rules of bundles that `check` writes for the recording, in the same order. Only the offset
-/// differs, and the number of the bundle takes the place of the ID of its transfer.
+/// the rules of bundles that `check` writes for the recording, in the same order. Only two things
+/// differ: the offset, and the number of the bundle, which replaces the ID of its transfer.
 pub fn check_of_unpack(bytes: &[u8])
     ensures { (peer : PeerLimits) → ((unpack_tool all).whole bytes.now).status ≡ 0
         → HasSameRules peer bytes.now }
@@ -178,7 +178,7 @@ pub fn same_in_order()
     ensures { (wanted : Wanted) (bytes : List ℕ) → IsSameInOrder wanted bytes }
 {}
 
-/// `unpack` makes of a stream what the transfers of the whole stream make.
+/// `unpack` can be defined in two ways: by events, and by the transfers of the whole stream.
 ///
 /// Its definition goes event by event, as the stream is walked. `by_transfers` goes by the list of
 /// all heads: it joins their data into transfers, and then gives each transfer its line. Both are

@@ -57,8 +57,8 @@ IsWaiting now line (Cut offset message content) =
     (now ≡ stage.Data) × (line ≡ message_text offset message)
 IsWaiting now line (Fault offset fault) = ⊥
 
--- How the reading ends if data is to come after a step. A step that reads a head is given none of
--- the data.
+-- How the reading ends after a step, if data of a segment is still to come. A step that reads a
+-- head is given none of that data.
 abbrev pub IsWaitingAfter : Stage → End → Type 0
 IsWaitingAfter stage.Message (Cut offset message content) = content ≡ []
 IsWaitingAfter now end = Unit {0}
@@ -122,7 +122,8 @@ module _ {R : Type 0} (look : R → Input) (first : Texts) where
     pub takes : Takes look (source_of old) (source_of new) given
     pub listed : IsListedTo new lines (history ++ given)
 
--- some whole messages were given, and their lines were written, or a writer failed in them
+-- some whole messages were given, and their lines were written, or a writer failed while writing
+-- them
 abbrev pub AfterLines : {R W E : Type 0} → Looks R W E → (first : Texts) → (old new : Session R)
     → (before after : Writers W E) → (history : List ℕ) → Result (Unit {0}) IoFault → Type 0
 AfterLines look first old new before after history result =

@@ -29,8 +29,8 @@ peer_segment (Some limit) message = option_and_then (if_longer limit) (segment_o
 
 -- ---- the segments of a transfer (section 5.2.2), the newest first
 
--- The segments of its transfer before a segment with this turn, if it is part of one: a stray
--- segment is not. `so_far` are those of the transfer that began last.
+-- For a segment with this turn, the earlier segments of its transfer. A stray segment has no
+-- transfer. `so_far` are the segments of the transfer that began last.
 abbrev pub earlier_of : Option Turn → (so_far : List SegmentHead) → Option (List SegmentHead)
 earlier_of None so_far = None
 earlier_of (Some turn.Other) so_far = None
@@ -122,8 +122,9 @@ abbrev pub if_less : (id size : ℕ) → Ack → Option MessageRule
 if_less id size last =
     if (last.id == id) && nat_lt size last.length then Some (AckLength size last.length) else None
 
--- ack-length: an acknowledged length does not fall within a transfer (section 5.2.3). It may in an
--- XFER_ACK of the first segment of a transfer, which has START, or of another transfer.
+-- ack-length: within a transfer, the acknowledged length does not decrease (section 5.2.3). It may
+-- decrease in an XFER_ACK of the first segment of a transfer, which has START, or of another
+-- transfer.
 unfoldable pub ack_length : List JudgedHead → Message → Option MessageRule
 ack_length before (message.Ack flags id size) =
     if is_start flags then None

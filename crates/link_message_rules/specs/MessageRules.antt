@@ -23,12 +23,12 @@ judged_rules limits before head =
     ∷ peer_segment limits.segment head.message ∷ peer_transfer limits.transfer before head
     ∷ ack_length before head.message ∷ keepalive before head.message ∷ term_flags head.message ∷ []
 
--- those that it breaks
+-- the rules that a message after these heads breaks, in order
 unfoldable pub broken_rules : PeerLimits → (before : List JudgedHead) → JudgedHead
     → List MessageRule
 broken_rules limits before head = filter_map (λ judged. judged) (judged_rules limits before head)
 
--- A second SESS_INIT changes nothing, so that it comes is no breach of a MUST.
+-- A second SESS_INIT changes nothing, so sending one breaks no MUST.
 abbrev pub order_level : OrderFault → Level
 order_level SecondSessInit = Should
 order_level SegmentBeforeSessInit = Must

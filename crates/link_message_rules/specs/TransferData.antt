@@ -26,8 +26,8 @@ is_offset None byte = false
 is_offset (Some offset) byte = offset == byte
 
 -- Whether data with a fault at an offset may be a bundle that this toolkit does not read. RFC 9171
--- permits items of indefinite length (section 4). This toolkit reads none of them but the array of
--- the bundle, so the first other one is at fault.
+-- permits items of indefinite length (section 4). The only such item that this toolkit reads is the
+-- array of the bundle, so the first of the others is at fault.
 abbrev pub may_be_bundle : (bytes : List ℕ) → BundleFault → (byte : ℕ) → Bool
 may_be_bundle bytes fault byte =
     is_limit fault || (is_of_item fault && is_offset (first_indefinite bytes) byte)

@@ -112,7 +112,8 @@ fn sum_within(before: Option<u64>, length: u64) -> Option<u64>
     before?.checked_add(length)
 }
 
-/// The rule for the first segment of a transfer, which announces this, of `length` bytes.
+/// The rule that the first segment of a transfer breaks, if any. The segment has `length` bytes of
+/// data, and announces `announced`.
 fn first_exceeded(limit: u64, announced: Announced, length: u64) -> Option<MessageRule>
     ensures { (segment : SegmentHead) → segment.length ≡ length
         → result ≡ if_exceeded limit announced segment [] }

@@ -43,7 +43,7 @@ impl IdRun {
         self.first <= id && id <= self.last
     }
 
-    /// The run that ends with this ID, after this one or alone.
+    /// The run that ends with `id`: this run and then `id`, or `id` alone.
     fn then(self, id: u64) -> IdRun
         ensures { (ids : List ℕ) → Some self ≡ ends_of (descending ids)
             → Some result ≡ ends_of (descending (id ∷ ids)) }

@@ -81,7 +81,7 @@ pub record IsOrderAt (order : Order) (before : List Message) : Type 0 where
   pub transfer : transfer_by order.is_open order.transfer ≡ open_of before
   pub is_bit : order.is_open ≤ 1
 
--- the kind and the flags are those of a message, and the fields that are 0 or 1 are that
+-- the kind and the flags are those of a message, and each field that may only be 0 or 1 is 0 or 1
 abbrev pub is_in_range : Order → (kind flags : ℕ) → Bool
 is_in_range order kind flags =
     nat_le 1 kind && (nat_le kind 7 && (nat_le flags 255
@@ -103,7 +103,8 @@ abbrev pub fault_shown : Option OrderFault → ℕ × ℕ
 fault_shown None = (0, 0)
 fault_shown (Some fault) = (order_code fault, 4)
 
--- the answer, by why a message that was taken may not come, and by what it does
+-- the answer for a message that was taken: the fault of the order, if any, and what the message
+-- does
 pub record ReturnsTaken (fault : Option OrderFault) (effect : Option effect.Turn) (answer : Turn)
     (status : ℕ) : Type 0 where
   pub numbers : answer ≡ record (effect_shown effect) { fault = (fault_shown fault).0 }

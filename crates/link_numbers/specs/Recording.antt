@@ -100,7 +100,7 @@ items_of others items = nowhere
 abbrev pub size_of : MessageAt → ℕ
 size_of found = (fields_shown found.fields).data_length
 
--- no fault, or that of a message at this offset whose data is not all among this many bytes
+-- no fault, or `Truncated` at the offset of the message if its data is not all within `size` bytes
 abbrev pub data_fault : (size offset : ℕ) → MessageAt → Fault
 data_fault size offset found =
     if nat_le (size_of found) (size - found.end) then no_fault else wire_fault Truncated offset

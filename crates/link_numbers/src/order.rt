@@ -111,7 +111,7 @@ fn turn_shown(turn: Effect) -> Turn
     }
 }
 
-/// The joiner that the numbers are of.
+/// The joiner that these numbers describe.
 fn joiner_of(order: &Order) -> Joiner
     ensures { (before : List Message) → IsOrderAt order.now before → IsJoinerAt result before }
 {

@@ -33,8 +33,8 @@ pack_telling options = record {
   good = λ bundles. true;
 }
 
--- The segments that are due and were not given were written, and the cutter has given all of them;
--- or a writer failed.
+-- The segments that were due and not yet given were written, and the cutter has now given all of
+-- them; or a writer failed.
 pub record Sends {W E : Type 0} (out_look : W → Output) (report_look : E → Output) (id : ℕ)
     (so_far : Cutting) (old new : Writers W E) (cutter : Cutter)
     (result : Result (Unit {0}) IoFault) : Type 0 where

@@ -22,7 +22,7 @@ pub const RULE_LINE_MAX: usize = 23 + LEVEL_MAX + NAME_MAX + SUBJECT_MAX + WORDS
 pub struct RuleText {
     /// The offset of the message, or of the message with which the transfer begins.
     ///
-    /// In an input of bundles it is that of the bundle.
+    /// For an input of bundles, it is the offset of the bundle.
     pub offset: u64,
     pub rule: BrokenRule,
 }

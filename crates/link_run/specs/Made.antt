@@ -45,7 +45,7 @@ abbrev pub shows_fault : Option StreamStop → Bool
 shows_fault None = false
 shows_fault (Some stop) = stop.lasts
 
--- a fault that some bytes show is shown by all bytes that begin with them
+-- if bytes show a fault, so do all bytes that begin with them
 abbrev pub IsLasting : (List ℕ → Made) → Type 0
 IsLasting made =
     (bytes more : List ℕ) → shows_fault (made bytes).stop ≡ true

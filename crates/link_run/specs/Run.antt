@@ -223,8 +223,8 @@ module _ {R W E : Type 0} (look : Looks R W E) where
     pub report : (look.report now.report).failed ≡ false
 
   -- A byte past the longest input was read, and no device failed. The bytes `past` of the last read
-  -- were not given. The bytes before them show no fault, and the texts are those that they
-  -- determine.
+  -- were not given. The bytes `given` show no fault, and the texts are those that `given`
+  -- determines.
   pub record PassedLimit (tool : Tool) (start now : Devices R W E) (given : List ℕ) : Type 0 where
     pub unshown : tool.shows given ≡ false
     pub past : List ℕ
@@ -287,8 +287,8 @@ module _ {R W E : Type 0} (look : Looks R W E) where
   EndedRun tool start now given (Ok status) = FinishedRun tool start now given status
   EndedRun tool start now given (Err fault) = FailedRun tool start now given fault
 
-  -- What holds after a whole run. At each of its waits, all that the bytes given by then determine
-  -- had been handed on.
+  -- What holds after a whole run. Whenever it waited, it had handed on all text that the bytes
+  -- given until that wait determine.
   pub record AfterRun (tool : Tool) (start now : Devices R W E) (waits : List (Wait W E))
       (answer : Result Status IoFault) : Type 0 where
     pub given : List ℕ
@@ -321,7 +321,7 @@ module _ {R W E : Type 0} (look : Looks R W E) where
   AfterStep tool start old new stands most history (Err fault) =
       LastStep tool start (devices_at new) most history (Err fault)
 
-  -- what holds after a stride: what holds after a step, without its bound
+  -- what holds after a stride: the same as after a step, but without its bound
   abbrev pub AfterStride : Tool → Devices R W E → (old new : Place R W E)
       → (stands : List ℕ → Type 0) → (most : ℕ) → (history : List ℕ)
       → Result Progress IoFault → Type 0

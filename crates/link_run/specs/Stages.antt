@@ -36,7 +36,7 @@ AfterStage look made start begun old new knows most history result =
     AfterStep look (tool_of made) start old new
     (λ bytes. Stands look made start begun new bytes × knows bytes) most history result
 
--- what holds after a stride of stages: what holds after a step, with another bound
+-- what holds after a stride of stages: the same as after a step, but with another bound
 abbrev pub AfterStageStride : {R W E : Type 0} → Looks R W E → (made : List ℕ → Made)
     → (start : Devices R W E) → (begun : Bool) → (old new : Place R W E)
     → (knows : List ℕ → Type 0) → (most : ℕ) → (history : List ℕ)

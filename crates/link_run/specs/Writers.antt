@@ -68,12 +68,12 @@ module _ {W E : Type 0} (out_look : W → Output) (report_look : E → Output) w
     pub failed : LostOutput old new texts output_count report_count
         ⊎ LostReport old new texts output_count report_count
 
-  -- these texts were written, or a writer failed in them
+  -- these texts were written, or a writer failed while writing them
   abbrev pub AfterWrite : Writers W E → Writers W E → Texts → Result (Unit {0}) IoFault → Type 0
   AfterWrite old new texts (Ok done) = Writes old new texts
   AfterWrite old new texts (Err fault) = WritesPart old new texts fault
 
-  -- these texts were written, and the run ends with this status; or a writer failed in them
+  -- these texts were written, and the run ends with this status; or a writer failed
   abbrev pub AfterLastWrite : Writers W E → Writers W E → Texts → (status : ℕ)
       → Result Status IoFault → Type 0
   AfterLastWrite old new texts status (Ok ended) = Writes old new texts × (ended.0 ≡ status)

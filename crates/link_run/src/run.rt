@@ -142,8 +142,8 @@ pub trait Run<R: InDevice, W: OutDevice, E: OutDevice>: Sized {
     /// Does at least one step, and as many more as the bytes at hand allow: a *stride*.
     ///
     /// After it, the texts are those that the bytes given determine, as after a step. It waits as
-    /// [`Run::step`] does: at most once, before it is given a byte and before it writes. What it is
-    /// given was at hand then, or came with the reads after that wait.
+    /// [`Run::step`] does: at most once, before it is given a byte and before it writes. The bytes
+    /// that it is given were at hand before that wait, or came with the reads after it.
     ///
     /// # Errors
     ///

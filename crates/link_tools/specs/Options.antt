@@ -49,7 +49,7 @@ job_tool (job.BundleCheck must) = Some (bundle_check_tool must)
 job_tool (job.Pack options (Ok cutter)) = Some (pack_tool options)
 job_tool (job.Pack options (Err refused)) = None
 
--- what a whole run of the tool did, or of a tool that was refused its memory
+-- what a whole run of the tool did; `None` is a tool that was refused its memory
 abbrev pub AfterTool : {R W E : Type 0} → Looks R W E → Option Tool → (start now : Devices R W E)
     → List (Wait W E) → Result Status IoFault → Type 0
 AfterTool look (Some tool) start now waits answer = AfterRun look tool start now waits answer

@@ -64,8 +64,9 @@ open_after Other = None
 unfoldable pub open_of : List Message → Option ℕ
 open_of before = option_and_then open_after (find is_segment (reverse (events_of before)))
 
--- The ID of the open transfer, if a SESS_INIT was accepted. Then its next segment may come. A run
--- that goes on after faults has open transfers before a SESS_INIT, too.
+-- The ID of the transfer whose next segment may come: the open transfer, but none before a
+-- SESS_INIT was accepted. (A run that goes on after faults has open transfers before a SESS_INIT,
+-- too.)
 abbrev pub continuable : List Message → Option ℕ
 continuable before = if has_sess_init before then open_of before else None
 
@@ -132,7 +133,7 @@ is_stray_by transfer event = continues event && not (is_of transfer event)
 unfoldable pub is_stray : List Message → Event → Bool
 is_stray before event = is_stray_by (open_of before) event
 
--- The effect of a message that is taken whether or not it may come. A stray segment has none.
+-- The effect of a message that is taken even if it is refused. A stray segment has none.
 abbrev pub effect_by : (stray : Bool) → Turn → Option Turn
 effect_by true done = None
 effect_by false done = Some done

@@ -202,8 +202,8 @@ impl Joiner {
 
     /// Takes any message with this event, whether or not it may come.
     ///
-    /// A message that may not come has the effect that it would have if it might. A stray segment
-    /// changes nothing.
+    /// A message that is refused has the effect that it would have if it were accepted. A stray
+    /// segment changes nothing.
     pub fn take(&mut self, event: Event) -> Taken
         ensures fault { (before : List Message) → IsJoinerAt self.old before
             → result.fault ≡ refusal before event }

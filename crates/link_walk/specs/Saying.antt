@@ -20,7 +20,7 @@ pub record Keeping (S : Type 0) : Type 0 where
   pub start : S
   -- what is kept after one more event
   pub next : S → WalkEvent → S
-  -- what is said of an event, by what is kept before it
+  -- what is said of an event, given what was kept of the events before it
   pub says : S → WalkEvent → Texts
   pub good : S → Bool
 

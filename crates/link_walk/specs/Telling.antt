@@ -55,8 +55,8 @@ HasTotals event = Unit {0}
 module _ {W E : Type 0} (out_look : W → Output) (report_look : E → Output)
     (telling : Telling) (knows : List WalkEvent → Type 0) (before added : List WalkEvent)
     (old new : Writers W E) where
-  -- After the events `before`, these events were added, and what is said of them was written; or a
-  -- writer failed in that.
+  -- The events `added` follow the events `before`. What is said of them was written, or a writer
+  -- failed while writing it.
   pub record Tells (result : Result (Unit {0}) IoFault) : Type 0 where
     pub texts : Texts
     pub said : telling.texts before then texts ≡ telling.texts (before ++ added)

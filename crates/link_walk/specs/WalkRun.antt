@@ -56,7 +56,7 @@ may_go_on stage.Message session = may_read session
 may_go_on (stage.Data last) session = is_opened session
 may_go_on stage.Stray session = is_opened session
 
--- what comes after a step, from the stage that comes next if all was written
+-- what comes after a step: the stage `now` if all was written, or else the failure
 abbrev pub next_of : Stage → Result (Unit {0}) IoFault → Next
 next_of now (Ok done) = next.Stage now
 next_of now (Err fault) = next.Ended (Err fault)
@@ -88,8 +88,8 @@ stage_by turn (suc left) = stage_in turn
 
 -- ---- the head of a message, and the end of a stream
 
--- The consumer was told of a head, and a stage comes next; or a writer failed in what is said of
--- the head.
+-- The consumer was told of a head, and a stage comes next; or a writer failed while writing what is
+-- said of the head.
 abbrev pub TellsHead : {W E : Type 0} → (W → Output) → (E → Output) → Telling
     → (knows : List WalkEvent → Type 0) → (before : List WalkEvent) → Head → (left : ℕ)
     → (old new : Writers W E) → Next → Type 0
@@ -134,8 +134,8 @@ is_open_at stage.Message taken = is_some (open_of taken)
 is_open_at (stage.Data last) taken = true
 is_open_at stage.Stray taken = is_some (open_of taken)
 
--- How the reading ends if data is to come after a step. A step that reads a head is given none of
--- the data.
+-- How the reading ends after a step, if data of a segment is still to come. A step that reads a
+-- head is given none of that data.
 abbrev pub IsWaitingAfter : Stage → End → Type 0
 IsWaitingAfter stage.Message (Cut offset message content) = content ≡ []
 IsWaitingAfter now end = Unit {0}

@@ -66,7 +66,8 @@ module _ {R A : Type 0} where
       (outcome : Result A Halt) : Type 0 where
     pub by : GetsPart look part old new outcome
 
--- the outcome of a function that leaves the value with its caller, joined with that value
+-- the outcome of a function that writes a value into its caller's variable, together with that
+-- value
 abbrev pub with_value : {A : Type 0} → A → Result (Unit {0}) Halt → Result A Halt
 with_value value (Ok done) = Ok value
 with_value value (Err stop) = Err stop

@@ -202,7 +202,7 @@ abbrev pub data_length : Message → ℕ
 data_length (Segment head) = head.length
 data_length message = 0
 
--- the totals in the items of a segment were kept
+-- if the message is a segment, `HasTotals` holds for its items
 abbrev pub MessageHasTotals : Message → Type 0
 MessageHasTotals (Segment head) = HasTotals head.items.items
 MessageHasTotals message = Unit {0}

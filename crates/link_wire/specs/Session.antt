@@ -33,7 +33,8 @@ with_message offset message reading =
     then ended (Cut offset message [])
     else with_entry (record { offset = offset; message = message; content = [] }) (ended Clean))
 
--- the stream after data of the open segment: these bytes of it came, and `left` bytes are to come
+-- the stream after the next bytes, which are data of the open segment; `left` more of that data are
+-- to come
 abbrev pub data_after : ℕ → List ℕ → End → Stream
 data_after left bytes Clean = ended Clean
 data_after left bytes (Cut offset message content) =
@@ -43,7 +44,8 @@ data_after left bytes (Cut offset message content) =
     (ended Clean)
 data_after left bytes (Fault offset fault) = ended (Fault offset fault)
 
--- the reading after data of the open segment
+-- the reading after the next bytes, which are data of the open segment; `left` more of that data
+-- are to come
 abbrev pub with_data : ℕ → List ℕ → Reading → Reading
 with_data left bytes reading = joined reading (data_after left bytes reading.end)
 
@@ -180,7 +182,7 @@ module _ {R : Type 0} where
     pub over : fault ≡ wire.Truncated → IsOver look source
     pub all : (more : List ℕ) → MayFollow fault more → reading_of (history ++ more) ≡ reading
 
--- the result of a call that leaves the message with its caller, joined with that message
+-- the result of a call that writes the message into its caller's buffer, together with that message
 abbrev pub with_message_read : Message → Result (Option ℕ) Stop → Result (Option (ℕ × Message)) Stop
 with_message_read message (Ok None) = Ok None
 with_message_read message (Ok (Some offset)) = Ok (Some (offset, message))

@@ -13,9 +13,9 @@ use Rattle.link_run.specs.declared.run.Status.{Status}
 use Rattle.tcpclkit.specs.declared.ending.Ending.{Ending}
 use Rattle.tcpclkit.specs.declared.ending.Ending.TheVariants.{Usage, NotText, NoInput, Answer}
 
--- The program's answer for the answer of a run. What stopped the run first decides. If a fault of
--- the input (status 3) or a failure did, its answer stays, whether or not its texts were flushed.
--- After any other run, a failed flush is a failed write.
+-- The program's answer, from that of the run. What stopped the run first decides. If the run ended
+-- with a fault of the input (status 3) or a failure, its answer stays, whether or not its texts
+-- were flushed. After any other run, a failed flush is a failed write.
 abbrev pub answer_after_flush : Result Status IoFault → Bool → Result Status IoFault
 answer_after_flush (Ok status) false = if status.0 == 3 then Ok status else Err io.Write
 answer_after_flush (Ok status) true = Ok status

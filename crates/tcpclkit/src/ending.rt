@@ -23,7 +23,8 @@ pub enum Ending {
 /// Returns the program's answer for the answer of a run.
 ///
 /// `flushed` is whether the output and the report were flushed. What stopped the run first decides:
-/// a failed flush is a failed write only if neither a fault of the input nor a failure did.
+/// a failed flush is a failed write only if the run ended with neither a fault of the input nor a
+/// failure.
 pub fn after_flush(answer: Result<Status, IoFault>, flushed: bool) -> Result<Status, IoFault>
     ensures { result ≡ answer_after_flush answer flushed }
 {

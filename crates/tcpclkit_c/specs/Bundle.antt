@@ -1,4 +1,4 @@
--- What is returned of a bundle: its numbers, and its names in slices.
+-- What the calls return about a bundle: its numbers, and its names in slices.
 use Rattle.std.specs.Prelude.{◌≡◌, ℕ, ◌&&◌, nat_le, List, length, Option, Result, Ok, Err, if◌then◌else◌}
 use Rattle.link_bundle_types.specs.declared.fault.BundleFault.{BundleFault}
 use Rattle.link_bundle_types.specs.declared.fault.State.{State}

@@ -41,7 +41,7 @@ pub record FeedsBlock (seen piece : List ℕ) (old : BlockNumbers) (scan : Marke
   pub gives : block ≡ added_block seen piece old
   pub answers : status ≡ fed_block_status seen piece
 
--- the same of memory that may have no scan
+-- the same for memory that may have no scan
 pub record FeedsMarkedBlock (old : MarkedScan) (piece : List ℕ) (old_block : BlockNumbers)
     (new : MarkedScan) (taken : ℕ) (block : BlockNumbers) (status : ℕ) : Type 0 where
   pub scan : (seen : List ℕ) → IsScan old seen
@@ -49,8 +49,8 @@ pub record FeedsMarkedBlock (old : MarkedScan) (piece : List ℕ) (old_block : B
   pub other : (old.mark ≡ mark → ⊥)
       → (status ≡ 6) × (taken ≡ 0) × (new ≡ old) × (block ≡ old_block)
 
--- The same of a scan without its mark. If bytes were taken, the block that they add is the one that
--- ends with them.
+-- The same for a scan without its mark. If bytes were taken, the block that they add ends with the
+-- last of them.
 pub record TakesBlock (old new : BundleScan) (piece : List ℕ) (count : ℕ) : Type 0 where
   pub within : count ≤ length piece
   pub seen : (seen : List ℕ) → HasScanned old seen

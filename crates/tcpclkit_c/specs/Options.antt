@@ -22,7 +22,7 @@ number_if is_set number = if is_set == 1 then Some number else None
 
 -- ---- unpack
 
--- the options that the words are
+-- the options that the words encode
 abbrev pub unpack_numbers : List ℕ → UnpackNumbers
 unpack_numbers words =
     record {
@@ -55,7 +55,7 @@ wanted_in words = if unpack_in_range words then Some (wanted_of (unpack_numbers 
 
 -- ---- blocks
 
--- the options that the words are
+-- the options that the words encode
 abbrev pub blocks_numbers : List ℕ → BlocksNumbers
 blocks_numbers words =
     record {
@@ -94,7 +94,7 @@ blocks_job_in words =
 
 -- ---- check
 
--- the options that the words are
+-- the options that the words encode
 abbrev pub check_numbers : List ℕ → CheckNumbers
 check_numbers words =
     record {
@@ -142,7 +142,7 @@ check_job_in words =
 
 -- ---- pack
 
--- the options that the words are
+-- the options that the words encode
 abbrev pub pack_numbers : List ℕ → PackNumbers
 pack_numbers words =
     record {

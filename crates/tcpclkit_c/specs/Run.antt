@@ -37,7 +37,7 @@ abbrev pub WroteNone : (output report : List ℕ) → Result Status IoFault → 
 WroteNone output report (Ok status) = ⊥
 WroteNone output report (Err fault) = WroteNothing output report fault
 
--- the texts that a run of the tool over these bytes has written, by whether it had its memory
+-- what a run of the tool over these bytes has written; `None` is a tool that was refused its memory
 abbrev pub HasWritten : Option Tool → (bytes output report : List ℕ) → Result Status IoFault
     → Type 0
 HasWritten (Some tool) bytes output report answer =
@@ -66,7 +66,7 @@ pub record RanWhole (job : Job) (bytes : List ℕ) (old new : Slices) (ended : E
 
 -- ---- what a call returns
 
--- what a run of the tool has returned, by whether it had its memory
+-- what a run of the tool has returned; `None` is a tool that was refused its memory
 abbrev pub ReturnsTool : Option Tool → List ℕ → Wants → (old new : Slices) → Run → ℕ → Type 0
 ReturnsTool (Some tool) bytes wants old new run status =
     ReturnsTexts (tool.whole bytes) wants old new run status

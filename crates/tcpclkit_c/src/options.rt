@@ -136,7 +136,7 @@ fn wanted_of(numbers: &UnpackNumbers) -> Wanted
     }
 }
 
-/// What the words want of a recording, if they are in their ranges.
+/// The `Wanted` that the words encode, if each option is in its range.
 pub fn wanted_in(words: &[u64]) -> Option<Wanted>
     ensures { result ≡ wanted_in words.now }
 {
@@ -185,7 +185,7 @@ fn blocks_job_of(numbers: &BlocksNumbers) -> Job
     })
 }
 
-/// The job of `blocks` with the options that the words are, if these are in their ranges.
+/// The job of `blocks` with the options that the words encode, if each is in its range.
 pub fn blocks_job_in(words: &[u64]) -> Option<Job>
     ensures { result ≡ blocks_job_in words.now }
 {
@@ -250,7 +250,7 @@ fn check_job_of(numbers: &CheckNumbers) -> Job
     Job::Check(check_options_of(numbers))
 }
 
-/// The job of `check` with the options that the words are, if these are in their ranges.
+/// The job of `check` with the options that the words encode, if each is in its range.
 pub fn check_job_in(words: &[u64]) -> Option<Job>
     ensures { result ≡ check_job_in words.now }
 {
@@ -296,7 +296,7 @@ pub fn pack_in_range(words: &[u64], node_length: usize) -> bool
     pack_numbers_fit(&numbers, node_length) && !has_nonzero(words_after(words, 7))
 }
 
-/// The options of `pack` that these numbers and this node ID are.
+/// The options of `pack` with these numbers and this node ID.
 pub fn packing_of(numbers: &PackNumbers, node: &[u8]) -> PackOptions
     requires { pack_numbers_fit numbers.now (length node.now) ≡ true }
     ensures { HasOptions result numbers.now node.now }

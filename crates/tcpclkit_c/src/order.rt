@@ -9,7 +9,7 @@ ghost use Rattle.link_numbers.specs.Order.{HasNumbers, IsOrderAt, is_in_range, R
 use link_numbers::order::{Order, Turn, event_by, is_in_range, judge, take};
 use link_numbers::status::RANGE;
 
-/// Judges whether a message may come now, and if so counts it among those that came.
+/// Judges whether a message may come now. If so, the numbers then describe it too.
 #[unsafe(no_mangle)]
 pub extern "C" fn tcpclkit_raw_judge_order(
     order: &mut Order,

@@ -29,7 +29,8 @@ fn faults_of_the_wire(rt: HostRuntime) -> Result<(), Fail> {
     all_given(rt.alloc(), &ENDED)
 }
 
-/// Checks that each row, which has no fault of the order, gives the same if the run is to go on.
+/// Checks that each row has the same result if the run is to go on: no row has a fault of the
+/// order.
 fn all_unchanged(alloc: Global, rows: &[Row]) -> Result<(), Fail> {
     for row in rows {
         let wanted = Wanted {
