@@ -224,7 +224,7 @@ impl Found {
 impl Due {
     ghost use Rattle.link_block_data.specs.Turns as turns;
 
-    /// The head that is due when `left` more status assertions follow, none of which is kept.
+    /// The head that is due when `left` more status assertions follow. None of them is kept.
     pub fn others(left: u64) -> Due
         ensures { result ≡ turns.others_due left }
     {

@@ -27,7 +27,7 @@ pub struct DataReader {
 
 impl DataReader {
     ghost use Rattle.std.specs.Prelude.{◌∷◌, fold, true};
-    ghost use Rattle.link_bundle_blocks.specs.Blocks.{CanonicalOf, viewed_blocks};
+    ghost use Rattle.link_bundle_blocks.specs.Blocks.{CanonicalOf, viewed_block};
     ghost use Rattle.link_bundle_blocks.specs.Bundle.{blocks_in, bundle_goes};
     ghost use Rattle.link_bundle.specs.Scan.{HasScanned as HasScannedBundle, ending};
     ghost use Rattle.link_blocks.specs.BlockLines.{flags_after};
@@ -68,6 +68,7 @@ impl DataReader {
 
     /// Reads those bytes of a block's data that are in `run`, which follows the first `before`
     /// bytes of the bundle.
+    #[inline(always)]
     fn take(&mut self, block: &CanonicalBlock, before: u64, run: &[u8])
         requires room { before + length run.now < 2 ^ 63 }
         requires size { read_size self.old ≤ before }
@@ -88,21 +89,15 @@ impl DataReader {
         }
     }
 
-    /// Reads the data in a run of the bundle, which comes after its first `before` bytes.
+    /// Reads the data in a run of the bundle that ends with this block. The run comes after the
+    /// bundle's first `before` bytes.
     ///
-    /// The scan has seen the run. `ended` is the block that ends with the run, if one does, and no
-    /// block ends before.
+    /// The scan has seen the run, and no block ends before.
     #[inline(always)]
-    pub fn follow(
-        &mut self,
-        before: u64,
-        run: &[u8],
-        ended: &Option<BlockView<'_>>,
-        scan: &BundleScan,
-    )
+    pub fn follow(&mut self, before: u64, run: &[u8], ended: &BlockView<'_>, scan: &BundleScan)
         requires room { before + length run.now < 2 ^ 63 }
         requires size { read_size self.old ≤ before }
-        requires ended { viewed_blocks ended.now ≡ ending scan.now }
+        requires ended { ending scan.now ≡ viewed_block ended.now ∷ [] }
         ensures size { read_size self.new ≤ before + length run.now }
         ensures flags { self.new.flags ≡ fold flags_after self.old.flags (ending scan.now) }
         ensures reads { (seen : List ℕ) → length seen ≡ before → IsReading self.old seen
@@ -117,13 +112,27 @@ impl DataReader {
             → IsReadingBlock self.new (seen ++ run.now) block }
     {
         match ended {
-            Some(BlockView::Primary(block)) => self.flags = block.flags,
-            Some(BlockView::Canonical(block)) => self.take(block, before, run),
-            None => {
-                if let Some(block) = scan.cut_block() {
-                    self.take(&block, before, run);
-                }
-            }
+            BlockView::Primary(block) => self.flags = block.flags,
+            BlockView::Canonical(block) => self.take(block, before, run),
+        }
+    }
+
+    /// Reads the data in a run of the bundle in which no block ends. The run comes after the
+    /// bundle's first `before` bytes, and the scan has seen it.
+    #[inline(always)]
+    pub fn follow_cut(&mut self, before: u64, run: &[u8], scan: &BundleScan)
+        requires room { before + length run.now < 2 ^ 63 }
+        requires size { read_size self.old ≤ before }
+        ensures size { read_size self.new ≤ before + length run.now }
+        ensures flags { self.new.flags ≡ self.old.flags }
+        ensures reads { (seen : List ℕ) → length seen ≡ before → IsReading self.old seen
+            → bundle_goes seen ≡ true
+            → HasScannedBundle scan.now (seen ++ run.now)
+            → blocks_in (seen ++ run.now) ≡ blocks_in seen
+            → IsReading self.new (seen ++ run.now) }
+    {
+        if let Some(block) = scan.cut_block() {
+            self.take(&block, before, run);
         }
     }
 

@@ -80,12 +80,14 @@ fn show_block<W: OutDevice, E: OutDevice>(
         → AfterWrite W.state E.state writers.old writers.new (on_output (lines_from id
         reader.old.flags (seen ++ run.now) (ending scan.now))) result }
 {
-    let ended = scan.ended_block();
+    let Some(ended) = scan.ended_block() else {
+        reader.follow_cut(before, run, scan);
+        return Ok(());
+    };
     reader.follow(before, run, &ended, scan);
     match &ended {
-        Some(BlockView::Primary(block)) => write_primary(id, block, writers),
-        Some(BlockView::Canonical(block)) => write_canonical(id, block, reader, writers),
-        None => Ok(()),
+        BlockView::Primary(block) => write_primary(id, block, writers),
+        BlockView::Canonical(block) => write_canonical(id, block, reader, writers),
     }
 }
 

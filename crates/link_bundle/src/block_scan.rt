@@ -128,6 +128,7 @@ impl BundleScan {
     }
 
     /// Whether a block ends with the bytes seen.
+    #[inline(always)]
     fn ends_block(&self) -> bool
         ensures { result ≡ (self.now.cursor.offset == self.now.cursor.count
             && stage_follows self.now.stage) }
@@ -136,6 +137,7 @@ impl BundleScan {
     }
 
     /// The block that ends with the bytes seen, if one does.
+    #[inline(always)]
     pub fn ended_block(&self) -> Option<BlockView<'_>>
         ensures block { viewed_blocks result ≡ ending self.now }
         ensures short { IfSome result (λ block. HasShortBlock (viewed_block block)) }
@@ -147,6 +149,7 @@ impl BundleScan {
     }
 
     /// The canonical block in whose data or check field the bytes seen end.
+    #[inline(always)]
     pub fn cut_block(&self) -> Option<CanonicalBlock>
         ensures { (seen : List ℕ) → HasScanned self.now seen → result ≡ cut_block_in seen }
     {

@@ -119,6 +119,7 @@ impl Draft {
     }
 
     /// The current canonical block, whose check is of this kind.
+    #[inline(always)]
     fn current(&self, check: Option<CheckKind>) -> CanonicalBlock
         ensures { result ≡ current self.now check }
     {
@@ -129,6 +130,7 @@ impl Draft {
     }
 
     /// The canonical block whose data or check field goes on at a stage.
+    #[inline(always)]
     pub fn block_at(&self, stage: Stage) -> Option<CanonicalBlock>
         ensures { result ≡ stage_block stage self.now }
     {
@@ -141,6 +143,7 @@ impl Draft {
     }
 
     /// The current block, if it is a canonical block whose check is of this kind.
+    #[inline(always)]
     fn in_block(&self, block: BlockKind, kind: CheckKind) -> Option<CanonicalBlock>
         ensures { result ≡ kind_block block self.now kind }
     {
@@ -151,6 +154,7 @@ impl Draft {
     }
 
     /// The block that ended last, before the offset `end`.
+    #[inline(always)]
     pub fn last_block(&self, end: u64) -> BlockView<'_>
         ensures block { viewed_block result ≡ block_of self.now.last self.now self.now.block.check end }
         ensures short { HasShortBlock (viewed_block result) }

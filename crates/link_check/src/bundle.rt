@@ -122,16 +122,18 @@ impl BundleReader {
             → blocks_in (seen ++ run.now) ≡ blocks_in seen ++ ending scan.now
             → IsReadingBlocks self.new (seen ++ run.now) }
     {
-        let ended = scan.ended_block();
+        let Some(ended) = scan.ended_block() else {
+            self.blocks.follow_cut(before, run, scan);
+            return;
+        };
         self.blocks.follow(before, run, &ended, scan);
         match &ended {
-            Some(BlockView::Primary(block)) => self.history = Some(BundleHistory::begin(block)),
-            Some(BlockView::Canonical(block)) => {
+            BlockView::Primary(block) => self.history = Some(BundleHistory::begin(block)),
+            BlockView::Canonical(block) => {
                 if let Some(history) = &mut self.history {
                     add(history, block, &self.blocks);
                 }
             }
-            None => {}
         }
     }
 

@@ -3,3 +3,5 @@ pub mod Runs
 pub mod Disabling
 pub mod Joined
 pub mod Tests
+pub mod Kept
+pub mod Unchanged

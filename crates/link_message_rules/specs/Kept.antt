@@ -1,21 +1,20 @@
 -- Relations: the rules that a message after these heads keeps.
 use Rattle.std.specs.Prelude.{◌≡◌, List, None}
-use Rattle.link_message_rules.specs.Flags.{item_flags, segment_flags, term_flags}
+use Rattle.link_wire.specs.declared.message.Message.{Message}
+use Rattle.link_message_rules.specs.Flags.{item_flags, segment_flags}
 use Rattle.link_message_rules.specs.Heads.{JudgedHead}
 use Rattle.link_message_rules.specs.Lengths.{peer_segment, peer_transfer, ack_length}
-use Rattle.link_message_rules.specs.NodeIds.{node_id}
-use Rattle.link_message_rules.specs.Session.{order, before_session, keepalive}
+use Rattle.link_message_rules.specs.Session.{before_session, keepalive}
 use Rattle.link_message_rules.specs.TransferIds.{interleaved, transfer_id}
 use Rattle.link_message_rules.specs.declared.limits.PeerLimits.{PeerLimits}
 
-pub record KeepsSessionRules (before : List JudgedHead) (head : JudgedHead) : Type 0 where
-  pub in_order : order head ≡ None
-  pub in_session : before_session before head.message ≡ None
-  pub acknowledged : ack_length before head.message ≡ None
-  pub alive : keepalive before head.message ≡ None
-  pub node : node_id head.message ≡ None
-  pub term : term_flags head.message ≡ None
+-- those of XFER_ACKs, XFER_REFUSEs and KEEPALIVEs
+pub record KeepsAnswerRules (before : List JudgedHead) (message : Message) : Type 0 where
+  pub in_session : before_session before message ≡ None
+  pub acknowledged : ack_length before message ≡ None
+  pub alive : keepalive before message ≡ None
 
+-- those of segments
 pub record KeepsSegmentRules (limits : PeerLimits) (before : List JudgedHead) (head : JudgedHead)
     : Type 0 where
   pub flags : segment_flags head.message ≡ None

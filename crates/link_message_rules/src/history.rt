@@ -11,6 +11,7 @@ use crate::rule::{MessageRule, broken_of};
 use crate::session::{Keepalives, before_session, initiated_after, order};
 use crate::transfer_ids::{IdRun, interleaved, run_after, transfer_id};
 use arrayvec::ArrayVec;
+use link_wire::{Fields, MessageBuffer};
 
 /// The number of rules of a message.
 const RULES: usize = 12;
@@ -34,10 +35,10 @@ pub struct MessageHistory {
 
 impl MessageHistory {
     ghost use Rattle.std.specs.Prelude.{◌≡◌, true, List, [], ◌∷◌, ◌++◌, option_map};
-    ghost use Rattle.link_wire.specs.MessageBuffer.{SegmentHasTotals};
+    ghost use Rattle.link_wire.specs.MessageBuffer.{SegmentHasTotals, message_of};
     ghost use Rattle.link_message_rules.specs.Heads.{JudgedHead, viewed_head};
     ghost use Rattle.link_message_rules.specs.MessageRules.{broken_rules};
-    ghost use Rattle.link_message_rules.specs.Kept.{KeepsSegmentRules, KeepsSessionRules};
+    ghost use Rattle.link_message_rules.specs.Kept.{KeepsAnswerRules, KeepsSegmentRules};
     ghost use Rattle.link_message_rules.specs.Remembered.{Remembers};
 
     /// The history before the first message.
@@ -54,41 +55,40 @@ impl MessageHistory {
     }
 
     /// Whether the next message is known to break no rule. This takes less time than its rules.
+    ///
+    /// It is never known of a SESS_INIT, a SESS_TERM or a MSG_REJECT, which are rare.
     #[inline(always)]
     pub fn keeps_rules(&self, limits: &PeerLimits, head: &JudgedHeadView<'_>) -> bool
         requires { SegmentHasTotals head.now.message.now }
         ensures { (before : List JudgedHead) → Remembers self.now before → result ≡ true
             → broken_rules limits.now before (viewed_head head.now) ≡ [] }
     {
-        if !self.keeps_session_rules(head) {
+        if head.fault.is_some() {
             return false;
         }
-        self.keeps_segment_rules(limits, head)
+        match head.message.fields {
+            Fields::Segment { .. } => self.keeps_segment_rules(limits, head),
+            Fields::Ack { .. } | Fields::Refuse { .. } | Fields::Keepalive => {
+                self.keeps_answer_rules(head.message)
+            }
+            _ => false,
+        }
     }
 
-    /// Whether the next message breaks no rule that is about other things than segments.
+    /// Whether the next message, if it is an XFER_ACK, an XFER_REFUSE or a KEEPALIVE, breaks no
+    /// rule of such messages.
     #[inline(always)]
-    fn keeps_session_rules(&self, head: &JudgedHeadView<'_>) -> bool
+    fn keeps_answer_rules(&self, message: &MessageBuffer) -> bool
         ensures { (before : List JudgedHead) → Remembers self.now before → result ≡ true
-            → KeepsSessionRules before (viewed_head head.now) }
+            → KeepsAnswerRules before (message_of message.now) }
     {
-        let message = head.message;
-        if order(head).is_some() {
-            return false;
-        }
         if before_session(self.initiated, message).is_some() {
             return false;
         }
         if ack_length(self.ack, message).is_some() {
             return false;
         }
-        if self.keepalives.rule(message).is_some() {
-            return false;
-        }
-        if node_id(message).is_some() {
-            return false;
-        }
-        term_flags(message).is_none()
+        self.keepalives.rule(message).is_none()
     }
 
     /// Whether the next message breaks no rule of segments and of extension items.
@@ -149,10 +149,16 @@ impl MessageHistory {
             → Remembers self.new (before ++ viewed_head head.now ∷ []) }
     {
         let message = head.message;
-        self.initiated = initiated_after(self.initiated, message);
-        self.keepalives = self.keepalives.after(message);
-        self.run = run_after(self.run, message);
-        self.ack = ack_after(self.ack, message);
-        self.transfer = so_far_after(self.transfer, head);
+        match message.fields {
+            Fields::Segment { .. } => {
+                self.run = run_after(self.run, message);
+                self.transfer = so_far_after(self.transfer, head);
+            }
+            Fields::Ack { .. } => self.ack = ack_after(self.ack, message),
+            _ => {
+                self.initiated = initiated_after(self.initiated, message);
+                self.keepalives = self.keepalives.after(message);
+            }
+        }
     }
 }

@@ -6,56 +6,54 @@ use Rattle.link_blocks.proofs.Reading.{lies_within}
 use Rattle.link_check.proofs.Blocks.{history_same, history_begins, history_none, history_adds}
 use Rattle.link_check.proofs.bundle.BundleReader.take_run.Goals as goal
 
-pub returns-in-Some-Primary-clause-reads : goal.returns-in-Some-Primary-clause-reads
-returns-in-Some-Primary-clause-reads c = λ seen before reads some goes come grown.
-    let block = c.in-Some-Primary.block in
+pub returns-in-Primary-clause-reads : goal.returns-in-Primary-clause-reads
+returns-in-Primary-clause-reads c = λ seen before reads some goes come grown.
+    let block = c.in-Primary.block in
     let ended : ending c.args.scan.now ≡ PrimaryOf (viewed_primary block) block.check block.end ∷ [] =
-    sym c.ended_block-ended.ensures.block ∙ ap viewed_blocks c.in-Some-Primary.is
-    ∙ ap (λ view. viewed_block view ∷ []) (rw c.in-Some-Primary.is at c.in-Some-Primary.field-0-is) in
+    sym c.in-Some.ensures.block ∙ ap (λ view. viewed_block view ∷ []) c.in-Primary.is in
     record {
       reading = c.follow.ensures.reads seen before reads.reading goes come grown;
       history = history_begins seen c.args.run.now c.begin.result (viewed_primary block) block.check
           block.end (grown ∙ ap (λ new. blocks_in seen ++ new) ended) c.begin.ensures;
     }
 
-pub returns-in-Some-clause-reads : goal.returns-in-Some-clause-reads
-returns-in-Some-clause-reads c = λ seen before reads some goes come grown.
-    let block = c.in-Some-Canonical.block in
+pub returns-in-Some-history-clause-reads : goal.returns-in-Some-history-clause-reads
+returns-in-Some-history-clause-reads c = λ seen before reads some goes come grown.
+    let block = c.in-Canonical.block in
     let now = seen ++ c.args.run.now in
     let ended : ending c.args.scan.now ≡ CanonicalOf block ∷ [] =
-    sym c.ended_block-ended.ensures.block ∙ ap viewed_blocks c.in-Some-Canonical.is
-    ∙ ap (λ view. viewed_block view ∷ []) (rw c.in-Some-Canonical.is at c.in-Some-Canonical.field-0-is) in
+    sym c.in-Some.ensures.block ∙ ap (λ view. viewed_block view ∷ []) c.in-Canonical.is in
     let more : blocks_in now ≡ blocks_in seen ++ CanonicalOf block ∷ [] =
     grown ∙ ap (λ new. blocks_in seen ++ new) ended in
     let reading = c.follow.ensures.reads seen before reads.reading goes come grown in
     let within = lies_within now (blocks_in seen) block more in
     record {
       reading = reading;
-      history = history_adds seen c.args.run.now block more c.in-Some.history c.add.new.history some
-          (rw c.in-Some.is at reads.history)
+      history = history_adds seen c.args.run.now block more c.in-Some-history.history c.add.new.history some
+          (rw c.in-Some-history.is at reads.history)
           (λ bundle remembers flags. c.add.ensures bundle now remembers (reading.flags ∙ sym flags)
           (omega (arith, within, before, length-append seen c.args.run.now))
           (c.follow.ensures.whole seen block before reads.reading goes grown ended));
     }
 
-pub returns-in_default-clause-reads : goal.returns-in_default-clause-reads
-returns-in_default-clause-reads c = λ seen before reads some goes come grown.
-    let block = c.in-Some-Canonical.block in
+pub returns-in_default-history-clause-reads : goal.returns-in_default-history-clause-reads
+returns-in_default-history-clause-reads c = λ seen before reads some goes come grown.
+    let block = c.in-Canonical.block in
     let ended : ending c.args.scan.now ≡ CanonicalOf block ∷ [] =
-    sym c.ended_block-ended.ensures.block ∙ ap viewed_blocks c.in-Some-Canonical.is
-    ∙ ap (λ view. viewed_block view ∷ []) (rw c.in-Some-Canonical.is at c.in-Some-Canonical.field-0-is) in
+    sym c.in-Some.ensures.block ∙ ap (λ view. viewed_block view ∷ []) c.in-Canonical.is in
     record {
       reading = c.follow.ensures.reads seen before reads.reading goes come grown;
-      history = rw c.in_default.is (history_none seen c.args.run.now block
-          (grown ∙ ap (λ new. blocks_in seen ++ new) ended) (rw c.in_default.is at reads.history));
+      history = rw c.in_default-history.is (history_none seen c.args.run.now block
+          (grown ∙ ap (λ new. blocks_in seen ++ new) ended) (rw c.in_default-history.is at reads.history));
     }
 
-pub returns-in-None-clause-reads : goal.returns-in-None-clause-reads
-returns-in-None-clause-reads c = λ seen before reads some goes come grown.
+pub returns-in_default-clause-reads : goal.returns-in_default-clause-reads
+returns-in_default-clause-reads c = λ seen before reads some goes come grown.
     let none : ending c.args.scan.now ≡ [] =
-    sym c.ended_block-ended.ensures.block ∙ ap viewed_blocks c.in-None.is in
+    sym c.ended_block.ensures.block ∙ ap viewed_blocks c.in_default.is in
+    let same : blocks_in (seen ++ c.args.run.now) ≡ blocks_in seen =
+    grown ∙ ap (λ new. blocks_in seen ++ new) none ∙ append-nil (blocks_in seen) in
     record {
-      reading = c.follow.ensures.reads seen before reads.reading goes come grown;
-      history = history_same seen c.args.run.now c.args.self.now.history
-          (grown ∙ ap (λ new. blocks_in seen ++ new) none ∙ append-nil (blocks_in seen)) reads.history;
+      reading = c.follow_cut.ensures.reads seen before reads.reading goes come same;
+      history = history_same seen c.args.run.now c.args.self.now.history same reads.history;
     }

@@ -1,14 +1,36 @@
+use Rattle.std.proofs.Common.{refl, sym, ap, ◌∙◌}
 use Rattle.link_message_rules.specs.Heads.{viewed_head, messages_of}
+use Rattle.link_message_rules.specs.Remembered.{ends_of, so_far_of}
 use Rattle.link_message_rules.proofs.Pushes.{messages_of-push}
+use Rattle.link_message_rules.proofs.Unchanged.{same_initiated, same_keepalives, same_run, same_ack, same_segments}
 use Rattle.link_message_rules.proofs.history.MessageHistory.take.Goals as goal
 
-pub returns : goal.returns
-returns c before at =
-    let pushed = messages_of-push before (viewed_head c.args.head.now) in
+pub returns-in-Segment : goal.returns-in-Segment
+returns-in-Segment c before at =
+    let head = viewed_head c.args.head.now in
+    let earlier = messages_of before in
+    let pushed = messages_of-push before head in
+    let is = c.in-Segment.is in
     record {
-      initiated = rw pushed (c.initiated_after-self.ensures (messages_of before) at.initiated);
-      keepalives = rw pushed (c.after-self.ensures (messages_of before) at.keepalives);
-      run = rw pushed (c.run_after-self.ensures (messages_of before) at.run);
-      ack = rw pushed (c.ack_after-self.ensures (messages_of before) at.ack);
+      initiated = rw pushed (at.initiated ∙ sym (same_initiated earlier head.message (rw is refl)));
+      keepalives = rw pushed (at.keepalives
+          ∙ sym (same_keepalives earlier head.message (rw is refl) (rw is refl)));
+      run = rw pushed (c.run_after-self.ensures earlier at.run);
+      ack = rw pushed (at.ack ∙ sym (same_ack earlier head.message (rw is refl)));
       transfer = c.so_far_after-self.ensures before at.transfer;
+    }
+
+pub returns-in-Ack : goal.returns-in-Ack
+returns-in-Ack c before at =
+    let head = viewed_head c.args.head.now in
+    let earlier = messages_of before in
+    let pushed = messages_of-push before head in
+    let is = c.in-Ack.is in
+    record {
+      initiated = rw pushed (at.initiated ∙ sym (same_initiated earlier head.message (rw is refl)));
+      keepalives = rw pushed (at.keepalives
+          ∙ sym (same_keepalives earlier head.message (rw is refl) (rw is refl)));
+      run = rw pushed (at.run ∙ ap ends_of (sym (same_run earlier head.message (rw is refl))));
+      ack = rw pushed (c.ack_after-self.ensures earlier at.ack);
+      transfer = at.transfer ∙ ap so_far_of (sym (same_segments before head (rw is refl)));
     }
