@@ -6,3 +6,4 @@ pub mod Extensions
 pub mod Security
 pub mod BundleRules
 pub mod Remembered
+pub mod Kept

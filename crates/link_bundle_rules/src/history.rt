@@ -54,11 +54,13 @@ pub struct BundleHistory {
 }
 
 impl BundleHistory {
-    ghost use Rattle.std.specs.Prelude.{◌≡◌, ◌^◌, ◌<◌, [], length, Option, option_map, IfSome};
+    ghost use Rattle.std.specs.Prelude.{◌≡◌, ◌^◌, ◌<◌, true, [], length, Option, option_map, IfSome};
     ghost use Rattle.link_bundle_blocks.specs.Blocks.{viewed_primary};
     ghost use Rattle.link_bundle_rules.specs.BundleRules.{broken_bundle_rules};
     ghost use Rattle.link_bundle_rules.specs.ReadBundle.{ReadBundle, viewed_read_block, with_block, malformed_at};
+    ghost use Rattle.link_bundle_rules.specs.Kept.{KeepsPrimaryRules, KeepsBlockRules, KeepsDataRules};
     ghost use Rattle.link_bundle_rules.specs.Remembered.{Remembers};
+    ghost use Rattle.link_bundle_rules.specs.Security.{is_hidden};
 
     /// The history of a bundle whose primary block is whole.
     pub fn begin(primary: &PrimaryBlock<'_>) -> BundleHistory
@@ -84,6 +86,68 @@ impl BundleHistory {
         self.flags.take(read);
         self.extensions.take(read);
         self.security.take(read);
+    }
+
+    /// Whether the bundle is known to break no rule, if it is good and all its blocks came. This takes
+    /// less time than its rules.
+    ///
+    /// `first_long_head` and `payload_length` are as for [`BundleHistory::rules`].
+    pub fn keeps_rules(&self, first_long_head: Option<u64>, payload_length: u64) -> bool
+        ensures { (bundle : ReadBundle) → Remembers self.now bundle
+            → length bundle.blocks < 2 ^ 64
+            → bundle.long_head ≡ first_long_head → bundle.payload_length ≡ payload_length
+            → result ≡ true → broken_bundle_rules bundle ≡ [] }
+    {
+        if first_long_head.is_some() {
+            return false;
+        }
+        if !self.keeps_primary_rules(payload_length) {
+            return false;
+        }
+        if !self.keeps_block_rules() {
+            return false;
+        }
+        self.keeps_data_rules(self.security.is_hidden())
+    }
+
+    /// Whether the primary block and the length of the payload break no rule.
+    #[inline(always)]
+    fn keeps_primary_rules(&self, payload_length: u64) -> bool
+        ensures { (bundle : ReadBundle) → Remembers self.now bundle
+            → bundle.payload_length ≡ payload_length → result ≡ true → KeepsPrimaryRules bundle }
+    {
+        self.primary.bundle_flags().is_none()
+            && self.security.primary_check(&self.primary).is_none()
+            && self.primary.anonymous().is_none()
+            && self.primary.record_reports().is_none()
+            && self.primary.dtn_name().is_none()
+            && self.primary.fragment(payload_length).is_none()
+    }
+
+    /// Whether the blocks break no rule, by their types, numbers, flags and targets.
+    #[inline(always)]
+    fn keeps_block_rules(&self) -> bool
+        ensures { (bundle : ReadBundle) → Remembers self.now bundle
+            → length bundle.blocks < 2 ^ 64 → result ≡ true → KeepsBlockRules bundle }
+    {
+        self.flags.block_reports(&self.primary).is_none()
+            && self.flags.block_flags().is_none()
+            && self.extensions.age(&self.primary).is_none()
+            && self.extensions.previous_node().is_none()
+            && self.security.confidential_primary().is_none()
+    }
+
+    /// Whether the data of the blocks breaks no rule. `hidden` is whether it may be encrypted.
+    #[inline(always)]
+    fn keeps_data_rules(&self, hidden: bool) -> bool
+        ensures { (bundle : ReadBundle) → Remembers self.now bundle
+            → length bundle.blocks < 2 ^ 64 → hidden ≡ is_hidden bundle.blocks
+            → result ≡ true → KeepsDataRules bundle }
+    {
+        self.extensions.hop_count(hidden).is_none()
+            && self.extensions.hops(hidden).is_none()
+            && self.extensions.block_data(hidden).is_none()
+            && self.extensions.administrative_record(hidden).is_none()
     }
 
     /// The rules that the bundle breaks, in order, if it is good and all its blocks came.

@@ -1,16 +1,20 @@
 //! What the rules for a bundle need of its bytes.
 
-ghost use Rattle.std.specs.Prelude.{◌≡◌, ◌+◌, ◌^◌, ◌≤◌, ◌<◌, ◌++◌, true, List, [], ℕ, length};
+ghost use Rattle.std.specs.Prelude.{◌≡◌, ◌+◌, ◌^◌, ◌≤◌, ◌<◌, ◌&&◌, ◌++◌, true, List, [], ℕ, length, map, OnOk};
 ghost use Rattle.link_blocks.specs.BlockLines.{found_in};
 ghost use Rattle.link_blocks.specs.DataReader.{IsReadingBlock, read_size};
 ghost use Rattle.link_bundle_rules.specs.ReadBundle.{ReadBundle, with_block};
 ghost use Rattle.link_bundle_rules.specs.Remembered.{Remembers};
 
+use crate::lines::write_rules;
 use link_blocks::DataReader;
 use link_bundle::{BlockView, BundleScan, CanonicalBlock};
 use link_bundle_rules::{BrokenBundleRules, BundleHistory, ReadBlockView};
 use link_cbor::Piecewise;
+use link_rule_report::BundlePlace;
 use link_rules::HeadWalk;
+use link_run::Writers;
+use link_wire::{IoFault, OutDevice};
 
 /// Reads one bundle after another, as far as the rules for bundles need it.
 ///
@@ -45,6 +49,9 @@ impl BundleReader {
     ghost use Rattle.link_rules.specs.Heads.{first_indefinite};
     ghost use Rattle.link_check.specs.BundleReader.{IsReadingBlocks, IsReadingBundle, data_size};
     ghost use Rattle.link_check.specs.BundleRules.{bundle_rules};
+    ghost use Rattle.link_check.specs.Lines.{at_offset, lines_of, none_counts};
+    ghost use Rattle.link_rule_report.specs.declared.rule.BrokenRule.TheVariants.{Bundle};
+    ghost use Rattle.link_run.specs.Writers.{AfterWrite, on_output};
 
     /// Makes a reader for the first bundle.
     pub(crate) fn new() -> BundleReader
@@ -145,8 +152,22 @@ impl BundleReader {
         self.heads.first_indefinite()
     }
 
+    /// Whether the bundle is known to break no rule, if it is good, whole and has a payload of this
+    /// length.
+    #[inline(always)]
+    fn keeps_rules(&self, payload: u64) -> bool
+        ensures { (content : List ℕ) (info : BundleInfo) → IsReadingBundle self.now content
+            → length content < 2 ^ 63 → payload ≡ info.payload
+            → result ≡ true → bundle_rules content info ≡ [] }
+    {
+        match &self.history {
+            Some(history) => history.keeps_rules(self.heads.first_long(), payload),
+            None => true,
+        }
+    }
+
     /// The rules that the bundle breaks, if it is good, whole and has a payload of this length.
-    pub(crate) fn rules(&self, payload: u64) -> BrokenBundleRules
+    fn rules(&self, payload: u64) -> BrokenBundleRules
         ensures { (content : List ℕ) (info : BundleInfo) → IsReadingBundle self.now content
             → length content < 2 ^ 63 → payload ≡ info.payload
             → result.items ≡ bundle_rules content info }
@@ -155,5 +176,34 @@ impl BundleReader {
             Some(history) => history.rules(self.heads.first_long(), payload),
             None => BrokenBundleRules::new(),
         }
+    }
+
+    /// Writes the lines of the rules that the bundle breaks, if it is good, whole and has a payload of
+    /// this length. Most bundles break none.
+    ///
+    /// `must` is whether only rules of level `must` count. If one counts, `good` becomes false.
+    pub(crate) fn write_rules<W: OutDevice, E: OutDevice>(
+        &self,
+        must: bool,
+        offset: u64,
+        place: BundlePlace,
+        payload: u64,
+        writers: &mut Writers<W, E>,
+        good: &mut bool,
+    ) -> Result<(), IoFault>
+        ensures gives { (content : List ℕ) (info : BundleInfo) → IsReadingBundle self.now content
+            → length content < 2 ^ 63 → payload ≡ info.payload
+            → AfterWrite W.state E.state writers.old writers.new (on_output (lines_of must
+            (at_offset offset (map (λ rule. Bundle place rule) (bundle_rules content info))))) result }
+        ensures good { (content : List ℕ) (info : BundleInfo) → IsReadingBundle self.now content
+            → length content < 2 ^ 63 → payload ≡ info.payload
+            → OnOk result (good.new ≡ (good.old && none_counts must
+            (at_offset offset (map (λ rule. Bundle place rule) (bundle_rules content info))))) }
+    {
+        if self.keeps_rules(payload) {
+            return Ok(());
+        }
+        let rules = self.rules(payload);
+        write_rules(must, offset, place, rules.as_slice(), writers, good)
     }
 }

@@ -7,7 +7,6 @@ ghost use Rattle.link_check.specs.BundleReader.{data_size};
 ghost use Rattle.link_check.specs.Bundles.{bundle_check_tool};
 
 use crate::bundle::BundleReader;
-use crate::lines::write_rules;
 use link_bundle::BundleScan;
 use link_bundle_walk::{BundleConsumer, BundleWalkRun, WholeView, bundle_walk_run};
 use link_rule_report::BundlePlace;
@@ -93,16 +92,10 @@ impl BundleChecker {
             → OnOk result (KnowsBundles must self.new
             (between (now.bundles ++ record { bytes = now.begun; info = info } ∷ []))) }
     {
-        let rules = self.bundle.rules(payload);
         let place = BundlePlace::Input(number);
-        let written = write_rules(
-            must,
-            self.offset,
-            place,
-            rules.as_slice(),
-            writers,
-            &mut self.good,
-        );
+        let written =
+            self.bundle
+                .write_rules(must, self.offset, place, payload, writers, &mut self.good);
         self.offset = self.offset.saturating_add(self.size);
         self.bundle.restart();
         self.scan.restart();

@@ -154,8 +154,8 @@ impl CheckedTransfer {
         match self.judge.scan.view() {
             Ok(info) => {
                 let place = BundlePlace::Transfer(id);
-                let rules = self.bundle.rules(info.payload);
-                write_rules(must, self.offset, place, rules.as_slice(), writers, good)
+                self.bundle
+                    .write_rules(must, self.offset, place, info.payload, writers, good)
             }
             Err((fault, byte)) => {
                 let rule = data_rule(fault, byte, self.bundle.first_indefinite());

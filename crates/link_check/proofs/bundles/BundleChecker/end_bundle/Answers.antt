@@ -1,5 +1,6 @@
-use Rattle.std.proofs.Common.{◌∙◌, subst, refl, arith}
+use Rattle.std.proofs.Common.{refl, subst, arith}
 use Rattle.link_run.specs.Writers.{AfterWrite, on_output}
+use Rattle.link_check.specs.BundleRules.{bundle_rules}
 use Rattle.link_check.specs.Lines.{lines_of}
 use Rattle.link_check.proofs.BundleTexts.{found_broken, knows_ended}
 use Rattle.link_check.proofs.bundles.BundleChecker.end_bundle.Goals as goal
@@ -10,18 +11,14 @@ returns-clause-gives g c = λ now info knows sized payload.
     (λ broken. AfterWrite g.W.OutDevice.state g.E.OutDevice.state c.args.writers.now
     c.write_rules-written.new.writers (on_output (lines_of c.args.must broken))
     c.write_rules-written.result)
-    (found_broken c.args.must now info c.args.number c.args.self.now.offset c.as_slice.result.now
-    knows.offset
-    (c.as_slice.ensures.value
-    ∙ c.rules-rules.ensures now.begun info knows.reading (omega arith) payload))
-    c.write_rules-written.ensures.gives
+    (found_broken c.args.must now info c.args.number c.args.self.now.offset
+    (bundle_rules now.begun info) knows.offset refl)
+    (c.write_rules-written.ensures.gives now.begun info knows.reading (omega arith) payload)
 
 pub returns-clause-follows : goal.returns-clause-follows
 returns-clause-follows g c = λ now info knows sized payload numbered.
-    knows_ended c.args.must now info c.args.number c.args.self.now.offset c.as_slice.result.now
-    knows.offset
-    (c.as_slice.ensures.value
-    ∙ c.rules-rules.ensures now.begun info knows.reading (omega arith) payload)
+    knows_ended c.args.must now info c.args.number c.args.self.now.offset
+    (bundle_rules now.begun info) knows.offset refl
     _ c.args.self.now.good c.write_rules-written.result numbered knows.good
-    c.write_rules-written.ensures.good (omega (arith, knows.offset, knows.size)) refl
-    c.restart-2.ensures.seen c.restart.ensures.reads
+    (c.write_rules-written.ensures.good now.begun info knows.reading (omega arith) payload)
+    (omega (arith, knows.offset, knows.size)) refl c.restart-2.ensures.seen c.restart.ensures.reads

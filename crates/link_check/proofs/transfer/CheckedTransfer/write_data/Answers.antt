@@ -14,28 +14,30 @@ use Rattle.link_check.proofs.transfer.CheckedTransfer.write_data.Goals as goal
 
 -- the rules of a good bundle are those that were written
 good_are : (g : _) (c : goal.After-write_rules g) (begun : Begun) → IsChecking c.args.self.now begun
-    → at_offset c.args.self.now.offset
-    (map (λ rule. Bundle (place.Transfer c.args.self.now.judge.id) rule) c.as_slice.result.now)
+    → at_offset c.args.self.now.offset (map
+    (λ rule. Bundle (place.Transfer c.args.self.now.judge.id) rule)
+    (bundle_rules begun.content (viewed_info c.in-Ok.info)))
     ≡ at_offset begun.offset (data_rules begun.first.id begun.content (verdict begun.content))
 good_are g c begun checks =
     let judge = c.args.self.now.judge in
     let judged = checks.judging.judged in
     let is : verdict begun.content ≡ Ok (viewed_info c.in-Ok.info) =
     sym (c.in-Ok.ensures.seen judged.seen judged.scanned ∙ verdict_judged judge.scan begun.content judged) in
-    rw is (same_rules c.args.self.now.offset begun.offset _ _ c.as_slice.result.now _ checks.offset
-    (ap (λ id rule. Bundle (place.Transfer id) rule) checks.judging.id)
-    (c.as_slice.ensures.value ∙ c.rules-rules.ensures begun.content (viewed_info c.in-Ok.info)
-    checks.reading (omega (arith, checks.judging.size, judge.limit)) refl))
+    rw is (same_rules c.args.self.now.offset begun.offset _ _
+    (bundle_rules begun.content (viewed_info c.in-Ok.info)) _ checks.offset
+    (ap (λ id rule. Bundle (place.Transfer id) rule) checks.judging.id) refl)
 
 pub returns-in-Ok-clause-gives : goal.returns-in-Ok-clause-gives
 returns-in-Ok-clause-gives g c = λ begun checks.
     rw (good_are g c begun checks)
-    at c.write_rules.ensures.gives
+    at (c.write_rules.ensures.gives begun.content (viewed_info c.in-Ok.info) checks.reading
+    (omega (arith, checks.judging.size, c.args.self.now.judge.limit)) refl)
 
 pub returns-in-Ok-clause-good : goal.returns-in-Ok-clause-good
 returns-in-Ok-clause-good g c = λ begun checks.
     rw (good_are g c begun checks)
-    at c.write_rules.ensures.good
+    at (c.write_rules.ensures.good begun.content (viewed_info c.in-Ok.info) checks.reading
+    (omega (arith, checks.judging.size, c.args.self.now.judge.limit)) refl)
 
 -- the rule of data that is no bundle is the one that was written
 bad_are : (g : _) (c : goal.After-write_rules-in-Err g) (begun : Begun) → IsChecking c.args.self.now begun
