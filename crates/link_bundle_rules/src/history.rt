@@ -88,8 +88,9 @@ impl BundleHistory {
         self.security.take(read);
     }
 
-    /// Whether the bundle is known to break no rule, if it is good and all its blocks came. This takes
-    /// less time than its rules.
+    /// Whether the bundle is known to break no rule, if it is good and all its blocks came.
+    ///
+    /// This takes less time than its rules.
     ///
     /// `first_long_head` and `payload_length` are as for [`BundleHistory::rules`].
     pub fn keeps_rules(&self, first_long_head: Option<u64>, payload_length: u64) -> bool

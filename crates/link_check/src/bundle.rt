@@ -178,8 +178,9 @@ impl BundleReader {
         }
     }
 
-    /// Writes the lines of the rules that the bundle breaks, if it is good, whole and has a payload of
-    /// this length. Most bundles break none.
+    /// Writes the lines of the rules that the bundle breaks, if it is good and whole.
+    ///
+    /// Most bundles break none. `payload` is the number of bytes of the payload.
     ///
     /// `must` is whether only rules of level `must` count. If one counts, `good` becomes false.
     pub(crate) fn write_rules<W: OutDevice, E: OutDevice>(
