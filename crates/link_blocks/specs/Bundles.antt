@@ -23,9 +23,9 @@ bundle_lines number (bundle ∷ more) = whole_lines number bundle ++ bundle_line
 abbrev pub bundle_limit : ℕ
 bundle_limit = 2 ^ 64 - 1
 
--- What `blocks --bundles` says of bundles, and of the bytes `begun` of the next one. These have the
--- lines of their whole blocks, also if a fault follows them. The report has no line but that of the
--- fault that stops the run.
+-- What `blocks --bundles` says of bundles, and of the bytes `begun` of the next one. For the bytes
+-- `begun`, the output has the lines of the blocks that are whole in them, even if a fault follows
+-- these blocks. The report has no line but that of the fault that stops the run.
 abbrev pub bundle_blocks_telling : BundleTelling
 bundle_blocks_telling = record {
   limit = bundle_limit;

@@ -16,6 +16,7 @@ impl BundleScan {
     /// Takes the next bytes of a piece, until a block ends or no more bytes are needed.
     ///
     /// Returns how many it took, at least one. The scan needs more bytes, and the piece has some.
+    #[inline(always)]
     pub fn feed_block(&mut self, piece: &[u8]) -> usize
         requires may_step { IsTrue (may_scan self.old) }
         requires may_take { MayAdvance self.old piece.now }

@@ -17,7 +17,8 @@ FaultLasts =
     (bytes more : List ℕ) (fault : BundleFault) (offset : ℕ) → IsTrue (lasts fault) →
     verdict bytes ≡ Err (fault, offset) → verdict (bytes ++ more) ≡ Err (fault, offset)
 
--- a bundle with a byte after it is the fault of trailing bytes, at the bundle's length
+-- if a byte follows a whole bundle, the verdict is the fault of trailing bytes, at the bundle's
+-- length
 abbrev pub TrailingLasts : Type 0
 TrailingLasts =
     (bytes more : List ℕ) (byte : ℕ) (info : BundleInfo) →
@@ -38,7 +39,7 @@ PayloadPlaced =
     payload_of (judged_bundle (bytes ++ more)) ≡ Some (offset, size)
     → payload_in bytes ≡ take size (drop offset bytes)
 
--- once the bytes do not end inside a bundle, no more bytes of the payload come
+-- after the bundle's end, or after a fault that lasts, the payload gets no more bytes
 abbrev pub PayloadEnds : Type 0
 PayloadEnds =
     (bytes more : List ℕ) →
@@ -49,7 +50,7 @@ abbrev pub BlocksGrow : Type 0
 BlocksGrow =
     (bytes more : List ℕ) → (new : List Block) × (blocks_in (bytes ++ more) ≡ blocks_in bytes ++ new)
 
--- once the bytes do not end inside a bundle, no more blocks come
+-- after the bundle's end, or after a fault that lasts, no more blocks are added
 abbrev pub BlocksEnd : Type 0
 BlocksEnd =
     (bytes more : List ℕ) → bundle_goes bytes ≡ false → blocks_in (bytes ++ more) ≡ blocks_in bytes

@@ -6,12 +6,12 @@ ghost use Rattle.link_bundle_blocks.specs.Laws.{FaultLasts, TrailingLasts, Paylo
 /// How the verdict on some bytes lasts when more bytes follow.
 ///
 /// - A fault stays the same, at the same offset, unless it is that the bytes end inside the bundle.
-/// - A bundle with a byte after it is the fault of trailing bytes, at the bundle's length, whatever
-///   follows.
+/// - If a byte follows a whole bundle, the verdict is the fault of trailing bytes, at the bundle's
+///   length, whatever comes after that byte.
 /// - Once the offset of the payload and its length by its head are known, they stay the same.
 /// - This offset and this length also determine which bytes of the payload a prefix of the bytes
 ///   has.
-/// - Once the bytes do not end inside the bundle, no more bytes of the payload come.
+/// - After the bundle's end, or after a fault that stays, the payload gets no more bytes.
 pub fn verdict_lasts()
     ensures fault { FaultLasts }
     ensures trailing { TrailingLasts }
@@ -23,7 +23,7 @@ pub fn verdict_lasts()
 /// How the blocks among some bytes last when more bytes follow.
 ///
 /// - More bytes leave the whole blocks as they are, and may add some.
-/// - Once the bytes do not end inside a bundle, no more blocks come.
+/// - After the bundle's end, or after a fault that stays, no more blocks are added.
 /// - The whole blocks lie within the bytes.
 /// - The next canonical block is the one that the bytes cut short, or its data begins after them.
 pub fn blocks_last()

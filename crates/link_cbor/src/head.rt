@@ -20,8 +20,7 @@ impl Head {
 
     /// Reads the head at the start of the bytes, and returns it with its length in bytes.
     ///
-    /// Returns `None` if the bytes end inside the head, and if no well-formed head begins with
-    /// them.
+    /// Returns `None` if the bytes end inside the head, or if they begin with no well-formed head.
     // Inlined: most heads are one byte, and reading such a head should cost no call.
     #[inline(always)]
     pub fn front(bytes: &[u8]) -> Option<(Head, usize)>

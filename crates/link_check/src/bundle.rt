@@ -183,6 +183,7 @@ impl BundleReader {
     /// Most bundles break none. `payload` is the number of bytes of the payload.
     ///
     /// `must` is whether only rules of level `must` count. If one counts, `good` becomes false.
+    #[inline(always)]
     pub(crate) fn write_rules<W: OutDevice, E: OutDevice>(
         &self,
         must: bool,
@@ -204,6 +205,29 @@ impl BundleReader {
         if self.keeps_rules(payload) {
             return Ok(());
         }
+        self.write_broken(must, offset, place, payload, writers, good)
+    }
+
+    /// Writes the lines of the rules that the bundle breaks, whether or not it breaks any.
+    #[inline(never)]
+    fn write_broken<W: OutDevice, E: OutDevice>(
+        &self,
+        must: bool,
+        offset: u64,
+        place: BundlePlace,
+        payload: u64,
+        writers: &mut Writers<W, E>,
+        good: &mut bool,
+    ) -> Result<(), IoFault>
+        ensures gives { (content : List ℕ) (info : BundleInfo) → IsReadingBundle self.now content
+            → length content < 2 ^ 63 → payload ≡ info.payload
+            → AfterWrite W.state E.state writers.old writers.new (on_output (lines_of must
+            (at_offset offset (map (λ rule. Bundle place rule) (bundle_rules content info))))) result }
+        ensures good { (content : List ℕ) (info : BundleInfo) → IsReadingBundle self.now content
+            → length content < 2 ^ 63 → payload ≡ info.payload
+            → OnOk result (good.new ≡ (good.old && none_counts must
+            (at_offset offset (map (λ rule. Bundle place rule) (bundle_rules content info))))) }
+    {
         let rules = self.rules(payload);
         write_rules(must, offset, place, rules.as_slice(), writers, good)
     }

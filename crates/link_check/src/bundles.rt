@@ -93,9 +93,9 @@ impl BundleChecker {
             (between (now.bundles ++ record { bytes = now.begun; info = info } ∷ []))) }
     {
         let place = BundlePlace::Input(number);
-        let written =
-            self.bundle
-                .write_rules(must, self.offset, place, payload, writers, &mut self.good);
+        let written = self
+            .bundle
+            .write_rules(must, self.offset, place, payload, writers, &mut self.good);
         self.offset = self.offset.saturating_add(self.size);
         self.bundle.restart();
         self.scan.restart();

@@ -67,7 +67,8 @@ fn bundles_in_place(rt: HostRuntime) -> Result<(), Fail> {
     Ok(())
 }
 
-/// Checks that a prefix of a bundle is a fault, and that only the start of a session is written.
+/// Checks that a prefix of a bundle leads to a fault, and that only the start of a session is
+/// written.
 fn prefix_given(alloc: Global, session: &[u8], prefix: &[u8]) -> Result<(), Fail> {
     let size = prefix.len();
     let report = format!(in alloc;

@@ -92,7 +92,8 @@ fn has_nonzero(words: &[u64]) -> bool
 
 /// The words after the first `known` ones.
 ///
-/// A caller of a later version has words that this version does not know. 0 is the default of each.
+/// A caller of a later version may pass numbers of options that this version does not know. The
+/// default of each such option is 0.
 fn words_after(words: &[u64], known: usize) -> &[u64]
     ensures { result.now ≡ drop known words.now }
 {

@@ -38,7 +38,8 @@ pub extern "C" fn tcpclkit_raw_list(
     run_job(Job::List, bytes, wants, output, report, answer)
 }
 
-/// `unpack`. The words are the options, in the order of the header, as many as the caller has.
+/// `unpack`. `options` has a number for each option that the caller's version of the header has, in
+/// the order of the header.
 #[unsafe(no_mangle)]
 pub extern "C" fn tcpclkit_raw_unpack(
     bytes: &[u8],
@@ -67,7 +68,8 @@ pub extern "C" fn tcpclkit_raw_unpack(
     run_job(Job::Unpack(wanted), bytes, wants, output, report, answer)
 }
 
-/// `blocks`. The words are the options, in the order of the header, as many as the caller has.
+/// `blocks`. `options` has a number for each option that the caller's version of the header has, in
+/// the order of the header.
 #[unsafe(no_mangle)]
 pub extern "C" fn tcpclkit_raw_blocks(
     bytes: &[u8],
@@ -96,7 +98,8 @@ pub extern "C" fn tcpclkit_raw_blocks(
     run_job(job, bytes, wants, output, report, answer)
 }
 
-/// `check`. The words are the options, in the order of the header, as many as the caller has.
+/// `check`. `options` has a number for each option that the caller's version of the header has, in
+/// the order of the header.
 #[unsafe(no_mangle)]
 pub extern "C" fn tcpclkit_raw_check(
     bytes: &[u8],
@@ -125,7 +128,8 @@ pub extern "C" fn tcpclkit_raw_check(
     run_job(job, bytes, wants, output, report, answer)
 }
 
-/// `pack`. The words are the options, in the order of the header, as many as the caller has.
+/// `pack`. `options` has a number for each option that the caller's version of the header has, in
+/// the order of the header.
 #[unsafe(no_mangle)]
 pub extern "C" fn tcpclkit_raw_pack(
     alloc: Global,

@@ -13,13 +13,3 @@ pub returns-then-keeps_rules-clause-good : goal.returns-then-keeps_rules-clause-
 returns-then-keeps_rules-clause-good g c = λ content info reads room payload.
     rw (c.keeps_rules.ensures content info reads room payload c.if-keeps_rules.true)
     (sym (ap (λ b. c.args.good.now && b) (none_count c.args.must) ∙ and-true c.args.good.now))
-
-pub returns-clause-gives : goal.returns-clause-gives
-returns-clause-gives g c = λ content info reads room payload.
-    rw (c.as_slice.ensures.value ∙ c.rules-rules.ensures content info reads room payload)
-    at c.write_rules.ensures.gives
-
-pub returns-clause-good : goal.returns-clause-good
-returns-clause-good g c = λ content info reads room payload.
-    rw (c.as_slice.ensures.value ∙ c.rules-rules.ensures content info reads room payload)
-    at c.write_rules.ensures.good
