@@ -1,25 +1,22 @@
 -- What is kept after more events, and what is said of them.
-use Rattle.std.proofs.Common.{◌≡◌, ℕ, ◌+◌, ◌≤◌, ◌⊎◌, inl, inr, Bool, true, false, not, ◌&&◌, ◌==◌, is_some, List, [], ◌∷◌, ◌++◌, length, map, Option, Some, None, option_map, Result, Ok, Err, OnOk, if◌then◌else◌, refl, ap, sym, ◌∙◌, ⊎_elim, append-nil, append_assoc, arith}
+use Rattle.std.proofs.Common.{◌≡◌, ℕ, ◌+◌, ◌≤◌, ◌⊎◌, inl, inr, Bool, true, false, ◌&&◌, ◌==◌, List, [], ◌∷◌, ◌++◌, length, Option, Some, None, option_map, Result, OnOk, if◌then◌else◌, refl, ap, sym, ◌∙◌, ⊎_elim, append-nil, append_assoc, arith}
 use Rattle.std.proofs.Math.Bool.{and-true}
 use Rattle.std.proofs.lemmas.Grind.{fold-append}
 use Rattle.link_wire.specs.Codes.{is_start}
 use Rattle.link_wire.specs.Device.{Output}
 use Rattle.link_wire.specs.Message.{data_length}
 use Rattle.link_wire.specs.declared.IoFault.{IoFault}
-use Rattle.link_wire.specs.declared.message.Message.{Message}
 use Rattle.link_wire.specs.declared.message.Message.TheVariants as message
 use Rattle.link_wire.specs.declared.message.SegmentHead.{SegmentHead}
-use Rattle.link_transfer.specs.declared.joiner.Turn.{Turn}
-use Rattle.link_run.specs.Run.{Texts, no_texts, ◌then◌}
+use Rattle.link_run.specs.Run.{no_texts, ◌then◌}
 use Rattle.link_run.specs.Writers.{on_output, AfterWrite}
 use Rattle.link_run.specs.declared.writers.Writers.{Writers}
-use Rattle.link_run.proofs.Runs.{texts_as, then_none}
+use Rattle.link_run.proofs.Runs.{then_none}
 use Rattle.link_walk.specs.Saying.{kept_after, said_from, keeps_telling}
 use Rattle.link_walk.specs.Telling.{ComesAfter, Tells, data_ends}
-use Rattle.link_walk.specs.Walk.{Head, WalkEvent, MessageHead, Data, Whole, closes, is_last, is_beginning, open_with, open_after_event, data_size, has_open}
+use Rattle.link_walk.specs.Walk.{Head, WalkEvent, MessageHead, Data, closes, is_last, is_beginning, open_with, open_after_event, data_size, has_open}
 use Rattle.link_unpack.proofs.Effects.{Does, Strays, Passes, Begins, Continues, comes_does}
-use Rattle.link_unpack.proofs.Told.{size_then, open_then, size_with_data, open_with_data}
-use Rattle.link_message_rules.specs.Heads.{JudgedHead}
+use Rattle.link_unpack.proofs.Told.{size_then, open_then, size_with_data}
 use Rattle.link_message_rules.specs.Remembered.{Remembers}
 use Rattle.link_rule_report.specs.declared.line.RuleText.{RuleText}
 use Rattle.link_check.specs.Checker.{IsAtLatest, IsChecking, KnowsChecked, closed_due, kept_of}

@@ -1,7 +1,7 @@
 -- Relations: what is kept of the bundles of an input.
-use Rattle.std.specs.Prelude.{◌≡◌, Bool, List, length}
+use Rattle.std.specs.Prelude.{◌≡◌, Bool, length}
 use Rattle.link_bundle.specs.Scan.{HasJudged}
-use Rattle.link_bundle_walk.specs.Bundles.{Packed, size_of}
+use Rattle.link_bundle_walk.specs.Bundles.{size_of}
 use Rattle.link_bundle_walk.specs.Telling.{SoFar}
 use Rattle.link_check.specs.BundleReader.{IsReadingBundle}
 use Rattle.link_check.specs.Bundles.{broken_bundles}

@@ -1,12 +1,12 @@
 -- What a message does not change of a history.
-use Rattle.std.proofs.Common.{◌≡◌, false, List, [], ◌∷◌, ◌++◌, Option, None, filter_map, refl, ap, ◌∙◌}
+use Rattle.std.proofs.Common.{◌≡◌, false, List, [], ◌∷◌, ◌++◌, None, refl}
 use Rattle.link_wire.specs.declared.message.Message.{Message}
 use Rattle.link_transfer.specs.Event.{event_of}
 use Rattle.link_transfer.specs.Order.{is_sess_init, has_sess_init}
 use Rattle.link_message_rules.specs.Heads.{JudgedHead, segment_of, start_id, is_keepalive, disables_keepalive}
-use Rattle.link_message_rules.specs.Lengths.{ack_of, first_of, last_ack, segments_of}
+use Rattle.link_message_rules.specs.Lengths.{ack_of, last_ack, segments_of}
 use Rattle.link_message_rules.specs.Remembered.{keepalives_of}
-use Rattle.link_message_rules.specs.TransferIds.{descending, last_run}
+use Rattle.link_message_rules.specs.TransferIds.{last_run}
 use Rattle.link_message_rules.specs.declared.session.Keepalives.{Keepalives}
 use Rattle.link_message_rules.specs.declared.session.Keepalives.TheVariants.{Enabled, Disabled, SentDisabled}
 use Rattle.link_message_rules.proofs.Disabling.{next_state, keepalives_of-push}

@@ -1,5 +1,5 @@
 -- Rules of flags (RFC 9174). Only flags that are defined may be set.
-use Rattle.std.specs.Prelude.{ℕ, Bool, not, ◌&&◌, ◌==◌, find, option_map, Option, Some, None, if◌then◌else◌, bit_and}
+use Rattle.std.specs.Prelude.{ℕ, not, ◌&&◌, ◌==◌, find, option_map, Option, Some, None, if◌then◌else◌, bit_and}
 use Rattle.std.specs.List.{enumerate_from}
 use Rattle.link_wire.specs.declared.message.Contact.{Contact}
 use Rattle.link_wire.specs.declared.message.Item.{Item}

@@ -1,6 +1,4 @@
-use Rattle.std.proofs.Common.{◌≡◌, List, ◌++◌, sym, ap, ◌∙◌, subst}
-use Rattle.link_run.specs.Run.{AfterRun, Devices, Tool, Wait, looks}
-use Rattle.link_check.proofs.checker.check.Given.{Over}
+use Rattle.std.proofs.Common.{◌++◌, ap, ◌∙◌}
 use Rattle.link_check.proofs.checker.check.Goals as goal
 
 pub returns : goal.returns

@@ -1,4 +1,4 @@
-use Rattle.std.proofs.Common.{◌≡◌, ◌&&◌, ◌++◌, not, map, take, Ok, Err, ap, sym, ◌∙◌, arith}
+use Rattle.std.proofs.Common.{◌&&◌, ◌++◌, not, map, take, Ok, Err, ap, sym, ◌∙◌, arith}
 use Rattle.std.proofs.Math.Bool.{and-true}
 use Rattle.link_run.specs.Writers.{on_output}
 use Rattle.link_run.proofs.Runs.{outputs_then, part_of_more, writes_none}

@@ -1,5 +1,4 @@
-use Rattle.std.proofs.Common.{◌≡◌, ◌&&◌, List, map, take, Ok}
-use Rattle.link_rule_report.specs.declared.line.RuleText.{RuleText}
+use Rattle.std.proofs.Common.{◌≡◌, ◌&&◌, map, take, Ok}
 use Rattle.link_run.specs.Writers.{AfterWrite, on_output}
 use Rattle.link_check.specs.Lines.{at_offset, lines_of, none_counts}
 use Rattle.link_check.proofs.lines.write_rules.Given as goal

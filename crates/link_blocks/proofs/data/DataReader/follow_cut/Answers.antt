@@ -1,4 +1,4 @@
-use Rattle.std.proofs.Common.{◌≡◌, [], ◌++◌, Option, Some, refl, sym, ◌∙◌, append-nil, arith}
+use Rattle.std.proofs.Common.{◌≡◌, [], ◌++◌, Option, Some, sym, ◌∙◌, append-nil, arith}
 use Rattle.link_bundle_blocks.specs.Bundle.{blocks_in, cut_block_in}
 use Rattle.link_bundle_blocks.specs.declared.block.CanonicalBlock.{CanonicalBlock}
 use Rattle.link_blocks.proofs.Reading.{placed, read_on}

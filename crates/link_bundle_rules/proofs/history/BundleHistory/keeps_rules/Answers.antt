@@ -1,4 +1,4 @@
-use Rattle.std.proofs.Common.{◌≡◌, Bool, false, None, Some, Option, is_some, ℕ, refl, sym, ◌∙◌}
+use Rattle.std.proofs.Common.{◌≡◌, false, None, Some, Option, is_some, ℕ, refl, sym, ◌∙◌}
 use Rattle.link_bundle_rules.specs.BundleRules.{long_head, broken_bundle_rules}
 use Rattle.link_bundle_rules.specs.ReadBundle.{ReadBundle}
 use Rattle.link_bundle_rules.proofs.history.BundleHistory.keeps_rules.Goals as goal

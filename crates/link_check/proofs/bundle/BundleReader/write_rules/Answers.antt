@@ -1,4 +1,4 @@
-use Rattle.std.proofs.Common.{◌≡◌, ◌&&◌, sym, ap, ◌∙◌}
+use Rattle.std.proofs.Common.{◌&&◌, sym, ap, ◌∙◌}
 use Rattle.std.proofs.Math.Bool.{and-true}
 use Rattle.link_run.proofs.Runs.{writes_none}
 use Rattle.link_check.proofs.Appends.{no_lines, none_count}

@@ -1,4 +1,4 @@
-use Rattle.std.proofs.Common.{◌≡◌, ℕ, Bool, Option, Some, ◌+◌, ◌<◌, ◌≤◌, ◌^◌, ◌&&◌, ◌++◌, ◌∷◌, [], length, List, map, true, false, option_map, Err, refl, ap, sym, ◌∙◌, arith}
+use Rattle.std.proofs.Common.{◌≡◌, Bool, Option, Some, ◌+◌, ◌<◌, ◌≤◌, ◌^◌, ◌&&◌, ◌++◌, ◌∷◌, [], length, List, map, true, option_map, Err, refl, ap, sym, ◌∙◌, arith}
 use Rattle.std.proofs.lemmas.Bool.{false≢true}
 use Rattle.link_message_rules.specs.MessageRules.{broken_rules}
 use Rattle.link_message_rules.specs.Remembered.{Remembers}
@@ -7,7 +7,7 @@ use Rattle.link_rule_report.specs.declared.rule.BrokenRule.TheVariants.{Message}
 use Rattle.link_run.specs.Writers.{on_output}
 use Rattle.link_run.proofs.Runs.{outputs_then, part_of_more}
 use Rattle.link_walk.specs.Telling.{ComesAfter, data_ends, viewed_head}
-use Rattle.link_walk.specs.Walk.{Head, WalkEvent, ContactHeader, LeftOpen, MessageHead, closes, data_size, has_open, is_beginning}
+use Rattle.link_walk.specs.Walk.{Head, WalkEvent, ContactHeader, LeftOpen, MessageHead, closes, has_open, is_beginning}
 use Rattle.link_check.specs.Checker.{IsAtLatest, KnowsChecked, closed_due, kept_of}
 use Rattle.link_check.specs.Checking.{Begun, begun_by, broken_by, judged, open_rules, rules_at, with_bytes}
 use Rattle.link_check.specs.Lines.{at_offset, lines_of, none_counts}

@@ -1,8 +1,7 @@
-use Rattle.std.proofs.Common.{◌≡◌, List, [], ◌∷◌, length, map, Some, Ok, Err, refl, sym, ap, ◌∙◌, arith}
+use Rattle.std.proofs.Common.{◌≡◌, [], ◌∷◌, map, Ok, Err, refl, sym, ap, ◌∙◌, arith}
 use Rattle.link_bundle_types.specs.BundleView.{viewed_info}
 use Rattle.link_bundle_blocks.specs.Bundle.{verdict}
 use Rattle.link_bundle.proofs.Pieces.{verdict_judged}
-use Rattle.link_message_rules.specs.TransferData.{data_rule}
 use Rattle.link_rule_report.specs.declared.rule.BrokenRule.TheVariants.{Bundle, Transfer}
 use Rattle.link_rule_report.specs.declared.rule.BundlePlace.TheVariants as place
 use Rattle.link_check.specs.BundleRules.{bundle_rules}
