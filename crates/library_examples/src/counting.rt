@@ -53,6 +53,8 @@ impl Consumer for Counting {
                 whole
             }
             EventView::Contact(_) => false,
+            // This comes only to a tool that is told of every head.
+            EventView::Inner { .. } => false,
             EventView::LeftOpen => false,
         };
         writers.write_output(&line_if(whole, self.size))

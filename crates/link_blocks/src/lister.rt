@@ -77,6 +77,8 @@ impl Consumer for BlockLister {
                 }
                 tell_order(head.offset, head.fault, writers, &mut self.good)
             }
+            // This comes only to a tool that is told of every head.
+            EventView::Inner { .. } => Ok(()),
             EventView::Data { bytes, whole } => {
                 if let Err(fault) = self.latest.take(options, bytes, writers) {
                     return Err(fault);

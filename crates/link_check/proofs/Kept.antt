@@ -8,7 +8,8 @@ use Rattle.link_wire.specs.Message.{data_length}
 use Rattle.link_wire.specs.declared.IoFault.{IoFault}
 use Rattle.link_wire.specs.declared.message.Message.TheVariants as message
 use Rattle.link_wire.specs.declared.message.SegmentHead.{SegmentHead}
-use Rattle.link_run.specs.Run.{no_texts, ◌then◌}
+use Rattle.link_run.specs.Run.{Texts, no_texts, ◌then◌}
+use Rattle.link_transfer.specs.declared.joiner.Turn.TheVariants.{Continue}
 use Rattle.link_run.specs.Writers.{on_output, AfterWrite}
 use Rattle.link_run.specs.declared.writers.Writers.{Writers}
 use Rattle.link_run.proofs.Runs.{then_none}
@@ -20,12 +21,17 @@ use Rattle.link_unpack.proofs.Told.{size_then, open_then, size_with_data}
 use Rattle.link_message_rules.specs.Remembered.{Remembers}
 use Rattle.link_rule_report.specs.declared.line.RuleText.{RuleText}
 use Rattle.link_check.specs.Checker.{IsAtLatest, IsChecking, KnowsChecked, closed_due, kept_of}
-use Rattle.link_check.specs.Checking.{Begun, Kept, begun_by, broken_by, check_telling, checking, closed_rules, kept_with, none_kept, rules_at, with_bytes}
+use Rattle.link_check.specs.Checking.{Begun, Kept, begun_by, broken_by, check_telling, checking, closed_rules, head_rules, judged, kept_with, none_kept, rules_at, with_bytes}
 use Rattle.link_check.specs.Lines.{lines_of, none_counts}
 use Rattle.link_check.specs.declared.checker.Checker.{Checker}
 use Rattle.link_check.specs.declared.options.CheckOptions.{CheckOptions}
 use Rattle.link_check.specs.declared.transfer.CheckedTransfer.{CheckedTransfer}
 use Rattle.link_check.proofs.Appends.{no_lines, none_count}
+
+-- a head that begins no transfer leaves the latest one as it is
+begun_same : (head : Head) (read : Option Begun) → is_beginning head.turn ≡ false
+    → begun_by head read ≡ read
+begun_same head read none = rw none refl
 
 -- ---- events, one after another
 
@@ -174,6 +180,80 @@ module _ (options : CheckOptions) (before : List WalkEvent) where
           };
         }
 
+  -- ---- an inner segment
+
+  module _ (head : Head) (turn : head.turn ≡ Some (Continue false)) (bytes : List ℕ) where
+    abbrev broken : List RuleText
+    broken = head_rules options was.heads head
+
+    closes_none : closes head ≡ false
+    closes_none = ap (λ t. is_last t && (data_length head.message == 0)) turn
+
+    inner_broken : broken_by options was (MessageHead head) ≡ broken
+    inner_broken =
+        ap (λ closing. broken ++ closed_due closing (begun_by head was.latest)) closes_none
+        ∙ append-nil broken
+
+    -- the head neither begins a transfer nor closes one
+    abbrev at_inner : Kept
+    at_inner = record {
+      heads = was.heads ++ judged head ∷ [];
+      latest = was.latest;
+      good = was.good && none_counts options.must broken;
+    }
+
+    inner_kept : kept_with options was (MessageHead head) ≡ at_inner
+    inner_kept =
+        ap (λ (latest : Option Begun). record {
+          heads = was.heads ++ judged head ∷ [];
+          latest = latest;
+          good = was.good && none_counts options.must (broken_by options was (MessageHead head));
+        }) (begun_same head was.latest (ap is_beginning turn))
+        ∙ ap (λ (rules : List RuleText). record {
+          heads = was.heads ++ judged head ∷ [];
+          latest = was.latest;
+          good = was.good && none_counts options.must rules;
+        }) inner_broken
+
+    pub inner_said : on_output (lines_of options.must broken)
+        ≡ said_from (checking options) was (MessageHead head ∷ data_ends bytes false)
+    inner_said =
+        let next = kept_with options was (MessageHead head) in
+        let first = on_output (lines_of options.must broken) in
+        sym (ap (λ (rules : List RuleText). on_output (lines_of options.must rules)
+        then said_from (checking options) next (data_ends bytes false)) inner_broken
+        ∙ ap (λ (more : Texts). first then more)
+        (sym (data_said_from bytes false next) ∙ ap on_output (no_lines options.must))
+        ∙ then_none first)
+
+    pub known_inner : (now : Checker) (begun : Begun) → was.latest ≡ Some begun
+        → now.latest.judge.size ≤ data_size before + length bytes
+        → now.good ≡ (was.good && none_counts options.must broken)
+        → Remembers now.history (was.heads ++ judged head ∷ [])
+        → IsChecking now.latest (with_bytes bytes begun)
+        → KnowsChecked options now (before ++ MessageHead head ∷ data_ends bytes false)
+    known_inner now begun is size good history checks =
+                let parts = append_assoc before (MessageHead head ∷ []) (data_ends bytes false) in
+        let kept = kept_then (MessageHead head ∷ data_ends bytes false)
+            ∙ data_kept bytes false (kept_with options was (MessageHead head))
+            ∙ ap (with_data bytes false) inner_kept in
+        record {
+          size = omega (
+            arith,
+            ap data_size parts,
+            size_with_data (before ++ MessageHead head ∷ []) bytes false,
+            size_then before (MessageHead head),
+          );
+          good = good ∙ sym (good_same (was.good && none_counts options.must broken))
+              ∙ sym (ap (λ (k : Kept). k.good) kept);
+          history = rw kept history;
+          at_open = λ opened. record {
+            begun = with_bytes bytes begun;
+            is = ap (λ (k : Kept). k.latest) kept ∙ ap (option_map (with_bytes bytes)) is;
+            checks = checks;
+          };
+        }
+
 -- ---- a head
 
 -- The latest transfer was read, also after a head, if the head begins it or it was open before.
@@ -183,10 +263,6 @@ IsRead now latest begins opened = (begins ≡ true) ⊎ (opened ≡ true) → Is
 
 module _ (before : List WalkEvent) (head : Head) (comes : ComesAfter before head)
     (read : Option Begun) (old now : CheckedTransfer) where
-  -- a head that begins no transfer changes nothing
-  begun_same : is_beginning head.turn ≡ false → begun_by head read ≡ read
-  begun_same none = rw none refl
-
   pub read_after : (has_open before ≡ true → IsAtLatest old read)
       → ((first : SegmentHead) → is_beginning head.turn ≡ true
       → head.message ≡ message.Segment first → is_start first.flags ≡ true
@@ -197,7 +273,7 @@ module _ (before : List WalkEvent) (head : Head) (comes : ComesAfter before head
     where
       passes : is_beginning head.turn ≡ false
           → IsRead now (begun_by head read) (is_beginning head.turn) (has_open before)
-      passes none = rw (begun_same none, same none) (λ some. at (⊎_elim
+      passes none = rw (begun_same head read none, same none) (λ some. at (⊎_elim
           (λ begins. absurd (cc (sym none ∙ begins)))
           (λ opened. opened) some))
 

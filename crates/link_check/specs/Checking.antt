@@ -88,14 +88,19 @@ begun_by head latest =
 abbrev pub with_bytes : (bytes : List ℕ) → Begun → Begun
 with_bytes bytes begun = record begun { content = begun.content ++ bytes }
 
+-- the rules that a head breaks after these heads
+abbrev pub head_rules : CheckOptions → (before : List JudgedHead) → Head → List RuleText
+head_rules options before head =
+    at_offset head.offset
+    (map (λ rule. Message rule) (broken_rules options.peer before (judged head)))
+
 -- The rules that are broken with one more event. A head breaks its own, and may close a transfer
 -- that has no more data.
 abbrev pub broken_by : CheckOptions → Kept → WalkEvent → List RuleText
 broken_by options kept (ContactHeader contact) =
     at_offset 0 (map (λ rule. Message rule) (optional (contact_flags contact)))
 broken_by options kept (MessageHead head) =
-    at_offset head.offset
-    (map (λ rule. Message rule) (broken_rules options.peer kept.heads (judged head)))
+    head_rules options kept.heads head
     ++ (if closes head then rules_at closed_rules (begun_by head kept.latest) else [])
 broken_by options kept (Data byte) = []
 broken_by options kept Whole = rules_at closed_rules kept.latest

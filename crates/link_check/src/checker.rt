@@ -1,6 +1,6 @@
 //! `check`: the lines of the rules that a recorded stream breaks.
 
-ghost use Rattle.std.specs.Prelude.{◌≡◌, ◌&&◌, true, false, [], List, OnOk, Option, map};
+ghost use Rattle.std.specs.Prelude.{◌≡◌, ◌&&◌, true, false, [], ◌∷◌, ◌++◌, List, OnOk, Option, map};
 ghost use Rattle.link_wire.specs.MessageBuffer.{SegmentHasTotals};
 ghost use Rattle.link_message_rules.specs.Flags.{contact_flags};
 ghost use Rattle.link_message_rules.specs.Heads.{JudgedHead, viewed_head};
@@ -9,8 +9,9 @@ ghost use Rattle.link_message_rules.specs.Remembered.{Remembers};
 ghost use Rattle.link_rule_report.specs.declared.rule.BrokenRule.TheVariants.{Message};
 ghost use Rattle.link_run.specs.Run.{AfterRun, devices_at, looks};
 ghost use Rattle.link_run.specs.Writers.{AfterWrite, on_output};
+ghost use Rattle.link_walk.specs.Telling.{viewed_head as told_head};
 ghost use Rattle.link_check.specs.Checker.{IsAtLatest, KnowsChecked, closed_due};
-ghost use Rattle.link_check.specs.Checking.{Begun, check_telling, check_tool, optional};
+ghost use Rattle.link_check.specs.Checking.{Begun, check_telling, check_tool, head_rules, judged, optional};
 ghost use Rattle.link_check.specs.Lines.{at_offset, lines_of, none_counts};
 ghost use Rattle.link_check.specs.declared.options.CheckOptions.{CheckOptions};
 
@@ -19,7 +20,7 @@ use crate::options::CheckOptions;
 use crate::transfer::CheckedTransfer;
 use link_message_rules::{JudgedHeadView, MessageHistory, contact_flags};
 use link_run::{Run, RunEnd, Writers};
-use link_walk::{Consumer, EventView, Manner, WalkRun, walk_run};
+use link_walk::{Consumer, EventView, HeadView, Manner, WalkRun, walk_run};
 use link_wire::{Contact, InDevice, IoFault, OutDevice};
 
 /// What is known about the messages and the transfers so far.
@@ -71,20 +72,13 @@ impl Consumer for Checker {
                 write_contact(options.must, contact, writers, &mut self.good)
             }
             EventView::Head(head) => {
-                let judged = JudgedHeadView {
-                    message: head.message,
-                    fault: head.fault,
-                    turn: head.turn,
-                };
-                let written = write_head(
+                let written = judge(
                     options,
-                    head.offset,
-                    &judged,
-                    &self.history,
+                    &head,
+                    &mut self.history,
                     writers,
                     &mut self.good,
                 );
-                self.history.take(&judged);
                 if head.begins() {
                     self.latest.begin(&head);
                 }
@@ -95,6 +89,16 @@ impl Consumer for Checker {
                     options.must,
                     head.closes(),
                     &self.latest,
+                    writers,
+                    &mut self.good,
+                )
+            }
+            EventView::Inner { head, bytes } => {
+                self.latest.take(bytes);
+                judge(
+                    options,
+                    &head,
+                    &mut self.history,
                     writers,
                     &mut self.good,
                 )
@@ -132,6 +136,36 @@ fn write_contact<W: OutDevice, E: OutDevice>(
         Some(rule) => write_rules(must, 0, (), &[rule], writers, good),
         None => Ok(()),
     }
+}
+
+/// Writes the lines of the rules that a head breaks after those of the history. Then the history
+/// has this head too.
+#[inline(always)]
+fn judge<W: OutDevice, E: OutDevice>(
+    options: &CheckOptions,
+    head: &HeadView<'_>,
+    history: &mut MessageHistory,
+    writers: &mut Writers<W, E>,
+    good: &mut bool,
+) -> Result<(), IoFault>
+    requires { SegmentHasTotals head.now.message.now }
+    ensures gives { (before : List JudgedHead) → Remembers history.old before
+        → AfterWrite W.state E.state writers.old writers.new (on_output (lines_of options.now.must
+        (head_rules options.now before (told_head head.now)))) result }
+    ensures good { (before : List JudgedHead) → Remembers history.old before
+        → OnOk result (good.new ≡ (good.old && none_counts options.now.must
+        (head_rules options.now before (told_head head.now)))) }
+    ensures history { (before : List JudgedHead) → Remembers history.old before
+        → Remembers history.new (before ++ judged (told_head head.now) ∷ []) }
+{
+    let judged = JudgedHeadView {
+        message: head.message,
+        fault: head.fault,
+        turn: head.turn,
+    };
+    let written = write_head(options, head.offset, &judged, history, writers, good);
+    history.take(&judged);
+    written
 }
 
 /// Writes the lines of the rules that a head breaks after those of the history. Most heads break

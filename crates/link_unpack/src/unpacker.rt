@@ -75,6 +75,8 @@ impl Consumer for Unpacker {
                 }
                 report(options, head.closes(), false, writers, self)
             }
+            // This comes only to a tool that is told of every head.
+            EventView::Inner { .. } => Ok(()),
             EventView::Data { bytes, whole } => {
                 let part = self.latest.take(options, bytes);
                 if let Err(fault) = writers.write_output(part) {

@@ -25,7 +25,8 @@ use Rattle.link_transfer.specs.declared.joiner.Turn.{Turn}
 use Rattle.link_transfer.specs.declared.joiner.Turn.TheVariants as turn
 use Rattle.link_transfer.proofs.Continuing.{may_continue, continues_open, joiner_stays}
 use Rattle.link_transfer.proofs.Joining.{IsJoinerAt-then, refusal-at, effect-at, taken-at}
-use Rattle.link_walk.specs.Walk.{Head, head_at, is_last, is_beginning, closes, is_plain, WalkEvent, MessageHead, Data, Whole, data_events, open_with, open_after_event, has_open, Walked, head_events, content_events, contact_events, taken_with, with_judged, with_entry_unless, with_next, none_walked, walked_of, walked, Telling}
+use Rattle.link_walk.specs.Walk.{Head, head_at, inner_head, is_last, is_beginning, closes, is_plain, WalkEvent, MessageHead, Data, Whole, data_events, open_with, open_after_event, has_open, Walked, head_events, content_events, contact_events, taken_with, with_judged, with_entry_unless, with_next, none_walked, walked_of, walked, Telling}
+use Rattle.link_walk.specs.Telling.{data_ends, inner_events}
 use Rattle.link_walk.specs.declared.consumer.Manner.{Manner}
 use Rattle.link_walk.specs.WalkRun.{stage_in, stage_by, IsWaiting, is_open_at, walked_before, IsAt}
 use Rattle.link_walk.specs.declared.walk.Stage.{Stage}
@@ -513,33 +514,39 @@ module _ (telling : Telling) (unwanted : telling.manner.all_heads ≡ false) (jo
         waits = refl;
       })
 
-  -- of an inner segment, only the data is an event
-  pub inner_comes : {reading : Reading} (mid after : Reading) (offset id : ℕ) (content : List ℕ)
-      → Comes telling stage.Message joiner reading events
-      → continuable (walked telling.manner reading).taken ≡ Some id
-      → mid ≡ with_message offset (inner_segment id (length content)) reading
-      → after ≡ with_data 0 content mid → 0 < length content
-      → Comes telling stage.Message joiner after (events ++ data_events content)
-  inner_comes {reading} mid after offset id content at is_open headed given some =
-      let sent = inner_segment id (length content) in
-      let taken = (walked telling.manner reading).taken in
-      let may : refusal taken (event_of sent) ≡ None = may_continue taken id is_open in
-      let does : effect_of taken (event_of sent) ≡ Some (turn.Continue false) =
-      continues_open taken id is_open in
-      let M : Stage → List WalkEvent → Type 0 = λ now all. Comes telling now joiner mid all in
-      let first =
-      head_comes telling joiner at offset sent joiner mid headed (λ stops. may)
-      (joiner_stays taken id is_open joiner sent refl at.has.judges) in
-      let none : events ++ head_events telling.manner.all_heads (head_at taken offset sent) ≡ events =
-      rw (may, does, unwanted) (append-nil events) in
-      let now : stage_by (effect_of taken (event_of sent)) (length content) ≡ stage.Data false =
-      ap (λ e. stage_by e (length content)) does
-      ∙ stage_some (Some (turn.Continue false)) (length content) some in
-      let Q : Reading → Type 0 = λ r. IsLeft offset (length content + 0) r.end in
-      let R : List WalkEvent → Type 0 = λ all. Comes telling stage.Message joiner after all in
-      let S : Stage → Type 0 = λ s.
-      M s (events ++ head_events telling.manner.all_heads (head_at taken offset sent)) in
-      subst R (ap (λ xs. events ++ xs) (append-nil (data_events content)))
-      (data_comes telling stage.Message (subst (M (stage.Data false)) none (subst S now first))
-      offset 0 content given some (λ e. cc) (λ more. absurd (omega arith)) (λ over. refl)
-      (subst Q (sym headed) (rw (lt-ltb 0 (length content) some) (omega arith, refl, omega arith))))
+-- an inner segment of the open transfer has come, with all of its data
+pub inner_comes : (telling : Telling) (joiner : Joiner) {events : List WalkEvent}
+    {reading : Reading} (mid after : Reading) (offset id : ℕ) (content : List ℕ)
+    → Comes telling stage.Message joiner reading events
+    → continuable (walked telling.manner reading).taken ≡ Some id
+    → mid ≡ with_message offset (inner_segment id (length content)) reading
+    → after ≡ with_data 0 content mid → 0 < length content
+    → Comes telling stage.Message joiner after (events
+    ++ inner_events telling.manner.all_heads (inner_head offset id (length content)) content)
+inner_comes telling joiner {events} {reading} mid after offset id content at is_open headed given
+    some =
+    let sent = inner_segment id (length content) in
+    let taken = (walked telling.manner reading).taken in
+    let may : refusal taken (event_of sent) ≡ None = may_continue taken id is_open in
+    let does : effect_of taken (event_of sent) ≡ Some (turn.Continue false) =
+    continues_open taken id is_open in
+    let told = head_events telling.manner.all_heads (inner_head offset id (length content)) in
+    let M : Stage → List WalkEvent → Type 0 = λ now all. Comes telling now joiner mid all in
+    let first =
+    head_comes telling joiner at offset sent joiner mid headed (λ stops. may)
+    (joiner_stays taken id is_open joiner sent refl at.has.judges) in
+    let is : head_at taken offset sent ≡ inner_head offset id (length content) =
+    rw (may, does) refl in
+    let now : stage_by (effect_of taken (event_of sent)) (length content) ≡ stage.Data false =
+    ap (λ e. stage_by e (length content)) does
+    ∙ stage_some (Some (turn.Continue false)) (length content) some in
+    let Q : Reading → Type 0 = λ r. IsLeft offset (length content + 0) r.end in
+    let R : List WalkEvent → Type 0 = λ all. Comes telling stage.Message joiner after all in
+    let H : Head → Type 0 = λ head.
+    M (stage.Data false) (events ++ head_events telling.manner.all_heads head) in
+    let S : Stage → Type 0 = λ s.
+    M s (events ++ head_events telling.manner.all_heads (head_at taken offset sent)) in
+    subst R (append_assoc events told (data_ends content false))
+    (data_comes telling stage.Message (subst H is (subst S now first))
+    offset 0 content given some (λ e. cc) (λ more. absurd (omega arith)) (λ over. refl)
+    (subst Q (sym headed) (rw (lt-ltb 0 (length content) some) (omega arith, refl, omega arith))))

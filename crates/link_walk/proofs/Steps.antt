@@ -8,7 +8,7 @@ use Rattle.link_wire.specs.Inner.{PassedInner}
 use Rattle.link_wire.specs.Limits.{longest_head}
 use Rattle.link_wire.specs.Message.{data_length}
 use Rattle.link_wire.specs.Session.{source_of, left_of, IsLeft, IsSessionAt, ReadContact, CleanEnd, ReadMessage, LoadedData, PassedBytes, with_message, with_data}
-use Rattle.link_wire.specs.Source.{Takes, ahead}
+use Rattle.link_wire.specs.Source.{Takes, ahead, given_by}
 use Rattle.link_wire.specs.Stream.{Entry, Clean, Cut, Stream, ended, with_entry, Reading, reading_of, cut_heads}
 use Rattle.link_wire.specs.Whole.{PassedQuiet}
 use Rattle.link_wire.specs.declared.IoFault.{IoFault}
@@ -21,7 +21,7 @@ use Rattle.link_transfer.specs.Order.{continuable, effect_of, with_taken}
 use Rattle.link_transfer.specs.declared.event.Event.TheVariants.{Segment}
 use Rattle.link_transfer.specs.declared.fault.OrderFault.{OrderFault}
 use Rattle.link_transfer.specs.declared.joiner.Joiner.{Joiner}
-use Rattle.link_transfer.proofs.Continuing.{continues_open}
+use Rattle.link_transfer.proofs.Continuing.{continues_open, may_continue}
 use Rattle.link_report.specs.Fault.{fault_text}
 use Rattle.link_report.specs.declared.fault.Fault.TheVariants.{Order}
 use Rattle.link_run.specs.Made.{Made, StreamStop, with_fault, whole_by, shows_fault, stop_of, tool_of}
@@ -33,8 +33,8 @@ use Rattle.link_run.proofs.Ends.{ends_unshown, made_reports, unshown_sofar}
 use Rattle.link_run.proofs.Runs.{few_over, sound_given, writer_lost, written_given}
 use Rattle.link_run.proofs.Sessions.{then_fault, part_unshown}
 use Rattle.link_run.proofs.Stands.{ends, stands_on}
-use Rattle.link_walk.specs.Telling.{Tells}
-use Rattle.link_walk.specs.Walk.{head_at, is_plain, WalkEvent, ContactHeader, MessageHead, Whole, data_events, data_size, data_size_of, has_open, Walked, walked, head_events, Telling, told_by, told_of}
+use Rattle.link_walk.specs.Telling.{ComesAfter, Tells, data_ends, inner_events}
+use Rattle.link_walk.specs.Walk.{head_at, inner_head, is_plain, WalkEvent, ContactHeader, MessageHead, Whole, data_events, data_size, data_size_of, has_open, Walked, walked, head_events, Telling, told_by, told_of}
 use Rattle.link_walk.specs.WalkRun.{Walks, WalkStands, StandsAt, StandsNext, AfterWalkStep, IsWaitingAfter, Finishes, TakesInner, most_by, next_of, stage_by}
 use Rattle.link_walk.specs.declared.walk.Next.{Next}
 use Rattle.link_walk.specs.declared.walk.Next.TheVariants as next
@@ -201,30 +201,39 @@ module _ {R C : Type 0} {look : R → Input} {telling : Telling}
           size = omega (arith, one_size false Whole refl);
         }
 
-    -- an inner segment was passed
-    pub inner_grows : {new : Session R} (id : ℕ) (content : List ℕ)
-        → continuable before.taken ≡ Some id
-        → (got : PassedInner look old new history id content)
-        → Grows look telling new stage.Message joiner history (got.read.given ++ content)
-        before.events (data_events content)
-    inner_grows {new} id content is_open got =
-        let given = got.read.given in
-        let parts = append_assoc history given content in
-        let all = before.events ++ data_events content in
-        let mid = reading_of (history ++ given) in
-        let S : List ℕ → Type 0 = IsSessionAt look new in
-        let P : List ℕ → Type 0 = λ bytes.
-        Comes telling stage.Message joiner (reading_of bytes) all in
-        record {
-          were = refl;
-          few = walks.size;
-          at = subst S parts got.gave.at;
-          comes = subst P parts
-              (inner_comes telling unwanted joiner mid (reading_of ((history ++ given) ++ content))
-              got.offset id content (told_at walks.at) is_open got.read.reading
-              (got.gave.reading ∙ ap (λ n. with_data n content mid) got.none) got.some);
-          size = omega (arith, data_size-data content, length-append given content);
-        }
+  -- an inner segment was passed
+  pub inner_grows : {new : Session R} (id : ℕ) (content : List ℕ)
+      → continuable before.taken ≡ Some id
+      → (got : PassedInner look old new history id content)
+      → Grows look telling new stage.Message joiner history (got.read.given ++ content)
+      before.events
+      (inner_events telling.manner.all_heads (inner_head got.offset id (length content)) content)
+  inner_grows {new} id content is_open got =
+      let given = got.read.given in
+      let parts = append_assoc history given content in
+      let head = inner_head got.offset id (length content) in
+      let told = head_events telling.manner.all_heads head in
+      let all = before.events ++ (told ++ data_ends content false) in
+      let mid = reading_of (history ++ given) in
+      let S : List ℕ → Type 0 = IsSessionAt look new in
+      let P : List ℕ → Type 0 = λ bytes.
+      Comes telling stage.Message joiner (reading_of bytes) all in
+      record {
+        were = refl;
+        few = walks.size;
+        at = subst S parts got.gave.at;
+        comes = subst P parts
+            (inner_comes telling joiner mid (reading_of ((history ++ given) ++ content))
+            got.offset id content (told_at walks.at) is_open got.read.reading
+            (got.gave.reading ∙ ap (λ n. with_data n content mid) got.none) got.some);
+        size = omega (
+          arith,
+          data_size-append told (data_ends content false),
+          one_size (telling.manner.all_heads || not (is_plain head)) (MessageHead head) refl,
+          told_size (stage.Data false) 0 content,
+          length-append given content,
+        );
+      }
 
 -- ---- what was told of them
 
@@ -472,20 +481,23 @@ module _ {R W E C : Type 0} (look : Looks R W E) (telling : Telling)
         stands = subst P (sym (append-nil history)) (stood, at);
       }
 
-  -- one more is taken
-  pub turn_taken : (unwanted : telling.manner.all_heads ≡ false) (old new : Session R)
-      (before after : Writers W E) (consumer later : C) (id : ℕ) (content : List ℕ)
+  -- One more is taken. Its head is at the next offset, and comes after the events so far.
+  pub turn_taken : (old new : Session R) (before after : Writers W E) (consumer later : C)
+      (offset id : ℕ) (content : List ℕ) → offset ≡ given_by (source_of old)
       → HasTaken old before consumer (next.Stage stage.Message)
       → ((taken : List Message) → IsJoinerAt joiner taken → Some id ≡ continuable taken)
       → ((history : List ℕ) → IsSessionAt look.input old history
       → PassedInner look.input old new history id content)
       → (result : Result (Unit {0}) IoFault)
-      → ((events : List WalkEvent) → knows consumer events → has_open events ≡ true
-      → data_size events + length content < 2 ^ 63
-      → Tells look.output look.report telling (knows later) events (data_events content) before
-      after result)
+      → ((events : List WalkEvent) → knows consumer events
+      → ComesAfter events (inner_head offset id (length content))
+      → has_open events ≡ true → data_size events + length content < 2 ^ 63
+      → Tells look.output look.report telling (knows later) events
+      (inner_events telling.manner.all_heads (inner_head offset id (length content)) content)
+      before after result)
       → HasTaken new after later (next_of stage.Message result)
-  turn_taken unwanted old new before after consumer later id content kept opened passes result tells =
+  turn_taken old new before after consumer later offset id content is kept opened passes result
+      tells =
       λ start history stood at.
       let so_far = kept start history stood at in
       let here = history ++ so_far.given in
@@ -501,9 +513,15 @@ module _ {R W E C : Type 0} (look : Looks R W E) (telling : Telling)
       let within = (source_of new).within in
       let given = got.gave.at.at.given in
       let some = got.some in
+      let here_is : offset ≡ got.offset =
+      is ∙ walks.session_at.at.given ∙ sym got.read.offset_is in
       let N : List ℕ → Type 0 = λ bytes.
       StandsNext look start telling knows new after joiner later bytes
       (next_of stage.Message result) in
+      let T : ℕ → Type 0 = λ n.
+      Tells look.output look.report telling (knows later) had.events
+      (inner_events telling.manner.all_heads (inner_head n id (length content)) content)
+      before after result in
       record {
         given = so_far.given ++ more;
         takes = Takes-then look.input (source_of first) (source_of old) (source_of new) so_far.given
@@ -511,8 +529,13 @@ module _ {R W E C : Type 0} (look : Looks R W E) (telling : Telling)
         stands = subst N (append_assoc history so_far.given more)
             (told_next knows old before so_far.stands.0 takes
             (omega (arith, length-append got.read.given content))
-            (inner_grows walks unwanted id content is_open got) after later result
-            (tells had.events walks.at.known
+            (inner_grows walks id content is_open got) after later result
+            (subst T here_is (tells had.events walks.at.known
+            (record {
+              taken = had.taken;
+              is = rw (may_continue had.taken id is_open, continues_open had.taken id is_open) refl;
+              opened = walks.at.opened;
+            })
             (walks.at.opened
             ∙ continues_some had.taken (Segment 0 id) false (continues_open had.taken id is_open))
             (omega (
@@ -522,5 +545,5 @@ module _ {R W E C : Type 0} (look : Looks R W E) (telling : Telling)
               given,
               length-append (here ++ got.read.given) content,
               length-append here got.read.given,
-            ))));
+            )))));
       }

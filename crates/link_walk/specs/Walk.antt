@@ -2,6 +2,7 @@
 -- A tool over transfers says something of each event.
 use Rattle.std.specs.Prelude.{ℕ, ◌+◌, Bool, true, false, not, ◌&&◌, ◌||◌, ◌==◌, is_some, List, [], ◌∷◌, ◌++◌, map, length, Option, Some, None, if◌then◌else◌}
 use Rattle.std.specs.List.{fold}
+use Rattle.link_wire.specs.Inner.{inner_segment}
 use Rattle.link_wire.specs.Message.{data_length}
 use Rattle.link_wire.specs.Stream.{Entry, End, Reading, reading_of, heads_of}
 use Rattle.link_wire.specs.declared.message.Contact.{Contact}
@@ -34,6 +35,18 @@ head_at before offset message = record {
   fault = refusal before (event_of message);
   turn = effect_of before (event_of message);
 }
+
+-- the head of a message that is a segment in the middle of the open transfer
+abbrev pub continuing : (offset : ℕ) → Message → Head
+continuing offset message = record {
+  offset = offset;
+  message = message;
+  fault = None;
+  turn = Some (turn.Continue false);
+}
+
+abbrev pub inner_head : (offset id size : ℕ) → Head
+inner_head offset id size = continuing offset (inner_segment id size)
 
 -- whether the message is the last segment of its transfer
 abbrev pub is_last : Option Turn → Bool

@@ -26,6 +26,9 @@ pub enum EventView<'a> {
     /// The head of a message has come. It may abandon the open transfer, begin one, or end one that
     /// has no more data.
     Head(HeadView<'a>),
+    /// A segment in the middle of the open transfer has come: its head, and then all of its data.
+    /// Only a tool that is told of every head is told of it in this way.
+    Inner { head: HeadView<'a>, bytes: &'a [u8] },
     /// Data of the open transfer has come. `whole` is whether this was the last of it.
     Data { bytes: &'a [u8], whole: bool },
     /// The stream has ended between two messages, and a transfer is still open.
@@ -56,7 +59,7 @@ pub trait Consumer: Sized {
     ) -> Result<(), IoFault>
         requires { HasTotals event }
         ensures { (before : List WalkEvent) → knows options.now self.old before
-            → MayCome before event.entry
+            → MayCome (telling options.now).manner before event.entry
             → Tells W.state E.state (telling options.now) (knows options.now self.new) before
             (viewed_events event.entry) writers.old writers.new result };
 

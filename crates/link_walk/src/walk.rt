@@ -202,7 +202,7 @@ fn stride_message<R: InDevice, W: OutDevice, E: OutDevice, C: Consumer>(
     if ready == 0 {
         return next;
     }
-    take_on(last, ready, options, input, writers, walker)
+    take_on(last, ready, options, input, writers, message, walker)
 }
 
 /// Passes over the quiet messages in the window if a message comes next. Returns what comes next.

@@ -7,8 +7,16 @@ impl<R: InDevice, W: OutDevice, E: OutDevice> Input<Session<R>, W, E> {
     ghost use Rattle.std.specs.Prelude.{◌≡◌, ◌<◌, ℕ, List, length, IfSome, None, IsTrue};
     ghost use Rattle.link_wire.specs.Inner.{IsInner, inner_bytes, PassedInner};
     ghost use Rattle.link_wire.specs.Session.{source_of, may_read, is_opened, HasStopped, IsSessionAt};
-    ghost use Rattle.link_wire.specs.Source.{window_of};
+    ghost use Rattle.link_wire.specs.Source.{given_by, window_of};
     ghost use Rattle.link_run.specs.Reading.{inner_of, Unread};
+
+    /// The number of bytes given, which is the offset of the next byte.
+    #[inline(always)]
+    pub fn given(&self) -> u64
+        ensures { result ≡ given_by (source_of (inner_of self.now)) }
+    {
+        self.inner.given()
+    }
 
     /// The data of the next message, if this is an inner segment of this transfer that has data,
     /// and all of it is in the window, as [`Session::inner_data`] returns it.

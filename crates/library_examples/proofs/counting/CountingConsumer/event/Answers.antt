@@ -1,11 +1,13 @@
-use Rattle.std.proofs.Common.{◌≡◌, ℕ, ◌+◌, ◌-◌, ◌^◌, ◌≤◌, min, Bool, true, false, List, [], ◌∷◌, length, if◌then◌else◌, refl, ap, ◌∙◌, append-nil, arith}
+use Rattle.std.proofs.Common.{◌≡◌, ℕ, ◌+◌, ◌-◌, ◌^◌, ◌≤◌, min, Bool, true, false, List, [], ◌∷◌, length, if◌then◌else◌, refl, ap, ◌∙◌, subst, append-nil, arith}
+use Rattle.std.proofs.lemmas.Bool.{false≢true}
 use Rattle.link_run.specs.Writers.{on_output}
 use Rattle.link_walk.specs.Walk.{WalkEvent, is_beginning}
-use Rattle.link_walk.specs.Telling.{data_ends, viewed_events}
+use Rattle.link_walk.specs.Telling.{MayCome, data_ends, viewed_events}
+use Rattle.link_walk.specs.declared.consumer.EventView.{EventView}
 use Rattle.link_walk.specs.Saying.{kept_after, keeps_telling, said_from}
 use Rattle.library_examples.specs.Counting.{line_if, sizes}
 use Rattle.library_examples.proofs.counting.CountingConsumer.event.Goals as goal
-use Rattle.library_examples.proofs.counting.CountingConsumer.event.Goals.{in-Contact, in-Head, then-begins, else-begins, in-Data, in-LeftOpen}
+use Rattle.library_examples.proofs.counting.CountingConsumer.event.Goals.{in-Contact, in-Head, then-begins, else-begins, in-Data, in-Inner, in-LeftOpen}
 
 -- this is said of these events, and this is the size after them
 abbrev Counts : ℕ → List WalkEvent → Bool → ℕ → Type 0
@@ -39,6 +41,9 @@ returns g c = λ before known may.
       | in-Data w ↦ rw (w.in-Data.is, w.self-is, w.whole-is)
           (data_counts w.in-Data.bytes.now w.in-Data.whole now _ (omega arith)
           w.saturating_add-self.ensures)
+      | in-Inner w ↦
+          let M : EventView → Type 0 = MayCome (record { goes_on = true; all_heads = false }) before in
+          absurd (false≢true (subst M w.in-Inner.is may).told)
       | in-LeftOpen w ↦ rw (w.in-LeftOpen.is, w.self-is, w.whole-is) (refl, refl)
     ] in
     keeps_telling sizes _ _ _ before _ _ _ now _ _ _ known c.write_output.ensures.gives

@@ -167,6 +167,9 @@ returns-in_default-show_end g c = rw c.in-Head.is (λ before knows comes.
     ) refl)
     (rw latest begun.at))))
 
+pub returns-in-Inner : goal.returns-in-Inner
+returns-in-Inner g c = rw c.in-Inner.is (λ before knows comes. absurd (false≢true comes.told))
+
 -- ---- data
 
 pub returns-in-Err-take : goal.returns-in-Err-take

@@ -1,4 +1,4 @@
-use Rattle.std.proofs.Common.{◌≡◌, Bool, Option, Some, ◌+◌, ◌<◌, ◌≤◌, ◌^◌, ◌&&◌, ◌++◌, ◌∷◌, [], length, List, map, true, option_map, Err, refl, ap, sym, ◌∙◌, arith}
+use Rattle.std.proofs.Common.{◌≡◌, Bool, Option, Some, ◌+◌, ◌<◌, ◌≤◌, ◌^◌, ◌&&◌, ◌++◌, ◌∷◌, [], length, List, map, true, false, option_map, Err, refl, ap, sym, ◌∙◌, arith}
 use Rattle.std.proofs.lemmas.Bool.{false≢true}
 use Rattle.link_message_rules.specs.MessageRules.{broken_rules}
 use Rattle.link_message_rules.specs.Remembered.{Remembers}
@@ -9,13 +9,13 @@ use Rattle.link_run.proofs.Runs.{outputs_then, part_of_more}
 use Rattle.link_walk.specs.Telling.{ComesAfter, data_ends, viewed_head}
 use Rattle.link_walk.specs.Walk.{Head, WalkEvent, ContactHeader, LeftOpen, MessageHead, closes, has_open, is_beginning}
 use Rattle.link_check.specs.Checker.{IsAtLatest, KnowsChecked, closed_due, kept_of}
-use Rattle.link_check.specs.Checking.{Begun, begun_by, broken_by, judged, open_rules, rules_at, with_bytes}
+use Rattle.link_check.specs.Checking.{Begun, begun_by, broken_by, head_rules, judged, open_rules, rules_at, with_bytes}
 use Rattle.link_check.specs.Lines.{at_offset, lines_of, none_counts}
 use Rattle.link_check.specs.declared.checker.Checker.{Checker}
 use Rattle.link_check.specs.declared.options.CheckOptions.{CheckOptions}
 use Rattle.link_check.proofs.Appends.{and_assoc, counts_append, lines_append}
 use Rattle.link_check.proofs.Closed.{on_ok_by}
-use Rattle.link_check.proofs.Kept.{IsRead, closes_read, data_said, known_data, known_one, opens_read, read_after, said_one, tells}
+use Rattle.link_check.proofs.Kept.{IsRead, closes_read, data_said, inner_said, known_data, known_inner, known_one, opens_read, read_after, said_one, tells}
 use Rattle.link_check.proofs.checker.CheckerConsumer.event.Given.{Over}
 use Rattle.link_check.proofs.checker.CheckerConsumer.event.Goals as goal
 use Rattle.link_check.proofs.checker.CheckerConsumer.event.Goals.{After-close, then-begins, else-begins}
@@ -41,8 +41,7 @@ returns-in-Contact g c = rw c.in-Contact.is (λ before knows none.
 module _ (options : CheckOptions) (before : List WalkEvent) (head : Head) where
   -- the rules that the head breaks, and those of the transfer that it closes
   abbrev own : List RuleText
-  own = at_offset head.offset (map (λ rule. Message rule)
-      (broken_rules options.peer (kept_of options before).heads (judged head)))
+  own = head_rules options (kept_of options before).heads head
 
   abbrev latest : Option Begun
   latest = begun_by head (kept_of options before).latest
@@ -69,13 +68,13 @@ record AtHead (now old : Checker) (written : Bool) (options : CheckOptions) (bef
 at_head : (g : Over) (c : After-close g) (before : List WalkEvent)
     → KnowsChecked c.args.options.now c.args.self.now before
     → ComesAfter before (viewed_head c.in-Head.head)
-    → AtHead c.if-begins.self c.args.self.now c.write_head-written.new.good c.args.options.now before (viewed_head c.in-Head.head)
+    → AtHead c.if-begins.self c.args.self.now c.judge-written.new.good c.args.options.now before (viewed_head c.in-Head.head)
 at_head g c before knows comes =
     let options = c.args.options.now in
     let head = viewed_head c.in-Head.head in
     let old = c.args.self.now in
     let kept = kept_of options before in
-    let history = c.take.ensures kept.heads knows.history in
+    let history = c.judge-written.ensures.history kept.heads knows.history in
     elim c.if-begins.branch [
       | then-begins w ↦ rw w.self-is (record {
         read = read_after before head comes kept.latest old.latest w.begin.new.self knows.at_open
@@ -103,12 +102,12 @@ returns-in-Err g c = rw c.in-Head.is (λ before knows comes.
     let first = lines_of options.must (own options before head) in
     let second = lines_of options.must (closed options before head) in
     tells options before g.W.OutDevice.state g.E.OutDevice.state c.args.writers.now
-    c.write_head-written.new.writers (Err c.in-Err.fault) _ (MessageHead head ∷ [])
+    c.judge-written.new.writers (Err c.in-Err.fault) _ (MessageHead head ∷ [])
     (broken_by options (kept_of options before) (MessageHead head))
     (said_one options before (MessageHead head))
     (rw (head_lines options before head)
     (part_of_more g.W.OutDevice.state g.E.OutDevice.state c.args.writers.now
-    c.write_head-written.new.writers (on_output first) (on_output second) c.in-Err.fault
+    c.judge-written.new.writers (on_output first) (on_output second) c.in-Err.fault
     (λ some. absurd (omega (arith, some)))
     (c.in-Err.ensures.gives (kept_of options before).heads knows.history)))
     tt)
@@ -133,7 +132,7 @@ returns-in_default g c = rw c.in-Head.is (λ before knows comes.
     (said_one options before (MessageHead head))
     (rw (head_lines options before head)
     (outputs_then g.W.OutDevice.state g.E.OutDevice.state c.args.writers.now
-    c.write_head-written.new.writers c.close.new.writers (lines_of options.must first)
+    c.judge-written.new.writers c.close.new.writers (lines_of options.must first)
     (lines_of options.must second) c.close.result
     (c.in_default.ensures.gives (kept_of options before).heads knows.history)
     (rw (← c.closes.ensures) (c.close.ensures.gives (latest options before head) due))))
@@ -154,6 +153,36 @@ returns-in_default g c = rw c.in-Head.is (λ before knows comes.
     head_good kept was mid new first second counts is one two =
         two ∙ ap (λ b. b && second) (one ∙ ap (λ b. b && first) is)
         ∙ sym (and_assoc kept first second) ∙ ap (λ b. kept && b) (sym counts)
+
+-- ---- an inner segment
+
+pub returns-in-Inner : goal.returns-in-Inner
+returns-in-Inner g c = rw c.in-Inner.is (λ before knows may.
+    let options = c.args.options.now in
+    let old = c.args.self.now in
+    let head = viewed_head c.in-Inner.head in
+    let bytes = c.in-Inner.bytes.now in
+    let kept = kept_of options before in
+    let fits : old.latest.judge.size + length bytes < 2 ^ 63 =
+    let few = may.few in omega (arith, knows.size) in
+    let at = knows.at_open may.opened in
+    let follows = c.take.ensures.follows at.begun fits at.checks in
+    let now : Checker = record {
+      history = c.judge.new.history;
+      latest = c.take.new.self;
+      good = c.judge.new.good;
+    } in
+    tells options before g.W.OutDevice.state g.E.OutDevice.state c.args.writers.now
+    c.judge.new.writers c.judge.result now (MessageHead head ∷ data_ends bytes false)
+    (own options before head)
+    (inner_said options before head may.turn bytes)
+    (c.judge.ensures.gives kept.heads knows.history)
+    (on_ok_by c.judge.result
+    (λ good. known_inner options before head may.turn bytes now at.begun at.is
+    (omega (arith, c.take.ensures.size, knows.size))
+    (good ∙ ap (λ b. b && none_counts options.must (own options before head)) knows.good)
+    (c.judge.ensures.history kept.heads knows.history) follows)
+    (c.judge.ensures.good kept.heads knows.history)))
 
 -- ---- data
 

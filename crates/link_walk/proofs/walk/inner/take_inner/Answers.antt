@@ -1,15 +1,11 @@
-use Rattle.std.proofs.Common.{◌≡◌, List, ℕ, Ok, Err, refl, ap, sym, ◌∙◌, subst, append-nil}
+use Rattle.std.proofs.Common.{◌≡◌, List, ℕ, Ok, Err, refl, sym, subst}
 use Rattle.link_wire.specs.Device.{Input}
 use Rattle.link_wire.specs.Inner.{PassedInner}
 use Rattle.link_wire.specs.Session.{IsSessionAt}
 use Rattle.link_wire.specs.declared.session.Session.{Session}
 use Rattle.link_run.proofs.Waiting.{unread_none, unread_then}
-use Rattle.link_walk.specs.declared.consumer.Manner.{Manner}
 use Rattle.link_walk.proofs.Steps.{none_taken, turn_taken}
 use Rattle.link_walk.proofs.walk.inner.take_inner.Goals as goal
-
-pub returns-then-manner-clause-gives : goal.returns-then-manner-clause-gives
-returns-then-manner-clause-gives g c = none_taken _ _ _ _ c.args.writers.now _ _
 
 pub returns-in_default-clause-gives : goal.returns-in_default-clause-gives
 returns-in_default-clause-gives g c = none_taken _ _ _ _ c.args.writers.now _ _
@@ -45,29 +41,26 @@ segments-preserved g c =
       fits = c.pass_inner.ensures.may_read;
       joiner = kept.joiner;
       unread = unread_then kept.unread c.pass_inner.ensures.unread;
-      taken = turn_taken _ _ _ _ c.args.writers.now _ _
-          (ap (λ (m : Manner). m.all_heads) (sym c.manner.ensures) ∙ c.if-manner.false) _ _ _ _ _ _ _ _ kept.taken
-          c.in-Some.ensures
+      taken = turn_taken _ _ _ _ c.args.writers.now _ _ _ _ _ _ _ _ _ _ _
+          c.given-offset.ensures kept.taken c.in-Some.ensures
           (passed g.R.InDevice.state _ _ c.in-Some.id c.in-Some-inner_data.content.now _
           c.in-Some-inner_data.ensures.bytes
           (λ history session. c.pass_inner.ensures.gives c.in-Some.id history session
           c.in-Some-inner_data.ensures.is))
-          (Ok tt) (λ events known opened few.
-          rw append-nil at (c.in-Ok.ensures events known (opened, few)));
+          (Ok tt) c.in-Ok.ensures;
     }
 
 pub returns-in-Err-clause-gives : goal.returns-in-Err-clause-gives
 returns-in-Err-clause-gives g c =
     let kept = c.segments.invariant in
     rw kept.joiner
-    (turn_taken _ _ _ _ c.args.writers.now _ _ (ap (λ (m : Manner). m.all_heads) (sym c.manner.ensures) ∙ c.if-manner.false)
-    _ _ _ _ _ _ _ _ kept.taken c.in-Some.ensures
+    (turn_taken _ _ _ _ c.args.writers.now _ _ _ _ _ _ _ _ _ _ _ c.given-offset.ensures kept.taken
+    c.in-Some.ensures
     (passed g.R.InDevice.state _ _ c.in-Some.id c.in-Some-inner_data.content.now _
     c.in-Some-inner_data.ensures.bytes
     (λ history session. c.pass_inner-in-Err.ensures.gives c.in-Some.id history session
     c.in-Some-inner_data.ensures.is))
-    (Err c.in-Err.fault) (λ events known opened few.
-    rw append-nil at (c.in-Err.ensures events known (opened, few))))
+    (Err c.in-Err.fault) c.in-Err.ensures)
 
 pub returns-clause-gives : goal.returns-clause-gives
 returns-clause-gives g c = rw c.segments.invariant.joiner c.segments.invariant.taken
