@@ -37,55 +37,41 @@ pub at_append : (offset : ℕ) (first second : List BrokenRule)
     → at_offset offset (first ++ second) ≡ at_offset offset first ++ at_offset offset second
 at_append offset first second = map-append _ first second
 
-one_line : (must : Bool) (broken : RuleText) → lines_of must (broken ∷ []) ≡ line_of must broken
+pub one_line : (must : Bool) (broken : RuleText) → lines_of must (broken ∷ []) ≡ line_of must broken
 unfolding lines_of
 one_line must broken = append-nil (line_of must broken)
 
-one_counts : (must : Bool) (broken : RuleText)
+pub one_counts : (must : Bool) (broken : RuleText)
     → none_counts must (broken ∷ []) ≡ not (counts must broken)
 unfolding none_counts
 one_counts must broken = and-true (not (counts must broken))
 
 -- ---- the rules of a list, one after another
 
-module _ {A : Type 0} (f : A → BrokenRule) (must : Bool) (offset : ℕ) (rules : List A)
+module _ {A : Type 0} (f : A → BrokenRule) (offset : ℕ) (rules : List A)
     (index : ℕ) (rule : A) (less : index < length rules) (is : rule ≡ slice_index_or rules index rule) where
-  abbrev so_far : List RuleText
+  abbrev pub so_far : List RuleText
   so_far = at_offset offset (map f (take index rules))
 
-  abbrev now : RuleText
+  abbrev pub now : RuleText
   now = record { offset = offset; rule = f rule }
 
   abbrev with_now : List RuleText
   with_now = at_offset offset (map f (take (index + 1) rules))
 
-  next_rules : with_now ≡ so_far ++ now ∷ []
+  pub next_rules : with_now ≡ so_far ++ now ∷ []
   next_rules =
       ap (at_offset offset) (map_more f rules index rule less
       ∙ ap (λ r. map f (take index rules) ++ f r ∷ []) (sym is))
       ∙ at_append offset (map f (take index rules)) (f rule ∷ [])
 
-  pub next_lines : lines_of must so_far ++ line_of must now ≡ lines_of must with_now
-  next_lines = sym (ap (lines_of must) next_rules ∙ lines_append must so_far (now ∷ [])
-      ∙ ap (λ xs. lines_of must so_far ++ xs) (one_line must now))
+  -- the rules after this one
+  abbrev pub later : List RuleText
+  later = at_offset offset (map f (drop (index + 1) rules))
 
-  pub next_counts : (good : Bool)
-      → ((good && none_counts must so_far) && not (counts must now)) ≡ (good && none_counts must with_now)
-  next_counts good =
-      sym (and_assoc good (none_counts must so_far) (not (counts must now)))
-      ∙ ap (λ b. good && b) (sym (ap (none_counts must) next_rules
-      ∙ counts_append must so_far (now ∷ [])
-      ∙ ap (λ b. none_counts must so_far && b) (one_counts must now)))
-
-  -- the lines of the rules after this one
-  abbrev pub later : List ℕ
-  later = lines_of must (at_offset offset (map f (drop (index + 1) rules)))
-
-  pub all_lines : (lines_of must so_far ++ line_of must now) ++ later
-      ≡ lines_of must (at_offset offset (map f rules))
-  all_lines =
-      ap (λ xs. xs ++ later) next_lines
-      ∙ sym (lines_append must with_now (at_offset offset (map f (drop (index + 1) rules))))
-      ∙ ap (lines_of must) (sym (at_append offset (map f (take (index + 1) rules)) (map f (drop (index + 1) rules)))
+  pub all_rules : (so_far ++ now ∷ []) ++ later ≡ at_offset offset (map f rules)
+  all_rules =
+      ap (λ (first : List RuleText). first ++ later) (sym next_rules)
+      ∙ sym (at_append offset (map f (take (index + 1) rules)) (map f (drop (index + 1) rules)))
       ∙ ap (at_offset offset) (sym (map-append f (take (index + 1) rules) (drop (index + 1) rules))
-      ∙ ap (map f) (take-append-drop (index + 1) rules)))
+      ∙ ap (map f) (take-append-drop (index + 1) rules))

@@ -1,5 +1,5 @@
 -- The lines of a closed transfer.
-use Rattle.std.proofs.Common.{◌≡◌, ℕ, Bool, ◌&&◌, List, ◌++◌, map, length, Result, Ok, Err, OnOk, refl, ap, ◌∙◌}
+use Rattle.std.proofs.Common.{◌≡◌, ℕ, List, ◌++◌, map, length, Result, Ok, Err, OnOk, refl, ap, ◌∙◌}
 use Rattle.link_bundle_blocks.specs.Bundle.{verdict}
 use Rattle.link_wire.specs.declared.IoFault.{IoFault}
 use Rattle.link_message_rules.specs.TransferRules.{broken_transfer_rules}
@@ -9,9 +9,9 @@ use Rattle.link_rule_report.specs.declared.rule.BrokenRule.{BrokenRule}
 use Rattle.link_rule_report.specs.declared.rule.BrokenRule.TheVariants.{Transfer}
 use Rattle.link_check.specs.Checker.{IsChecking}
 use Rattle.link_check.specs.Checking.{Begun, closed_rules, data_rules}
-use Rattle.link_check.specs.Lines.{at_offset, lines_of, none_counts}
+use Rattle.link_check.specs.Lines.{at_offset}
 use Rattle.link_check.specs.declared.transfer.CheckedTransfer.{CheckedTransfer}
-use Rattle.link_check.proofs.Appends.{at_append, counts_append, lines_append}
+use Rattle.link_check.proofs.Appends.{at_append}
 
 pub on_ok_by : {P Q : Type 0} (result : Result (Unit {0}) IoFault) → (P → Q) → OnOk result P → OnOk result Q
 on_ok_by (Ok done) step holds = step holds
@@ -22,7 +22,7 @@ pub same_rules : {A : Type 0} (offset other : ℕ) (f g : A → BrokenRule) (rul
     → at_offset offset (map f rules) ≡ at_offset other (map g more)
 same_rules offset other f g rules more places owners are = rw (places, owners, are) refl
 
-module _ (must : Bool) (begun : Begun) where
+module _ (begun : Begun) where
   abbrev pub of_length : List RuleText
   of_length = at_offset begun.offset
       (map (λ rule. Transfer begun.first.id rule) (broken_transfer_rules begun.first (length begun.content)))
@@ -30,16 +30,8 @@ module _ (must : Bool) (begun : Begun) where
   abbrev pub of_data : List RuleText
   of_data = at_offset begun.offset (data_rules begun.first.id begun.content (verdict begun.content))
 
-  both : at_offset begun.offset (closed_rules begun) ≡ of_length ++ of_data
+  pub both : at_offset begun.offset (closed_rules begun) ≡ of_length ++ of_data
   both = at_append begun.offset _ _
-
-  pub closed_lines : lines_of must (at_offset begun.offset (closed_rules begun))
-      ≡ lines_of must of_length ++ lines_of must of_data
-  closed_lines = ap (lines_of must) both ∙ lines_append must of_length of_data
-
-  pub closed_counts : none_counts must (at_offset begun.offset (closed_rules begun))
-      ≡ (none_counts must of_length && none_counts must of_data)
-  closed_counts = ap (none_counts must) both ∙ counts_append must of_length of_data
 
   -- the rules of its length are these
   pub length_are : (now : CheckedTransfer) (rules : List TransferRule) → IsChecking now begun

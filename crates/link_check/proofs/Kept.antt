@@ -233,10 +233,10 @@ module _ (options : CheckOptions) (before : List WalkEvent) where
         → IsChecking now.latest (with_bytes bytes begun)
         → KnowsChecked options now (before ++ MessageHead head ∷ data_ends bytes false)
     known_inner now begun is size good history checks =
-                let parts = append_assoc before (MessageHead head ∷ []) (data_ends bytes false) in
+        let parts = append_assoc before (MessageHead head ∷ []) (data_ends bytes false) in
         let kept = kept_then (MessageHead head ∷ data_ends bytes false)
-            ∙ data_kept bytes false (kept_with options was (MessageHead head))
-            ∙ ap (with_data bytes false) inner_kept in
+        ∙ data_kept bytes false (kept_with options was (MessageHead head))
+        ∙ ap (with_data bytes false) inner_kept in
         record {
           size = omega (
             arith,

@@ -3,3 +3,4 @@ mod Blocks
 mod BundleTexts
 mod Closed
 mod Kept
+mod Writing

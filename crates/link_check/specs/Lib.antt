@@ -1,5 +1,6 @@
 pub mod BundleRules
 pub mod Lines
+pub mod Writing
 pub mod Checking
 pub mod Bundles
 pub mod BundleReader

@@ -1,6 +1,6 @@
 //! What the rules for a bundle need of its bytes.
 
-ghost use Rattle.std.specs.Prelude.{◌≡◌, ◌+◌, ◌^◌, ◌≤◌, ◌<◌, ◌&&◌, ◌++◌, true, List, [], ℕ, length, map, OnOk};
+ghost use Rattle.std.specs.Prelude.{◌≡◌, ◌+◌, ◌^◌, ◌≤◌, ◌<◌, ◌++◌, true, List, [], ℕ, length, map};
 ghost use Rattle.link_blocks.specs.BlockLines.{found_in};
 ghost use Rattle.link_blocks.specs.DataReader.{IsReadingBlock, read_size};
 ghost use Rattle.link_bundle_rules.specs.ReadBundle.{ReadBundle, with_block};
@@ -49,9 +49,9 @@ impl BundleReader {
     ghost use Rattle.link_rules.specs.Heads.{first_indefinite};
     ghost use Rattle.link_check.specs.BundleReader.{IsReadingBlocks, IsReadingBundle, data_size};
     ghost use Rattle.link_check.specs.BundleRules.{bundle_rules};
-    ghost use Rattle.link_check.specs.Lines.{at_offset, lines_of, none_counts};
+    ghost use Rattle.link_check.specs.Lines.{at_offset};
+    ghost use Rattle.link_check.specs.Writing.{WritesRules};
     ghost use Rattle.link_rule_report.specs.declared.rule.BrokenRule.TheVariants.{Bundle};
-    ghost use Rattle.link_run.specs.Writers.{AfterWrite, on_output};
 
     /// Makes a reader for the first bundle.
     pub(crate) fn new() -> BundleReader
@@ -193,14 +193,10 @@ impl BundleReader {
         writers: &mut Writers<W, E>,
         good: &mut bool,
     ) -> Result<(), IoFault>
-        ensures gives { (content : List ℕ) (info : BundleInfo) → IsReadingBundle self.now content
+        ensures { (content : List ℕ) (info : BundleInfo) → IsReadingBundle self.now content
             → length content < 2 ^ 63 → payload ≡ info.payload
-            → AfterWrite W.state E.state writers.old writers.new (on_output (lines_of must
-            (at_offset offset (map (λ rule. Bundle place rule) (bundle_rules content info))))) result }
-        ensures good { (content : List ℕ) (info : BundleInfo) → IsReadingBundle self.now content
-            → length content < 2 ^ 63 → payload ≡ info.payload
-            → OnOk result (good.new ≡ (good.old && none_counts must
-            (at_offset offset (map (λ rule. Bundle place rule) (bundle_rules content info))))) }
+            → WritesRules W.state E.state must writers.old writers.new good.old good.new result
+            (at_offset offset (map (λ rule. Bundle place rule) (bundle_rules content info))) }
     {
         if self.keeps_rules(payload) {
             return Ok(());
@@ -219,14 +215,10 @@ impl BundleReader {
         writers: &mut Writers<W, E>,
         good: &mut bool,
     ) -> Result<(), IoFault>
-        ensures gives { (content : List ℕ) (info : BundleInfo) → IsReadingBundle self.now content
+        ensures { (content : List ℕ) (info : BundleInfo) → IsReadingBundle self.now content
             → length content < 2 ^ 63 → payload ≡ info.payload
-            → AfterWrite W.state E.state writers.old writers.new (on_output (lines_of must
-            (at_offset offset (map (λ rule. Bundle place rule) (bundle_rules content info))))) result }
-        ensures good { (content : List ℕ) (info : BundleInfo) → IsReadingBundle self.now content
-            → length content < 2 ^ 63 → payload ≡ info.payload
-            → OnOk result (good.new ≡ (good.old && none_counts must
-            (at_offset offset (map (λ rule. Bundle place rule) (bundle_rules content info))))) }
+            → WritesRules W.state E.state must writers.old writers.new good.old good.new result
+            (at_offset offset (map (λ rule. Bundle place rule) (bundle_rules content info))) }
     {
         let rules = self.rules(payload);
         write_rules(must, offset, place, rules.as_slice(), writers, good)

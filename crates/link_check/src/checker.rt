@@ -1,6 +1,6 @@
 //! `check`: the lines of the rules that a recorded stream breaks.
 
-ghost use Rattle.std.specs.Prelude.{◌≡◌, ◌&&◌, true, false, [], ◌∷◌, ◌++◌, List, OnOk, Option, map};
+ghost use Rattle.std.specs.Prelude.{◌≡◌, true, false, [], ◌∷◌, ◌++◌, List, Option, map};
 ghost use Rattle.link_wire.specs.MessageBuffer.{SegmentHasTotals};
 ghost use Rattle.link_message_rules.specs.Flags.{contact_flags};
 ghost use Rattle.link_message_rules.specs.Heads.{JudgedHead, viewed_head};
@@ -8,11 +8,11 @@ ghost use Rattle.link_message_rules.specs.MessageRules.{broken_rules};
 ghost use Rattle.link_message_rules.specs.Remembered.{Remembers};
 ghost use Rattle.link_rule_report.specs.declared.rule.BrokenRule.TheVariants.{Message};
 ghost use Rattle.link_run.specs.Run.{AfterRun, devices_at, looks};
-ghost use Rattle.link_run.specs.Writers.{AfterWrite, on_output};
 ghost use Rattle.link_walk.specs.Telling.{viewed_head as told_head};
 ghost use Rattle.link_check.specs.Checker.{IsAtLatest, KnowsChecked, closed_due};
 ghost use Rattle.link_check.specs.Checking.{Begun, check_telling, check_tool, head_rules, judged, optional};
-ghost use Rattle.link_check.specs.Lines.{at_offset, lines_of, none_counts};
+ghost use Rattle.link_check.specs.Lines.{at_offset};
+ghost use Rattle.link_check.specs.Writing.{WritesRules};
 ghost use Rattle.link_check.specs.declared.options.CheckOptions.{CheckOptions};
 
 use crate::lines::write_rules;
@@ -72,13 +72,7 @@ impl Consumer for Checker {
                 write_contact(options.must, contact, writers, &mut self.good)
             }
             EventView::Head(head) => {
-                let written = judge(
-                    options,
-                    &head,
-                    &mut self.history,
-                    writers,
-                    &mut self.good,
-                );
+                let written = judge(options, &head, &mut self.history, writers, &mut self.good);
                 if head.begins() {
                     self.latest.begin(&head);
                 }
@@ -95,13 +89,7 @@ impl Consumer for Checker {
             }
             EventView::Inner { head, bytes } => {
                 self.latest.take(bytes);
-                judge(
-                    options,
-                    &head,
-                    &mut self.history,
-                    writers,
-                    &mut self.good,
-                )
+                judge(options, &head, &mut self.history, writers, &mut self.good)
             }
             EventView::Data { bytes, whole } => {
                 self.latest.take(bytes);
@@ -127,10 +115,8 @@ fn write_contact<W: OutDevice, E: OutDevice>(
     writers: &mut Writers<W, E>,
     good: &mut bool,
 ) -> Result<(), IoFault>
-    ensures gives { AfterWrite W.state E.state writers.old writers.new (on_output (lines_of must
-        (at_offset 0 (map (λ rule. Message rule) (optional (contact_flags contact.now)))))) result }
-    ensures good { OnOk result (good.new ≡ (good.old && none_counts must
-        (at_offset 0 (map (λ rule. Message rule) (optional (contact_flags contact.now)))))) }
+    ensures { WritesRules W.state E.state must writers.old writers.new good.old good.new result
+        (at_offset 0 (map (λ rule. Message rule) (optional (contact_flags contact.now)))) }
 {
     match contact_flags(contact) {
         Some(rule) => write_rules(must, 0, (), &[rule], writers, good),
@@ -150,11 +136,8 @@ fn judge<W: OutDevice, E: OutDevice>(
 ) -> Result<(), IoFault>
     requires { SegmentHasTotals head.now.message.now }
     ensures gives { (before : List JudgedHead) → Remembers history.old before
-        → AfterWrite W.state E.state writers.old writers.new (on_output (lines_of options.now.must
-        (head_rules options.now before (told_head head.now)))) result }
-    ensures good { (before : List JudgedHead) → Remembers history.old before
-        → OnOk result (good.new ≡ (good.old && none_counts options.now.must
-        (head_rules options.now before (told_head head.now)))) }
+        → WritesRules W.state E.state options.now.must writers.old writers.new good.old good.new
+        result (head_rules options.now before (told_head head.now)) }
     ensures history { (before : List JudgedHead) → Remembers history.old before
         → Remembers history.new (before ++ judged (told_head head.now) ∷ []) }
 {
@@ -180,14 +163,10 @@ fn write_head<W: OutDevice, E: OutDevice>(
     good: &mut bool,
 ) -> Result<(), IoFault>
     requires { SegmentHasTotals head.now.message.now }
-    ensures gives { (before : List JudgedHead) → Remembers history.now before
-        → AfterWrite W.state E.state writers.old writers.new (on_output (lines_of options.now.must
-        (at_offset offset (map (λ rule. Message rule)
-        (broken_rules options.now.peer before (viewed_head head.now)))))) result }
-    ensures good { (before : List JudgedHead) → Remembers history.now before
-        → OnOk result (good.new ≡ (good.old && none_counts options.now.must
-        (at_offset offset (map (λ rule. Message rule)
-        (broken_rules options.now.peer before (viewed_head head.now)))))) }
+    ensures { (before : List JudgedHead) → Remembers history.now before
+        → WritesRules W.state E.state options.now.must writers.old writers.new good.old good.new
+        result (at_offset offset (map (λ rule. Message rule)
+        (broken_rules options.now.peer before (viewed_head head.now)))) }
 {
     if history.keeps_rules(&options.peer, head) {
         return Ok(());
@@ -206,14 +185,10 @@ fn write_broken<W: OutDevice, E: OutDevice>(
     good: &mut bool,
 ) -> Result<(), IoFault>
     requires { SegmentHasTotals head.now.message.now }
-    ensures gives { (before : List JudgedHead) → Remembers history.now before
-        → AfterWrite W.state E.state writers.old writers.new (on_output (lines_of options.now.must
-        (at_offset offset (map (λ rule. Message rule)
-        (broken_rules options.now.peer before (viewed_head head.now)))))) result }
-    ensures good { (before : List JudgedHead) → Remembers history.now before
-        → OnOk result (good.new ≡ (good.old && none_counts options.now.must
-        (at_offset offset (map (λ rule. Message rule)
-        (broken_rules options.now.peer before (viewed_head head.now)))))) }
+    ensures { (before : List JudgedHead) → Remembers history.now before
+        → WritesRules W.state E.state options.now.must writers.old writers.new good.old good.new
+        result (at_offset offset (map (λ rule. Message rule)
+        (broken_rules options.now.peer before (viewed_head head.now)))) }
 {
     let rules = history.rules(&options.peer, head);
     write_rules(options.must, offset, (), rules.as_slice(), writers, good)
@@ -228,11 +203,9 @@ fn close<W: OutDevice, E: OutDevice>(
     writers: &mut Writers<W, E>,
     good: &mut bool,
 ) -> Result<(), IoFault>
-    ensures gives { (begun : Option Begun) → (due ≡ true → IsAtLatest latest.now begun)
-        → AfterWrite W.state E.state writers.old writers.new
-        (on_output (lines_of must (closed_due due begun))) result }
-    ensures good { (begun : Option Begun) → (due ≡ true → IsAtLatest latest.now begun)
-        → OnOk result (good.new ≡ (good.old && none_counts must (closed_due due begun))) }
+    ensures { (begun : Option Begun) → (due ≡ true → IsAtLatest latest.now begun)
+        → WritesRules W.state E.state must writers.old writers.new good.old good.new result
+        (closed_due due begun) }
 {
     if due {
         latest.write_closed(must, writers, good)

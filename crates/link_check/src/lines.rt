@@ -1,9 +1,10 @@
 //! The lines of broken rules, as they are written.
 
-ghost use Rattle.std.specs.Prelude.{◌≡◌, ◌&&◌, not, map, OnOk};
+ghost use Rattle.std.specs.Prelude.{◌≡◌, ◌&&◌, not, map};
 ghost use Rattle.link_run.specs.Writers.{AfterWrite, on_output};
 ghost use Rattle.link_rule_report.specs.declared.rule.BrokenRule.{BrokenRule};
-ghost use Rattle.link_check.specs.Lines.{counts, at_offset, line_of, lines_of, none_counts};
+ghost use Rattle.link_check.specs.Lines.{counts, at_offset, line_of};
+ghost use Rattle.link_check.specs.Writing.{WritesRules};
 
 use link_bundle_rules::BundleRule;
 use link_message_rules::{MessageRule, TransferRule};
@@ -104,10 +105,8 @@ pub(crate) fn write_rules<T: Rule, W: OutDevice, E: OutDevice>(
     writers: &mut Writers<W, E>,
     good: &mut bool,
 ) -> Result<(), IoFault>
-    ensures gives { AfterWrite W.state E.state writers.old writers.new
-        (on_output (lines_of must (at_offset offset (map (T.broken owner) rules.now)))) result }
-    ensures good { OnOk result (good.new ≡ (good.old
-        && none_counts must (at_offset offset (map (T.broken owner) rules.now)))) }
+    ensures { WritesRules W.state E.state must writers.old writers.new good.old good.new result
+        (at_offset offset (map (T.broken owner) rules.now)) }
 {
     for rule in rules {
         let broken = RuleText {

@@ -48,16 +48,16 @@ fn opening_of(message: &MessageBuffer) -> Opening
 }
 
 impl CheckedTransfer {
-    ghost use Rattle.std.specs.Prelude.{◌&&◌, true, [], OnOk};
+    ghost use Rattle.std.specs.Prelude.{true, []};
     ghost use Rattle.link_bundle_blocks.specs.Bundle.{verdict};
     ghost use Rattle.link_wire.specs.Codes.{is_start};
     ghost use Rattle.link_wire.specs.MessageBuffer.{SegmentHasTotals, message_of};
     ghost use Rattle.link_wire.specs.declared.message.Message.{Message};
     ghost use Rattle.link_wire.specs.declared.message.SegmentHead.{SegmentHead};
-    ghost use Rattle.link_run.specs.Writers.{AfterWrite, on_output};
     ghost use Rattle.link_check.specs.Checking.{Begun, closed_rules, data_rules, open_rules, with_bytes};
     ghost use Rattle.link_check.specs.Checker.{IsChecking};
-    ghost use Rattle.link_check.specs.Lines.{at_offset, lines_of, none_counts};
+    ghost use Rattle.link_check.specs.Lines.{at_offset};
+    ghost use Rattle.link_check.specs.Writing.{WritesRules};
 
     /// What is kept before the first transfer of a stream.
     pub(crate) fn new() -> CheckedTransfer
@@ -113,12 +113,9 @@ impl CheckedTransfer {
         writers: &mut Writers<W, E>,
         good: &mut bool,
     ) -> Result<(), IoFault>
-        ensures gives { (begun : Begun) → IsChecking self.now begun
-            → AfterWrite W.state E.state writers.old writers.new
-            (on_output (lines_of must (at_offset begun.offset (closed_rules begun)))) result }
-        ensures good { (begun : Begun) → IsChecking self.now begun
-            → OnOk result (good.new
-            ≡ (good.old && none_counts must (at_offset begun.offset (closed_rules begun)))) }
+        ensures { (begun : Begun) → IsChecking self.now begun
+            → WritesRules W.state E.state must writers.old writers.new good.old good.new result
+            (at_offset begun.offset (closed_rules begun)) }
     {
         let rules = self.opening.rules(self.judge.size);
         let written = write_rules(
@@ -142,13 +139,10 @@ impl CheckedTransfer {
         writers: &mut Writers<W, E>,
         good: &mut bool,
     ) -> Result<(), IoFault>
-        ensures gives { (begun : Begun) → IsChecking self.now begun
-            → AfterWrite W.state E.state writers.old writers.new (on_output (lines_of must
+        ensures { (begun : Begun) → IsChecking self.now begun
+            → WritesRules W.state E.state must writers.old writers.new good.old good.new result
             (at_offset begun.offset
-            (data_rules begun.first.id begun.content (verdict begun.content))))) result }
-        ensures good { (begun : Begun) → IsChecking self.now begun
-            → OnOk result (good.new ≡ (good.old && none_counts must (at_offset begun.offset
-            (data_rules begun.first.id begun.content (verdict begun.content))))) }
+            (data_rules begun.first.id begun.content (verdict begun.content))) }
     {
         let id = self.judge.id;
         match self.judge.scan.view() {
@@ -172,12 +166,9 @@ impl CheckedTransfer {
         writers: &mut Writers<W, E>,
         good: &mut bool,
     ) -> Result<(), IoFault>
-        ensures gives { (begun : Begun) → IsChecking self.now begun
-            → AfterWrite W.state E.state writers.old writers.new
-            (on_output (lines_of must (at_offset begun.offset (open_rules begun)))) result }
-        ensures good { (begun : Begun) → IsChecking self.now begun
-            → OnOk result (good.new
-            ≡ (good.old && none_counts must (at_offset begun.offset (open_rules begun)))) }
+        ensures { (begun : Begun) → IsChecking self.now begun
+            → WritesRules W.state E.state must writers.old writers.new good.old good.new result
+            (at_offset begun.offset (open_rules begun)) }
     {
         let rule = TransferRule::Unfinished {
             length: self.judge.size,

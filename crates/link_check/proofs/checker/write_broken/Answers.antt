@@ -4,14 +4,8 @@ use Rattle.link_rule_report.specs.declared.rule.BrokenRule.TheVariants.{Message}
 use Rattle.link_check.specs.Lines.{at_offset}
 use Rattle.link_check.proofs.checker.write_broken.Goals as goal
 
-pub returns-clause-gives : goal.returns-clause-gives
-returns-clause-gives g c = λ before at.
+pub returns : goal.returns
+returns g c = λ before at.
     rw (ap (λ (rules : List MessageRule). at_offset c.args.offset (map (λ rule. Message rule) rules))
     (c.as_slice.ensures.value ∙ c.rules-rules.ensures before at))
-    at c.write_rules.ensures.gives
-
-pub returns-clause-good : goal.returns-clause-good
-returns-clause-good g c = λ before at.
-    rw (ap (λ (rules : List MessageRule). at_offset c.args.offset (map (λ rule. Message rule) rules))
-    (c.as_slice.ensures.value ∙ c.rules-rules.ensures before at))
-    at c.write_rules.ensures.good
+    at c.write_rules.ensures

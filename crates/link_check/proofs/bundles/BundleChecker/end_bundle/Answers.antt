@@ -13,12 +13,12 @@ returns-clause-gives g c = λ now info knows sized payload.
     c.write_rules-written.result)
     (found_broken c.args.must now info c.args.number c.args.self.now.offset
     (bundle_rules now.begun info) knows.offset refl)
-    (c.write_rules-written.ensures.gives now.begun info knows.reading (omega arith) payload)
+    (c.write_rules-written.ensures now.begun info knows.reading (omega arith) payload).wrote
 
 pub returns-clause-follows : goal.returns-clause-follows
 returns-clause-follows g c = λ now info knows sized payload numbered.
     knows_ended c.args.must now info c.args.number c.args.self.now.offset
     (bundle_rules now.begun info) knows.offset refl
     _ c.args.self.now.good c.write_rules-written.result numbered knows.good
-    (c.write_rules-written.ensures.good now.begun info knows.reading (omega arith) payload)
+    (c.write_rules-written.ensures now.begun info knows.reading (omega arith) payload).counted
     (omega (arith, knows.offset, knows.size)) refl c.restart-2.ensures.seen c.restart.ensures.reads

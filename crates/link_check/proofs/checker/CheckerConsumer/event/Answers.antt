@@ -1,11 +1,7 @@
-use Rattle.std.proofs.Common.{◌≡◌, Bool, Option, Some, ◌+◌, ◌<◌, ◌≤◌, ◌^◌, ◌&&◌, ◌++◌, ◌∷◌, [], length, List, map, true, false, option_map, Err, refl, ap, sym, ◌∙◌, arith}
+use Rattle.std.proofs.Common.{◌≡◌, Bool, Option, Some, ◌+◌, ◌<◌, ◌≤◌, ◌^◌, ◌&&◌, ◌++◌, ◌∷◌, [], length, List, true, false, option_map, Err, refl, ap, sym, ◌∙◌, arith}
 use Rattle.std.proofs.lemmas.Bool.{false≢true}
-use Rattle.link_message_rules.specs.MessageRules.{broken_rules}
 use Rattle.link_message_rules.specs.Remembered.{Remembers}
 use Rattle.link_rule_report.specs.declared.line.RuleText.{RuleText}
-use Rattle.link_rule_report.specs.declared.rule.BrokenRule.TheVariants.{Message}
-use Rattle.link_run.specs.Writers.{on_output}
-use Rattle.link_run.proofs.Runs.{outputs_then, part_of_more}
 use Rattle.link_walk.specs.Telling.{ComesAfter, data_ends, viewed_head}
 use Rattle.link_walk.specs.Walk.{Head, WalkEvent, ContactHeader, LeftOpen, MessageHead, closes, has_open, is_beginning}
 use Rattle.link_check.specs.Checker.{IsAtLatest, KnowsChecked, closed_due, kept_of}
@@ -13,7 +9,7 @@ use Rattle.link_check.specs.Checking.{Begun, begun_by, broken_by, head_rules, ju
 use Rattle.link_check.specs.Lines.{at_offset, lines_of, none_counts}
 use Rattle.link_check.specs.declared.checker.Checker.{Checker}
 use Rattle.link_check.specs.declared.options.CheckOptions.{CheckOptions}
-use Rattle.link_check.proofs.Appends.{and_assoc, counts_append, lines_append}
+use Rattle.link_check.proofs.Writing.{part_written, then_written}
 use Rattle.link_check.proofs.Closed.{on_ok_by}
 use Rattle.link_check.proofs.Kept.{IsRead, closes_read, data_said, inner_said, known_data, known_inner, known_one, opens_read, read_after, said_one, tells}
 use Rattle.link_check.proofs.checker.CheckerConsumer.event.Given.{Over}
@@ -30,11 +26,11 @@ returns-in-Contact g c = rw c.in-Contact.is (λ before knows none.
     let broken = broken_by options (kept_of options before) event in
     tells options before g.W.OutDevice.state g.E.OutDevice.state c.args.writers.now
     c.write_contact.new.writers c.write_contact.result now (event ∷ []) broken
-    (said_one options before event) c.write_contact.ensures.gives
+    (said_one options before event) c.write_contact.ensures.wrote
     (on_ok_by c.write_contact.result
     (λ good. known_one options before event now knows.size
     (good ∙ ap (λ b. b && none_counts options.must broken) knows.good) knows.history knows.at_open)
-    c.write_contact.ensures.good))
+    c.write_contact.ensures.counted))
 
 -- ---- a head
 
@@ -48,14 +44,6 @@ module _ (options : CheckOptions) (before : List WalkEvent) (head : Head) where
 
   abbrev closed : List RuleText
   closed = closed_due (closes head) latest
-
-  head_lines : lines_of options.must (broken_by options (kept_of options before) (MessageHead head))
-      ≡ lines_of options.must own ++ lines_of options.must closed
-  head_lines = lines_append options.must own closed
-
-  head_counts : none_counts options.must (broken_by options (kept_of options before) (MessageHead head))
-      ≡ (none_counts options.must own && none_counts options.must closed)
-  head_counts = counts_append options.must own closed
 
 -- the state after the head, which may have begun a transfer
 record AtHead (now old : Checker) (written : Bool) (options : CheckOptions) (before : List WalkEvent) (head : Head)
@@ -99,60 +87,46 @@ pub returns-in-Err : goal.returns-in-Err
 returns-in-Err g c = rw c.in-Head.is (λ before knows comes.
     let options = c.args.options.now in
     let head = viewed_head c.in-Head.head in
-    let first = lines_of options.must (own options before head) in
-    let second = lines_of options.must (closed options before head) in
-    tells options before g.W.OutDevice.state g.E.OutDevice.state c.args.writers.now
-    c.judge-written.new.writers (Err c.in-Err.fault) _ (MessageHead head ∷ [])
+    let out_look = g.W.OutDevice.state in
+    let report_look = g.E.OutDevice.state in
+    let both = part_written out_look report_look options.must {other = true}
+    (own options before head) (closed options before head)
+    (c.in-Err.ensures.gives (kept_of options before).heads knows.history) in
+    tells options before out_look report_look c.args.writers.now c.judge-written.new.writers
+    (Err c.in-Err.fault) _ (MessageHead head ∷ [])
     (broken_by options (kept_of options before) (MessageHead head))
-    (said_one options before (MessageHead head))
-    (rw (head_lines options before head)
-    (part_of_more g.W.OutDevice.state g.E.OutDevice.state c.args.writers.now
-    c.judge-written.new.writers (on_output first) (on_output second) c.in-Err.fault
-    (λ some. absurd (omega (arith, some)))
-    (c.in-Err.ensures.gives (kept_of options before).heads knows.history)))
-    tt)
+    (said_one options before (MessageHead head)) both.wrote tt)
 
 pub returns-in_default : goal.returns-in_default
 returns-in_default g c = rw c.in-Head.is (λ before knows comes.
     let options = c.args.options.now in
     let head = viewed_head c.in-Head.head in
-    let first = own options before head in
-    let second = closed options before head in
+    let kept = kept_of options before in
+    let out_look = g.W.OutDevice.state in
+    let report_look = g.E.OutDevice.state in
+    let latest = latest options before head in
+    let mid = c.if-begins.self in
     let state = at_head g c before knows comes in
     let due = λ (is : c.closes.result ≡ true).
-    state.read (closes_read before head comes (latest options before head) c.if-begins.self.latest c.if-begins.self.latest (sym c.closes.ensures ∙ is)) in
-    let now : Checker = record {
-      history = c.if-begins.self.history;
-      latest = c.if-begins.self.latest;
-      good = c.close.new.good;
-    } in
-    tells options before g.W.OutDevice.state g.E.OutDevice.state c.args.writers.now
-    c.close.new.writers c.close.result now (MessageHead head ∷ [])
-    (broken_by options (kept_of options before) (MessageHead head))
-    (said_one options before (MessageHead head))
-    (rw (head_lines options before head)
-    (outputs_then g.W.OutDevice.state g.E.OutDevice.state c.args.writers.now
-    c.judge-written.new.writers c.close.new.writers (lines_of options.must first)
-    (lines_of options.must second) c.close.result
-    (c.in_default.ensures.gives (kept_of options before).heads knows.history)
-    (rw (← c.closes.ensures) (c.close.ensures.gives (latest options before head) due))))
+    state.read (closes_read before head comes latest mid.latest mid.latest (sym c.closes.ensures ∙ is)) in
+    let now : Checker =
+    record { history = mid.history; latest = mid.latest; good = c.close.new.good } in
+    let both =
+    then_written out_look report_look options.must (own options before head)
+    (closed options before head)
+    (rw (← state.good) at (c.in_default.ensures.gives kept.heads knows.history))
+    (rw c.closes.ensures at (c.close.ensures latest due)) in
+    tells options before out_look report_look c.args.writers.now c.close.new.writers
+    c.close.result now (MessageHead head ∷ []) (broken_by options kept (MessageHead head))
+    (said_one options before (MessageHead head)) both.wrote
     (on_ok_by c.close.result
     (λ good. known_one options before (MessageHead head) now
     (omega (arith, state.size, knows.size))
-    (head_good (kept_of options before).good _ _ _
-    (none_counts options.must first) (none_counts options.must second) (head_counts options before head)
-    knows.good
-    (state.good ∙ c.in_default.ensures.good (kept_of options before).heads knows.history)
-    (rw (← c.closes.ensures) good))
+    (good
+    ∙ ap (λ b. b && none_counts options.must (broken_by options kept (MessageHead head))) knows.good)
     state.history
-    (λ opened. state.read (opens_read before head comes (latest options before head) c.if-begins.self.latest c.if-begins.self.latest opened)))
-    (c.close.ensures.good (latest options before head) due)))
-  where
-    head_good : (kept was mid new first second : Bool) {all : Bool} → all ≡ (first && second)
-        → was ≡ kept → mid ≡ (was && first) → new ≡ (mid && second) → new ≡ (kept && all)
-    head_good kept was mid new first second counts is one two =
-        two ∙ ap (λ b. b && second) (one ∙ ap (λ b. b && first) is)
-        ∙ sym (and_assoc kept first second) ∙ ap (λ b. kept && b) (sym counts)
+    (λ opened. state.read (opens_read before head comes latest mid.latest mid.latest opened)))
+    both.counted))
 
 -- ---- an inner segment
 
@@ -176,13 +150,13 @@ returns-in-Inner g c = rw c.in-Inner.is (λ before knows may.
     c.judge.new.writers c.judge.result now (MessageHead head ∷ data_ends bytes false)
     (own options before head)
     (inner_said options before head may.turn bytes)
-    (c.judge.ensures.gives kept.heads knows.history)
+    (c.judge.ensures.gives kept.heads knows.history).wrote
     (on_ok_by c.judge.result
     (λ good. known_inner options before head may.turn bytes now at.begun at.is
     (omega (arith, c.take.ensures.size, knows.size))
     (good ∙ ap (λ b. b && none_counts options.must (own options before head)) knows.good)
     (c.judge.ensures.history kept.heads knows.history) follows)
-    (c.judge.ensures.good kept.heads knows.history)))
+    (c.judge.ensures.gives kept.heads knows.history).counted))
 
 -- ---- data
 
@@ -212,13 +186,13 @@ returns-in-Data g c = rw c.in-Data.is (λ before knows may.
     c.close-in-Data.new.writers c.close-in-Data.result now (data_ends bytes whole)
     (closed_due whole (option_map (with_bytes bytes) kept.latest))
     (data_said options before bytes whole)
-    (rw (ap lines same) (c.close-in-Data.ensures.gives (Some begun) (λ is. read)))
+    (rw (ap lines same) (c.close-in-Data.ensures (Some begun) (λ is. read)).wrote)
     (on_ok_by c.close-in-Data.result
     (λ good. known_data options before bytes whole now at.begun at.is
     (omega (arith, c.take-in-Data.ensures.size, knows.size))
     (good ∙ ap (λ b. b && none_counts options.must (closed_due whole (Some begun))) knows.good)
     knows.history follows)
-    (c.close-in-Data.ensures.good (Some begun) (λ is. read))))
+    (c.close-in-Data.ensures (Some begun) (λ is. read)).counted))
 
 -- ---- the end of the stream
 
@@ -236,10 +210,10 @@ returns-in-LeftOpen g c = rw c.in-LeftOpen.is (λ before knows opened.
     tells options before g.W.OutDevice.state g.E.OutDevice.state c.args.writers.now
     c.write_open.new.writers c.write_open.result now (LeftOpen ∷ []) broken
     (said_one options before LeftOpen)
-    (rw (ap (lines_of options.must) is) (c.write_open.ensures.gives at.begun at.checks))
+    (rw (ap (lines_of options.must) is) (c.write_open.ensures at.begun at.checks).wrote)
     (on_ok_by c.write_open.result
     (λ good. known_one options before LeftOpen now knows.size
     (good ∙ ap (λ b. b && none_counts options.must (at_offset at.begun.offset (open_rules at.begun))) knows.good
     ∙ ap (λ b. kept.good && b) (sym (ap (none_counts options.must) is)))
     knows.history (λ none. absurd (cc)))
-    (c.write_open.ensures.good at.begun at.checks)))
+    (c.write_open.ensures at.begun at.checks).counted))

@@ -26,16 +26,10 @@ good_are g c begun checks =
     (bundle_rules begun.content (viewed_info c.in-Ok.info)) _ checks.offset
     (ap (λ id rule. Bundle (place.Transfer id) rule) checks.judging.id) refl)
 
-pub returns-in-Ok-clause-gives : goal.returns-in-Ok-clause-gives
-returns-in-Ok-clause-gives g c = λ begun checks.
+pub returns-in-Ok : goal.returns-in-Ok
+returns-in-Ok g c = λ begun checks.
     rw (good_are g c begun checks)
-    at (c.write_rules.ensures.gives begun.content (viewed_info c.in-Ok.info) checks.reading
-    (omega (arith, checks.judging.size, c.args.self.now.judge.limit)) refl)
-
-pub returns-in-Ok-clause-good : goal.returns-in-Ok-clause-good
-returns-in-Ok-clause-good g c = λ begun checks.
-    rw (good_are g c begun checks)
-    at (c.write_rules.ensures.good begun.content (viewed_info c.in-Ok.info) checks.reading
+    at (c.write_rules.ensures begun.content (viewed_info c.in-Ok.info) checks.reading
     (omega (arith, checks.judging.size, c.args.self.now.judge.limit)) refl)
 
 -- the rule of data that is no bundle is the one that was written
@@ -53,12 +47,7 @@ bad_are g c begun checks =
     (ap optional (c.data_rule-rule.ensures begun.content
     (c.first_indefinite.ensures begun.content checks.reading))))
 
-pub returns-in-Err-clause-gives : goal.returns-in-Err-clause-gives
-returns-in-Err-clause-gives g c = λ begun checks.
+pub returns-in-Err : goal.returns-in-Err
+returns-in-Err g c = λ begun checks.
     rw (bad_are g c begun checks)
-    at c.write_rules-in-Err.ensures.gives
-
-pub returns-in-Err-clause-good : goal.returns-in-Err-clause-good
-returns-in-Err-clause-good g c = λ begun checks.
-    rw (bad_are g c begun checks)
-    at c.write_rules-in-Err.ensures.good
+    at c.write_rules-in-Err.ensures
