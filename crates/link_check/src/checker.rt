@@ -1,6 +1,6 @@
 //! `check`: the lines of the rules that a recorded stream breaks.
 
-ghost use Rattle.std.specs.Prelude.{◌≡◌, true, false, [], ◌∷◌, ◌++◌, List, Option, map};
+ghost use Rattle.std.specs.Prelude.{◌≡◌, ℕ, true, false, [], ◌∷◌, ◌++◌, List, Option, map};
 ghost use Rattle.link_wire.specs.MessageBuffer.{SegmentHasTotals};
 ghost use Rattle.link_message_rules.specs.Flags.{contact_flags};
 ghost use Rattle.link_message_rules.specs.Heads.{JudgedHead, viewed_head};
@@ -9,6 +9,7 @@ ghost use Rattle.link_message_rules.specs.Remembered.{Remembers};
 ghost use Rattle.link_rule_report.specs.declared.rule.BrokenRule.TheVariants.{Message};
 ghost use Rattle.link_run.specs.Run.{AfterRun, devices_at, looks};
 ghost use Rattle.link_walk.specs.Telling.{viewed_head as told_head};
+ghost use Rattle.link_walk.specs.Walk.{inner_head};
 ghost use Rattle.link_check.specs.Checker.{IsAtLatest, KnowsChecked, closed_due};
 ghost use Rattle.link_check.specs.Checking.{Begun, check_telling, check_tool, head_rules, judged, optional};
 ghost use Rattle.link_check.specs.Lines.{at_offset};
@@ -89,7 +90,9 @@ impl Consumer for Checker {
             }
             EventView::Inner { head, bytes } => {
                 self.latest.take(bytes);
-                judge(options, &head, &mut self.history, writers, &mut self.good)
+                let length = bytes.len() as u64;
+                let history = &mut self.history;
+                judge_inner(options, &head, length, history, writers, &mut self.good)
             }
             EventView::Data { bytes, whole } => {
                 self.latest.take(bytes);
@@ -149,6 +152,33 @@ fn judge<W: OutDevice, E: OutDevice>(
     let written = write_head(options, head.offset, &judged, history, writers, good);
     history.take(&judged);
     written
+}
+
+/// Judges the head of an inner segment with `length` bytes of data. Most break no rule.
+#[inline(always)]
+fn judge_inner<W: OutDevice, E: OutDevice>(
+    options: &CheckOptions,
+    head: &HeadView<'_>,
+    length: u64,
+    history: &mut MessageHistory,
+    writers: &mut Writers<W, E>,
+    good: &mut bool,
+) -> Result<(), IoFault>
+    requires { SegmentHasTotals head.now.message.now }
+    ensures gives { (id : ℕ) (before : List JudgedHead)
+        → told_head head.now ≡ inner_head head.now.offset id length
+        → Remembers history.old before
+        → WritesRules W.state E.state options.now.must writers.old writers.new good.old good.new
+        result (head_rules options.now before (told_head head.now)) }
+    ensures history { (id : ℕ) (before : List JudgedHead)
+        → told_head head.now ≡ inner_head head.now.offset id length
+        → Remembers history.old before
+        → Remembers history.new (before ++ judged (told_head head.now) ∷ []) }
+{
+    if history.take_inner(&options.peer, length) {
+        return Ok(());
+    }
+    judge(options, head, history, writers, good)
 }
 
 /// Writes the lines of the rules that a head breaks after those of the history. Most heads break

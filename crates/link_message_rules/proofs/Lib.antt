@@ -5,3 +5,4 @@ pub mod Joined
 pub mod Tests
 pub mod Kept
 pub mod Unchanged
+pub mod Inner

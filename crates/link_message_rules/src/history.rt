@@ -34,9 +34,9 @@ pub struct MessageHistory {
 }
 
 impl MessageHistory {
-    ghost use Rattle.std.specs.Prelude.{◌≡◌, true, List, [], ◌∷◌, ◌++◌, option_map};
+    ghost use Rattle.std.specs.Prelude.{◌≡◌, ℕ, true, false, List, [], ◌∷◌, ◌++◌, option_map};
     ghost use Rattle.link_wire.specs.MessageBuffer.{SegmentHasTotals, message_of};
-    ghost use Rattle.link_message_rules.specs.Heads.{JudgedHead, viewed_head};
+    ghost use Rattle.link_message_rules.specs.Heads.{JudgedHead, inner_head, viewed_head};
     ghost use Rattle.link_message_rules.specs.MessageRules.{broken_rules};
     ghost use Rattle.link_message_rules.specs.Kept.{KeepsAnswerRules, KeepsSegmentRules};
     ghost use Rattle.link_message_rules.specs.Remembered.{Remembers};
@@ -139,6 +139,33 @@ impl MessageHistory {
             self.keepalives.rule(message),
             term_flags(message),
         ])
+    }
+
+    /// Takes an inner segment with `length` bytes of data, if it is known to break no rule, and
+    /// returns whether it did. If not, the history stays as it was.
+    ///
+    /// It is never known if the peer has a limit.
+    #[inline(always)]
+    pub fn take_inner(&mut self, limits: &PeerLimits, length: u64) -> bool
+        ensures kept { (id : ℕ) (before : List JudgedHead) → result ≡ true
+            → broken_rules limits.now before (inner_head id length) ≡ [] }
+        ensures taken { (id : ℕ) (before : List JudgedHead) → Remembers self.old before
+            → result ≡ true → Remembers self.new (before ++ inner_head id length ∷ []) }
+        ensures same { result ≡ false → self.new ≡ self.old }
+    {
+        if limits.segment.is_some() {
+            return false;
+        }
+        if limits.transfer.is_some() {
+            return false;
+        }
+        match &mut self.transfer {
+            Some(transfer) => {
+                transfer.add(length);
+                true
+            }
+            None => false,
+        }
     }
 
     /// Takes the next message.

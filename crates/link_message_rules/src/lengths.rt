@@ -77,16 +77,14 @@ impl TransferSoFar {
         }
     }
 
-    /// The transfer with a further segment of `length` bytes.
-    fn then(self, length: u64) -> TransferSoFar
+    /// Adds a further segment of `length` bytes.
+    #[inline(always)]
+    pub(crate) fn add(&mut self, length: u64)
         ensures { (segment previous : SegmentHead) (earlier : List SegmentHead)
-            → segment.length ≡ length → Some self ≡ so_far_of (previous ∷ earlier)
-            → Some result ≡ so_far_of (segment ∷ previous ∷ earlier) }
+            → segment.length ≡ length → Some self.old ≡ so_far_of (previous ∷ earlier)
+            → Some self.new ≡ so_far_of (segment ∷ previous ∷ earlier) }
     {
-        TransferSoFar {
-            opening: self.opening,
-            sent: sum_within(self.sent, length),
-        }
+        self.sent = sum_within(self.sent, length);
     }
 
     /// The rule for a further segment of `length` bytes.
@@ -106,6 +104,7 @@ impl TransferSoFar {
 }
 
 /// The sum of two lengths, or `None` if it exceeds 64 bits.
+#[inline(always)]
 fn sum_within(before: Option<u64>, length: u64) -> Option<u64>
     ensures { (sum : ℕ) → before ≡ within_64_bits sum → result ≡ within_64_bits (length + sum) }
 {
@@ -190,7 +189,10 @@ pub(crate) fn so_far_after(
     match earlier(head.turn, so_far) {
         None => so_far,
         Some(None) => Some(TransferSoFar::first(head.message, flags, length)),
-        Some(Some(transfer)) => Some(transfer.then(length)),
+        Some(Some(mut transfer)) => {
+            transfer.add(length);
+            Some(transfer)
+        }
     }
 }
 

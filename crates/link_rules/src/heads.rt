@@ -187,12 +187,26 @@ impl HeadWalk {
         self.found.indefinite
     }
 
-    /// Takes the next piece of the bundle.
+    /// Takes the next piece of the bundle. Many pieces lie within a string.
     ///
     /// Offsets are right up to 2^63 - 1 bytes.
+    #[inline(always)]
     pub fn take(&mut self, piece: &[u8])
         ensures { (seen : List ℕ) → length (seen ++ piece.now) < 2 ^ 63 → HasWalked self.old seen
             → HasWalked self.new (seen ++ piece.now) }
+    {
+        if let Stage::Inside(left) = self.stage {
+            if piece.len() as u64 <= left {
+                self.pass(left, piece);
+                return;
+            }
+        }
+        self.take_any(piece);
+    }
+
+    /// Takes any piece of the bundle.
+    fn take_any(&mut self, piece: &[u8])
+        ensures { HasTaken self.old self.new piece.now }
     {
         let mut taken = 0;
         while taken < piece.len() {
@@ -210,7 +224,7 @@ impl HeadWalk {
     {
         match self.stage {
             Stage::Inside(0) => self.next_heads(piece),
-            Stage::Inside(left) => self.pass(left, piece),
+            Stage::Inside(left) => self.pass_first(left, piece),
             Stage::Head(offset) => {
                 self.head_byte(offset, piece[0]);
                 1
@@ -243,8 +257,9 @@ impl HeadWalk {
         taken
     }
 
-    /// Passes over the next bytes of the last head and its string, which have `left` more.
-    fn pass(&mut self, left: u64, piece: &[u8]) -> usize
+    /// Passes over the first bytes of a piece, which belong to the last head and its string: the
+    /// `left` bytes that these have more, or all.
+    fn pass_first(&mut self, left: u64, piece: &[u8]) -> usize
         requires stage { self.old.stage ≡ Stage.Inside left }
         requires left { 0 < left }
         requires some { 0 < length piece.now }
@@ -252,10 +267,21 @@ impl HeadWalk {
         ensures within { result ≤ length piece.now }
         ensures taken { HasTaken self.old self.new (take result piece.now) }
     {
-        let passed = left.min(piece.len() as u64);
-        self.stage = Stage::Inside(left - passed);
-        self.count = self.count.wrapping_add(passed);
-        passed as usize
+        let passed = left.min(piece.len() as u64) as usize;
+        self.pass(left, &piece[..passed]);
+        passed
+    }
+
+    /// Passes over a run of the last head and its string, which have `left` more bytes.
+    #[inline(always)]
+    fn pass(&mut self, left: u64, run: &[u8])
+        requires stage { self.old.stage ≡ Stage.Inside left }
+        requires within { length run.now ≤ left }
+        ensures { HasTaken self.old self.new run.now }
+    {
+        let size = run.len() as u64;
+        self.stage = Stage::Inside(left - size);
+        self.count = self.count.wrapping_add(size);
     }
 
     /// Takes a byte of the head that begins at `offset`.

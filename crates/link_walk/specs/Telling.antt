@@ -1,15 +1,14 @@
 -- Relations, but for Tells: what a consumer is told of an event, and what it writes.
-use Rattle.std.specs.Prelude.{◌≡◌, ℕ, ◌+◌, ◌^◌, ◌<◌, Bool, true, false, is_some, List, [], ◌∷◌, ◌++◌, length, Some, Result, OnOk, if◌then◌else◌}
+use Rattle.std.specs.Prelude.{◌≡◌, ℕ, ◌+◌, ◌^◌, ◌<◌, Bool, true, false, is_some, List, [], ◌∷◌, ◌++◌, length, Result, OnOk, if◌then◌else◌}
 use Rattle.link_wire.specs.Device.{Output}
 use Rattle.link_wire.specs.MessageBuffer.{SegmentHasTotals, message_of}
 use Rattle.link_wire.specs.declared.IoFault.{IoFault}
 use Rattle.link_wire.specs.declared.message.Message.{Message}
 use Rattle.link_transfer.specs.Order.{open_of}
-use Rattle.link_transfer.specs.declared.joiner.Turn.TheVariants.{Continue}
 use Rattle.link_run.specs.Run.{Texts, ◌then◌}
 use Rattle.link_run.specs.Writers.{AfterWrite}
 use Rattle.link_run.specs.declared.writers.Writers.{Writers}
-use Rattle.link_walk.specs.Walk.{Head, head_at, WalkEvent, ContactHeader, MessageHead, Whole, LeftOpen, data_events, data_size, has_open, head_events, Telling}
+use Rattle.link_walk.specs.Walk.{Head, head_at, inner_head, WalkEvent, ContactHeader, MessageHead, Whole, LeftOpen, data_events, data_size, has_open, head_events, Telling}
 use Rattle.link_walk.specs.declared.consumer.Manner.{Manner}
 use Rattle.link_walk.specs.declared.consumer.EventView.{EventView}
 use Rattle.link_walk.specs.declared.consumer.EventView.TheVariants as view
@@ -34,8 +33,9 @@ pub record ComesAfter (before : List WalkEvent) (head : Head) : Type 0 where
 pub record InnerComes (manner : Manner) (before : List WalkEvent) (head : Head) (size : ℕ)
     : Type 0 where
   pub told : manner.all_heads ≡ true
+  pub id : ℕ
+  pub is : head ≡ inner_head head.offset id size
   pub comes : ComesAfter before head
-  pub turn : head.turn ≡ Some (Continue false)
   pub opened : has_open before ≡ true
   pub few : data_size before + size < 2 ^ 63
 

@@ -36,17 +36,14 @@ head_at before offset message = record {
   turn = effect_of before (event_of message);
 }
 
--- the head of a message that is a segment in the middle of the open transfer
-abbrev pub continuing : (offset : ℕ) → Message → Head
-continuing offset message = record {
+-- the head of a segment in the middle of the open transfer: in order, and without flags
+abbrev pub inner_head : (offset id size : ℕ) → Head
+inner_head offset id size = record {
   offset = offset;
-  message = message;
+  message = inner_segment id size;
   fault = None;
   turn = Some (turn.Continue false);
 }
-
-abbrev pub inner_head : (offset id size : ℕ) → Head
-inner_head offset id size = continuing offset (inner_segment id size)
 
 -- whether the message is the last segment of its transfer
 abbrev pub is_last : Option Turn → Bool

@@ -192,7 +192,6 @@ pub struct MessageBuffer {
 
 impl MessageBuffer {
     ghost use Rattle.std.specs.Prelude.{◌≡◌, []};
-    ghost use Rattle.link_wire.specs.Inner.{inner_segment};
     ghost use Rattle.link_wire.specs.Message.{data_length};
     ghost use Rattle.link_wire.specs.MessageBuffer.{message_of, message_with, SegmentHasTotals};
 
@@ -218,19 +217,6 @@ impl MessageBuffer {
     {
         self.fields = fields;
         self.items.clear();
-    }
-
-    /// Sets the message to a segment without flags, with `length` bytes of data.
-    #[inline(always)]
-    pub fn set_inner(&mut self, id: u64, length: u64)
-        ensures message { message_of self.new ≡ inner_segment id length }
-        ensures totals { SegmentHasTotals self.new }
-    {
-        self.set(Fields::Segment {
-            flags: 0,
-            id,
-            length,
-        });
     }
 
     /// The number of data bytes after the message's head; only a segment has data.

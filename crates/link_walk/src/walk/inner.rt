@@ -3,13 +3,14 @@
 //! A bundle in short segments has hundreds of them in one window. So they are taken without the
 //! judgement of their order and the stages of a step.
 
-ghost use Rattle.std.specs.Prelude.{◌≡◌, ◌+◌, ◌^◌, ◌<◌, ◌≤◌, true, IsTrue, List, length, ℕ};
+ghost use Rattle.std.specs.Prelude.{◌≡◌, ◌+◌, ◌^◌, ◌<◌, ◌≤◌, true, IsTrue, List, [], length, ℕ};
+ghost use Rattle.link_wire.specs.Inner.{inner_segment};
 ghost use Rattle.link_wire.specs.MessageBuffer.{SegmentHasTotals, message_of};
 ghost use Rattle.link_wire.specs.Session.{source_of, may_read, is_opened, data_in};
 ghost use Rattle.link_run.specs.Reading.{inner_of, Unread};
 ghost use Rattle.link_run.specs.Run.{looks};
-ghost use Rattle.link_walk.specs.Telling.{ComesAfter, InnerComes, Tells, inner_events};
-ghost use Rattle.link_walk.specs.Walk.{WalkEvent, continuing, data_size, has_open, inner_head};
+ghost use Rattle.link_walk.specs.Telling.{ComesAfter, Tells, inner_events};
+ghost use Rattle.link_walk.specs.Walk.{WalkEvent, data_size, has_open, inner_head};
 ghost use Rattle.link_walk.specs.WalkRun.{Strides, TakesAll, at, may_follow};
 
 use super::{Next, Stage, Walker, take_loaded};
@@ -17,7 +18,7 @@ use crate::consumer::{Consumer, EventView};
 use crate::head::HeadView;
 use link_run::{Input, Writers};
 use link_transfer::Turn;
-use link_wire::{InDevice, IoFault, MessageBuffer, OutDevice, Session};
+use link_wire::{Fields, InDevice, IoFault, MessageBuffer, OutDevice, Session};
 
 /// Takes the next `size` bytes of the open transfer's data, which are at hand. Then it takes the
 /// inner segments after them, if the segment is over and its transfer is not.
@@ -65,6 +66,7 @@ fn take_inner<R: InDevice, W: OutDevice, E: OutDevice, C: Consumer>(
     let Some(id) = walker.joiner.continuable() else {
         return Next::Stage(Stage::Message);
     };
+    message.items.clear();
     'segments: while let Some(content) = input.inner_data(id) {
         let size = content.len();
         let offset = input.given();
@@ -81,7 +83,7 @@ fn take_inner<R: InDevice, W: OutDevice, E: OutDevice, C: Consumer>(
 }
 
 /// Tells the consumer of an inner segment of the open transfer: of its head, if it is told of every
-/// head, and of its data.
+/// head, and of its data. The message may be any without items.
 #[inline(always)]
 fn tell_inner<W: OutDevice, E: OutDevice, C: Consumer>(
     offset: u64,
@@ -92,7 +94,9 @@ fn tell_inner<W: OutDevice, E: OutDevice, C: Consumer>(
     message: &mut MessageBuffer,
     consumer: &mut C,
 ) -> Result<(), IoFault>
-    ensures { (before : List WalkEvent) → C.knows options.now consumer.old before
+    requires { message.old.items.items ≡ [] }
+    ensures items { message.new.items.items ≡ [] }
+    ensures gives { (before : List WalkEvent) → C.knows options.now consumer.old before
         → ComesAfter before (inner_head offset id (length bytes.now))
         → has_open before ≡ true → data_size before + length bytes.now < 2 ^ 63
         → Tells W.state E.state (C.telling options.now) (C.knows options.now consumer.new) before
@@ -106,7 +110,11 @@ fn tell_inner<W: OutDevice, E: OutDevice, C: Consumer>(
         };
         return consumer.event(options, data, writers);
     }
-    message.set_inner(id, bytes.len() as u64);
+    message.fields = Fields::Segment {
+        flags: 0,
+        id,
+        length: bytes.len() as u64,
+    };
     tell_whole(offset, message, bytes, options, writers, consumer)
 }
 
@@ -121,11 +129,14 @@ fn tell_whole<'a, W: OutDevice, E: OutDevice, C: Consumer>(
     consumer: &mut C,
 ) -> Result<(), IoFault>
     requires { SegmentHasTotals message.now }
-    ensures { (before : List WalkEvent) → C.knows options.now consumer.old before
-        → InnerComes (C.telling options.now).manner before
-        (continuing offset (message_of message.now)) (length bytes.now)
+    ensures { (id : ℕ) (before : List WalkEvent)
+        → message_of message.now ≡ inner_segment id (length bytes.now)
+        → (C.telling options.now).manner.all_heads ≡ true
+        → C.knows options.now consumer.old before
+        → ComesAfter before (inner_head offset id (length bytes.now))
+        → has_open before ≡ true → data_size before + length bytes.now < 2 ^ 63
         → Tells W.state E.state (C.telling options.now) (C.knows options.now consumer.new) before
-        (inner_events true (continuing offset (message_of message.now)) bytes.now)
+        (inner_events true (inner_head offset id (length bytes.now)) bytes.now)
         writers.old writers.new result }
 {
     let head = HeadView {

@@ -37,4 +37,4 @@ returns-in-Some-Some c before is =
     } in
     let found = some_before earlier c.in-Some-Some.transfer result in
     rw (segments_of-push before (viewed_head c.args.head.now), c.in-Segment.is, found.is)
-    (c.then.ensures segment found.previous found.more refl (let same = found.same in cc))
+    (c.add.ensures segment found.previous found.more refl (let same = found.same in cc))

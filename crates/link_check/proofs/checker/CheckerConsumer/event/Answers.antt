@@ -140,23 +140,24 @@ returns-in-Inner g c = rw c.in-Inner.is (λ before knows may.
     let fits : old.latest.judge.size + length bytes < 2 ^ 63 =
     let few = may.few in omega (arith, knows.size) in
     let at = knows.at_open may.opened in
+    let turn = ap (λ (h : Head). h.turn) may.is in
     let follows = c.take.ensures.follows at.begun fits at.checks in
     let now : Checker = record {
-      history = c.judge.new.history;
+      history = c.judge_inner.new.history;
       latest = c.take.new.self;
-      good = c.judge.new.good;
+      good = c.judge_inner.new.good;
     } in
     tells options before g.W.OutDevice.state g.E.OutDevice.state c.args.writers.now
-    c.judge.new.writers c.judge.result now (MessageHead head ∷ data_ends bytes false)
+    c.judge_inner.new.writers c.judge_inner.result now (MessageHead head ∷ data_ends bytes false)
     (own options before head)
-    (inner_said options before head may.turn bytes)
-    (c.judge.ensures.gives kept.heads knows.history).wrote
-    (on_ok_by c.judge.result
-    (λ good. known_inner options before head may.turn bytes now at.begun at.is
+    (inner_said options before head turn bytes)
+    (c.judge_inner.ensures.gives may.id kept.heads may.is knows.history).wrote
+    (on_ok_by c.judge_inner.result
+    (λ good. known_inner options before head turn bytes now at.begun at.is
     (omega (arith, c.take.ensures.size, knows.size))
     (good ∙ ap (λ b. b && none_counts options.must (own options before head)) knows.good)
-    (c.judge.ensures.history kept.heads knows.history) follows)
-    (c.judge.ensures.gives kept.heads knows.history).counted))
+    (c.judge_inner.ensures.history may.id kept.heads may.is knows.history) follows)
+    (c.judge_inner.ensures.gives may.id kept.heads may.is knows.history).counted))
 
 -- ---- data
 

@@ -1,15 +1,12 @@
-use Rattle.std.proofs.Common.{take, sym, arith}
-use Rattle.std.proofs.lemmas.List.{length-take-le}
+use Rattle.std.proofs.Common.{refl}
 use Rattle.link_rules.proofs.Walks.{at_stage, taken_inside}
 use Rattle.link_rules.proofs.heads.HeadWalk.pass.Goals as goal
 
-pub returns-clause-taken : goal.returns-clause-taken
-returns-clause-taken c = record {
+pub returns : goal.returns
+returns c = record {
   seen = λ seen small come.
       let now = c.args.self.now in
-      let piece = c.args.piece.now in
-      let passed = c.min-passed.result in
-      taken_inside c.args.left passed now.found now.head now.count seen (take passed piece)
-      (at_stage now _ seen c.requires.stage come)
-      (sym (length-take-le passed piece (omega arith))) (omega arith) small;
+      let run = c.args.run.now in
+      taken_inside c.args.left _ now.found now.head now.count seen run
+      (at_stage now _ seen c.requires.stage come) refl c.requires.within small;
 }

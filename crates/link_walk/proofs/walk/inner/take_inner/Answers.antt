@@ -13,6 +13,7 @@ returns-in_default-clause-gives g c = none_taken _ _ _ _ c.args.writers.now _ _
 pub segments-init : goal.segments-init
 segments-init g c = record {
   fits = c.requires;
+  items = c.clear.ensures;
   joiner = refl;
   unread = unread_none c.args.input.now;
   taken = none_taken _ _ _ _ c.args.writers.now _ _;
@@ -39,6 +40,7 @@ segments-preserved g c =
     let kept = c.segments.invariant in
     record {
       fits = c.pass_inner.ensures.may_read;
+      items = c.tell_inner.ensures.items;
       joiner = kept.joiner;
       unread = unread_then kept.unread c.pass_inner.ensures.unread;
       taken = turn_taken _ _ _ _ c.args.writers.now _ _ _ _ _ _ _ _ _ _ _
@@ -47,7 +49,7 @@ segments-preserved g c =
           c.in-Some-inner_data.ensures.bytes
           (λ history session. c.pass_inner.ensures.gives c.in-Some.id history session
           c.in-Some-inner_data.ensures.is))
-          (Ok tt) c.in-Ok.ensures;
+          (Ok tt) c.in-Ok.ensures.gives;
     }
 
 pub returns-in-Err-clause-gives : goal.returns-in-Err-clause-gives
@@ -60,7 +62,7 @@ returns-in-Err-clause-gives g c =
     c.in-Some-inner_data.ensures.bytes
     (λ history session. c.pass_inner-in-Err.ensures.gives c.in-Some.id history session
     c.in-Some-inner_data.ensures.is))
-    (Err c.in-Err.fault) c.in-Err.ensures)
+    (Err c.in-Err.fault) c.in-Err.ensures.gives)
 
 pub returns-clause-gives : goal.returns-clause-gives
 returns-clause-gives g c = rw c.segments.invariant.joiner c.segments.invariant.taken

@@ -1,4 +1,4 @@
-use Rattle.std.proofs.Common.{◌≡◌, length}
+use Rattle.std.proofs.Common.{◌≡◌, [], length}
 use Rattle.std.specs.Prelude.{IsTrue}
 use Rattle.link_wire.specs.Session.{source_of, may_read}
 use Rattle.link_wire.specs.Source.{window_of}
@@ -15,6 +15,7 @@ invariant-segments g l =
     let look = looks g.R.InDevice.state g.W.OutDevice.state g.E.OutDevice.state in
     record {
       fits : IsTrue (may_read (inner_of l.input));
+      items : l.message.items.items ≡ [];
       joiner : l.walker.joiner ≡ l.fn.walker.joiner;
       unread : Unread look.input source_of l.fn.input l.input;
       taken : HasTaken look (g.C.Consumer.telling l.fn.options)

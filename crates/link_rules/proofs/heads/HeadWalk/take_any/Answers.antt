@@ -1,7 +1,7 @@
 use Rattle.std.proofs.Common.{ℕ, List, [], take, drop, length-drop, subst, arith}
 use Rattle.link_rules.specs.HeadWalk.{HasTaken}
 use Rattle.link_rules.proofs.Walks.{the_rest, joined_run, taken_then}
-use Rattle.link_rules.proofs.heads.HeadWalk.take.Goals as goal
+use Rattle.link_rules.proofs.heads.HeadWalk.take_any.Goals as goal
 
 pub loop-taken-preserved : goal.loop-taken-preserved
 loop-taken-preserved c =

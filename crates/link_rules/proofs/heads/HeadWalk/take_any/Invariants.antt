@@ -1,6 +1,6 @@
 use Rattle.std.proofs.Common.{◌-◌, ◌≤◌, length, take}
 use Rattle.link_rules.specs.HeadWalk.{HasTaken}
-use Rattle.link_rules.proofs.heads.HeadWalk.take.Given as goal
+use Rattle.link_rules.proofs.heads.HeadWalk.take_any.Given as goal
 
 abbrev pub invariant-loop-taken : goal.invariant-loop-taken
 invariant-loop-taken l = record {

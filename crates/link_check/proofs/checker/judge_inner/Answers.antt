@@ -1,0 +1,30 @@
+use Rattle.std.proofs.Common.{◌≡◌, [], ◌∷◌, ◌++◌, ap, sym, ◌∙◌, subst}
+use Rattle.link_message_rules.specs.MessageRules.{broken_rules}
+use Rattle.link_message_rules.specs.Remembered.{Remembers}
+use Rattle.link_walk.specs.Telling.{viewed_head}
+use Rattle.link_walk.specs.Walk.{Head}
+use Rattle.link_check.specs.Checking.{judged}
+use Rattle.link_check.proofs.Writing.{none_written}
+use Rattle.link_check.proofs.checker.judge_inner.Goals as goal
+
+pub returns-then-take_inner-clause-gives : goal.returns-then-take_inner-clause-gives
+returns-then-take_inner-clause-gives g c = λ id before is at.
+    let options = c.args.options.now in
+    let none : broken_rules options.peer before (judged (viewed_head c.args.head.now)) ≡ [] =
+    ap (λ (head : Head). broken_rules options.peer before (judged head)) is
+    ∙ c.take_inner.ensures.kept id before c.if-take_inner.true in
+    rw none (none_written g.W.OutDevice.state g.E.OutDevice.state options.must
+    c.args.writers.now c.args.good.now tt)
+
+pub returns-then-take_inner-clause-history : goal.returns-then-take_inner-clause-history
+returns-then-take_inner-clause-history g c = λ id before is at.
+    subst (λ (head : Head). Remembers c.take_inner.new.self (before ++ judged head ∷ [])) (sym is)
+    (c.take_inner.ensures.taken id before at c.if-take_inner.true)
+
+pub returns-clause-gives : goal.returns-clause-gives
+returns-clause-gives g c = λ id before is at.
+    c.judge.ensures.gives before (rw (c.take_inner.ensures.same c.if-take_inner.false) at)
+
+pub returns-clause-history : goal.returns-clause-history
+returns-clause-history g c = λ id before is at.
+    c.judge.ensures.history before (rw (c.take_inner.ensures.same c.if-take_inner.false) at)

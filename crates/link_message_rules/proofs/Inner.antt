@@ -1,0 +1,69 @@
+-- An inner segment: without limits of the peer it breaks no rule, and adds its length.
+use Rattle.std.proofs.Common.{◌≡◌, ℕ, false, List, [], ◌∷◌, ◌++◌, Option, Some, None, is_some, refl, sym, ap, ◌∙◌}
+use Rattle.link_wire.specs.declared.message.SegmentHead.{SegmentHead}
+use Rattle.link_transfer.specs.declared.joiner.Turn.TheVariants.{Continue}
+use Rattle.link_message_rules.specs.Flags.{item_flags, segment_flags}
+use Rattle.link_message_rules.specs.Heads.{JudgedHead, inner_head, messages_of}
+use Rattle.link_message_rules.specs.Lengths.{peer_segment, peer_transfer, segments_of}
+use Rattle.link_message_rules.specs.MessageRules.{broken_rules}
+use Rattle.link_message_rules.specs.Remembered.{Remembers, ends_of, so_far_of}
+use Rattle.link_message_rules.specs.TransferIds.{interleaved, transfer_id}
+use Rattle.link_message_rules.specs.declared.history.MessageHistory.{MessageHistory}
+use Rattle.link_message_rules.specs.declared.lengths.TransferSoFar.{TransferSoFar}
+use Rattle.link_message_rules.specs.declared.limits.PeerLimits.{PeerLimits}
+use Rattle.link_message_rules.proofs.Joined.{segments_of-push}
+use Rattle.link_message_rules.proofs.Kept.{segment_kept}
+use Rattle.link_message_rules.proofs.Pushes.{messages_of-push}
+use Rattle.link_message_rules.proofs.Unchanged.{same_initiated, same_keepalives, same_run, same_ack}
+
+abbrev pub inner : (id size : ℕ) → SegmentHead
+inner id size = record { flags = 0; id = id; items = record { items = [] }; length = size }
+
+pub no_limit : (limit : Option ℕ) → is_some limit ≡ false → limit ≡ None
+no_limit None is = refl
+no_limit (Some limit) is = cc
+
+module _ (id size : ℕ) (before : List JudgedHead) where
+  pub inner_kept : (limits : PeerLimits) → limits.segment ≡ None → limits.transfer ≡ None
+      → broken_rules limits before (inner_head id size) ≡ []
+  unfolding segment_flags interleaved transfer_id peer_segment peer_transfer item_flags
+  inner_kept limits no_segment no_transfer =
+      segment_kept limits before (Some (Continue false)) (inner id size) (record {
+        flags = refl;
+        alone = refl;
+        id = refl;
+        segment = rw no_segment refl;
+        transfer = rw no_transfer refl;
+        items = refl;
+      })
+
+  -- the segments so far are those of a transfer that has begun
+  begun : (transfer : TransferSoFar) (segments : List SegmentHead)
+      → Some transfer ≡ so_far_of segments
+      → (now : TransferSoFar)
+      → ((previous : SegmentHead) (earlier : List SegmentHead)
+      → Some transfer ≡ so_far_of (previous ∷ earlier)
+      → Some now ≡ so_far_of (inner id size ∷ previous ∷ earlier))
+      → Some now ≡ so_far_of (inner id size ∷ segments)
+  begun transfer [] is now adds = cc
+  begun transfer (previous ∷ earlier) is now adds = adds previous earlier is
+
+  pub inner_taken : (old new : MessageHistory) (transfer now : TransferSoFar)
+      → Remembers old before → old.transfer ≡ Some transfer
+      → ((previous : SegmentHead) (earlier : List SegmentHead)
+      → Some transfer ≡ so_far_of (previous ∷ earlier)
+      → Some now ≡ so_far_of (inner id size ∷ previous ∷ earlier))
+      → new ≡ record old { transfer = Some now }
+      → Remembers new (before ++ inner_head id size ∷ [])
+  inner_taken old new transfer now at was adds is =
+      let head = inner_head id size in
+      let earlier = messages_of before in
+      let pushed = messages_of-push before head in
+      rw is (record {
+        initiated = rw pushed (at.initiated ∙ sym (same_initiated earlier head.message refl));
+        keepalives = rw pushed (at.keepalives ∙ sym (same_keepalives earlier head.message refl refl));
+        run = rw pushed (at.run ∙ ap ends_of (sym (same_run earlier head.message refl)));
+        ack = rw pushed (at.ack ∙ sym (same_ack earlier head.message refl));
+        transfer = rw (segments_of-push before head)
+            (begun transfer (segments_of before) (sym was ∙ at.transfer) now adds);
+      })
