@@ -19,7 +19,6 @@ use Rattle.link_transfer.specs.Cutter.{IsCutterAt, cut_waits}
 use Rattle.link_transfer.specs.declared.cutter.Cutter.{Cutter}
 use Rattle.link_transfer.proofs.Giving.{next_cut-none}
 use Rattle.link_transfer.proofs.Steps.{next_cut-is}
-use Rattle.link_run.specs.Run.{◌then◌}
 use Rattle.link_run.specs.Writers.{on_output, Writes, WritesPart, AfterWrite}
 use Rattle.link_run.specs.declared.writers.Writers.{Writers}
 use Rattle.link_run.proofs.Runs.{writes_none, part_of_more, output_then}
