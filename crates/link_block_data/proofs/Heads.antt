@@ -386,7 +386,6 @@ head_turn (due.Asserted status has_time) draft head bytes offset next whole with
     (boolean_at-whole has_time bytes offset next head whole)
     ∙ by_outcome (λ (reading : ReadAt Bool).
     by_assertion status draft bytes (boolean_left has_time bytes reading))
-    (λ (asserted : Bool). took_asserted status has_time asserted draft)
-    (assertion has_time (next - offset) head) bytes offset next
-    (λ asserted. asserted_turn status has_time asserted draft bytes next)
+    (λ (asserted : Bool). took_asserted status has_time asserted draft) _ bytes offset next
+    (λ asserted. asserted_turn status _ _ draft bytes next)
     (λ stop. by_assertion-stopped status draft bytes stop)

@@ -108,5 +108,4 @@ unfolding stage_left
 name_goes_on owner draft left bytes more run head offset here some fits =
     ap (λ (reading : ReadAt Eid). located (by_eid owner draft bytes reading))
     (name_left-run (name_of draft.eid) run left bytes more offset here fits)
-    ∙ name_begins owner draft (name_of draft.eid ++ run) (left - length run) bytes
-    (offset + length run) (run_within bytes more run offset here some)
+    ∙ name_begins owner draft _ _ bytes _ (run_within bytes more run offset here some)

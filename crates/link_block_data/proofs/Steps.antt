@@ -233,8 +233,7 @@ pub went_on : (kind : DataKind) (which : Due) (draft new : Draft) (item : HeadIt
     → HasSeen kind stage new head count count seen
 went_on kind which draft new item stage head size offset count seen come outcome sized is fresh =
     entered kind stage new head count count seen come.all_bytes come.counted come.counted fresh
-    (turned_head kind which draft item size offset count seen come outcome sized
-    (Ok (stage, new)) is)
+    (turned_head kind which draft item size offset count seen come outcome sized _ is)
 
 pub refused : (kind : DataKind) (which : Due) (draft new : Draft) (item : HeadItem)
     (fault : BundleFault) (head : HeadScan) (size offset count : ℕ) (seen : List ℕ)

@@ -4,7 +4,7 @@ use Rattle.std.proofs.lemmas.Bool.{false≢true}
 use Rattle.std.proofs.lemmas.Grind.{fold-append}
 use Rattle.link_bundle_blocks.specs.Blocks.{Block, CanonicalOf, LiesWithin, next_of}
 use Rattle.link_bundle_blocks.specs.Bundle.{judged_bundle, bundle_at, opening_at, bundle_goes, blocks_in, cut_block_in}
-use Rattle.link_bundle.specs.Left.{block_of, field_block, follows_block, stage_block, stage_follows, stage_last}
+use Rattle.link_bundle.specs.Left.{field_block, follows_block, stage_block, stage_follows, stage_last}
 use Rattle.link_bundle.specs.Scan.{HasScanned, ending_at, ending}
 use Rattle.link_bundle_blocks.specs.declared.block.CanonicalBlock.{CanonicalBlock}
 use Rattle.link_bundle.specs.declared.cursor.Cursor.{Cursor}
@@ -52,8 +52,7 @@ ends_uncut : (stage : Stage) (draft : Draft) (cursor : Cursor) (block : Block)
     → ending_at stage draft cursor ≡ block ∷ [] → stage_block stage draft ≡ None
 ends_uncut stage draft cursor block ends =
     let last = if_some (cursor.offset == cursor.count) (stage_last stage draft cursor.offset) block ends in
-    let follows = if_some (stage_follows stage)
-    (block_of draft.last draft draft.block.check cursor.offset ∷ []) block last.1 in
+    let follows = if_some _ _ block last.1 in
     stage_uncut stage draft follows.0
 
 pub no_cut : (scan : BundleScan) (seen : List ℕ) (block : Block) → HasScanned scan seen
@@ -93,8 +92,7 @@ pub read_whole : (reader : DataReader) (scan : BundleScan) (flags : ℕ) (seen r
     → ending scan ≡ block ∷ [] → reader.flags ≡ flags_after flags block
     → IsReading reader (seen ++ run)
 read_whole reader scan flags seen run block was come grown ends is = record {
-  flags = is ∙ flags_more flags seen run (block ∷ []) was
-      (grown ∙ ap (λ new. blocks_in seen ++ new) ends);
+  flags = is ∙ flags_more flags seen run _ was (grown ∙ ap (λ new. blocks_in seen ++ new) ends);
   at_cut = λ goes cut_block cut.
       absurd (none_some cut_block (sym (no_cut scan (seen ++ run) block come ends) ∙ cut));
 }

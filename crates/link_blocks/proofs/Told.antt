@@ -1,5 +1,5 @@
 -- What is kept after one more event, and what is written for it.
-use Rattle.std.proofs.Common.{◌≡◌, ℕ, ◌+◌, ◌≤◌, Bool, true, false, not, ◌&&◌, ◌==◌, is_some, List, [], ◌∷◌, ◌++◌, length, Option, Result, Ok, Err, OnOk, flat_map, if◌then◌else◌, refl, ap, sym, ◌∙◌, append-nil, append_assoc, arith}
+use Rattle.std.proofs.Common.{◌≡◌, ℕ, ◌+◌, ◌≤◌, Bool, true, false, not, ◌&&◌, ◌==◌, is_some, List, [], ◌∷◌, ◌++◌, length, Option, Result, OnOk, flat_map, refl, ap, sym, ◌∙◌, append-nil, append_assoc, arith}
 use Rattle.std.proofs.Math.Bool.{and-true}
 use Rattle.std.proofs.lemmas.Grind.{flat_map-append}
 use Rattle.link_wire.specs.Codes.{is_start, is_end}
@@ -11,9 +11,9 @@ use Rattle.link_wire.specs.declared.message.Message.TheVariants as message
 use Rattle.link_wire.specs.declared.message.SegmentHead.{SegmentHead}
 use Rattle.link_transfer.specs.declared.joiner.Turn.{Turn}
 use Rattle.link_run.specs.Run.{Texts, no_texts, ◌then◌}
-use Rattle.link_run.specs.Writers.{on_output, on_report, Writes, AfterWrite}
+use Rattle.link_run.specs.Writers.{on_output, on_report, AfterWrite}
 use Rattle.link_run.specs.declared.writers.Writers.{Writers}
-use Rattle.link_run.proofs.Runs.{texts_as, writes_then, part_behind}
+use Rattle.link_run.proofs.Runs.{texts_as}
 use Rattle.link_walk.specs.Walk.{Head, WalkEvent, MessageHead, closes as closes_head, is_last, is_beginning, open_with, open_after_event, data_size, has_open, abandons}
 use Rattle.link_walk.specs.Telling.{ComesAfter, Tells, data_ends}
 use Rattle.link_unpack.specs.Transfers.{Transfer, closes, continued}
@@ -97,10 +97,8 @@ module _ (only : Option ℕ) where
       }))
   at_head before now transfers effect sent opened (Continues first is starts does also) at begins same =
       rw (does, is, same (ap is_beginning does), transfer_continues transfers first [] starts)
-      (at_segment before (continued transfers [] (closes first [])) _ _ opened refl
-      (λ is_open goes.
-      continued_at before transfers (closes first []) is_open
-      (goes ∙ ap (λ b. not (is_end first.flags && b)) (sym (zero_eq first.length))) (at also)))
+      (at_segment before _ _ _ opened refl (λ is_open goes. continued_at before _ _ _
+      (goes ∙ ap (λ b. not (is_end first.flags && b)) (sym (zero_eq _))) (at also)))
 
 -- ---- one more event
 
@@ -313,17 +311,3 @@ knows_nothing options now size good = record {
   good = rw (told_none (unpacking_by options)) good;
   at_open = λ opened. absurd (cc);
 }
-
--- ---- what is written
-
-module _ {W E : Type 0} (out_look : W → Output) (report_look : E → Output) where
-  -- a text was written to the output, and then others
-  pub output_then : (old mid new : Writers W E) (first : List ℕ) (second : Texts)
-      (result : Result (Unit {0}) IoFault)
-      → Writes out_look report_look old mid (on_output first)
-      → AfterWrite out_look report_look mid new second result
-      → AfterWrite out_look report_look old new (on_output first then second) result
-  output_then old mid new first second (Ok done) one two =
-      writes_then out_look report_look old mid new (on_output first) second one two
-  output_then old mid new first second (Err fault) one part =
-      part_behind out_look report_look old mid new first second fault one part

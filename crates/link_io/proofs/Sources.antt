@@ -35,13 +35,6 @@ pub Consumes-empty : (old new : Option (List ℕ)) (bytes : List ℕ) → Consum
 Consumes-empty None new bytes read = tt
 Consumes-empty (Some xs) new bytes read = read
 
--- a read into an empty window does not change the bytes ahead
-pub Consumes-read : (old new : Option (List ℕ)) (window : List ℕ) → Consumes old new window
-    → Consumes (prepend_known [] old) (prepend_known window new) []
-Consumes-read None new window read = tt
-Consumes-read (Some xs) None window read = absurd read
-Consumes-read (Some xs) (Some ys) window read = read
-
 -- if both tests hold, each of them holds
 pub and_true : (first second : Bool) → (first && second) ≡ true → (first ≡ true) × (second ≡ true)
 and_true true second is = (refl, is)

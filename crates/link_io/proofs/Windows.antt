@@ -1,8 +1,8 @@
 -- The window of a source: the part of an array between two indices, and the bytes after it.
-use Rattle.std.proofs.Common.{◌≡◌, ℕ, ◌+◌, ◌-◌, ◌<◌, ◌≤◌, List, [], ◌++◌, length, take, drop, slice_range, Option, None, Some, arith, refl, ap, sym, ◌∙◌, append_assoc, append-nil, length-append}
+use Rattle.std.proofs.Common.{◌≡◌, ℕ, ◌+◌, ◌-◌, ◌≤◌, List, [], ◌++◌, take, drop, slice_range, Option, None, Some, arith, refl, ap, sym, ◌∙◌, append_assoc, append-nil}
 use Rattle.std.proofs.lemmas.List.{drop-drop, drop-take, take-append-drop}
 use Rattle.std.specs.Io.KnownBytes.{prepend_known}
-use Rattle.link_io.specs.Device.{BeginsWith, HasBytes}
+use Rattle.link_io.specs.Device.{BeginsWith}
 
 pub range_none : (window : List ℕ) (start end : ℕ) → start ≡ end → slice_range window start end ≡ []
 range_none window start end same =
@@ -19,12 +19,6 @@ range_rest window start end count within =
     ∙ sym (drop-take count rest (drop start window))
     ∙ ap (λ n. drop count (take n (drop start window))) (sym parts)
 
--- the window is the next of the input
-pub begins_window : (left : Option (List ℕ)) (window : List ℕ)
-    → BeginsWith (prepend_known window left) window
-begins_window None window = tt
-begins_window (Some all) window = (all, refl)
-
 -- no byte comes next in any input
 pub begins_nothing : (left : Option (List ℕ)) → BeginsWith left []
 begins_nothing None = tt
@@ -33,12 +27,6 @@ begins_nothing (Some all) = (all, refl)
 -- all of the bytes come next in them
 pub begins_all : (bytes : List ℕ) → BeginsWith (Some bytes) bytes
 begins_all bytes = ([], sym (append-nil bytes))
-
--- if some bytes come next, the input has bytes
-pub begins_some : (left : Option (List ℕ)) (bytes : List ℕ) → BeginsWith left bytes
-    → 0 < length bytes → HasBytes left
-begins_some None bytes next some = tt
-begins_some (Some all) bytes next some = omega (arith, some, ap length next.1, length-append bytes next.0)
 
 -- the bytes of the window are the next of the input
 pub window_next : (left : Option (List ℕ)) (window : List ℕ) (count : ℕ)

@@ -3,16 +3,15 @@ use Rattle.std.proofs.Common.{◌≡◌, ℕ, false, List, [], ◌∷◌, ◌++�
 use Rattle.std.proofs.Math.Path.{fun_ext}
 use Rattle.link_run.specs.Made.{StreamStop, shows_fault, so_far_by, tool_of}
 use Rattle.link_run.specs.Run.{Texts, Outcome, Tool, ◌then◌}
-use Rattle.link_run.proofs.Runs.{texts_as, part_of_more}
+use Rattle.link_run.proofs.Runs.{texts_as, part_of_more, output_then}
 use Rattle.link_bundle_walk.specs.Bundles.{Packed, Rest, Divided, IsOpen, divided, with_bundles}
 use Rattle.link_bundle_walk.specs.Telling.{SoFar, BundleTelling, stop_by, told_by, told_of, between, Tells, with_run}
-use Rattle.link_bundle_walk.proofs.Divisions.{IsRefused}
-use Rattle.link_bundle_walk.proofs.Outcomes.{texts_going as texts_told, unshown_going as unshown_told, divided_same, whole_of}
+use Rattle.link_bundle_walk.proofs.Outcomes.{texts_going as texts_told, unshown_going as unshown_told, whole_of}
 use Rattle.link_pack.specs.Packing.{prelude_bytes, segment_size, sending, transfer_bytes, report_lines, packing_of, packing_by, pack_tool, report_line}
 use Rattle.link_pack.specs.PackRun.{texts_of, pack_telling, Sends}
 use Rattle.link_pack.specs.Segments.{segments_of, segments_left}
 use Rattle.link_pack.specs.declared.options.PackOptions.{PackOptions}
-use Rattle.link_pack.proofs.Sending.{segments_none, segments_grow, segments_idle, first_chunks-length, all_given_open, all_given_ended, open_none, after_output, holds_if}
+use Rattle.link_pack.proofs.Sending.{segments_none, segments_grow, segments_idle, first_chunks-length, all_given_open, all_given_ended, open_none, holds_if}
 use Rattle.link_transfer.specs.Cutting.{with_bytes, due_of, Cutting}
 use Rattle.link_run.specs.Writers.{on_output, on_report, AfterWrite}
 use Rattle.link_pack.specs.Packer.{cutting, Keeps}
@@ -196,8 +195,7 @@ module _ {W E : Type 0} (out_look : W → Output) (report_look : E → Output) (
     texts = on_output (segments_left number (pushed false));
     said = rw numbered (texts_grown options before.bundles before.begun run);
     wrote = sends.wrote;
-    known = then_if result sends.after (kept_as options cutter (before.begun ++ run) _
-        (all_given_open (segment_size options) options.announce before.begun run));
+    known = then_if result sends.after (kept_as _ cutter _ _ (all_given_open _ _ _ run));
   }
 
   -- the bundle is whole: its last segments are written, and then its line
@@ -241,20 +239,13 @@ module _ {W E : Type 0} (out_look : W → Output) (report_look : E → Output) (
     unfolding last
     with_line done sends new result wrote =
         tells_ended new result
-        (after_output out_look report_look old mid new last (on_report line) result sends.wrote
-        wrote)
-        (holds_if result (kept_as options cutter [] _
-        (all_given_ended (segment_size options) options.announce before.begun run some
-        ∙ sym (open_none (segment_size options) options.announce)) sends.after))
+        (output_then _ _ old mid new last _ result sends.wrote wrote)
+        (holds_if result (kept_as _ cutter [] _ (all_given_ended _ _ _ run some
+        ∙ sym (open_none _ _)) sends.after))
 
 -- ---- the input, from its bundles and the bytes of the next one
 
 module _ (options : PackOptions) where
-  pub made_as : (bytes : List ℕ) (input : Divided) → divided options.peer_transfer bytes ≡ input
-      → packing_of options bytes ≡ packing_by options input
-  unfolding packing_of
-  made_as bytes input is = ap (packing_by options) is
-
   pub prelude_texts : texts_of options [] [] ≡ record { output = prelude_bytes options; report = [] }
   unfolding transfer_bytes report_lines
   prelude_texts =
@@ -299,17 +290,6 @@ module _ (options : PackOptions) where
     pub unshown_going : shows_fault (packing_of options history).stop ≡ false
     unfolding told_of packing_of
     unshown_going = unshown_told telling history now divides opened
-
-  -- after a refusal, more bytes change nothing
-  pub refused_same : (history : List ℕ) (bundles : List Packed) (begun : List ℕ)
-      (refused : IsRefused options.peer_transfer begun)
-      (divides : (more : List ℕ) → divided options.peer_transfer (history ++ more)
-      ≡ with_bundles bundles (divided options.peer_transfer (begun ++ more)))
-      (more : List ℕ) → packing_of options (history ++ more) ≡ packing_of options history
-  unfolding packing_of
-  refused_same history bundles begun refused divides more =
-      ap (packing_by options)
-      (divided_same options.peer_transfer history bundles begun divides _ refused.divides more)
 
   abbrev input : List ℕ → Divided
   input bytes = divided options.peer_transfer bytes

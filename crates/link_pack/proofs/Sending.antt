@@ -19,10 +19,9 @@ use Rattle.link_transfer.specs.Cutter.{IsCutterAt, cut_waits}
 use Rattle.link_transfer.specs.declared.cutter.Cutter.{Cutter}
 use Rattle.link_transfer.proofs.Giving.{next_cut-none}
 use Rattle.link_transfer.proofs.Steps.{next_cut-is}
-use Rattle.link_run.specs.Run.{Texts, ◌then◌}
 use Rattle.link_run.specs.Writers.{on_output, Writes, WritesPart, AfterWrite}
 use Rattle.link_run.specs.declared.writers.Writers.{Writers}
-use Rattle.link_run.proofs.Runs.{writes_none, writes_then, part_of_more, part_behind}
+use Rattle.link_run.proofs.Runs.{writes_none, part_of_more, output_then}
 use Rattle.link_pack.specs.PackRun.{Sends}
 
 -- ---- a due segment of an incomplete bundle stays the same
@@ -155,8 +154,7 @@ segments_grow id segment hold bundle (byte ∷ bytes) last some next =
     ap (λ given.
     segments_from id (sends segment hold bundle false) 0 before ++ now given (after - given))
     {y = 0 + before} (first_chunks-length segment before bundle ∙ omega arith)
-    ∙ grow_from id segment hold bundle run last 0 before (after - (0 + before)) some next
-    (omega arith)
+    ∙ grow_from id _ hold bundle run last 0 before _ some next (omega arith)
     ∙ ap (now 0) {y = after} (omega arith)
 
 -- ---- once all due chunks were given
@@ -197,17 +195,6 @@ module _ {W E : Type 0} (out_look : W → Output) (report_look : E → Output) w
   part_more old new first second fault part =
       part_of_more out_look report_look old new (on_output first) (on_output second) fault
       (λ none. absurd (omega arith)) part
-
-  -- a text was written to the output, and then others, or a writer failed in these
-  pub after_output : (old mid new : Writers W E) (first : List ℕ) (second : Texts)
-      (result : Result (Unit {0}) IoFault)
-      → Writes out_look report_look old mid (on_output first)
-      → AfterWrite out_look report_look mid new second result
-      → AfterWrite out_look report_look old new (on_output first then second) result
-  after_output old mid new first second (Ok done) one two =
-      writes_then out_look report_look old mid new (on_output first) second one two
-  after_output old mid new first second (Err fault) one part =
-      part_behind out_look report_look old mid new first second fault one part
 
 -- ---- a cut
 
@@ -253,8 +240,7 @@ leaves_by id now true is some =
       shows = refl;
     }
 leaves_by id now false is some = record {
-  left = segment_then id (sending_of now) (length now.given) _ (due now) some
-      (sym (length_push now.given (next_chunk now)));
+  left = segment_then id _ _ _ _ some (sym (length_push now.given (next_chunk now)));
   ends = refl;
   shows = refl;
 }
@@ -298,8 +284,7 @@ pub one_sent : {W E : Type 0} (out_look : W → Output) (report_look : E → Out
     → Sends out_look report_look id now old new after result
 unfolding due
 one_sent out_look report_look id now cut chunk after old new result is same at quiet wrote =
-    let rest = idle id after (without_chunk (after_cut now)) at
-    (sym (next_cut-none after (without_chunk (after_cut now)) at quiet)) in
+    let rest = idle id after _ at (sym (next_cut-none after _ at quiet)) in
     let leaves = cut_leaves id now cut is in
     let all : segment_bytes id cut chunk ≡ segments_left id now = sym (leaves.left
     ∙ ap₂ (λ (chunk more : List ℕ). segment_bytes id cut chunk ++ more) same rest.0
@@ -361,7 +346,7 @@ module _ {W E : Type 0} (out_look : W → Output) (report_look : E → Output) w
         at = at;
         then_all = λ last result wrote. some.then_all last result
             (subst (Sends_of last result) left
-            (after_output out_look report_look mid new last (segment_bytes id cut chunk)
+            (output_then out_look report_look mid new last (segment_bytes id cut chunk)
             (on_output (segments_left id (after_cut some.now))) result writes wrote));
         ends = (cut_leaves id some.now cut is).ends ∙ some.ends;
       }

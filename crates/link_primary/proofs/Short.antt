@@ -16,7 +16,7 @@ use Rattle.link_bundle_heads.specs.declared.endpoint.Scheme.TheVariants.{Dtn, Ip
 use Rattle.link_bundle_heads.specs.Rows.{◌>>=◌, wanted, unsigned, pair, scheme, dtn_by, dtn_part, ipn_part, version, is_fragment, primary_block, primary_check_type, check_width, check_field}
 use Rattle.link_bundle_blocks.specs.Reading.{ReadAt, stopped, head_by, outcome_at, head_at, row_at, bytes_at}
 use Rattle.link_bundle_blocks.specs.EndpointId.{dtn_at, ipn_at, specific_at, eid_at}
-use Rattle.link_bundle_blocks.specs.CheckField.{number_from, check_of, field_at}
+use Rattle.link_bundle_blocks.specs.CheckField.{check_of, field_at}
 use Rattle.link_bundle_blocks.specs.Bundle.{opening_at}
 use Rattle.link_primary.specs.Accepted.{accepted}
 use Rattle.link_primary.specs.Fields.{PrimaryFields, no_fields, or_before, first_fields, endpoint_fields, time_fields, fragment_fields, last_field, block_fields, fields_of, primary_fields}
@@ -100,13 +100,8 @@ module _ (limit : ℕ) (bytes : List ℕ) where
 
   agrees-end : {A : Type 0} (left : ℕ) (value : A) (offset : ℕ) → offset + left ≤ limit
       → Agrees left (Ok (value, offset)) (Ok (value, offset))
-  agrees-end {A = A} left value offset enough = record {
-    same = refl;
-    ends = λ other next is.
-        let pair : (value, offset) ≡ (other, next) = cc in
-        let here : offset ≡ next = ap (λ (pair : A × ℕ). pair.1) pair in
-        omega arith;
-  }
+  agrees-end left value offset enough =
+      record { same = refl; ends = λ other next is. grind arith }
 
   -- ---- each part
 
@@ -121,10 +116,7 @@ module _ (limit : ℕ) (bytes : List ℕ) where
       → next + left ≤ limit
   by-ends offset left Cut enough most head next is = cc
   by-ends offset left IllFormed enough most head next is = cc
-  by-ends offset left (Whole found size) enough most head next is =
-      let pair : (found, offset + size) ≡ (head, next) = cc in
-      let here : offset + size ≡ next = ap (λ (pair : Head × ℕ). pair.1) pair in
-      omega arith
+  by-ends offset left (Whole found size) enough most head next is = grind arith
 
   head-agrees : (offset left : ℕ) → offset + (9 + left) ≤ limit
       → Agrees left (head_at some offset) (head_at bytes offset)
@@ -152,8 +144,7 @@ module _ (limit : ℕ) (bytes : List ℕ) where
       → Agrees left (row_at row some offset) (row_at row bytes offset)
   unfolding row_at
   row-agrees row offset left enough =
-      agrees-then left left (head_at some offset) (head_at bytes offset) _ _
-      (head-agrees offset left enough)
+      agrees-then left left _ _ _ _ (head-agrees offset left enough)
       (λ (head, next). λ is fits. judged-agrees offset next left (row head) fits)
 
   row-then : {A B : Type 0} (row : Head → Result A BundleFault) (offset middle left : ℕ)
@@ -161,8 +152,8 @@ module _ (limit : ℕ) (bytes : List ℕ) where
       → ((value : A × ℕ) → value.1 + middle ≤ limit → Agrees left (next value) (next_later value))
       → Agrees left (row_at row some offset >>= next) (row_at row bytes offset >>= next_later)
   row-then row offset middle left next next_later enough each =
-      agrees-then middle left (row_at row some offset) (row_at row bytes offset) next next_later
-      (row-agrees row offset middle enough) (λ value is. each value)
+      agrees-then middle left _ _ next next_later (row-agrees row offset middle enough)
+      (λ value is. each value)
 
   bytes-agrees : (count offset left : ℕ) → offset + (count + left) ≤ limit
       → Agrees left (bytes_at count some offset) (bytes_at count bytes offset)
@@ -192,8 +183,7 @@ module _ (limit : ℕ) (bytes : List ℕ) where
   unfolding dtn_at
   dtn-agrees None offset left short enough = agrees-end left _ offset (omega arith)
   dtn-agrees (Some count) offset left short enough =
-      agrees-then left left (bytes_at count some offset) (bytes_at count bytes offset) _ _
-      (bytes-agrees count offset left (omega (arith, short count refl)))
+      agrees-then left left _ _ _ _ (bytes-agrees count offset left (omega (arith, short count refl)))
       (λ (name, end). λ is fits. agrees-end left _ end fits)
 
   ipn-agrees : (allocated : Bool) (offset left : ℕ) → offset + (27 + left) ≤ limit
@@ -213,8 +203,7 @@ module _ (limit : ℕ) (bytes : List ℕ) where
       → Agrees left (specific_at which some offset) (specific_at which bytes offset)
   unfolding specific_at
   specific-agrees Dtn offset left enough =
-      agrees-then (1024 + left) left (row_at dtn_part some offset) (row_at dtn_part bytes offset) _ _
-      (row-agrees dtn_part offset (1024 + left) (omega arith))
+      agrees-then (1024 + left) left _ _ _ _ (row-agrees dtn_part offset (1024 + left) (omega arith))
       (λ (part, next). λ is fits. dtn-agrees part next left (dtn_part-most some offset next part is)
       (omega arith))
   specific-agrees Ipn offset left enough =
@@ -254,11 +243,8 @@ module _ (limit : ℕ) (bytes : List ℕ) where
       row-then (check_field kind) offset (4 + left) left _ _ (omega arith)
       (λ (count, content). λ fits.
       rw (slice-same start content (omega arith))
-      (agrees-then left left (bytes_at (check_width kind) some content)
-      (bytes_at (check_width kind) bytes content) _ _
-      (bytes-agrees (check_width kind) content left (omega (arith, width kind)))
-      (λ (stored, next). λ is fits'. chosen-agrees
-      (number_from 0 stored == check_of kind start content bytes) next offset left fits')))
+      (agrees-then left left _ _ _ _ (bytes-agrees _ _ left (omega (arith, width kind)))
+      (λ (stored, next). λ is fits'. chosen-agrees _ next offset left fits')))
 
   -- ---- the fields
 
@@ -283,13 +269,8 @@ module _ (limit : ℕ) (bytes : List ℕ) where
 
   equals-end : {A : Type 0} (left : ℕ) (value : A) (offset : ℕ) → offset + left ≤ limit
       → Equals left (Ok (value, offset)) (Ok (value, offset))
-  equals-end {A = A} left value offset enough = record {
-    same = refl;
-    ends = λ other next is.
-        let pair : (value, offset) ≡ (other, next) = cc in
-        let here : offset ≡ next = ap (λ (pair : A × ℕ). pair.1) pair in
-        omega arith;
-  }
+  equals-end left value offset enough =
+      record { same = refl; ends = λ other next is. grind arith }
 
   equals-then : {A B : Type 0} (middle left : ℕ) (now later : Result (A × ℕ) PrimaryFields)
       (next next_later : A × ℕ → Result (B × ℕ) PrimaryFields)
@@ -308,10 +289,8 @@ module _ (limit : ℕ) (bytes : List ℕ) where
       → Equals left (or_before fields (row_at row some offset) >>= next)
       (or_before fields (row_at row bytes offset) >>= next_later)
   row-fields row fields offset middle left next next_later enough each =
-      equals-then middle left (or_before fields (row_at row some offset))
-      (or_before fields (row_at row bytes offset)) next next_later
-      (equals-before middle fields (row_at row some offset) (row_at row bytes offset)
-      (row-agrees row offset middle enough)) each
+      equals-then middle left _ _ next next_later
+      (equals-before middle fields _ _ (row-agrees row offset middle enough)) each
 
   eid-fields : {B : Type 0} (fields : PrimaryFields) (offset middle left : ℕ)
       (next next_later : Eid × ℕ → Result (B × ℕ) PrimaryFields) → offset + (1051 + middle) ≤ limit
@@ -319,10 +298,8 @@ module _ (limit : ℕ) (bytes : List ℕ) where
       → Equals left (or_before fields (eid_at some offset) >>= next)
       (or_before fields (eid_at bytes offset) >>= next_later)
   eid-fields fields offset middle left next next_later enough each =
-      equals-then middle left (or_before fields (eid_at some offset))
-      (or_before fields (eid_at bytes offset)) next next_later
-      (equals-before middle fields (eid_at some offset) (eid_at bytes offset)
-      (eid-agrees offset middle enough)) each
+      equals-then middle left _ _ next next_later
+      (equals-before middle fields _ _ (eid-agrees offset middle enough)) each
 
   first-equals : (offset left : ℕ) → offset + (36 + left) ≤ limit
       → Equals left (first_fields some offset) (first_fields bytes offset)
@@ -386,18 +363,13 @@ module _ (limit : ℕ) (bytes : List ℕ) where
   block-same : (start : ℕ) → start + 3256 ≤ limit → block_fields some start ≡ block_fields bytes start
   unfolding block_fields
   block-same start enough =
-      done-then 3220 (first_fields some start) (first_fields bytes start) _ _
-      (first-equals start 3220 (omega arith))
+      done-then 3220 _ _ _ _ (first-equals start 3220 (omega arith))
       (λ ((fields, check), offset). λ fits.
-      done-then 67 (endpoint_fields fields some offset) (endpoint_fields fields bytes offset) _ _
-      (endpoint-equals fields offset 67 (omega arith))
+      done-then 67 _ _ _ _ (endpoint-equals fields offset 67 (omega arith))
       (λ (fields, offset). λ fits'.
-      done-then 31 (time_fields fields some offset) (time_fields fields bytes offset) _ _
-      (time-equals fields offset 31 (omega arith))
+      done-then 31 _ _ _ _ (time-equals fields offset 31 (omega arith))
       (λ (fields, offset). λ fits''.
-      done-then 13 (fragment_fields (is_fragment fields.flags) fields some offset)
-      (fragment_fields (is_fragment fields.flags) fields bytes offset) _ _
-      (fragment-equals (is_fragment fields.flags) fields offset 13 (omega arith))
+      done-then 13 _ _ _ _ (fragment-equals (is_fragment fields.flags) fields offset 13 (omega arith))
       (λ (fields, offset). λ fits'''. ap Ok (last-same check start fields offset fits''')))))
 
 -- the primary block needs no more bytes than these

@@ -139,8 +139,7 @@ sought_whole sought found offset seen head come within whole = record {
       (at_head sought offset (drop offset seen) more head whole
       ∙ ap (λ (next : ℕ). if sought head (length (drop offset seen)) then Some offset
       else first_from sought (content_size head) next more) next)
-      ∙ first_or found (sought head (length (drop offset seen))) offset
-      (first_from sought (content_size head) (length seen) more);
+      ∙ first_or found _ offset _;
 }
 
 sought_ill_formed : (sought : HeadItem → ℕ → Bool) (found : Option ℕ) (offset : ℕ) (seen : List ℕ)
@@ -352,8 +351,7 @@ head_ill_formed offset found old new count seen run come one small wrong =
       counted = counted_more count 1 seen run come.counted one small;
       sought = record {
         long = sought_ill_formed is_long found.long offset (seen ++ run) more.long wrong;
-        indefinite = sought_ill_formed is_indefinite found.indefinite offset (seen ++ run)
-            more.indefinite wrong;
+        indefinite = sought_ill_formed _ _ offset _ more.indefinite wrong;
       };
       stands = tt;
     }
@@ -411,5 +409,4 @@ long_now walk seen come =
 pub indefinite_now : (walk : HeadWalk) (seen : List ℕ) → HasWalked walk seen
     → walk.found.indefinite ≡ first_from is_indefinite 1 0 seen
 indefinite_now walk seen come =
-    sought_now is_indefinite walk.found.indefinite walk.stage seen come.sought.indefinite
-    (none_left is_indefinite walk.stage walk.head seen come.stands)
+    sought_now _ _ _ seen come.sought.indefinite (none_left _ _ _ seen come.stands)

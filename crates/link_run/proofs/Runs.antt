@@ -412,16 +412,25 @@ module _ {W E : Type 0} (out_look : W → Output) (report_look : E → Output) w
         part.failed;
   }
 
+  -- a text was written to the output, and then others, or a writer failed in these
+  pub output_then : (old mid new : Writers W E) (first : List ℕ) (second : Texts)
+      (result : Result (Unit {0}) IoFault)
+      → Writes out_look report_look old mid (on_output first)
+      → AfterWrite out_look report_look mid new second result
+      → AfterWrite out_look report_look old new (on_output first then second) result
+  output_then old mid new first second (Ok done) one two =
+      writes_then old mid new (on_output first) second one two
+  output_then old mid new first second (Err fault) one part =
+      part_behind old mid new first second fault one part
+
 module _ {W E : Type 0} (out_look : W → Output) (report_look : E → Output) (old mid new : Writers W E) where
   -- a text was written to the output, and then another, or a writer failed in it
   pub outputs_then : (first second : List ℕ) (result : Result (Unit {0}) IoFault)
       → Writes out_look report_look old mid (on_output first)
       → AfterWrite out_look report_look mid new (on_output second) result
       → AfterWrite out_look report_look old new (on_output (first ++ second)) result
-  outputs_then first second (Ok done) one two =
-      writes_then out_look report_look old mid new (on_output first) (on_output second) one two
-  outputs_then first second (Err fault) one part =
-      part_behind out_look report_look old mid new first (on_output second) fault one part
+  outputs_then first second =
+      output_then out_look report_look old mid new first (on_output second)
 
 module _ {R W E : Type 0} (look : Looks R W E) where
   -- handing on leaves the written texts as they are

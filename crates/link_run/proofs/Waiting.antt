@@ -35,11 +35,6 @@ waits_enough waits = ⊎_elim (λ none. inl (none.0, inl none.1)) (λ waited. in
 
 module _ {S R W E : Type 0} {look : Looks R W E} {source : S → Source R} {enough : Type 0}
     (before : Writers W E) where
-  -- a call that reads nothing does not wait
-  pub unread_waits : {old new : Input S W E} → Unread look.input source old new
-      → CallWaits look source enough old new before
-  unread_waits unread = inl (unread.waits, inr unread.reach)
-
   -- after a call, others read nothing
   pub waits_then : {old mid new : Input S W E} → CallWaits look source enough old mid before
       → Unread look.input source mid new → CallWaits look source enough old new before
@@ -79,8 +74,7 @@ module _ {R W E : Type 0} {look : Looks R W E} {made : List ℕ → Made} {start
         count = is.given ∙ stands.written.count;
         few = is.few;
         unshown = stands.unshown;
-        output = shown_after texts.texts.output _ stands.written.writes is.output
-            (ap (λ (t : Texts). t.output) due);
+        output = shown_after _ _ stands.written.writes is.output (ap (λ (t : Texts). t.output) due);
         report = shown_after texts.texts.report _ stands.written.reports is.report
             (ap (λ (t : Texts). t.report) due);
         output_sound = is.output_kept ∙ stands.sound.output;

@@ -46,8 +46,7 @@ piece_part piece before offset size count all = ⊎_elim
     (λ (inside : offset < before + length piece).
     let end = min (offset + count - before) (length piece) in
     let start : min (offset - before) end ≡ offset - before = omega arith in
-    take_same (size - (before - offset)) (end - (offset - before)) (drop (offset - before) piece)
-    (omega (arith, length-drop (offset - before) piece))
+    take_same _ _ _ (omega (arith, length-drop (offset - before) piece))
     ∙ ap (λ n. take (end - n) (drop n piece)) (sym start))
     (λ (past : before + length piece ≤ offset).
     let end = min (offset + count - before) (length piece) in

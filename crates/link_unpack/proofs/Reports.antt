@@ -7,7 +7,7 @@ use Rattle.link_wire.specs.declared.IoFault.{IoFault}
 use Rattle.link_run.specs.Run.{◌then◌}
 use Rattle.link_run.specs.Writers.{on_output, on_report, Writes, WritesPart, AfterWrite}
 use Rattle.link_run.specs.declared.writers.Writers.{Writers}
-use Rattle.link_run.proofs.Runs.{part_of_more, part_behind, writes_then}
+use Rattle.link_run.proofs.Runs.{part_of_more, writes_then}
 
 module _ {W E : Type 0} (out_look : W → Output) (report_look : E → Output) where
   -- the first was not written whole
@@ -55,13 +55,3 @@ module _ {W E : Type 0} (out_look : W → Output) (report_look : E → Output) w
   output_part old new first second fault part =
       part_of_more out_look report_look old new (on_output first) (on_report second) fault
       (λ some. refl) part
-
-  pub output_then : (old mid new : Writers W E) (first second : List ℕ)
-      (result : Result (Unit {0}) IoFault)
-      → Writes out_look report_look old mid (on_output first)
-      → AfterWrite out_look report_look mid new (on_report second) result
-      → AfterWrite out_look report_look old new (on_output first then on_report second) result
-  output_then old mid new first second (Ok done) one two =
-      writes_then out_look report_look old mid new (on_output first) (on_report second) one two
-  output_then old mid new first second (Err fault) one part =
-      part_behind out_look report_look old mid new first (on_report second) fault one part

@@ -1,5 +1,5 @@
 -- What is kept after one more event, and what is written for it.
-use Rattle.std.proofs.Common.{◌≡◌, ℕ, ◌+◌, ◌≤◌, Bool, true, false, not, ◌&&◌, ◌==◌, is_some, List, [], ◌∷◌, ◌++◌, length, Option, Result, Ok, Err, OnOk, if◌then◌else◌, refl, ap, sym, ◌∙◌, append-nil, append_assoc, arith}
+use Rattle.std.proofs.Common.{◌≡◌, ℕ, ◌+◌, ◌≤◌, Bool, true, false, not, ◌&&◌, ◌==◌, is_some, List, [], ◌∷◌, ◌++◌, length, Option, Result, Ok, Err, OnOk, refl, ap, sym, ◌∙◌, append-nil, append_assoc, arith}
 use Rattle.std.specs.List.{fold}
 use Rattle.std.proofs.Math.Bool.{and-true}
 use Rattle.std.proofs.lemmas.Grind.{fold-append}
@@ -290,11 +290,9 @@ module _ (wanted : Wanted) where
       }))
   at_head before now transfers effect sent opened (Continues first is starts does also) sum at begins same =
       rw (does, is, same (ap is_beginning does), transfer_continues transfers first [] starts)
-      (at_segment before (continued transfers [] (closes first [])) _ _ opened
-      (sum ∙ ap length (sym (continued_parts wanted transfers (closes first [])))) refl
-      (λ is_open goes.
-      continued_at wanted before transfers (closes first []) is_open
-      (goes ∙ ap (λ b. not (is_end first.flags && b)) (sym (zero_eq first.length))) (at also)))
+      (at_segment before _ _ _ opened (sum ∙ ap length (sym (continued_parts wanted _ _))) refl
+      (λ is_open goes. continued_at wanted before _ _ _
+      (goes ∙ ap (λ b. not (is_end first.flags && b)) (sym (zero_eq _))) (at also)))
 
 -- ---- before the first event
 

@@ -197,8 +197,7 @@ found_made : {A : Type 0} (n : ℕ) (make : List ℕ → A)
 found_made n make =
     found_then _ _ (found_bytes n) (λ content before is.
     let same : before ++ [] ≡ content = append-nil before ∙ is.1 in
-    found_pure (make content)
-    (subst AreBytes (sym same) is.0, ap length same ∙ is.2, ap make (sym same)))
+    found_pure _ (subst AreBytes (sym same) is.0, ap length same ∙ is.2, ap make (sym same)))
 
 module _ (owner : ListOf) (kind size : ℕ) where
   known_by : (test : Bool) (value : List ℕ) → is_total_length owner kind size ≡ test

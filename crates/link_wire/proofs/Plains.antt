@@ -219,10 +219,9 @@ module _ (window : List ℕ) (k at : ℕ) (enough : at + 8 ≤ length window) (p
       IsPart message_at (take (1 + (1 + (8 + (k + 8)))) window) (M n at) in
       let Q : ℕ → Type 0 = λ n. IsPart message_at (take (1 + (1 + (8 + (k + 8)))) window) (L n) in
       let whole : Q (10 + k) = typed window 1 (1 + (8 + (k + 8))) (L (10 + k)) (omega arith) is
-      (field_then window 1 1 (8 + (k + 8)) _ _ (omega arith)
-      (field_then window 2 8 (k + 8) _ _ (omega arith)
-      (part_then window 10 k 8 (segment_items_at flags) none _ _ (subst F (sym first) list)
-      (field_then window (10 + k) 8 0 _ _ (omega arith) (pure_is (L (10 + k))))))) in
+      (field_then window 1 1 _ _ _ (omega arith) (field_then window 2 8 _ _ _ (omega arith)
+      (part_then window 10 k 8 _ none _ _ (subst F (sym first) list)
+      (field_then window _ 8 0 _ _ (omega arith) (pure_is _))))) in
       subst P first (subst Q parts whole)
 
 pub later_head : (window : List ℕ) → 18 ≤ length window → slice_index window 0 ≡ 1

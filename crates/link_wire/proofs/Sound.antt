@@ -1,5 +1,5 @@
 -- A spelling is read as what it spells, whatever follows it.
-use Rattle.std.proofs.Common.{◌≡◌, ℕ, zero, suc, ◌+◌, ◌-◌, ◌^◌, ◌<◌, ◌≤◌, Bool, true, false, eqb, List, [], ◌∷◌, ◌++◌, length, Option, Some, None, Ok, nat_lt, if◌then◌else◌, arith, refl, ap, sym, ◌∙◌, subst, append_assoc, append-nil, length-append}
+use Rattle.std.proofs.Common.{◌≡◌, ℕ, zero, suc, ◌+◌, ◌-◌, ◌^◌, ◌<◌, ◌≤◌, Bool, true, false, List, [], ◌∷◌, ◌++◌, length, Option, Some, None, Ok, nat_lt, if◌then◌else◌, arith, refl, ap, sym, ◌∙◌, subst, append_assoc, append-nil, length-append}
 use Rattle.std.proofs.lemmas.List.{nil_from_length}
 use Rattle.std.proofs.lemmas.Bool.{le-ltb, ne_eqb}
 use Rattle.std.proofs.lemmas.Bool.Decides.{nat_tests}
@@ -202,10 +202,9 @@ module _ (owner : ListOf) where
         let fits : 5 + item.length ≤ left = omega arith in
         let some : 0 < left = omega arith in
         let only : Only (items_at owner (suc room) left) (item ∷ items) (ItemHeadSpelled item.flags item.kind item.length ⨾ ValueSpelled owner item.kind item.length item.total ⨾ ItemsFilling owner items (left - (5 + item.length))) =
-        only_else _ _ (eqb left 0) (ne_eqb left 0 (λ none. absurd (omega arith)))
-        (only_then _ _ (only_item_head left item.flags item.kind item.length fits)
-        (only_then _ _ (only_value owner item.kind item.length item.total)
-        (only_last _ _ (only_items items room (left - (5 + item.length)) (omega arith)) (λ rest. refl)))) in
+        only_else _ _ _ (ne_eqb left 0 (λ none. absurd (omega arith)))
+        (only_then _ _ (only_item_head left _ _ _ fits) (only_then _ _ (only_value owner _ _ _)
+        (only_last _ _ (only_items items room _ (omega arith)) (λ rest. refl)))) in
         only.by bytes (then_assoc bytes (record { before = is.0.before; after = is.0.after; is_first = is.0.is_first; is_second = (is.0.is_second, size); parts = is.0.parts })) more;
   }
 

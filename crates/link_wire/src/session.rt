@@ -236,6 +236,7 @@ impl<R: InDevice> Session<R> {
     ///
     /// The head is read where it lies, also in the memory of the reader. [`Session::read_fields`]
     /// would first fill the window, and so copy data that the caller can take in place.
+    #[tactic(auto, using(link_io::proofs::Sources::front_ended))]
     #[cold]
     #[inline(never)]
     fn next_ahead(&mut self, message: &mut MessageBuffer) -> Option<u64>

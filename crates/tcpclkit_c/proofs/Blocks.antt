@@ -68,8 +68,7 @@ module _ (old new : BundleScan) (seen piece : List ℕ) (count : ℕ) (come : Ha
         is_front = ap (λ (size : ℕ). take size piece) (sym front_size);
         wanted = wanted;
         stops = ⊎_elim
-            (λ below. inl (stops_of seen (seen ++ take count piece) (ending new) (adds seen come)
-            (λ none. stops none below)))
+            (λ below. inl (stops_of seen _ _ (adds seen come) (λ none. stops none below)))
             (λ all. inr (take_all count piece all))
             (cases_lt count (length piece));
       })

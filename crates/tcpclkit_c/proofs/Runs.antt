@@ -10,7 +10,6 @@ use Rattle.link_run.specs.declared.run.Status.{Status}
 use Rattle.link_tools.specs.Options.{AfterTool}
 use Rattle.link_tools.specs.declared.options.Job.TheVariants as job
 use Rattle.link_transfer.specs.declared.cutter.Cutter.{Cutter}
-use Rattle.link_unpack.specs.declared.wanted.Wanted.{Wanted}
 use Rattle.link_wire.specs.Limits.{longest_input}
 use Rattle.link_wire.specs.declared.IoFault.{IoFault}
 use Rattle.link_wire.specs.declared.IoFault.TheVariants.{Read, InputTooLong, Write, Memory}
@@ -226,9 +225,3 @@ pub packed : (options : PackOptions) (memory : Result Cutter AllocError) (bytes 
     ⊎ ReturnsNothing old new run status
 packed options (Ok cutter) bytes wants old new run status gave = inl gave
 packed options (Err refused) bytes wants old new run status gave = inr gave
-
--- the options that were in their ranges
-pub wanted_some : (fits : Bool) (wanted found : Wanted)
-    → (if fits then Some wanted else None) ≡ Some found → (fits ≡ true) × (wanted ≡ found)
-wanted_some true wanted found is = (refl, cc)
-wanted_some false wanted found is = cc

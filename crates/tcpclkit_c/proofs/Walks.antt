@@ -31,14 +31,9 @@ pub use denote.Triple.Clauses.{Lasts, lasts}
 pub use denote.Triple.Spec.{triple_of}
 pub use denote.Triple.Walked.{says, Stays, walk_of, stay_dropped, Goes-dropped, ends_at}
 pub use denote.Triple.Table.{framed}
-use Rattle.std.proofs.Common.{List, [], ◌∷◌, refl}
+pub use Rattle.link_run.proofs.Walks.{none, none_made}
 use seplogic.Ra.Ura.{Ura}
-use mir.Val.{Val, vstruct, vnil}
-use types.Kit.{Goal, Step, step, Item, ‵, ◌$◌, fjoin, fpack, feq_i}
 use types.Logic.{Logic}
-use denote.RattleType.{RattleType, Valss}
-use denote.Steps.{nothing}
-use denote.Struct.Struct.{Struct, within}
 use denote.Exit.{Kept, left}
 use denote.Signature.{Slot}
 use denote.Triple.Walked.{Stay, Goes}
@@ -49,16 +44,3 @@ stay_passed s k = record { fit = λ κs x w. Unit {0}; has = λ κs x w vs. left
 
 pub Goes-passed : {M : Type 1} {𝓤 : Ura M} (𝓛 : Logic 𝓤) (n : ℕ) (s : Slot n) (k : Kept) → Goes 𝓛 n s k (stay_passed s k)
 Goes-passed 𝓛 n s k κs x w vs fits = 𝓛.laws.⇛_intro _
-
--- a struct that has only ghost fields is made
-abbrev pub none : Val
-none = vstruct vnil
-
-abbrev pub fieldless : RattleType
-fieldless = Struct (record { name = []; args = []; types = []; fields = [] })
-
-pub none_made : {M : Type 1} {𝓤 : Ura M} {𝓛 : Logic 𝓤} {K : Type 0} {Γ : List (Item 𝓤)}
-    {G : Goal 𝓤 𝓛.H} → K → Step K 𝓛 (‵ (fieldless.own_val tt (none ∷ [])) ∷ Γ) G Γ G
-none_made t = step (λ s.
-    nothing t $ feq_i t (List Val) (none ∷ []) (none ∷ []) refl $ fjoin t $
-    fpack t (Valss []) (within (record { name = []; args = []; types = []; fields = [] }) tt (none ∷ [])) tt $ s)

@@ -62,8 +62,7 @@ shown g c content same judged reading =
           (rw (the_rest piece taken) at (c.show_block.ensures.reads bytes size read goes) later grown);
       lines = shows.lines ++ lines;
       are = ap (block_lines c.args.id) (sym joined)
-          ∙ run_lines c.args.id c.loop-taken.reader.flags content bytes run shows.lines
-          (ending c.feed_block-count.new.self) read.flags grown shows.are;
+          ∙ run_lines _ _ _ bytes run _ _ read.flags grown shows.are;
       wrote = outputs_then g.W.OutDevice.state g.E.OutDevice.state c.args.writers.now
           c.loop-taken.writers c.show_block.new.writers shows.lines lines c.show_block.result
           shows.wrote
@@ -144,8 +143,7 @@ returns-clause-gives g c = λ content same judged reading.
     record {
       lines = shows.lines;
       are = ap (block_lines c.args.id) (sym (joined_rest content piece c.loop-taken.taken))
-          ∙ rest_lines c.args.id _ (drop c.loop-taken.taken piece)
-          (ends g at content (kept.judged content same judged))
+          ∙ rest_lines _ _ _ (ends g at _ (kept.judged content same judged))
           ∙ shows.are;
       wrote = shows.wrote;
     }

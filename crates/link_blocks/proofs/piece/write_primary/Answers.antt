@@ -16,8 +16,4 @@ returns-in-Err g c =
 pub returns : goal.returns
 unfolding primary_text
 returns g c =
-    outputs_then g.W.OutDevice.state g.E.OutDevice.state c.args.writers.now c.write_text.new.self
-    c.write_text-2.new.self
-    (primary_start_text c.args.id (viewed_primary c.args.block.now) c.args.block.now.check c.args.block.now.end)
-    (primary_rest_text (viewed_primary c.args.block.now)) c.write_text-2.result
-    c.in_default.ensures.gives c.write_text-2.ensures.gives
+    outputs_then _ _ _ _ _ _ _ _ c.in_default.ensures.gives c.write_text-2.ensures.gives

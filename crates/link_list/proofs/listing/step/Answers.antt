@@ -48,7 +48,6 @@ returns-in-Ended-clause-gives g c = λ start history at lists.
 
 pub returns-in-Whole : goal.returns-in-Whole
 returns-in-Whole g c =
-    let look = looks g.R.InDevice.state g.W.OutDevice.state g.E.OutDevice.state in
     let old = inner_of c.args.input.now in
     let mid = inner_of c.advance.new.input in
     let new = inner_of c.write_lines.new.input in

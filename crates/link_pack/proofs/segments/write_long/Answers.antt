@@ -13,7 +13,6 @@ returns-in_err-write_text g c =
 
 pub returns : goal.returns
 returns g c = record {
-  gives = outputs_then g.W.OutDevice.state g.E.OutDevice.state c.args.writers.now
-      c.write_text.new.self c.write_output.new.self _ c.args.head.now.chunk.now
-      c.write_output.result c.in_ok-write_text.ensures.gives c.write_output.ensures.gives;
+  gives = outputs_then _ _ _ _ _ _ _ _
+      c.in_ok-write_text.ensures.gives c.write_output.ensures.gives;
 }

@@ -15,5 +15,4 @@ returns-in-None-clause-gives g c = λ so_far at few.
     let whole = rw c.in-None.ensures.none at c.push_slice.ensures.whole in
     let pushed = rw c.in-None.ensures.none at c.push_slice.ensures.pushed in
     c.write_segments.ensures.gives (with_bytes c.args.run.now c.args.last so_far)
-    (run_pushed c.push_slice.new.self so_far c.args.run.now c.push_slice.result c.args.last
-    (whole few) (pushed so_far at))
+    (run_pushed _ so_far _ _ _ (whole few) (pushed so_far at))

@@ -17,8 +17,7 @@ returns-in_err-write_segment-clause-gives g c = λ so_far at.
     let next = c.in-Some.ensures.after some.now some.at in
     let exit = err_from_is_err_and c.from_residual.result c.from_residual.ensures.1 in
     rw (exit.1, exit.2)
-    (sent_part g.W.OutDevice.state g.E.OutDevice.state some c.in-Some.cut c.bytes.result.now
-    c.write_segment.new.writers _ (sym (c.in-Some.ensures.cut some.now some.at))
+    (sent_part _ _ some _ _ _ _ (sym (c.in-Some.ensures.cut some.now some.at))
     (c.bytes.ensures _ next) _ c.in_err-write_segment.ensures.gives)
 
 pub returns-clause-gives : goal.returns-clause-gives

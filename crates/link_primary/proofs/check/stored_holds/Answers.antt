@@ -21,9 +21,7 @@ pub returns : goal.returns
 unfolding check_of
 returns c =
     rw (c.number_of.ensures, c.check_of.ensures)
-    (field-read c.args.kind 1 c.args.bytes.now c.args.offset c.in-Some.field-0-0 c.in-Some.content
-    c.in-Some-bytes_at.stored.now c.in-Some-bytes_at.field-0-1
-    (sym c.in-Some.ensures.read)
+    (field-read _ 1 _ _ _ _ _ _ (sym c.in-Some.ensures.read)
     (subst (λ (width : ℕ). accepted (bytes_at width c.args.bytes.now c.in-Some.content)
     ≡ Some (c.in-Some-bytes_at.stored.now, c.in-Some-bytes_at.field-0-1))
     c.check_width.ensures (sym c.in-Some-bytes_at.ensures.read)))

@@ -1,4 +1,4 @@
-use Rattle.std.proofs.Common.{None, Some, ◌∙◌, sym}
+use Rattle.std.proofs.Common.{None, ◌∙◌, sym}
 use Rattle.link_primary.proofs.Known.{head-known, head-past}
 use Rattle.link_primary.proofs.parts.head_at.Goals as goal
 
@@ -13,5 +13,4 @@ returns-in_err-head-clause-read c =
 
 pub returns-clause-read : goal.returns-clause-read
 returns-clause-read c =
-    head-known c.args.bytes.now c.args.offset (Some (c.in_ok-head.head, c.in_ok-head.size))
-    (sym c.in_ok-head.was ∙ c.front.ensures.front)
+    head-known _ _ _ (sym c.in_ok-head.was ∙ c.front.ensures.front)

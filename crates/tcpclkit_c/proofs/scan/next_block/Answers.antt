@@ -34,8 +34,7 @@ returns c =
           feeds_block seen c.args.piece.now room _ _ _ _ _ _ (record {
             marked = has.marked;
             scanned = come;
-            keeps = keeps_taken (goes_in_block seen) 3257 seen c.args.piece.now _ _ took.result has.keeps
-                counts c.extend.ensures;
+            keeps = keeps_taken _ 3257 seen _ _ _ _ has.keeps counts c.extend.ensures;
           })
           counts
           (c.block_numbers.ensures

@@ -18,5 +18,4 @@ returns-then-is_empty c = takes_none c.args.scan.now c.args.piece.now
 pub returns : goal.returns
 returns c =
     let fed = c.feed_block in
-    takes_some c.args.scan.now fed.new.self c.args.piece.now fed.result fed.ensures.taken
-    fed.ensures.blocks fed.ensures.stops
+    takes_some _ _ _ _ fed.ensures.taken fed.ensures.blocks fed.ensures.stops

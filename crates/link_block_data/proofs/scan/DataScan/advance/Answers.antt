@@ -16,9 +16,7 @@ returns-in-Failed-clause-taken c =
           subst (λ (stage : Stage).
           HasSeen kind stage now.draft now.head now.offset (now.count + length piece) (seen ++ piece))
           (sym c.in-Failed.is)
-          (grown_failed kind c.in-Failed.field-0 now.draft now.head now.offset now.count
-          (now.count + length piece) seen piece (at_stage kind now _ seen c.in-Failed.is come)
+          (grown_failed kind _ _ _ _ _ _ seen piece (at_stage kind now _ seen c.in-Failed.is come)
           (All-from_get_or (λ (byte : ℕ). byte < 256) piece 0
-          (λ k within. omega (arith, c.type_inv.piece k)))
-          refl);
+          (λ k within. omega (arith, c.type_inv.piece k))) refl);
     })

@@ -4,5 +4,4 @@ use Rattle.link_block_data.proofs.scan.DataScan.advance_head.Goals as goal
 
 pub head_run-requires-clause-whole : goal.head_run-requires-clause-whole
 head_run-requires-clause-whole c =
-    head_alone c.args.piece.now c.in-Some.head c.in-Some.size
-    (sym c.front.ensures.front ∙ c.in-Some.is) c.in-Some.ensures.within
+    head_alone _ _ _ (sym c.front.ensures.front ∙ c.in-Some.is) c.in-Some.ensures.within

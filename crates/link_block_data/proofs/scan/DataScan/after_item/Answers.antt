@@ -14,8 +14,7 @@ returns-then-may_follow c = record {
       subst (λ (stage : Stage).
       HasSeen kind stage now.draft now.head now.offset (now.count + length run) (seen ++ run))
       (sym c.requires.stage)
-      (grown_open kind c.args.found now.draft now.head now.offset now.count
-      (now.count + length run) seen run (at_stage kind now _ seen c.requires.stage come)
+      (grown_open kind _ _ _ _ _ _ seen run (at_stage kind now _ seen c.requires.stage come)
       (All-from_get_or (λ (byte : ℕ). byte < 256) run 0
       (λ k within. omega (arith, c.type_inv.run k)))
       refl (sym c.may_follow.ensures ∙ c.if-may_follow.true));
@@ -27,8 +26,7 @@ returns c = record {
   seen = λ kind seen come.
       let now = c.args.self.now in
       let run = c.args.run.now in
-      grown_closed kind c.args.found now.draft now.head now.offset now.count
-      (now.count + length run) seen run (at_stage kind now _ seen c.requires.stage come)
+      grown_closed kind _ _ _ _ _ _ seen run (at_stage kind now _ seen c.requires.stage come)
       (All-from_get_or (λ (byte : ℕ). byte < 256) run 0
       (λ k within. omega (arith, c.type_inv.run k)))
       c.requires.some refl (sym c.may_follow.ensures ∙ c.if-may_follow.false);

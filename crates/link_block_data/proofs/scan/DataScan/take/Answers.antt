@@ -1,4 +1,4 @@
-use Rattle.std.proofs.Common.{[], take, drop, length-drop, subst, List, ℕ, arith}
+use Rattle.std.proofs.Common.{[], length-drop, subst, List, ℕ, arith}
 use Rattle.link_bundle_blocks.proofs.Rests.{the_rest, joined_run}
 use Rattle.link_block_data.specs.Scan.{HasTaken}
 use Rattle.link_block_data.proofs.Steps.{taken_then}
@@ -14,7 +14,6 @@ loop-taken-preserved c =
       within = omega (arith, length-drop taken piece);
       taken = subst (λ (run : List ℕ). HasTaken c.args.self.now new run)
           (joined_run [] piece taken more)
-          (taken_then c.args.self.now c.loop-taken.self new (take taken piece)
-          (take more (drop taken piece)) c.loop-taken.invariant.taken
+          (taken_then _ _ new _ _ c.loop-taken.invariant.taken
           (rw (the_rest piece taken) at c.advance-taken.ensures.taken));
     }

@@ -9,14 +9,12 @@ pub returns-in-Read-clause-seen : goal.returns-in-Read-clause-seen
 returns-in-Read-clause-seen c = λ kind seen come.
     let now = c.args.self.now in
     ap Ok c.view.ensures.view
-    ∙ sym (result_read kind c.in-Read.found now.draft now.head now.offset now.count seen
-    (at_stage kind now _ seen c.in-Read.is come))
+    ∙ sym (result_read kind _ _ _ _ _ seen (at_stage kind now _ seen c.in-Read.is come))
 
 pub returns-in-Failed-clause-seen : goal.returns-in-Failed-clause-seen
 returns-in-Failed-clause-seen c = λ kind seen come.
     let now = c.args.self.now in
-    sym (result_failed kind c.in-Failed.offset now.draft now.head now.offset now.count seen
-    (at_stage kind now _ seen c.in-Failed.is come))
+    sym (result_failed kind _ _ _ _ _ seen (at_stage kind now _ seen c.in-Failed.is come))
 
 pub returns-in-Failed-clause-lasts : goal.returns-in-Failed-clause-lasts
 returns-in-Failed-clause-lasts c = λ below kind seen come more.
@@ -28,9 +26,7 @@ pub returns-in-Head-clause-seen : goal.returns-in-Head-clause-seen
 returns-in-Head-clause-seen c = λ kind seen come.
     let now = c.args.self.now in
     ⊎_elim
-    (λ head. sym (result_head kind head.0 now.draft now.head now.offset now.count seen
-    (at_stage kind now _ seen head.1 come)))
-    (λ name. sym (result_name kind name.0 name.1 now.draft now.head now.offset now.count seen
-    (at_stage kind now _ seen name.2 come)
+    (λ head. sym (result_head kind head.0 _ _ _ _ seen (at_stage kind now _ seen head.1 come)))
+    (λ name. sym (result_name kind name.0 name.1 _ _ _ _ seen (at_stage kind now _ seen name.2 come)
     (some_left name.1 (name_fits now.draft.eid name.1) (fits_at now _ name.2))))
     c.in-Head.is

@@ -6,24 +6,19 @@ use Rattle.link_blocks.proofs.bundles.BundleListerBundleConsumer.run.Goals as go
 
 pub returns-in_default-clause-gives : goal.returns-in_default-clause-gives
 returns-in_default-clause-gives g c = λ before listing. rw c.in_default.is (λ comes.
-    told_on g.W.OutDevice.state g.E.OutDevice.state c.take.new.self before c.args.bytes.now
-    c.args.number comes.numbered c.args.writers.now c.take.new.writers c.take.result
+    told_on _ _ _ before _ _ comes.numbered _ _ _
     (c.take.ensures.gives before.begun (omega (arith, comes.few)) listing)
     (c.take.ensures.follows before.begun (omega (arith, comes.few)) listing))
 
 pub returns-in-Err-clause-gives : goal.returns-in-Err-clause-gives
 returns-in-Err-clause-gives g c = λ before listing. rw c.in-Some.is (λ comes.
     let bundle : Packed = record { bytes = before.begun ++ c.args.bytes.now; info = viewed_info c.in-Some.whole.info } in
-    told_lost g.W.OutDevice.state g.E.OutDevice.state c.take-2.new.self before c.args.bytes.now
-    c.args.number comes.numbered bundle refl c.args.writers.now c.take-2.new.writers
-    c.in-Err.fault (c.in-Err.ensures.gives before.begun (omega (arith, comes.few)) listing))
+    told_lost _ _ _ before _ _ comes.numbered bundle refl _ _ _
+    (c.in-Err.ensures.gives before.begun (omega (arith, comes.few)) listing))
 
 pub returns-in-Ok-clause-gives : goal.returns-in-Ok-clause-gives
 returns-in-Ok-clause-gives g c = λ before listing. rw c.in-Some.is (λ comes.
     let bundle : Packed = record { bytes = before.begun ++ c.args.bytes.now; info = viewed_info c.in-Some.whole.info } in
-    told_whole g.W.OutDevice.state g.E.OutDevice.state c.end_bundle.new.self before
-    c.args.bytes.now c.args.number comes.numbered bundle refl c.in-Some.whole.length
-    comes.accepted.1.1 c.args.writers.now c.take-2.new.writers c.end_bundle.new.writers tt
-    c.end_bundle.result
+    told_whole _ _ _ before _ _ comes.numbered bundle refl _ comes.accepted.1.1 _ _ _ tt _
     (c.in-Ok.ensures.gives before.begun (omega (arith, comes.few)) listing)
     c.end_bundle.ensures.gives c.end_bundle.ensures.begins)

@@ -2,7 +2,7 @@ use Rattle.std.proofs.Common.{◌≡◌, ℕ, Bool, Option, ◌+◌, ◌<◌, �
 use Rattle.std.proofs.lemmas.Bool.{false≢true}
 use Rattle.link_run.specs.Run.{no_texts, ◌then◌}
 use Rattle.link_run.specs.Writers.{on_output, on_report}
-use Rattle.link_run.proofs.Runs.{writes_none, part_of_more}
+use Rattle.link_run.proofs.Runs.{writes_none, part_of_more, output_then}
 use Rattle.link_walk.specs.Walk.{WalkEvent, ContactHeader, LeftOpen, abandons, closes, has_open}
 use Rattle.link_walk.specs.Telling.{ComesAfter, viewed_head}
 use Rattle.link_transfer.specs.declared.joiner.Turn.{Turn}
@@ -15,7 +15,7 @@ use Rattle.link_blocks.specs.Showing.{unpacking_by}
 use Rattle.link_blocks.specs.declared.lister.BlockLister.{BlockLister}
 use Rattle.link_blocks.specs.declared.transfer.TransferBlocks.{TransferBlocks}
 use Rattle.link_blocks.proofs.Ended.{ended_lines}
-use Rattle.link_blocks.proofs.Told.{AtHead, at, at_head, does, data_known, data_latest, data_tells, data_transfers, head_known, head_tells, known, output_then, tells}
+use Rattle.link_blocks.proofs.Told.{AtHead, at, at_head, does, data_known, data_latest, data_tells, data_transfers, head_known, head_tells, known, tells}
 use Rattle.link_blocks.proofs.lister.BlockListerConsumer.event.Given.{Over}
 use Rattle.link_blocks.proofs.lister.BlockListerConsumer.event.Goals as goal
 use Rattle.link_blocks.proofs.lister.BlockListerConsumer.event.Goals.{After-show_end-in-Head, then-begins, else-begins}
@@ -26,8 +26,7 @@ returns-in-Contact g c = rw c.in-Contact.is (λ before knows none.
     let event = ContactHeader c.in-Contact.field-0.now in
     let writers = c.args.writers.now in
     tells options before event g.W.OutDevice.state g.E.OutDevice.state writers writers
-    (Ok (tt {0})) c.args.self.now no_texts (sym (append-nil _)) refl
-    (writes_none g.W.OutDevice.state g.E.OutDevice.state writers)
+    (Ok (tt {0})) c.args.self.now no_texts (sym (append-nil _)) refl (writes_none _ _ _)
     (known options before event c.args.self.now knows.size knows.good knows.at_open))
 
 -- ---- a head
@@ -42,8 +41,7 @@ returns-in-Err g c = rw c.in-Head.is (λ before knows comes.
     let later = transfers_at head.turn transfers head.message in
     let act = does out_look report_look options before head comes in
     let abandoned = λ (some : c.abandons.result ≡ true).
-    knows.at_open (abandons_open head.turn head.message (has_open before) act
-    (sym c.abandons.ensures ∙ some)) in
+    knows.at_open (abandons_open _ _ _ act (sym c.abandons.ensures ∙ some)) in
     head_tells out_look report_look options before head comes c.args.writers.now
     c.show_end.new.writers (Err c.in-Err.fault) c.show_end.new.lister
     (part_of_more out_look report_look c.args.writers.now c.show_end.new.writers
@@ -106,8 +104,7 @@ returns-in-Err-show_end g c = rw c.in-Head.is (λ before knows comes.
     let later = transfers_at head.turn transfers head.message in
     let act = does out_look report_look options before head comes in
     let abandoned = λ (some : c.abandons.result ≡ true).
-    knows.at_open (abandons_open head.turn head.message (has_open before) act
-    (sym c.abandons.ensures ∙ some)) in
+    knows.at_open (abandons_open _ _ _ act (sym c.abandons.ensures ∙ some)) in
     let begun = begun g (goal.at-returns-in-Err-show_end g c).After-show_end-in-Head before knows comes in
     let closed = λ (due : c.closes.result ≡ true). begun.at.closed (sym c.closes.ensures ∙ due) in
     let writers = c.show_end-in-Head.new.writers in
@@ -134,8 +131,7 @@ returns-in_default-show_end g c = rw c.in-Head.is (λ before knows comes.
     let later = transfers_at head.turn transfers head.message in
     let act = does out_look report_look options before head comes in
     let abandoned = λ (some : c.abandons.result ≡ true).
-    knows.at_open (abandons_open head.turn head.message (has_open before) act
-    (sym c.abandons.ensures ∙ some)) in
+    knows.at_open (abandons_open _ _ _ act (sym c.abandons.ensures ∙ some)) in
     let begun = begun g (goal.at-returns-in_default-show_end g c).After-show_end-in-Head before knows comes in
     let closed = λ (due : c.closes.result ≡ true). begun.at.closed (sym c.closes.ensures ∙ due) in
     let latest = c.show_end-in-Head.ensures.latest in
@@ -205,11 +201,9 @@ returns-in_default-take g c = rw c.in-Data.is (λ before knows may.
     data_latest options before bytes whole old knows may.0 c.take.new.self follows (ap not (sym due)) in
     data_tells options before bytes whole old knows may.0
     g.W.OutDevice.state g.E.OutDevice.state c.args.writers.now c.show_end-in-Data.new.writers
-    c.show_end-in-Data.result now shows.lines (shows.are whole)
-    (output_then g.W.OutDevice.state g.E.OutDevice.state c.args.writers.now c.take.new.writers
-    c.show_end-in-Data.new.writers shows.lines (on_output (end_due options.only whole later))
-    c.show_end-in-Data.result shows.wrote (c.show_end-in-Data.ensures.gives later closed))
-    (on_ok c.show_end-in-Data.result (data_known options before bytes whole old knows may.0 now
+    c.show_end-in-Data.result now shows.lines (shows.are whole) (output_then _ _ _ _ _ _ _ _
+    shows.wrote (c.show_end-in-Data.ensures.gives later closed))
+    (on_ok _ (data_known options before bytes whole old knows may.0 now
     (rw same c.take.ensures.size) (c.show_end-in-Data.ensures.good later closed)
     (rw same follows))))
 

@@ -21,9 +21,6 @@ returns-in-Err-clause-gives g c = λ before keeps. rw c.in-Some.is (λ comes.
 pub returns-in-Ok-clause-gives : goal.returns-in-Ok-clause-gives
 returns-in-Ok-clause-gives g c = λ before keeps. rw c.in-Some.is (λ comes.
     let bundle : Packed = record { bytes = before.begun ++ c.args.bytes.now; info = viewed_info c.in-Some.whole.info } in
-    with_line g.W.OutDevice.state g.E.OutDevice.state c.args.options.now before c.args.bytes.now
-    c.args.number comes.numbered c.write_run-2.new.cutter bundle refl comes.accepted.0
-    c.args.writers.now c.write_run-2.new.writers _
-    (c.in-Ok.ensures.gives _ keeps.cut c.requires.few)
-    c.write_line.new.writers c.write_line.result
+    with_line _ _ _ before _ _ comes.numbered _ bundle refl comes.accepted.0 _ _ _
+    (c.in-Ok.ensures.gives _ keeps.cut c.requires.few) _ _
     (c.write_line.ensures bundle refl comes.accepted.1.1))

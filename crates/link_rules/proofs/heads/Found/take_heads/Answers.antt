@@ -26,11 +26,9 @@ noted c seen here small come =
     let taken = c.loop-head.taken in
     let size = c.in-Some.size in
     rw c.content_size-content.ensures
-    (found_head c.loop-head.self c.note.new.self c.args.offset taken size seen piece
-    c.in-Some.head here c.loop-head.invariant.within
+    (found_head _ _ _ taken size seen piece _ here c.loop-head.invariant.within
     (rw (the_rest piece taken) at (sym c.front.ensures.front ∙ c.in-Some.is)) (ends c)
-    (c.loop-head.invariant.found seen here
-    (fewer seen piece taken (taken + size) (omega arith) small) come)
+    (c.loop-head.invariant.found seen here (fewer seen piece taken _ (omega arith) small) come)
     c.note.ensures small)
 
 pub returns-then-content-left-clause-found : goal.returns-then-content-left-clause-found
@@ -61,8 +59,7 @@ loop-head-preserved c =
           subst (λ (left : ℕ). HasFound c.note.new.self (Inside left)
           (seen ++ take (taken + content) piece)) none
           (found_content c.note.new.self content content taken seen piece
-          (noted after seen here
-          (fewer seen piece taken (taken + content) (omega arith) small) come)
+          (noted after seen here (fewer seen piece taken _ (omega arith) small) come)
           (omega arith) within);
     }
 

@@ -19,8 +19,7 @@ returns-in-Bad c = record {
       let now = c.args.self.now in
       let after = (goal.at.returns-in-Bad c).After-outcome in
       let bytes = drop c.args.offset (seen ++ c.args.byte ∷ []) in
-      head_ill_formed c.args.offset now.found now.head now.head now.count seen (c.args.byte ∷ [])
-      (at_stage now _ seen c.requires come) refl small
+      head_ill_formed _ _ _ _ _ seen _ (at_stage now _ seen c.requires come) refl small
       (c.in-Bad.ensures.front bytes (scanned after seen come));
 }
 
@@ -32,8 +31,7 @@ returns-in-Done c = record {
       let bytes = drop c.args.offset (seen ++ c.args.byte ∷ []) in
       let head = scanned after seen come in
       rw c.content_size.ensures
-      (head_whole c.args.offset now.found c.note.new.self now.head c.new-self.result now.count seen
-      (c.args.byte ∷ []) c.in-Done.head c.count.result (at_stage now _ seen c.requires come) refl
+      (head_whole _ _ _ _ _ _ seen _ _ _ (at_stage now _ seen c.requires come) refl
       small (c.in-Done.ensures.front bytes head) (c.count.ensures.seen bytes head) c.note.ensures
       c.new-self.ensures.seen);
 }

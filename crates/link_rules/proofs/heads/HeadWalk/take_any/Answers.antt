@@ -1,4 +1,4 @@
-use Rattle.std.proofs.Common.{ℕ, List, [], take, drop, length-drop, subst, arith}
+use Rattle.std.proofs.Common.{ℕ, List, [], length-drop, subst, arith}
 use Rattle.link_rules.specs.HeadWalk.{HasTaken}
 use Rattle.link_rules.proofs.Walks.{the_rest, joined_run, taken_then}
 use Rattle.link_rules.proofs.heads.HeadWalk.take_any.Goals as goal
@@ -13,7 +13,6 @@ loop-taken-preserved c =
       within = omega (arith, length-drop taken piece);
       taken = subst (λ (run : List ℕ). HasTaken c.args.self.now new run)
           (joined_run [] piece taken more)
-          (taken_then c.args.self.now c.loop-taken.self new (take taken piece)
-          (take more (drop taken piece)) c.loop-taken.invariant.taken
+          (taken_then _ _ new _ _ c.loop-taken.invariant.taken
           (rw (the_rest piece taken) at c.advance-taken.ensures.taken));
     }

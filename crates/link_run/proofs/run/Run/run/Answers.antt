@@ -52,7 +52,5 @@ returns-in-Err g c =
     let stood = c.strides.invariant.1 in
     let waits = c.in-Err.ensures.waits _ stood.0 stood.1 in
     let ended = (c.in-Err.ensures.gives _ stood.0 stood.1).2 in
-    ran_on (looks g.R.InDevice.state g.W.OutDevice.state g.E.OutDevice.state) _ _ _ _ _ stood.0 ended
-    c.strides.invariant.0 stood.2 waits c.into_end-in-Err.ensures.devices
-    c.into_end-in-Err.ensures.answer
-    (c.into_end-in-Err.ensures.waits (c.in-Err.ensures.ends tt))
+    ran_on _ _ _ _ _ _ _ ended c.strides.invariant.0 stood.2 waits c.into_end-in-Err.ensures.devices
+    c.into_end-in-Err.ensures.answer (c.into_end-in-Err.ensures.waits (c.in-Err.ensures.ends tt))

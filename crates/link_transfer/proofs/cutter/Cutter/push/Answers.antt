@@ -1,4 +1,4 @@
-use Rattle.std.proofs.Common.{[], length, ap, refl, arith}
+use Rattle.std.proofs.Common.{[], ap, refl, arith}
 use Rattle.std.proofs.lemmas.List.Elements.{All-nil, All-push}
 use Rattle.link_wire.specs.Bytes.{IsByte}
 use Rattle.link_transfer.specs.Held.{HeldBytes}
@@ -16,7 +16,6 @@ returns c = λ so_far at.
       bytes = ap (λ (h : HeldBytes). h.bytes) c.push.ensures;
       begun = refl;
       ended = refl;
-      room = quiet_room c.args.self.now.begun c.args.self.now.ended c.args.self.now.segment c.args.self.now.hold
-          (length c.args.self.now.held.bytes) c.requires;
+      room = quiet_room _ _ _ _ _ c.requires;
     })
     at

@@ -19,6 +19,5 @@ returns-clause-turn c = λ before at.
 
 pub returns-clause-taken : goal.returns-clause-taken
 returns-clause-taken c = λ before message is at.
-    taken-at c.args.self.now before c.args.event at message is false
-    (sym c.is_stray.ensures ∙ c.if-is_stray.false) c.accept.new.self
-    (rw c.accept.ensures.after (IsJoinerAt-then c.args.self.now before message c.args.event is at))
+    taken-at _ before _ at _ is false (sym c.is_stray.ensures ∙ c.if-is_stray.false) _
+    (rw c.accept.ensures.after (IsJoinerAt-then _ before _ _ is at))

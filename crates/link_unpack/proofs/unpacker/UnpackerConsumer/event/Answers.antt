@@ -1,11 +1,11 @@
 use Rattle.std.proofs.Common.{◌≡◌, ℕ, ◌+◌, ◌<◌, ◌^◌, ◌&&◌, not, length, [], true, Ok, Err, refl, ap, sym, ◌∙◌, append-nil, arith}
 use Rattle.std.proofs.lemmas.Bool.{false≢true}
-use Rattle.link_run.proofs.Runs.{writes_none}
+use Rattle.link_run.proofs.Runs.{writes_none, output_then}
 use Rattle.link_walk.specs.Walk.{ContactHeader, LeftOpen, abandons, closes, has_open}
 use Rattle.link_walk.specs.Telling.{viewed_head}
 use Rattle.link_unpack.specs.Unpacking.{order_line, line_due, good_due, transfers_at, told_after}
 use Rattle.link_unpack.specs.declared.transfer.TransferScan.{TransferScan}
-use Rattle.link_unpack.proofs.Reports.{output_part, output_then, reports_part, reports_then}
+use Rattle.link_unpack.proofs.Reports.{output_part, reports_part, reports_then}
 use Rattle.link_unpack.proofs.Effects.{abandons_open}
 use Rattle.link_unpack.proofs.Told.{AtHead, Follows, at_head, does, data_known, data_latest, data_tells, data_transfers, head_known, head_tells, known, on_ok, tells}
 use Rattle.link_unpack.proofs.unpacker.UnpackerConsumer.event.Goals as goal
@@ -16,8 +16,7 @@ returns-in-Contact g c = rw c.in-Contact.is (λ before knows none.
     let event = ContactHeader c.in-Contact.field-0.now in
     let writers = c.args.writers.now in
     tells c.args.options.now before event g.W.OutDevice.state g.E.OutDevice.state writers writers
-    (Ok (tt {0})) c.args.self.now [] refl (sym (append-nil _))
-    (writes_none g.W.OutDevice.state g.E.OutDevice.state writers)
+    (Ok (tt {0})) c.args.self.now [] refl (sym (append-nil _)) (writes_none _ _ _)
     (known c.args.options.now before event c.args.self.now knows.sum knows.total knows.good
     knows.at_open))
 
@@ -27,9 +26,7 @@ pub returns-in-Err : goal.returns-in-Err
 returns-in-Err g c = rw c.in-Head.is (λ before knows comes.
     let head = viewed_head c.in-Head.head in
     head_tells g.W.OutDevice.state g.E.OutDevice.state c.args.options.now before head comes
-    c.args.writers.now c.tell_order.new.writers (Err c.in-Err.fault) _
-    (reports_part g.W.OutDevice.state g.E.OutDevice.state c.args.writers.now
-    c.tell_order.new.writers (order_line head.offset head.fault) _ c.in-Err.fault
+    c.args.writers.now c.tell_order.new.writers (Err c.in-Err.fault) _ (reports_part _ _ _ _ _ _ _
     c.in-Err.ensures.gives) tt)
 
 pub returns-in-Err-report : goal.returns-in-Err-report
@@ -41,8 +38,7 @@ returns-in-Err-report g c = rw c.in-Head.is (λ before knows comes.
     let transfers = (told_after wanted before).transfers in
     let act = does out_look report_look wanted before head comes in
     let abandoned = λ (some : c.abandons.result ≡ true).
-    knows.at_open (abandons_open head.turn head.message (has_open before) act
-    (sym c.abandons.ensures ∙ some)) in
+    knows.at_open (abandons_open _ _ _ act (sym c.abandons.ensures ∙ some)) in
     head_tells out_look report_look wanted before head comes c.args.writers.now c.report.new.writers
     (Err c.in-Err-report.fault) _
     (reports_then out_look report_look c.args.writers.now c.tell_order.new.writers c.report.new.writers
@@ -64,8 +60,7 @@ returns-after-begins g c = rw c.in-Head.is (λ before knows comes.
     let later = transfers_at head.turn transfers head.message in
     let act = does out_look report_look wanted before head comes in
     let abandoned = λ (some : c.abandons.result ≡ true).
-    knows.at_open (abandons_open head.turn head.message (has_open before) act
-    (sym c.abandons.ensures ∙ some)) in
+    knows.at_open (abandons_open _ _ _ act (sym c.abandons.ensures ∙ some)) in
     let size : TransferScan → ℕ = λ l. l.start + l.written in
     let begun : AtHead wanted new.latest later head.turn (closes head) (has_open before)
     × (new.latest.total ≡ old.total) × (new.good ≡ mid.good) =
@@ -130,9 +125,7 @@ returns-in-Err-write_output g c = rw c.in-Data.is (λ before knows may.
     c.take-part.result.now (λ transfer closed earlier at. c.take-part.ensures.part transfer closed earlier fits at)
     g.W.OutDevice.state g.E.OutDevice.state c.args.writers.now c.write_output.new.self
     (Err c.in-Err-write_output.fault) _
-    (output_part g.W.OutDevice.state g.E.OutDevice.state c.args.writers.now
-    c.write_output.new.self c.take-part.result.now _ c.in-Err-write_output.fault
-    c.in-Err-write_output.ensures.gives) tt)
+    (output_part _ _ _ _ _ _ _ c.in-Err-write_output.ensures.gives) tt)
 
 pub returns-in_default-write_output : goal.returns-in_default-write_output
 returns-in_default-write_output g c = rw c.in-Data.is (λ before knows may.
@@ -153,12 +146,9 @@ returns-in_default-write_output g c = rw c.in-Data.is (λ before knows may.
     data_tells wanted before bytes whole old knows may.0 c.take-part.result.now
     (λ transfer closed earlier at. c.take-part.ensures.part transfer closed earlier fits at)
     g.W.OutDevice.state g.E.OutDevice.state c.args.writers.now c.report-in-Data.new.writers
-    c.report-in-Data.result now
-    (output_then g.W.OutDevice.state g.E.OutDevice.state c.args.writers.now
-    c.write_output.new.self c.report-in-Data.new.writers c.take-part.result.now
-    (line_due wanted whole later) c.report-in-Data.result c.in_default-write_output.ensures.gives
+    c.report-in-Data.result now (output_then _ _ _ _ _ _ _ _ c.in_default-write_output.ensures.gives
     (c.report-in-Data.ensures.gives later closed))
-    (on_ok c.report-in-Data.result (data_known wanted before bytes whole old knows may.0 now
+    (on_ok _ (data_known wanted before bytes whole old knows may.0 now
     (rw latest c.take-part.ensures.total) (c.report-in-Data.ensures.good later closed)
     (rw latest follows))))
 
