@@ -1,6 +1,6 @@
 -- Readings one after another, and endpoint IDs with their names in runs of bytes.
 
-use Rattle.std.proofs.Common.{◌≡◌, ℕ, ◌+◌, ◌-◌, ◌<◌, ◌≤◌, Bool, true, false, List, [], ◌++◌, length, drop, Result, Ok, Err, refl, sym, ap, ◌∙◌, append_assoc, append-nil}
+use Rattle.std.proofs.Common.{◌≡◌, ℕ, ◌+◌, ◌-◌, ◌<◌, ◌≤◌, Bool, true, false, List, [], ◌++◌, length, drop, Result, Ok, Err, refl, ap, ◌∙◌, append-nil}
 use Rattle.std.specs.Prelude.{◌==◌, if◌then◌else◌}
 use Rattle.std.proofs.lemmas.Bool.{eqb-true}
 use Rattle.link_bundle_types.specs.declared.eid.Eid.{Eid}
@@ -9,7 +9,8 @@ use Rattle.link_bundle_types.specs.KeptEid.{name_of}
 use Rattle.link_bundle_heads.specs.Rows.{◌>>=◌}
 use Rattle.link_bundle_blocks.specs.Reading.{ReadAt, Stop, bytes_at}
 use Rattle.link_bundle.specs.Left.{name_left}
-use Rattle.link_bundle_blocks.proofs.Runs.{with_run, bytes_at-none, bytes_at-run, run_within}
+use Rattle.link_bundle_blocks.proofs.Runs.{bytes_at-none, run_within}
+use Rattle.link_bundle.proofs.Names.{name_left-run}
 use Rattle.link_block_data.specs.declared.due.Owner.{Owner}
 use Rattle.link_block_data.specs.declared.due.Owner.TheVariants as owner
 use Rattle.link_block_data.specs.declared.due.Stage.TheVariants.{Name}
@@ -73,28 +74,6 @@ pub name_begins : (owner : Owner) (draft : Draft) (name : List ℕ) (left : ℕ)
     next
 name_begins owner draft name left bytes next within =
     chosen (left == 0) owner draft name left bytes next within refl
-
--- a name that begins with these bytes and ends with those that a reading returns
-abbrev name_then : List ℕ → ReadAt (List ℕ) → ReadAt Eid
-name_then name reading =
-    reading >>= λ (rest, offset). Ok (Dtn (record { items = name ++ rest }), offset)
-
-name_then-with_run : (name run : List ℕ) (reading : ReadAt (List ℕ))
-    → name_then name (with_run run reading) ≡ name_then (name ++ run) reading
-name_then-with_run name run (Ok (rest, offset)) =
-    ap (λ (items : List ℕ). Ok (Dtn (record { items = items }), offset))
-    (sym (append_assoc name run rest))
-name_then-with_run name run (Err stop) = refl
-
-name_left-run : (name run : List ℕ) (left : ℕ) (bytes more : List ℕ) (offset : ℕ)
-    → drop offset bytes ≡ run ++ more → length run ≤ left
-    → name_left name left bytes offset
-    ≡ name_left (name ++ run) (left - length run) bytes (offset + length run)
-unfolding name_left
-name_left-run name run left bytes more offset here fits =
-    ap (λ (reading : ReadAt (List ℕ)). name_then name reading)
-    (bytes_at-run left bytes more run offset here fits)
-    ∙ name_then-with_run name run (bytes_at (left - length run) bytes (offset + length run))
 
 -- a name, after more of its bytes
 pub name_goes_on : (owner : Owner) (draft : Draft) (left : ℕ) (bytes more run : List ℕ)

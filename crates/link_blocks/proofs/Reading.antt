@@ -58,7 +58,7 @@ ends_uncut stage draft cursor block ends =
 pub no_cut : (scan : BundleScan) (seen : List ℕ) (block : Block) → HasScanned scan seen
     → ending scan ≡ block ∷ [] → cut_block_in seen ≡ None
 no_cut scan seen block come ends =
-    cut_block_of-seen scan.stage scan.cursor scan.draft come.before seen come.come scan.fits
+    cut_block_of-seen come
     ∙ ends_uncut scan.stage scan.draft scan.cursor block ends
 
 -- ---- before a run

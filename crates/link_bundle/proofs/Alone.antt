@@ -1,8 +1,8 @@
--- Bytes that begin with a bundle, and a scan that takes a whole bundle at once.
+-- A scan that takes a whole bundle at once.
 
-use Rattle.std.proofs.Common.{◌≡◌, ℕ, zero, suc, ◌+◌, ◌<◌, ◌≤◌, ◌&&◌, Bool, true, false, List, [], ◌∷◌, ◌++◌, length, get_or, take, drop, Result, Ok, Err, refl, sym, ap, subst, ◌∙◌, length-append, append-nil, arith}
+use Rattle.std.proofs.Common.{◌≡◌, ℕ, ◌+◌, ◌<◌, ◌&&◌, Bool, true, false, List, [], ◌∷◌, ◌++◌, length, get_or, take, Ok, Err, refl, sym, ap, subst, ◌∙◌, length-append, append-nil, arith}
 use Rattle.std.specs.Prelude.{◌==◌, is_none, if◌then◌else◌}
-use Rattle.std.proofs.lemmas.List.{length-take-le, take-append-drop, take_more}
+use Rattle.std.proofs.lemmas.List.{length-take-le, take_more}
 use Rattle.std.proofs.lemmas.List.Elements.{All-take}
 use Rattle.link_cbor.specs.Head.{AreBytes}
 use Rattle.link_bundle_blocks.specs.Reading.{Stop}
@@ -14,72 +14,14 @@ use Rattle.link_bundle.specs.declared.stage.CheckType.TheVariants.{Unread, Is}
 use Rattle.link_bundle.specs.declared.stage.Stage.TheVariants.{Start, Ended}
 use Rattle.link_bundle.specs.CheckKinds.{is_unread}
 use Rattle.link_bundle.specs.Covers.{Covers}
-use Rattle.link_bundle_blocks.specs.Bundle.{Bundle, with_blocks, opening_at, bundle_at, bundle_goes, if_alone, judged_bundle}
+use Rattle.link_bundle_blocks.specs.Bundle.{Bundle, with_blocks, bundle_at, bundle_goes, if_alone, judged_bundle}
 use Rattle.link_bundle_blocks.specs.Blocks.{Block}
 use Rattle.link_bundle.specs.Left.{bundle_of, stage_left}
 use Rattle.link_bundle.specs.Scan.{HasSeen, HasScanned, HasTaken}
-use Rattle.link_bundle_blocks.proofs.Steady.{EndsCut}
-use Rattle.link_bundle_blocks.proofs.Keeping.{Stays, cuts, same, bundle_at-stays, bundle_at-alone}
-use Rattle.link_bundle_blocks.proofs.Lengths.{bundle_within}
+use Rattle.link_bundle_blocks.proofs.Beginnings.{Begins}
 use Rattle.link_bundle_blocks.proofs.Payloads.{cut_goes-on}
 use Rattle.link_bundle.proofs.Fields.{before_and, after_and}
 use Rattle.link_bundle.proofs.Steps.{all_grown, at_stage, fits_at}
-
--- ---- bytes that begin with a bundle
-
--- the bytes begin with this bundle, whatever bytes follow it
-pub record BeginsWith (bundle : Bundle) (bytes : List ℕ) : Type 0 where
-  pub some : 0 < bundle.length
-  pub within : bundle.length ≤ length bytes
-  pub reads : (more : List ℕ) → bundle_at (take bundle.length bytes ++ more) ≡ Ok bundle
-  -- more bytes are needed before its last byte
-  pub goes : (count : ℕ) → count < bundle.length → bundle_goes (take count bytes) ≡ true
-
-ok_stays : (now later : Result Bundle Stop) (bundle : Bundle) → Stays now later
-    → now ≡ Ok bundle → later ≡ Ok bundle
-ok_stays (Ok found) later bundle (cuts cut) is = absurd cut
-ok_stays (Err stop) later bundle (cuts cut) is = cc
-ok_stays now later bundle (same equal) is = equal ∙ is
-
-not_empty : (size : ℕ) (bytes : List ℕ) (bundle : Bundle) → bundle_at (take size bytes) ≡ Ok bundle
-    → 0 < size
-unfolding bundle_at opening_at
-not_empty zero bytes bundle is = cc
-not_empty (suc size) bytes bundle is = omega arith
-
--- fewer bytes than the bundle has end inside it
-cut_before : (bytes : List ℕ) (now later : Result Bundle Stop) (bundle : Bundle)
-    → now ≡ bundle_at bytes → Stays now later → later ≡ Ok bundle
-    → length bytes < bundle.length → EndsCut now
-cut_before bytes now later bundle here (cuts cut) is before = cut
-cut_before bytes now later bundle here (same equal) is before =
-    absurd (omega (arith, bundle_within bytes bundle (sym here ∙ sym equal ∙ is)))
-
-pub begins_with : (bundle : Bundle) (bytes : List ℕ) → bundle_at bytes ≡ Ok bundle
-    → BeginsWith bundle bytes
-begins_with bundle bytes is =
-    let size = bundle.length in
-    let within = bundle_within bytes bundle is in
-    let own : bundle_at (take size bytes) ≡ Ok bundle =
-    bundle_at-alone (take size bytes) (drop size bytes) bundle
-    (ap bundle_at (take-append-drop size bytes) ∙ is)
-    (omega (arith, length-take-le size bytes within)) in
-    record {
-      some = not_empty size bytes bundle own;
-      within = within;
-      reads = λ more.
-          ok_stays (bundle_at (take size bytes)) (bundle_at (take size bytes ++ more)) bundle
-          (bundle_at-stays (take size bytes) more) own;
-      goes = λ count before.
-          let run = take count bytes in
-          cut_goes-on run
-          (cut_before run (bundle_at run) (bundle_at (run ++ drop count bytes)) bundle refl
-          (bundle_at-stays run (drop count bytes))
-          (ap bundle_at (take-append-drop count bytes) ∙ is)
-          (omega (arith, length-take-le count bytes (omega arith))));
-    }
-
--- ---- a scan that takes a whole bundle at once
 
 alone_after : (test : Bool) (bundle : Bundle) (stop : Stop) (blocks : List Block)
     → bundle.blocks ≡ [] → stop.blocks ≡ []
@@ -88,14 +30,15 @@ alone_after : (test : Bool) (bundle : Bundle) (stop : Stop) (blocks : List Block
 alone_after true bundle stop blocks none also_none = rw (none, append-nil blocks) refl
 alone_after false bundle stop blocks none also_none = rw (also_none, append-nil blocks) refl
 
-pub whole_come : (old new : Cursor) (draft after : Draft) (before blocks : List Block)
-    (seen bytes : List ℕ) (size : ℕ)
+pub whole_come : {old new : Cursor} {draft after : Draft} {before blocks : List Block}
+    {seen bytes : List ℕ} {size : ℕ}
     → HasSeen Start old draft before seen → AreBytes bytes
-    → BeginsWith (record (bundle_of after size) { blocks = blocks }) bytes
+    → Begins (λ bundle. bundle.length) bundle_at (record (bundle_of after size) { blocks = blocks }) bytes
     → new.count ≡ old.count + size → new.offset ≡ new.count
     → HasSeen Ended new after blocks (seen ++ take size bytes)
 unfolding judged_bundle stage_left
-whole_come old new draft after before blocks seen bytes size come all begins counts stays =
+whole_come {old = old} {new = new} {after = after} {blocks = blocks} {seen = seen} {bytes = bytes}
+    {size = size} come all begins counts stays =
     let run = take size bytes in
     let none : length seen ≡ 0 = ap length come.stands.nothing in
     let long : length (seen ++ run) ≡ size =
@@ -114,24 +57,26 @@ whole_come old new draft after before blocks seen bytes size come all begins cou
       stands = omega arith;
     }
 
-pub goes_in_whole : (old : Cursor) (draft : Draft) (before : List Block) (bundle : Bundle)
-    (seen bytes : List ℕ) (count : ℕ)
-    → HasSeen Start old draft before seen → BeginsWith bundle bytes → count < bundle.length
+pub goes_in_whole : {old : Cursor} {draft : Draft} {before : List Block} {bundle : Bundle}
+    {seen bytes : List ℕ} (count : ℕ)
+    → HasSeen Start old draft before seen
+    → Begins (λ bundle. bundle.length) bundle_at bundle bytes → count < bundle.length
     → bundle_goes (seen ++ take count bytes) ≡ true
-goes_in_whole old draft before bundle seen bytes count come begins sooner =
+goes_in_whole {bytes = bytes} count come begins sooner =
     ap (λ (seen : List ℕ). bundle_goes (seen ++ take count bytes)) come.stands.nothing
-    ∙ begins.goes count sooner
+    ∙ cut_goes-on (take count bytes) (begins.cuts count sooner)
 
 unread_of : (check : CheckType) → is_unread check ≡ true → check ≡ Unread
 unread_of Unread is = refl
 unread_of (Is kind) is = cc
 
 -- a scan that has seen nothing may have a new draft
-pub restarted : (cursor : Cursor) (draft after : Draft) (before : List Block) (seen : List ℕ)
+pub restarted : {cursor : Cursor} {draft : Draft} (after : Draft) {before : List Block}
+    {seen : List ℕ}
     → HasSeen Start cursor draft before seen → is_unread draft.check ≡ true
     → after.check ≡ Unread → HasSeen Start cursor after before seen
 unfolding stage_left
-restarted cursor draft after before seen come unread fresh = record {
+restarted {cursor = cursor} {draft = draft} after come unread fresh = record {
   all_bytes = come.all_bytes;
   count = come.count;
   reads = come.reads;
@@ -156,8 +101,8 @@ pub taken_anew : {old mid new : BundleScan} {run : List ℕ}
 taken_anew {old = old} {mid = mid} {new = new} {run = run} start stage cursor taken =
     let anew : (seen : List ℕ) → HasScanned old seen → HasScanned mid seen = λ seen come. record {
       before = come.before;
-      come = rw (stage, start, cursor) (restarted old.cursor old.draft mid.draft come.before seen
-          (at_stage old Start come.before seen start come.come) (unread_at old start)
+      come = rw (stage, start, cursor) (restarted mid.draft
+          (at_stage old start come.come) (unread_at old start)
           (unread_of mid.draft.check (unread_at mid (stage ∙ start))));
     } in
     record {

@@ -41,10 +41,6 @@ by_field block draft check bytes field =
     read_alone bytes
     (with_known_payload draft.payload_span (after_field block draft check bytes field))
 
--- the result of a check field whose head is at `field` and whose content ends before `offset`
-abbrev check_result : Bool → ℕ → ℕ → ReadAt Bool
-check_result same offset field = if same then Ok (true, offset) else Err (stopped CheckDiffers field)
-
 -- the check field after bytes that were read
 skipped : Option CheckKind → ℕ → List ℕ → ReadAt (List ℕ) → ReadAt Bool
 skipped check start bytes reading = reading >>= λ (_, offset). field_at check start bytes offset
@@ -79,116 +75,95 @@ content_at-ends left check start bytes more run offset here some all =
     ∙ no_content check start bytes (offset + length run)
     (run_within bytes more run offset here (omega arith))
 
--- the checks and the block after more bytes of a name or of data
-inside_grown : (draft : Draft) (old new : Cursor) (start : ℕ) (seen run : List ℕ)
-    → IsInside old draft.check start seen → TakesRun draft.check old new run
-    → IsInside new draft.check start (seen ++ run)
-inside_grown draft old new start seen run at takes = record {
-  in_block = omega (arith, length-append seen run, at.in_block);
-  checks = rw (drop-append-le start seen run at.in_block)
-      (takes.checks (drop start seen) at.checks);
-}
+-- ---- a run of bytes of a name or of data
 
-count_grown : (check : CheckType) (old new : Cursor) (seen run : List ℕ) → old.count ≡ length seen
-    → TakesRun check old new run
-    → new.count ≡ length (seen ++ run)
-count_grown check old new seen run counted takes =
-    takes.count ∙ ap (λ (count : ℕ). count + length run) counted ∙ sym (length-append seen run)
+module _ (draft : Draft) {old grown : Cursor} {seen run : List ℕ} (counted : old.count ≡ length seen)
+    (at : IsInside old draft.check draft.block.start seen)
+    (takes : TakesRun draft.check old grown run) where
+  -- the checks and the block after the run
+  inside_grown : IsInside grown draft.check draft.block.start (seen ++ run)
+  inside_grown = record {
+    in_block = omega (arith, length-append seen run, at.in_block);
+    checks = rw (drop-append-le draft.block.start seen run at.in_block)
+        (takes.checks (drop draft.block.start seen) at.checks);
+  }
 
--- incomplete data
-pub grown_content : (left rest : ℕ) (old new : Cursor) (draft : Draft) (before : List Block)
-    (seen run : List ℕ)
-    → HasSeen (Content left) old draft before seen → length run ≤ left → rest ≡ left - length run
-    → AreBytes run → TakesRun draft.check old new run
-    → HasSeen (Content rest) new draft before (seen ++ run)
-unfolding stage_left
-grown_content left rest old new draft before seen run come fits is_rest are takes = record {
-  all_bytes = all_grown seen run come.all_bytes are;
-  count = count_grown draft.check old new seen run come.count takes;
-  reads = λ more.
+  count_grown : grown.count ≡ length (seen ++ run)
+  count_grown = omega (arith, takes.count, length-append seen run)
+
+  -- a stage that is entered after the last bytes
+  ran_out : {new : Cursor} {after : Draft} {stage : Stage} {before : List Block}
+      → AreBytes seen → AreBytes run → after.block.start ≡ draft.block.start
+      → KeepsCheck draft.check stage after.check → Enters stage grown new
+      → ((more : List ℕ) → judged_bundle ((seen ++ run) ++ more)
+      ≡ with_blocks before (stage_left stage after (length (seen ++ run)) ((seen ++ run) ++ more)
+      (length (seen ++ run))))
+      → HasSeen stage new after before (seen ++ run)
+  ran_out all are starts keeps enters reads =
+      entered draft.check (all_grown seen run all are) count_grown inside_grown.in_block
+      inside_grown.checks starts keeps enters reads
+
+module _ {left : ℕ} {old grown : Cursor} {draft : Draft} {before : List Block} {seen run : List ℕ}
+    (come : HasSeen (Content left) old draft before seen) (are : AreBytes run)
+    (takes : TakesRun draft.check old grown run) where
+  -- incomplete data
+  pub grown_content : (rest : ℕ) → length run ≤ left → rest ≡ left - length run
+      → HasSeen (Content rest) grown draft before (seen ++ run)
+  unfolding stage_left
+  grown_content rest fits is_rest = record {
+    all_bytes = all_grown seen run come.all_bytes are;
+    count = count_grown draft come.count come.stands takes;
+    reads = λ more.
+        let bytes = (seen ++ run) ++ more in
+        let check = kind_of draft.check in
+        let start = draft.block.start in
+        regrown (λ (all : List ℕ). with_blocks before
+        (stage_left (Content left) draft old.offset all (length seen))) seen run come.reads more
+        ∙ ap (λ (field : ReadAt Bool). with_blocks before (by_field Canonical draft check bytes field))
+        (content_at-run left check start bytes more run (length seen) (next_run seen more run) fits
+        ∙ rw (is_rest, length-append seen run) refl);
+    stands = inside_grown draft come.count come.stands takes;
+  }
+
+  -- the last bytes of data
+  pub ended_content : {new : Cursor} {after : Draft} {stage : Stage} → 0 < left → left ≡ length run
+      → FieldsEnd Canonical draft stage after → after.block.start ≡ draft.block.start
+      → KeepsCheck draft.check stage after.check → Enters stage grown new
+      → HasSeen stage new after before (seen ++ run)
+  unfolding stage_left
+  ended_content some all ends starts keeps enters =
+      ran_out draft come.count come.stands takes come.all_bytes are starts keeps enters
+      (λ more.
       let bytes = (seen ++ run) ++ more in
       let check = kind_of draft.check in
       let start = draft.block.start in
       regrown (λ (all : List ℕ). with_blocks before
       (stage_left (Content left) draft old.offset all (length seen))) seen run come.reads more
       ∙ ap (λ (field : ReadAt Bool). with_blocks before (by_field Canonical draft check bytes field))
-      (content_at-run left check start bytes more run (length seen)
-      (next_run seen more run) fits
-      ∙ ap (λ (rest : ℕ). content_at rest check start bytes (length seen + length run))
-      (sym is_rest)
-      ∙ ap (λ (offset : ℕ). content_at rest check start bytes offset)
-      (sym (length-append seen run)));
-  stands = inside_grown draft old new draft.block.start seen run come.stands takes;
-}
-
--- a stage that is entered after the last bytes of a name or of data
-ran_out : (old grown_cursor new : Cursor) (draft after : Draft) (stage : Stage)
-    (before : List Block) (seen run : List ℕ)
-    → AreBytes seen → old.count ≡ length seen → IsInside old draft.check draft.block.start seen
-    → AreBytes run → TakesRun draft.check old grown_cursor run
-    → after.block.start ≡ draft.block.start
-    → KeepsCheck draft.check stage after.check → Enters stage grown_cursor new
-    → ((more : List ℕ) → judged_bundle ((seen ++ run) ++ more)
-    ≡ with_blocks before (stage_left stage after (length (seen ++ run)) ((seen ++ run) ++ more)
-    (length (seen ++ run))))
-    → HasSeen stage new after before (seen ++ run)
-ran_out old grown_cursor new draft after stage before seen run all counted at are takes starts keeps
-    enters reads =
-    let inside = inside_grown draft old grown_cursor draft.block.start seen run at takes in
-    entered stage grown_cursor new draft.check after draft.block.start before (seen ++ run)
-    (all_grown seen run all are)
-    (count_grown draft.check old grown_cursor seen run counted takes) inside.in_block inside.checks
-    starts keeps enters reads
-
--- the last bytes of data
-pub ended_content : (left : ℕ) (old grown_cursor new : Cursor) (draft after : Draft)
-    (stage : Stage) (before : List Block) (seen run : List ℕ)
-    → HasSeen (Content left) old draft before seen → 0 < left → left ≡ length run
-    → AreBytes run → TakesRun draft.check old grown_cursor run
-    → FieldsEnd Canonical draft stage after → after.block.start ≡ draft.block.start
-    → KeepsCheck draft.check stage after.check
-    → Enters stage grown_cursor new
-    → HasSeen stage new after before (seen ++ run)
-unfolding stage_left
-ended_content left old grown_cursor new draft after stage before seen run come some all are takes
-    ends starts keeps enters =
-    ran_out old grown_cursor new draft after stage before seen run come.all_bytes come.count
-    come.stands are takes starts keeps enters
-    (λ more.
-    let bytes = (seen ++ run) ++ more in
-    let check = kind_of draft.check in
-    let start = draft.block.start in
-    regrown (λ (all : List ℕ). with_blocks before
-    (stage_left (Content left) draft old.offset all (length seen))) seen run come.reads more
-    ∙ ap (λ (field : ReadAt Bool). with_blocks before (by_field Canonical draft check bytes field))
-    (content_at-ends left check start bytes more run (length seen)
-    (next_run seen more run) some all
-    ∙ ap (λ (offset : ℕ). field_at check start bytes offset)
-    (sym (length-append seen run)))
-    ∙ ap (λ (reading : Result Bundle Stop). with_blocks before reading)
-    (ends bytes (length (seen ++ run))))
+      (content_at-ends left check start bytes more run (length seen) (next_run seen more run) some all
+      ∙ rw (length-append seen run) refl)
+      ∙ ap (λ (reading : Result Bundle Stop). with_blocks before reading)
+      (ends bytes (length (seen ++ run))))
 
 -- bytes of a name
-pub grown_name : (role : Role) (left : ℕ) (old grown_cursor new : Cursor) (draft after : Draft)
-    (stage : Stage) (before : List Block) (seen run : List ℕ)
+pub grown_name : {role : Role} {left : ℕ} {old grown new : Cursor} {draft after : Draft}
+    {stage : Stage} {before : List Block} {seen run : List ℕ}
     → HasSeen (Name role left) old draft before seen → AreBytes run
-    → TakesRun draft.check old grown_cursor run
+    → TakesRun draft.check old grown run
     → NameGoesOn role left run draft stage after → after.block.start ≡ draft.block.start
-    → KeepsCheck draft.check stage after.check
-    → Enters stage grown_cursor new
+    → KeepsCheck draft.check stage after.check → Enters stage grown new
     → HasSeen stage new after before (seen ++ run)
-grown_name role left old grown_cursor new draft after stage before seen run come are takes goes
-    starts keeps enters =
-    ran_out old grown_cursor new draft after stage before seen run come.all_bytes come.count
-    come.stands are takes starts keeps enters
+grown_name {role = role} {left = left} {old = old} {draft = draft} {after = after} {stage = stage}
+    {before = before} {seen = seen} {run = run} come are takes goes starts keeps enters =
+    ran_out draft come.count come.stands takes come.all_bytes are starts keeps enters
     (λ more.
-    let bytes = (seen ++ run) ++ more in
     regrown (λ (all : List ℕ). with_blocks before
     (stage_left (Name role left) draft old.offset all (length seen))) seen run come.reads more
     ∙ ap (λ (reading : Result Bundle Stop). with_blocks before reading)
-    (goes bytes more old.offset (length seen) (next_run seen more run)
-    ∙ ap (λ (offset : ℕ). stage_left stage after offset bytes offset)
-    (sym (length-append seen run))))
+    (goes ((seen ++ run) ++ more) more old.offset (length seen) (next_run seen more run)
+    ∙ rw (length-append seen run) refl))
+
+-- ---- one byte of the content of a check field
 
 -- the part of a block that was seen does not change
 slice_kept : (seen more : List ℕ) (start offset : ℕ) → start ≤ length seen → offset ≤ length seen
@@ -196,58 +171,6 @@ slice_kept : (seen more : List ℕ) (start offset : ℕ) → start ≤ length se
 slice_kept seen more start offset within bound =
     ap (λ (bytes : List ℕ). take (offset - start) bytes) (drop-append-le start seen more within)
     ∙ take-append-le (offset - start) (drop start seen) more (omega (arith, length-drop start seen))
-
-stored_grown : (check : CheckType) (old new : Cursor) (start : ℕ) (seen : List ℕ) (byte : ℕ)
-    → IsInStored old check start seen → TakesRun check old new (0 ∷ [])
-    → IsInStored new check start (seen ++ byte ∷ [])
-stored_grown check old new start seen byte at takes =
-    let front = slice_range seen start old.offset in
-    let count = length seen - old.offset in
-    let longer : length (seen ++ byte ∷ []) - old.offset ≡ count + 1 =
-    omega (arith, length-append seen (byte ∷ []), at.in_bytes) in
-    record {
-      in_block = omega (arith, length-append seen (byte ∷ []), at.in_block);
-      in_bytes = omega (arith, length-append seen (byte ∷ []), at.in_bytes, takes.offset);
-      checks = rw (
-        takes.offset,
-        slice_kept seen (byte ∷ []) start old.offset at.in_block at.in_bytes,
-        longer,
-      )
-          (subst (λ (covered : List ℕ). Covers check new.checks covered)
-          (append_assoc front (replicate count 0) (0 ∷ [])
-          ∙ ap (λ (zeros : List ℕ). front ++ zeros) (replicate_more count 0))
-          (takes.checks (front ++ replicate count 0) at.checks));
-    }
-
--- incomplete content of a check field
-pub grown_stored : (field left stored : ℕ) (block : BlockKind) (kind : CheckKind)
-    (old new : Cursor) (draft : Draft) (before : List Block) (seen : List ℕ) (byte : ℕ)
-    → HasSeen (Stored field left stored block kind) old draft before seen → byte < 256 → 0 < left
-    → TakesRun draft.check old new (0 ∷ [])
-    → HasSeen (Stored field (left - 1) (stored * 256 + byte) block kind) new draft before
-    (seen ++ byte ∷ [])
-unfolding stage_left
-grown_stored field left stored block kind old new draft before seen byte come small some takes =
-    let longer = length-append seen (byte ∷ []) in
-    let zeros : length (seen ++ byte ∷ []) + (left - 1) - old.offset
-    ≡ length seen + left - old.offset = omega (arith, longer, some) in
-    record {
-      all_bytes = byte_grown seen byte come.all_bytes small;
-      count = count_more old.count new.count seen byte takes.count come.count;
-      reads = λ more.
-          let bytes = (seen ++ byte ∷ []) ++ more in
-          let check =
-          zeroed_check kind draft.block.start old.offset (length seen + left - old.offset) bytes in
-          regrown (λ (all : List ℕ). with_blocks before
-          (stage_left (Stored field left stored block kind) draft old.offset all (length seen))) seen
-          (byte ∷ []) come.reads more
-          ∙ ap (λ (reading : ReadAt Bool). with_blocks before
-          (by_field block draft (Some kind) bytes reading))
-          (stored_left-step left stored check field bytes more byte (length seen)
-          (next_run seen more (byte ∷ [])) some
-          ∙ rw (takes.offset, zeros, longer) refl);
-      stands = stored_grown draft.check old new draft.block.start seen byte come.stands takes;
-    }
 
 -- the expected check value is that of the block, with zeros for the content of its check field
 pub record Checks (kind : CheckKind) (check : CheckType) (cursor : Cursor)
@@ -267,95 +190,131 @@ checked kind check cursor expected start seen more at checks =
     (sym (checks.outcome covered (subst (λ (check : CheckType). Covers check cursor.checks covered)
     checks.is at.checks)))
 
--- the reading after the last byte of a check field's content
-last_stored : (field left stored expected : ℕ) (block : BlockKind) (kind : CheckKind)
-    (old new : Cursor) (draft : Draft) (before : List Block) (seen more : List ℕ) (byte : ℕ)
-    → (come : HasSeen (Stored field left stored block kind) old draft before seen) → left ≡ 1
-    → TakesRun draft.check old new (0 ∷ []) → Checks kind draft.check new expected
-    → judged_bundle ((seen ++ byte ∷ []) ++ more)
-    ≡ with_blocks before (by_field block draft (Some kind) ((seen ++ byte ∷ []) ++ more)
-    (check_result (stored * 256 + byte == expected) (length (seen ++ byte ∷ [])) field))
-unfolding stage_left
-last_stored field left stored expected block kind old new draft before seen more byte come one takes
-    checks =
-    let bytes = (seen ++ byte ∷ []) ++ more in
-    let longer = length-append seen (byte ∷ []) in
-    let zeros : length seen + left - old.offset ≡ length (seen ++ byte ∷ []) - new.offset =
-    omega (arith, longer, one, takes.offset) in
-    let start = draft.block.start in
-    let check : zeroed_check kind start old.offset (length seen + left - old.offset) bytes
-    ≡ expected =
-    rw (zeros, sym takes.offset)
-    (checked kind draft.check new expected start (seen ++ byte ∷ []) more
-    (stored_grown draft.check old new start seen byte come.stands takes) checks) in
-    regrown (λ (all : List ℕ). with_blocks before
-    (stage_left (Stored field left stored block kind) draft old.offset all (length seen))) seen
-    (byte ∷ []) come.reads more
-    ∙ ap (λ (reading : ReadAt Bool). with_blocks before
-    (by_field block draft (Some kind) bytes reading))
-    (ap (λ (check : ℕ). stored_left left stored check field bytes (length seen)) check
-    ∙ stored_left-last left stored expected field bytes more byte (length seen)
-    (next_run seen more (byte ∷ [])) one
-    ∙ ap (λ (offset : ℕ). check_result (stored * 256 + byte == expected) offset field) (sym longer))
+module _ {field left stored : ℕ} {block : BlockKind} {kind : CheckKind} {old grown : Cursor}
+    {draft : Draft} {before : List Block} {seen : List ℕ} (byte : ℕ)
+    (come : HasSeen (Stored field left stored block kind) old draft before seen)
+    (small : byte < 256) (takes : TakesRun draft.check old grown (0 ∷ [])) where
+  now : List ℕ
+  now = seen ++ byte ∷ []
 
--- the check is equal, and no more of the block is checked
-pub equal_stored : (field left stored expected : ℕ) (block : BlockKind) (kind : CheckKind)
-    (old grown_cursor new : Cursor) (draft after : Draft) (stage : Stage) (before : List Block)
-    (seen : List ℕ) (byte : ℕ)
-    → HasSeen (Stored field left stored block kind) old draft before seen → byte < 256 → left ≡ 1
-    → (stored * 256 + byte == expected) ≡ true
-    → TakesRun draft.check old grown_cursor (0 ∷ []) → Checks kind draft.check grown_cursor expected
-    → BlockEnds block (Some kind) (record draft { check = Is None }) stage after
-    → after.block.start ≡ draft.block.start
-    → KeepsCheck (Is None) stage after.check → Enters stage grown_cursor new
-    → HasSeen stage new after before (seen ++ byte ∷ [])
-equal_stored field left stored expected block kind old grown_cursor new draft after stage before
-    seen byte come small one same takes checks ends starts keeps enters =
-    entered stage grown_cursor new (Is None) after draft.block.start before (seen ++ byte ∷ [])
-    (byte_grown seen byte come.all_bytes small)
-    (count_more old.count grown_cursor.count seen byte takes.count come.count)
-    (omega (arith, length-append seen (byte ∷ []), come.stands.in_block)) tt starts keeps enters
-    (λ more.
-    let bytes = (seen ++ byte ∷ []) ++ more in
-    let next = length (seen ++ byte ∷ []) in
-    last_stored field left stored expected block kind old grown_cursor draft before seen more byte
-    come one takes checks
-    ∙ ap (λ (is : Bool). with_blocks before
-    (by_field block draft (Some kind) bytes (check_result is next field))) same
-    ∙ ap (λ (reading : Result Bundle Stop). with_blocks before reading)
-    (block_ended block draft kind bytes next ∙ ends bytes next))
-  where
-    block_ended : (block : BlockKind) (draft : Draft) (kind : CheckKind) (bytes : List ℕ) (next : ℕ)
-        → by_field block draft (Some kind) bytes (Ok (true, next))
-        ≡ read_alone bytes (with_known_payload draft.payload_span
-        (with_blocks (block_of block (record draft { check = Is None }) (Some kind) next ∷ [])
-        (block_end draft.payload_span draft.numbers (primary_of draft) bytes next)))
-    block_ended Primary draft kind bytes next = refl
-    block_ended Canonical draft kind bytes next = refl
+  longer : length now ≡ length seen + 1
+  unfolding now
+  longer = length-append seen (byte ∷ [])
 
--- the check differs
-pub other_stored : (field left stored expected : ℕ) (block : BlockKind) (kind : CheckKind)
-    (old new : Cursor) (draft : Draft) (before : List Block) (seen : List ℕ) (byte : ℕ)
-    → HasSeen (Stored field left stored block kind) old draft before seen → byte < 256 → left ≡ 1
-    → (stored * 256 + byte == expected) ≡ false
-    → TakesRun draft.check old new (0 ∷ []) → Checks kind draft.check new expected
-    → HasSeen (Failed CheckDiffers field) new draft before (seen ++ byte ∷ [])
-other_stored field left stored expected block kind old new draft before seen byte come small one
-    differs takes checks =
-    failed CheckDiffers field new draft before (seen ++ byte ∷ [])
-    (byte_grown seen byte come.all_bytes small)
-    (count_more old.count new.count seen byte takes.count come.count)
-    (λ more.
-    let bytes = (seen ++ byte ∷ []) ++ more in
-    last_stored field left stored expected block kind old new draft before seen more byte come one
-    takes checks
-    ∙ ap (λ (is : Bool). with_blocks before
-    (by_field block draft (Some kind) bytes (check_result is (length (seen ++ byte ∷ [])) field)))
-    differs
-    ∙ ap (λ (reading : Result Bundle Stop). with_blocks before reading)
-    (refused_in block draft kind CheckDiffers bytes field refl))
+  stored_grown : IsInStored grown draft.check draft.block.start now
+  unfolding now
+  stored_grown =
+      let at = come.stands in
+      let front = slice_range seen draft.block.start old.offset in
+      let count = length seen - old.offset in
+      let more : length now - old.offset ≡ count + 1 = omega (arith, longer, at.in_bytes) in
+      record {
+        in_block = omega (arith, longer, at.in_block);
+        in_bytes = omega (arith, longer, at.in_bytes, takes.offset);
+        checks = rw (
+          takes.offset,
+          slice_kept seen (byte ∷ []) draft.block.start old.offset at.in_block at.in_bytes,
+          more,
+        )
+            (subst (λ (covered : List ℕ). Covers draft.check grown.checks covered)
+            (append_assoc front (replicate count 0) (0 ∷ [])
+            ∙ ap (λ (zeros : List ℕ). front ++ zeros) (replicate_more count 0))
+            (takes.checks (front ++ replicate count 0) at.checks));
+      }
 
--- bytes after the bundle
+  -- the content is incomplete
+  pub grown_stored : 0 < left
+      → HasSeen (Stored field (left - 1) (stored * 256 + byte) block kind) grown draft before
+      (seen ++ byte ∷ [])
+  unfolding stage_left now
+  grown_stored some =
+      let zeros : length now + (left - 1) - old.offset ≡ length seen + left - old.offset =
+      omega (arith, longer, some) in
+      record {
+        all_bytes = byte_grown seen byte come.all_bytes small;
+        count = count_more old.count grown.count seen byte takes.count come.count;
+        reads = λ more.
+            let bytes = now ++ more in
+            let check =
+            zeroed_check kind draft.block.start old.offset (length seen + left - old.offset) bytes in
+            regrown (λ (all : List ℕ). with_blocks before
+            (stage_left (Stored field left stored block kind) draft old.offset all (length seen))) seen
+            (byte ∷ []) come.reads more
+            ∙ ap (λ (reading : ReadAt Bool). with_blocks before
+            (by_field block draft (Some kind) bytes reading))
+            (stored_left-step left stored check field bytes more byte (length seen)
+            (next_run seen more (byte ∷ [])) some
+            ∙ rw (takes.offset, zeros, longer) refl);
+        stands = stored_grown;
+      }
+
+  module _ (expected : ℕ) (one : left ≡ 1) (checks : Checks kind draft.check grown expected) where
+    -- the reading after the last byte of the content, which is compared with the check
+    last_stored : {same : Bool} → (stored * 256 + byte == expected) ≡ same → (more : List ℕ)
+        → judged_bundle (now ++ more)
+        ≡ with_blocks before (by_field block draft (Some kind) (now ++ more)
+        (if same then Ok (true, length now) else Err (stopped CheckDiffers field)))
+    unfolding stage_left now
+    last_stored is more =
+        let bytes = now ++ more in
+        let start = draft.block.start in
+        let zeros : length seen + left - old.offset ≡ length now - grown.offset =
+        omega (arith, longer, one, takes.offset) in
+        let check : zeroed_check kind start old.offset (length seen + left - old.offset) bytes
+        ≡ expected =
+        rw (zeros, sym takes.offset)
+        (checked kind draft.check grown expected start now more stored_grown checks) in
+        regrown (λ (all : List ℕ). with_blocks before
+        (stage_left (Stored field left stored block kind) draft old.offset all (length seen))) seen
+        (byte ∷ []) come.reads more
+        ∙ ap (λ (reading : ReadAt Bool). with_blocks before
+        (by_field block draft (Some kind) bytes reading))
+        (ap (λ (check : ℕ). stored_left left stored check field bytes (length seen)) check
+        ∙ stored_left-last left stored expected field bytes more byte (length seen)
+        (next_run seen more (byte ∷ [])) one
+        ∙ rw (is, longer) refl)
+
+    -- the check is equal, and no more of the block is checked
+    pub equal_stored : {new : Cursor} {after : Draft} {stage : Stage}
+        → (stored * 256 + byte == expected) ≡ true
+        → BlockEnds block (Some kind) (record draft { check = Is None }) stage after
+        → after.block.start ≡ draft.block.start
+        → KeepsCheck (Is None) stage after.check → Enters stage grown new
+        → HasSeen stage new after before (seen ++ byte ∷ [])
+    unfolding now
+    equal_stored same ends starts keeps enters =
+        entered {start = draft.block.start} (Is None) (byte_grown seen byte come.all_bytes small)
+        (count_more old.count grown.count seen byte takes.count come.count)
+        (omega (arith, longer, come.stands.in_block)) tt starts keeps enters
+        (λ more.
+        let bytes = now ++ more in
+        last_stored same more
+        ∙ ap (λ (reading : Result Bundle Stop). with_blocks before reading)
+        (block_ended block draft kind bytes (length now) ∙ ends bytes (length now)))
+      where
+        block_ended : (block : BlockKind) (draft : Draft) (kind : CheckKind) (bytes : List ℕ)
+            (next : ℕ)
+            → by_field block draft (Some kind) bytes (Ok (true, next))
+            ≡ read_alone bytes (with_known_payload draft.payload_span
+            (with_blocks (block_of block (record draft { check = Is None }) (Some kind) next ∷ [])
+            (block_end draft.payload_span draft.numbers (primary_of draft) bytes next)))
+        block_ended Primary draft kind bytes next = refl
+        block_ended Canonical draft kind bytes next = refl
+
+    -- the check differs
+    pub other_stored : (stored * 256 + byte == expected) ≡ false
+        → HasSeen (Failed CheckDiffers field) grown draft before (seen ++ byte ∷ [])
+    unfolding now
+    other_stored differs =
+        failed CheckDiffers field grown draft before now
+        (byte_grown seen byte come.all_bytes small)
+        (count_more old.count grown.count seen byte takes.count come.count)
+        (λ more. last_stored differs more
+        ∙ ap (λ (reading : Result Bundle Stop). with_blocks before reading)
+        (refused_in block draft kind CheckDiffers (now ++ more) field refl))
+
+-- ---- bytes after the bundle
+
 alone-trailing : (payload : Option (ℕ × ℕ)) (info : BundleInfo) (offset : ℕ) (bytes : List ℕ)
     → is_some payload ≡ true → offset < length bytes
     → if_alone bytes (record {
@@ -370,12 +329,13 @@ alone-trailing (Some payload) info offset bytes outcome short =
     let other : (offset == length bytes)
     ≡ false = ne_eqb offset (length bytes) (λ same. omega arith) in rw other refl
 
-pub trailing : (old new : Cursor) (draft : Draft) (before : List Block) (seen : List ℕ) (byte : ℕ)
+pub trailing : {old new : Cursor} {draft : Draft} {before : List Block} {seen : List ℕ} (byte : ℕ)
     → HasSeen Ended old draft before seen → byte < 256 → is_some draft.payload_span ≡ true
     → new.count ≡ old.count + 1
     → HasSeen (Failed Trailing old.offset) new draft before (seen ++ byte ∷ [])
 unfolding stage_left
-trailing old new draft before seen byte come small outcome counts =
+trailing {old = old} {new = new} {draft = draft} {before = before} {seen = seen} byte come small
+    outcome counts =
     failed Trailing old.offset new draft before (seen ++ byte ∷ [])
     (byte_grown seen byte come.all_bytes small)
     (count_more old.count new.count seen byte counts come.count)

@@ -150,34 +150,37 @@ goes-cut payload bytes before stop cut is =
     ∙ verdict_by-cut payload stop cut
 
 -- more bytes are needed inside a name and inside data
-pub goes_in_content : (left : ℕ) (cursor : Cursor) (draft : Draft) (before : List Block)
-    (seen run : List ℕ)
+pub goes_in_content : {left : ℕ} {cursor : Cursor} {draft : Draft} {before : List Block}
+    {seen : List ℕ} (run : List ℕ)
     → HasSeen (Content left) cursor draft before seen
     → length run < left → bundle_goes (seen ++ run) ≡ true
 unfolding stage_left
-goes_in_content left cursor draft before seen run come inside =
+goes_in_content {left = left} {draft = draft} {before = before} {seen = seen} run come inside =
     let bytes = seen ++ run in
     let stop = cut_at (Content left) draft (length bytes) in
     goes-cut draft.payload_span bytes before stop refl
     (come.reads run
-    ∙ rw (cut_content left (kind_of draft.check) draft.block.start bytes (length seen)
-    (omega (arith, length-append seen run)))
-    (ap (λ (reading : Result Bundle Stop). with_blocks before reading)
-    (read_alone-stopped draft.payload_span bytes stop)))
+    ∙ rw (
+      cut_content left (kind_of draft.check) draft.block.start bytes (length seen)
+          (omega (arith, length-append seen run)),
+      read_alone-stopped draft.payload_span bytes stop,
+    ) refl)
 
-pub goes_in_name : (role : Role) (left : ℕ) (cursor : Cursor) (draft : Draft)
-    (before : List Block) (seen run : List ℕ)
+pub goes_in_name : {role : Role} {left : ℕ} {cursor : Cursor} {draft : Draft}
+    {before : List Block} {seen : List ℕ} (run : List ℕ)
     → HasSeen (Name role left) cursor draft before seen
     → length run < left → bundle_goes (seen ++ run) ≡ true
 unfolding stage_left
-goes_in_name role left cursor draft before seen run come inside =
+goes_in_name {role = role} {left = left} {draft = draft} {before = before} {seen = seen} run come
+    inside =
     let bytes = seen ++ run in
     let stop = stopped Cut (length bytes) in
     goes-cut draft.payload_span bytes before stop refl
     (come.reads run
-    ∙ rw (cut_name left role draft bytes (length seen) (omega (arith, length-append seen run)))
-    (ap (λ (reading : Result Bundle Stop). with_blocks before reading)
-    (read_alone-stopped draft.payload_span bytes stop)))
+    ∙ rw (
+      cut_name left role draft bytes (length seen) (omega (arith, length-append seen run)),
+      read_alone-stopped draft.payload_span bytes stop,
+    ) refl)
 
 -- a head is cut before its last byte
 cut_by : (run : List ℕ) (head : HeadItem) (count : ℕ) (front : HeadFront)
@@ -195,13 +198,14 @@ cut_by run head count (Whole other size) whole before is =
     let sizes : length run ≡ size = cc in
     absurd (omega (arith, whole-within (take count run) other size is, length-take count run))
 
-pub goes_in_head : (which : Field) (cursor : Cursor) (draft : Draft) (before : List Block)
-    (seen run : List ℕ) (head : HeadItem) (count : ℕ)
+pub goes_in_head : {which : Field} {cursor : Cursor} {draft : Draft} {before : List Block}
+    {seen : List ℕ} (run : List ℕ) (head : HeadItem) (count : ℕ)
     → HasSeen (Head which) cursor draft before seen → cursor.offset ≡ cursor.count
     → head_front run ≡ Whole head (length run) → count < length run
     → bundle_goes (seen ++ take count run) ≡ true
 unfolding stage_left
-goes_in_head which cursor draft before seen run head count come begins whole sooner =
+goes_in_head {which = which} {cursor = cursor} {draft = draft} {before = before} {seen = seen} run head
+    count come begins whole sooner =
     let bytes = seen ++ take count run in
     let stop = stop_at which draft (stopped Cut (length bytes)) in
     let all = before ++ last_block which draft cursor.offset in
@@ -218,15 +222,15 @@ goes_in_head which cursor draft before seen run head count come begins whole soo
     (read_alone-stopped draft.payload_span bytes stop))
 
 -- inside data, a piece that is shorter than what is left of it is taken whole
-pub content_taken : (left : ℕ) (cursor : Cursor) (draft : Draft) (before : List Block)
-    (seen run : List ℕ)
+pub content_taken : {left : ℕ} {cursor : Cursor} {draft : Draft} {before : List Block}
+    {seen : List ℕ} (run : List ℕ)
     → HasSeen (Content left) cursor draft before seen → length run < left
     → TakenInAll seen run (length run)
-content_taken left cursor draft before seen run come inside =
+content_taken {seen = seen} run come inside =
     let none : 0 + length run ≡ length run = omega arith in
     taken_all seen run (length run) refl
     (subst (λ (count : ℕ). TakenSoFar seen run count) none
     (taken_more seen run 0 (length run) (omega arith)
     (λ size below. ap (λ (front : List ℕ). bundle_goes (front ++ take size run)) (append-nil seen)
-    ∙ goes_in_content left cursor draft before seen (take size run) come (omega (arith, length-take size run)))
+    ∙ goes_in_content (take size run) come (omega (arith, length-take size run)))
     (none_taken seen run)))

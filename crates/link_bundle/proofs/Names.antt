@@ -5,7 +5,7 @@ use Rattle.link_bundle.specs.declared.draft.Draft.{Draft}
 use Rattle.link_bundle_types.specs.declared.eid.Eid.{Eid}
 use Rattle.link_bundle_types.specs.declared.eid.Eid.TheVariants.{Dtn}
 use Rattle.link_bundle.specs.declared.stage.Role.{Role}
-use Rattle.link_bundle.specs.declared.stage.Role.TheVariants.{Destination, Source, ReportTo}
+use Rattle.link_bundle.specs.declared.stage.Role.TheVariants.{Destination}
 use Rattle.link_bundle.specs.declared.stage.Stage.TheVariants.{Name}
 use Rattle.link_bundle_blocks.specs.Bundle.{Bundle}
 use Rattle.link_bundle_heads.specs.Rows.{◌>>=◌}
@@ -27,11 +27,8 @@ pub by_eid-numbered : (role : Role) (draft : Draft) (allocator : Option ℕ) (no
     ≡ by_eid role (record draft { allocator = allocator; node = node }) bytes reading
 unfolding source_left report_to_left timestamp_left time_left sequence_left lifetime_left
 by_eid-numbered Destination draft allocator node bytes (Ok (eid, offset)) = refl
-by_eid-numbered Destination draft allocator node bytes (Err stop) = refl
-by_eid-numbered Source draft allocator node bytes (Ok (eid, offset)) = refl
-by_eid-numbered Source draft allocator node bytes (Err stop) = refl
-by_eid-numbered ReportTo draft allocator node bytes (Ok (eid, offset)) = refl
-by_eid-numbered ReportTo draft allocator node bytes (Err stop) = refl
+by_eid-numbered role draft allocator node bytes (Ok (eid, offset)) = refl
+by_eid-numbered role draft allocator node bytes (Err stop) = refl
 
 -- an endpoint ID that was read is in its field
 pub eid_ends : (role : Role) (old new : Draft) (eid : Eid) (bytes : List ℕ) (next : ℕ)
@@ -40,8 +37,7 @@ pub eid_ends : (role : Role) (old new : Draft) (eid : Eid) (bytes : List ℕ) (n
     ≡ stage_left (stage_after role) new next bytes next
 unfolding stage_left field_left source_left report_to_left
 eid_ends Destination old new eid bytes next is = rw is refl
-eid_ends Source old new eid bytes next is = rw is refl
-eid_ends ReportTo old new eid bytes next is = rw is refl
+eid_ends role old new eid bytes next is = rw is refl
 
 -- a name that begins with these bytes and ends with those that a reading returns
 abbrev name_then : List ℕ → ReadAt (List ℕ) → ReadAt Eid
@@ -55,7 +51,7 @@ name_then-with_run name run (Ok (rest, offset)) =
     (sym (append_assoc name run rest))
 name_then-with_run name run (Err stop) = refl
 
-name_left-run : (name run : List ℕ) (left : ℕ) (bytes more : List ℕ) (offset : ℕ)
+pub name_left-run : (name run : List ℕ) (left : ℕ) (bytes more : List ℕ) (offset : ℕ)
     → drop offset bytes ≡ run ++ more → length run ≤ left
     → name_left name left bytes offset
     ≡ name_left (name ++ run) (left - length run) bytes (offset + length run)
@@ -73,10 +69,8 @@ in_place : (role : Role) (draft : Draft) (name bytes : List ℕ)
     (name_then (kept_name role (with_eid role draft (Dtn (record { items = name })))) reading)
 in_place Destination draft name bytes (Ok (rest, offset)) = refl
 in_place Destination draft name bytes (Err stop) = refl
-in_place Source draft name bytes (Ok (rest, offset)) = refl
-in_place Source draft name bytes (Err stop) = refl
-in_place ReportTo draft name bytes (Ok (rest, offset)) = refl
-in_place ReportTo draft name bytes (Err stop) = refl
+in_place role draft name bytes (Ok (rest, offset)) = refl
+in_place role draft name bytes (Err stop) = refl
 
 -- an incomplete name
 pub name_goes_on : (role : Role) (old new : Draft) (name : List ℕ) (left : ℕ)

@@ -66,24 +66,25 @@ pub first_run : (seen run more : List ℕ) → seen ≡ [] → (seen ++ run) ++ 
 first_run seen run more nothing = ap (λ (seen : List ℕ). (seen ++ run) ++ more) nothing
 
 -- what follows the first bytes is the rest after the blocks before, of which there are none
-pub after_first : (cursor : Cursor) (draft : Draft) (before : List Block)
-    (seen run more : List ℕ) (reading : Result Bundle Stop)
+pub after_first : {cursor : Cursor} {draft : Draft} {before : List Block} {seen : List ℕ}
+    (run more : List ℕ) {reading : Result Bundle Stop}
     → HasSeen Start cursor draft before seen → judged_bundle (run ++ more) ≡ reading
     → judged_bundle ((seen ++ run) ++ more) ≡ with_blocks before reading
 unfolding stage_left
-after_first cursor draft before seen run more reading come is =
+after_first {before = before} {seen = seen} run more come is =
     ap judged_bundle (append_assoc seen run more)
     ∙ come.reads (run ++ more)
     ∙ ap (λ (bytes : List ℕ). with_blocks before (judged_bundle bytes))
     (sym (append_assoc seen run more) ∙ first_run seen run more come.stands.nothing)
     ∙ ap (λ (reading : Result Bundle Stop). with_blocks before reading) is
 
-pub opened : (old new : Cursor) (draft : Draft) (before : List Block) (seen : List ℕ) (byte : ℕ)
+pub opened : {old new : Cursor} {draft : Draft} {before : List Block} {seen : List ℕ} (byte : ℕ)
     → HasSeen Start old draft before seen → IsTrue (stage_fits Start draft) → byte ≡ 0x9f
     → new.count ≡ old.count + 1 → new.offset ≡ old.count + 1
     → HasScannedHead new.head [] → Covers Unread new.checks []
     → HasSeen (Head (field.Primary primary.Block)) new draft before (seen ++ byte ∷ [])
-opened old new draft before seen byte come fits is counts begins head checks =
+opened {old = old} {new = new} {draft = draft} {seen = seen} byte come fits is counts begins head
+    checks =
     let now = seen ++ byte ∷ [] in
     let size : length now ≡ 1 =
     ap (λ (seen : List ℕ). length (seen ++ byte ∷ [])) come.stands.nothing in
@@ -94,8 +95,7 @@ opened old new draft before seen byte come fits is counts begins head checks =
       all_bytes = byte_grown seen byte come.all_bytes (omega arith);
       count = counted;
       reads = λ more.
-          after_first old draft before seen (byte ∷ []) more
-          (stage_left (Head (field.Primary primary.Block)) draft 1 (0x9f ∷ more) 1) come
+          after_first (byte ∷ []) more come
           (ap (λ (byte : ℕ). judged_bundle (byte ∷ more)) is
           ∙ open_reads draft more (blank draft fits))
           ∙ rw (offset, size, first_run seen (byte ∷ []) more come.stands.nothing, is) refl;
@@ -104,15 +104,14 @@ opened old new draft before seen byte come fits is counts begins head checks =
           (rw (nothing_yet new.offset now here) (narrowed draft.check new.checks [] checks));
     }
 
-pub not_opened : (old new : Cursor) (draft : Draft) (before : List Block) (seen : List ℕ)
+pub not_opened : {old new : Cursor} {draft : Draft} {before : List Block} {seen : List ℕ}
     (byte : ℕ)
     → HasSeen Start old draft before seen → byte < 256 → IsTrue (stage_fits Start draft)
     → byte ≢ 0x9f → new.count ≡ old.count + 1
     → HasSeen (Failed NotABundle 0) new draft before (seen ++ byte ∷ [])
-not_opened old new draft before seen byte come small fits other counts =
+not_opened {old = old} {new = new} {draft = draft} {before = before} {seen = seen} byte come small
+    fits other counts =
     failed NotABundle 0 new draft before (seen ++ byte ∷ [])
     (byte_grown seen byte come.all_bytes small)
     (count_more old.count new.count seen byte counts come.count)
-    (λ more. after_first old draft before seen (byte ∷ []) more
-    (with_known_payload draft.payload_span (Err (stopped NotABundle 0))) come
-    (other_reads draft byte more (blank draft fits) other))
+    (λ more. after_first (byte ∷ []) more come (other_reads draft byte more (blank draft fits) other))

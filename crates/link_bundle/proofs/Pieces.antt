@@ -21,7 +21,7 @@ use Rattle.link_bundle.specs.declared.cursor.Cursor.{Cursor}
 use Rattle.link_bundle.specs.declared.draft.Draft.{Draft}
 use Rattle.link_bundle.specs.declared.scan.BundleScan.{BundleScan}
 use Rattle.link_bundle.specs.declared.stage.Stage.{Stage}
-use Rattle.link_bundle.specs.declared.stage.Stage.TheVariants.{Start, Head, Name, Content, Stored, Ended, Failed}
+use Rattle.link_bundle.specs.declared.stage.Stage.TheVariants.{Ended, Failed}
 use Rattle.link_bundle_blocks.proofs.Lengths.{TrailingLasts-holds}
 use Rattle.link_bundle_blocks.proofs.Payloads.{PayloadEnds-holds}
 use Rattle.link_bundle.proofs.Verdicts.{state_of-seen}
@@ -32,8 +32,7 @@ use Rattle.link_bundle.proofs.Verdicts.{state_of-seen}
 may_scan-seen : (scan : BundleScan) (seen : List ℕ) → HasScanned scan seen
     → may_scan scan ≡ takes_bytes (state_of (verdict seen))
 may_scan-seen scan seen come =
-    ap takes_bytes
-    (state_of-seen scan.stage scan.cursor scan.draft come.before seen come.come scan.fits)
+    ap takes_bytes (state_of-seen come)
 
 stuck_idle : (now : State) → takes_bytes now ≡ false → is_going now ≡ false
 stuck_idle state.Going stuck = absurd (false≢true (sym stuck))
@@ -218,18 +217,9 @@ stuck_reading : (stage : Stage) (cursor : Cursor) (draft : Draft) (before : List
     → HasSeen stage cursor draft before seen → takes_bytes (stage_state stage) ≡ false
     → judged_bundle (seen ++ more) ≡ judged_bundle seen
 unfolding stage_left
-stuck_reading Start cursor draft before seen more come stuck = absurd (false≢true (sym stuck))
-stuck_reading (Head field) cursor draft before seen more come stuck =
-    absurd (false≢true (sym stuck))
-stuck_reading (Name role left) cursor draft before seen more come stuck =
-    absurd (false≢true (sym stuck))
-stuck_reading (Content left) cursor draft before seen more come stuck =
-    absurd (false≢true (sym stuck))
-stuck_reading (Stored offset left stored block kind) cursor draft before seen more come stuck =
-    absurd (false≢true (sym stuck))
-stuck_reading Ended cursor draft before seen more come stuck = absurd (false≢true (sym stuck))
 stuck_reading (Failed fault offset) cursor draft before seen more come stuck =
     come.reads more ∙ sym (come.reads []) ∙ ap judged_bundle (append-nil seen)
+stuck_reading _ cursor draft before seen more come stuck = absurd (false≢true (sym stuck))
 
 pub all_judged : (scan : BundleScan) (seen : List ℕ) → HasScanned scan seen → HasJudged scan seen
 all_judged scan seen come = record {

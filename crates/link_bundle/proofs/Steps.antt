@@ -39,16 +39,14 @@ use Rattle.link_bundle.proofs.Blocks.{read_alone-blocks, with_last-is}
 use Rattle.link_bundle.proofs.Heads.{read_alone-stopped}
 use Rattle.link_bundle.proofs.Stops.{stop_at-bad, field_left-stopped}
 use Rattle.link_bundle.specs.declared.scan.BundleScan.{BundleScan}
-use Rattle.link_bundle.specs.Scan.{HasSeen, HasSeenHead, IsAtStage, IsInHead, IsInside, IsInStored}
+use Rattle.link_bundle.specs.Scan.{HasSeen, HasSeenHead, IsAtStage, IsInHead}
 
 -- ---- a scan whose stage is known
 
-pub at_stage : (scan : BundleScan) (stage : Stage) (before : List Block) (seen : List ℕ)
-    → scan.stage ≡ stage
-    → HasSeen scan.stage scan.cursor scan.draft before seen
+pub at_stage : (scan : BundleScan) {stage : Stage} {before : List Block} {seen : List ℕ}
+    → scan.stage ≡ stage → HasSeen scan.stage scan.cursor scan.draft before seen
     → HasSeen stage scan.cursor scan.draft before seen
-at_stage scan stage before seen is come =
-    subst (λ (stage : Stage). HasSeen stage scan.cursor scan.draft before seen) is come
+at_stage scan is come = rw is at come
 
 pub fits_at : (scan : BundleScan) (stage : Stage) → scan.stage ≡ stage
     → IsTrue (scan_fits stage scan.cursor scan.draft)
@@ -109,122 +107,78 @@ begins : (which : Field) (start offset : ℕ)
     → ((is_block (Head which) ≡ true) × (block_start which start offset ≡ offset))
     ⊎ ((is_block (Head which) ≡ false) × (block_start which start offset ≡ start))
 begins (field.Primary primary.Block) start offset = inl (refl, refl)
-begins (field.Primary primary.Version) start offset = inr (refl, refl)
-begins (field.Primary primary.Flags) start offset = inr (refl, refl)
-begins (field.Primary primary.CheckType) start offset = inr (refl, refl)
-begins (field.Primary primary.Timestamp) start offset = inr (refl, refl)
-begins (field.Primary primary.Time) start offset = inr (refl, refl)
-begins (field.Primary primary.Sequence) start offset = inr (refl, refl)
-begins (field.Primary primary.Lifetime) start offset = inr (refl, refl)
-begins (field.Primary primary.FragmentOffset) start offset = inr (refl, refl)
-begins (field.Primary primary.TotalLength) start offset = inr (refl, refl)
-begins (field.Endpoint role part) start offset = inr (refl, refl)
 begins (field.Canonical canonical.Block) start offset = inl (refl, refl)
-begins (field.Canonical canonical.Type) start offset = inr (refl, refl)
-begins (field.Canonical canonical.Number) start offset = inr (refl, refl)
-begins (field.Canonical canonical.Flags) start offset = inr (refl, refl)
-begins (field.Canonical canonical.CheckType) start offset = inr (refl, refl)
-begins (field.Canonical canonical.Data) start offset = inr (refl, refl)
-begins (field.Check block kind) start offset = inr (refl, refl)
-begins field.Closing start offset = inr (refl, refl)
+begins _ start offset = inr (refl, refl)
 
-stands_head : (which : Field) (old new : Cursor) (check after : CheckType)
-    (start : ℕ) (seen : List ℕ)
-    → old.count ≡ length seen → start ≤ length seen → Covers check old.checks (drop start seen)
-    → KeepsCheck check (Head which) after → Enters (Head which) old new
-    → IsInHead which new after start seen
-stands_head which old new check after start seen counted within covers keeps enters =
-    let here : new.offset ≡ length seen = enters.offset ∙ counted in
-    ⊎_elim
-    (λ (is, at).
-    let fresh : Covers Unread new.checks [] =
-    subst (λ (b : Bool). MatchBool b (Covers Unread new.checks []) (new.checks ≡ old.checks)) is
-    enters.checks in
-    begun which new after start seen here enters.head (omega (arith, at))
-    (subst (λ (bytes : List ℕ). Covers after new.checks bytes)
-    (sym (ap (λ (offset : ℕ). drop offset seen) at ∙ nothing_yet new.offset seen here))
-    (narrowed after new.checks [] fresh)))
-    (λ (is, at).
-    let same : new.checks ≡ old.checks =
-    subst (λ (b : Bool). MatchBool b (Covers Unread new.checks []) (new.checks ≡ old.checks)) is
-    enters.checks in
-    let held = kept check after old.checks (drop start seen) (keeps.1 is) covers in
-    begun which new after start seen here enters.head (omega (arith, at))
-    (subst (λ (checks : BlockChecks). Covers after checks
-    (drop (block_start which start new.offset) seen)) (sym same)
-    (subst (λ (offset : ℕ). Covers after old.checks (drop offset seen)) (sym at) held)))
-    (begins which start new.offset)
+-- a stage that is entered, in a block that begins at `start`
+module _ (old new : Cursor) (check after : CheckType) (start : ℕ) (seen : List ℕ)
+    (counted : old.count ≡ length seen) (within : start ≤ length seen)
+    (covers : Covers check old.checks (drop start seen)) where
+  -- the checks go on
+  held : (is_unread check ≡ false → (checks : BlockChecks) (covered : List ℕ)
+      → Covers check checks covered → Covers after checks covered)
+      → new.checks ≡ old.checks → Covers after new.checks (drop start seen)
+  held keeps same = rw same (kept check after old.checks (drop start seen) keeps covers)
 
-stands_inside : (old new : Cursor) (check after : CheckType) (start : ℕ) (seen : List ℕ)
-    → start ≤ length seen → Covers check old.checks (drop start seen)
-    → (is_unread check ≡ false → (checks : BlockChecks) (covered : List ℕ)
-    → Covers check checks covered → Covers after checks covered)
-    → new.checks ≡ old.checks → IsInside new after start seen
-stands_inside old new check after start seen within covers keeps same = record {
-  in_block = within;
-  checks = subst (λ (checks : BlockChecks). Covers after checks (drop start seen)) (sym same)
-      (kept check after old.checks (drop start seen) keeps covers);
-}
+  stands_head : (which : Field) → KeepsCheck check (Head which) after → Enters (Head which) old new
+      → IsInHead which new after start seen
+  stands_head which keeps enters =
+      let here : new.offset ≡ length seen = enters.offset ∙ counted in
+      ⊎_elim
+      (λ (is, at).
+      let fresh : Covers Unread new.checks [] =
+      subst (λ (b : Bool). MatchBool b (Covers Unread new.checks []) (new.checks ≡ old.checks)) is
+      enters.checks in
+      begun which new after start seen here enters.head (omega (arith, at))
+      (rw (at, nothing_yet new.offset seen here) (narrowed after new.checks [] fresh)))
+      (λ (is, at).
+      let same : new.checks ≡ old.checks =
+      subst (λ (b : Bool). MatchBool b (Covers Unread new.checks []) (new.checks ≡ old.checks)) is
+      enters.checks in
+      begun which new after start seen here enters.head (omega (arith, at))
+      (rw at (held (keeps.1 is) same)))
+      (begins which start new.offset)
 
-stands_stored : (old new : Cursor) (check after : CheckType) (start : ℕ) (seen : List ℕ)
-    → old.count ≡ length seen → start ≤ length seen → Covers check old.checks (drop start seen)
-    → (is_unread check ≡ false → (checks : BlockChecks) (covered : List ℕ)
-    → Covers check checks covered → Covers after checks covered)
-    → new.offset ≡ length seen → new.checks ≡ old.checks → IsInStored new after start seen
-stands_stored old new check after start seen counted within covers keeps here same = record {
-  in_block = within;
-  in_bytes = omega (arith, here);
-  checks = rw (
-    here,
-    same,
-    up_to_the_end seen start,
-    sub_self (length seen),
-    append-nil (drop start seen),
-  )
-      (kept check after old.checks (drop start seen) keeps covers);
-}
+  stands_entered : (stage : Stage) → KeepsCheck check stage after → Enters stage old new
+      → IsAtStage stage new after start seen
+  stands_entered Start keeps enters = absurd (false≢true keeps.0)
+  stands_entered (Head which) keeps enters = stands_head which keeps enters
+  stands_entered (Name role left) keeps enters =
+      record { in_block = within; checks = held (keeps.1 refl) enters.checks }
+  stands_entered (Content left) keeps enters =
+      record { in_block = within; checks = held (keeps.1 refl) enters.checks }
+  stands_entered (Stored offset left stored block kind) keeps enters =
+      let here : new.offset ≡ length seen = enters.offset ∙ counted in
+      record {
+        in_block = within;
+        in_bytes = omega (arith, here);
+        checks = rw (
+          here,
+          up_to_the_end seen start,
+          sub_self (length seen),
+          append-nil (drop start seen),
+        )
+            (held (keeps.1 refl) enters.checks);
+      }
+  stands_entered Ended keeps enters = enters.offset ∙ counted
+  stands_entered (Failed fault offset) keeps enters = tt
 
-stands_entered : (stage : Stage) (old new : Cursor) (check after : CheckType)
-    (start : ℕ) (seen : List ℕ)
-    → old.count ≡ length seen → start ≤ length seen → Covers check old.checks (drop start seen)
-    → KeepsCheck check stage after → Enters stage old new → IsAtStage stage new after start seen
-stands_entered Start old new check after start seen counted within covers keeps enters =
-    absurd (false≢true keeps.0)
-stands_entered (Head which) old new check after start seen counted within covers keeps enters =
-    stands_head which old new check after start seen counted within covers keeps enters
-stands_entered (Name role left) old new check after start seen counted within covers keeps enters =
-    stands_inside old new check after start seen within covers (keeps.1 refl) enters.checks
-stands_entered (Content left) old new check after start seen counted within covers keeps enters =
-    stands_inside old new check after start seen within covers (keeps.1 refl) enters.checks
-stands_entered (Stored offset left stored block kind) old new check after start seen counted within covers
-    keeps enters =
-    stands_stored old new check after start seen counted within covers (keeps.1 refl)
-    (enters.offset ∙ counted) enters.checks
-stands_entered Ended old new check after start seen counted within covers keeps enters =
-    enters.offset ∙ counted
-stands_entered (Failed fault offset) old new check after start seen counted within covers keeps
-    enters = tt
-
--- a stage that is entered, with the rest from there on
-pub entered : (stage : Stage) (old new : Cursor) (check : CheckType) (draft : Draft)
-    (start : ℕ) (before : List Block) (seen : List ℕ)
+-- with the rest from there on
+pub entered : {stage : Stage} {old new : Cursor} {draft : Draft} {start : ℕ} {before : List Block}
+    {seen : List ℕ} (check : CheckType)
     → AreBytes seen → old.count ≡ length seen → start ≤ length seen
-    → Covers check old.checks (drop start seen)
-    → draft.block.start ≡ start
+    → Covers check old.checks (drop start seen) → draft.block.start ≡ start
     → KeepsCheck check stage draft.check → Enters stage old new
     → ((more : List ℕ) → judged_bundle (seen ++ more)
     ≡ with_blocks before (stage_left stage draft (length seen) (seen ++ more) (length seen)))
     → HasSeen stage new draft before seen
-entered stage old new check draft start before seen all counted within covers starts keeps enters
-    reads = record {
+entered {stage = stage} {old = old} {new = new} {draft = draft} {start = start} {seen = seen} check all
+    counted within covers starts keeps enters reads = record {
       all_bytes = all;
       count = enters.count ∙ counted;
-      reads = λ more. reads more
-          ∙ ap (λ (offset : ℕ). with_blocks before
-          (stage_left stage draft offset (seen ++ more) (length seen)))
-          (sym (enters.offset ∙ counted));
+      reads = rw (enters.offset ∙ counted) reads;
       stands = rw starts
-          (stands_entered stage old new check draft.check start seen counted within covers keeps
+          (stands_entered old new check draft.check start seen counted within covers stage keeps
           enters);
     }
 
@@ -267,39 +221,40 @@ failed fault offset cursor draft before seen all counted reads = record {
   stands = tt;
 }
 
--- more bytes of a head
-pub grown_head : (which : Field) (old new : Cursor) (draft : Draft) (before : List Block)
-    (seen run : List ℕ)
-    → HasSeen (Head which) old draft before seen → AreBytes run → TakesRun draft.check old new run
-    → HasSeenHead which new draft before (seen ++ run)
-unfolding stage_left
-grown_head which old new draft before seen run come are takes =
-    let at = come.stands.at in
-    let begins = block_start which draft.block.start old.offset in
-    let longer = length-append seen run in
-    record {
-      all_bytes = all_grown seen run come.all_bytes are;
-      count = takes.count ∙ ap (λ (count : ℕ). count + length run) come.count ∙ sym longer;
-      reads = rw takes.offset
-          (regrown (λ (bytes : List ℕ).
-          with_blocks before (stage_left (Head which) draft old.offset bytes (length seen))) seen run
-          come.reads);
-      in_bytes = omega (arith, at.in_bytes, takes.offset);
-      in_block = rw takes.offset (omega (arith, at.in_block));
-      checks = rw (takes.offset, drop-append-le begins seen run at.in_block)
-          (takes.checks (drop begins seen) at.checks);
-    }
+-- ---- a head
 
--- the bytes seen of a head, with one more
-pub grown_bytes : (which : Field) (old new : Cursor) (draft : Draft) (before : List Block)
-    (seen : List ℕ) (byte : ℕ)
-    → HasSeen (Head which) old draft before seen → new.offset ≡ old.offset
-    → ((head : List ℕ) → HasScannedHead old.head head → HasScannedHead new.head (head ++ byte ∷ []))
-    → HasScannedHead new.head (drop new.offset (seen ++ byte ∷ []))
-grown_bytes which old new draft before seen byte come stays heads =
-    let at = come.stands.at in
-    rw (stays, drop-append-le old.offset seen (byte ∷ []) at.in_bytes)
-    (heads (drop old.offset seen) at.head)
+-- more bytes of a head
+module _ {which : Field} {old : Cursor} {draft : Draft} {before : List Block} {seen : List ℕ}
+    (come : HasSeen (Head which) old draft before seen) where
+  pub grown_head : {new : Cursor} {run : List ℕ} → AreBytes run → TakesRun draft.check old new run
+      → HasSeenHead which new draft before (seen ++ run)
+  unfolding stage_left
+  grown_head {new = new} {run = run} are takes =
+      let at = come.stands.at in
+      let begins = block_start which draft.block.start old.offset in
+      let longer = length-append seen run in
+      record {
+        all_bytes = all_grown seen run come.all_bytes are;
+        count = omega (arith, takes.count, come.count, longer);
+        reads = rw takes.offset
+            (regrown (λ (bytes : List ℕ).
+            with_blocks before (stage_left (Head which) draft old.offset bytes (length seen))) seen run
+            come.reads);
+        in_bytes = omega (arith, at.in_bytes, takes.offset);
+        in_block = rw takes.offset (omega (arith, at.in_block));
+        checks = rw (takes.offset, drop-append-le begins seen run at.in_block)
+            (takes.checks (drop begins seen) at.checks);
+      }
+
+  -- the bytes seen of a head, with one more
+  pub grown_bytes : (new : Cursor) (byte : ℕ) → new.offset ≡ old.offset
+      → ((head : List ℕ) → HasScannedHead old.head head
+      → HasScannedHead new.head (head ++ byte ∷ []))
+      → HasScannedHead new.head (drop new.offset (seen ++ byte ∷ []))
+  grown_bytes new byte stays heads =
+      let at = come.stands.at in
+      rw (stays, drop-append-le old.offset seen (byte ∷ []) at.in_bytes)
+      (heads (drop old.offset seen) at.head)
 
 -- a run after the bytes seen
 pub after_seen : (offset : ℕ) (seen run : List ℕ) → offset ≡ length seen
@@ -308,9 +263,6 @@ after_seen offset seen run here =
     ap (λ (offset : ℕ). drop offset (seen ++ run)) here ∙ drop-append_seam seen run
 
 -- the bytes seen of a head stay the same, whatever bytes follow
-front_stays : (offset : ℕ) (seen more : List ℕ) → offset ≤ length seen
-    → drop offset (seen ++ more) ≡ drop offset seen ++ more
-front_stays offset seen more within = drop-append-le offset seen more within
 
 head_at-whole : (offset : ℕ) (seen more : List ℕ) (head : HeadItem) → offset ≤ length seen
     → head_front (drop offset seen) ≡ Whole head (length (drop offset seen))
@@ -320,7 +272,7 @@ head_at-whole offset seen more head within outcome =
     let next : offset + length (drop offset seen) ≡ length seen =
     omega (arith, length-drop offset seen) in
     rw (
-      front_stays offset seen more within,
+      drop-append-le offset seen more within,
       whole_stays (drop offset seen) more head
           (length (drop offset seen)) outcome,
       next,
@@ -331,29 +283,10 @@ head_at-bad : (offset : ℕ) (seen more : List ℕ) → offset ≤ length seen
     → head_at (seen ++ more) offset ≡ Err (stopped BadHead offset)
 unfolding head_at
 head_at-bad offset seen more within outcome =
-    rw (front_stays offset seen more within, ill_formed_stays (drop offset seen) more outcome) refl
-
--- a head that is not whole yet
-pub more_head : (which : Field) (cursor : Cursor) (draft : Draft) (before : List Block)
-    (seen : List ℕ)
-    → HasSeenHead which cursor draft before seen
-    → HasScannedHead cursor.head (drop cursor.offset seen)
-    → head_front (drop cursor.offset seen) ≡ CutHead
-    → HasSeen (Head which) cursor draft before seen
-more_head which cursor draft before seen come head outcome = record {
-  all_bytes = come.all_bytes;
-  count = come.count;
-  reads = come.reads;
-  stands = record {
-    at = record {
-      in_bytes = come.in_bytes;
-      head = head;
-      in_block = come.in_block;
-      checks = come.checks;
-    };
-    cut = outcome;
-  };
-}
+    rw (
+      drop-append-le offset seen more within,
+      ill_formed_stays (drop offset seen) more outcome,
+    ) refl
 
 -- the reading of the bundle at a head, by that of its field: the last block is before it
 pub at_head : (which : Field) (draft : Draft) (offset : ℕ) (before : List Block) (bytes : List ℕ)
@@ -372,73 +305,82 @@ at_head which draft offset before bytes reading is =
     (read_alone-blocks draft.payload_span bytes last reading)
     ∙ both_before before last (read_alone bytes (with_known_payload draft.payload_span reading))
 
--- an ill-formed head
-pub bad_head : (which : Field) (cursor : Cursor) (draft : Draft) (before : List Block)
-    (seen : List ℕ)
-    → HasSeenHead which cursor draft before seen
-    → head_front (drop cursor.offset seen) ≡ IllFormed
-    → HasSeen (Failed BadHead cursor.offset) cursor draft
-    (before ++ last_block which draft cursor.offset) seen
-unfolding stage_left
-bad_head which cursor draft before seen come outcome =
-    let all = before ++ last_block which draft cursor.offset in
-    failed BadHead cursor.offset cursor draft all seen come.all_bytes come.count
-    (λ more.
-    let bytes = seen ++ more in
-    let stop = stopped BadHead cursor.offset in
-    come.reads more
-    ∙ at_head which draft cursor.offset before bytes (Err stop)
-    (field_left-stopped which draft bytes cursor.offset stop
-    (head_at-bad cursor.offset seen more come.in_bytes outcome)
-    ∙ ap Err (stop_at-bad which draft cursor.offset))
-    ∙ ap (λ (reading : Result Bundle Stop). with_blocks all reading)
-    (read_alone-stopped draft.payload_span bytes stop))
+-- bytes of a head that is not judged yet
+module _ {which : Field} {cursor : Cursor} {draft : Draft} {before : List Block} {seen : List ℕ}
+    (come : HasSeenHead which cursor draft before seen) where
+  -- the head is not whole
+  pub more_head : HasScannedHead cursor.head (drop cursor.offset seen)
+      → head_front (drop cursor.offset seen) ≡ CutHead → HasSeen (Head which) cursor draft before seen
+  more_head head outcome = record {
+    all_bytes = come.all_bytes;
+    count = come.count;
+    reads = come.reads;
+    stands = record {
+      at = record {
+        in_bytes = come.in_bytes;
+        head = head;
+        in_block = come.in_block;
+        checks = come.checks;
+      };
+      cut = outcome;
+    };
+  }
 
--- a whole head that is judged
-judged_head : (which : Field) (cursor : Cursor) (draft new : Draft) (head : HeadItem)
-    (result : Result Stage BundleFault) (before : List Block) (seen : List ℕ)
-    → (come : HasSeenHead which cursor draft before seen)
-    → head_front (drop cursor.offset seen) ≡ Whole head (length (drop cursor.offset seen))
-    → AsReadFrom cursor.offset cursor.count which draft head result new
-    → (more : List ℕ) → judged_bundle (seen ++ more)
-    ≡ with_blocks (before ++ last_block which draft cursor.offset)
-    (goes_on result new cursor.offset (length seen) (seen ++ more))
-unfolding stage_left
-judged_head which cursor draft new head result before seen come outcome judges more =
-    let whole = head_at-whole cursor.offset seen more head come.in_bytes outcome in
-    let bytes = seen ++ more in
-    come.reads more
-    ∙ at_head which draft cursor.offset before bytes (field_left which draft bytes cursor.offset) refl
-    ∙ ap (λ (reading : Result Bundle Stop). with_blocks
-    (before ++ last_block which draft cursor.offset) reading)
-    (subst (λ (count : ℕ). read_alone bytes (with_known_payload draft.payload_span
-    (field_left which draft bytes cursor.offset))
-    ≡ goes_on result new cursor.offset count bytes) come.count
-    (judges bytes (rw come.count whole) (omega (arith, length-append seen more, come.count))))
+  all : List Block
+  all = before ++ last_block which draft cursor.offset
 
-pub went_on : (which : Field) (old cursor : Cursor) (draft new : Draft) (head : HeadItem)
-    (stage : Stage) (before : List Block) (seen : List ℕ)
-    → HasSeenHead which old draft before seen
-    → head_front (drop old.offset seen) ≡ Whole head (length (drop old.offset seen))
-    → AsReadFrom old.offset old.count which draft head (Ok stage) new
-    → new.block.start ≡ block_start which draft.block.start old.offset
-    → KeepsCheck draft.check stage new.check → Enters stage old cursor
-    → HasSeen stage cursor new (before ++ last_block which draft old.offset) seen
-went_on which old cursor draft new head stage before seen come outcome judges begins keeps enters =
-    entered stage old cursor draft.check new (block_start which draft.block.start old.offset)
-    (before ++ last_block which draft old.offset) seen
-    come.all_bytes come.count
-    come.in_block come.checks begins keeps enters
-    (judged_head which old draft new head (Ok stage) before seen come outcome judges)
+  -- the head is ill-formed
+  pub bad_head : head_front (drop cursor.offset seen) ≡ IllFormed
+      → HasSeen (Failed BadHead cursor.offset) cursor draft
+      (before ++ last_block which draft cursor.offset) seen
+  unfolding stage_left all
+  bad_head outcome =
+      failed BadHead cursor.offset cursor draft all seen come.all_bytes come.count
+      (λ more.
+      let bytes = seen ++ more in
+      let stop = stopped BadHead cursor.offset in
+      come.reads more
+      ∙ at_head which draft cursor.offset before bytes (Err stop)
+      (field_left-stopped which draft bytes cursor.offset stop
+      (head_at-bad cursor.offset seen more come.in_bytes outcome)
+      ∙ ap Err (stop_at-bad which draft cursor.offset))
+      ∙ ap (λ (reading : Result Bundle Stop). with_blocks all reading)
+      (read_alone-stopped draft.payload_span bytes stop))
 
-pub refused : (which : Field) (cursor : Cursor) (draft new : Draft) (head : HeadItem)
-    (fault : BundleFault) (before : List Block) (seen : List ℕ)
-    → HasSeenHead which cursor draft before seen
-    → head_front (drop cursor.offset seen) ≡ Whole head (length (drop cursor.offset seen))
-    → AsReadFrom cursor.offset cursor.count which draft head (Err fault) new
-    → HasSeen (Failed fault cursor.offset) cursor new
-    (before ++ last_block which draft cursor.offset) seen
-refused which cursor draft new head fault before seen come outcome judges =
-    failed fault cursor.offset cursor new (before ++ last_block which draft cursor.offset) seen
-    come.all_bytes come.count
-    (judged_head which cursor draft new head (Err fault) before seen come outcome judges)
+  -- the head is whole, and is judged
+  module _ (new : Draft) {head : HeadItem}
+      (outcome : head_front (drop cursor.offset seen)
+      ≡ Whole head (length (drop cursor.offset seen))) where
+    judged_head : (result : Result Stage BundleFault)
+        → AsReadFrom cursor.offset cursor.count which draft head result new
+        → (more : List ℕ) → judged_bundle (seen ++ more)
+        ≡ with_blocks all (goes_on result new cursor.offset (length seen) (seen ++ more))
+    unfolding stage_left all
+    judged_head result judges more =
+        let bytes = seen ++ more in
+        come.reads more
+        ∙ at_head which draft cursor.offset before bytes (field_left which draft bytes cursor.offset)
+        refl
+        ∙ ap (λ (reading : Result Bundle Stop). with_blocks all reading)
+        (rw come.count at judges bytes
+        (head_at-whole cursor.offset seen more head come.in_bytes outcome)
+        (omega (arith, length-append seen more)))
+
+    pub went_on : {stage : Stage} {entered_cursor : Cursor}
+        → AsReadFrom cursor.offset cursor.count which draft head (Ok stage) new
+        → new.block.start ≡ block_start which draft.block.start cursor.offset
+        → KeepsCheck draft.check stage new.check → Enters stage cursor entered_cursor
+        → HasSeen stage entered_cursor new (before ++ last_block which draft cursor.offset) seen
+    unfolding all
+    went_on {stage = stage} judges begins keeps enters =
+        entered draft.check come.all_bytes come.count come.in_block come.checks begins keeps enters
+        (judged_head (Ok stage) judges)
+
+    pub refused : {fault : BundleFault}
+        → AsReadFrom cursor.offset cursor.count which draft head (Err fault) new
+        → HasSeen (Failed fault cursor.offset) cursor new
+        (before ++ last_block which draft cursor.offset) seen
+    unfolding all
+    refused {fault = fault} judges =
+        failed fault cursor.offset cursor new all seen come.all_bytes come.count
+        (judged_head (Err fault) judges)

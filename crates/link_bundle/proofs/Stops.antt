@@ -1,17 +1,13 @@
 -- A head that is cut or ill-formed ends the reading, at each field.
 
 use Rattle.std.proofs.Common.{◌≡◌, ℕ, zero, suc, ◌-◌, List, length, Some, Err, refl}
-use Rattle.link_cbor.specs.declared.head.Head.{Head}
 use Rattle.link_bundle.specs.declared.draft.Draft.{Draft}
-use Rattle.link_bundle_types.specs.declared.fault.BundleFault.{BundleFault}
 use Rattle.link_bundle.specs.declared.stage.Field.{Field}
 use Rattle.link_bundle.specs.declared.stage.Field.TheVariants as field
 use Rattle.link_bundle.specs.declared.stage.PrimaryField.TheVariants as primary
 use Rattle.link_bundle.specs.declared.stage.CanonicalField.TheVariants as canonical
 use Rattle.link_bundle.specs.declared.stage.Part.TheVariants as part
-use Rattle.link_bundle_heads.specs.declared.endpoint.Scheme.TheVariants.{Dtn, Ipn}
-use Rattle.std.specs.Prelude.{Result}
-use Rattle.link_bundle_heads.specs.Rows.{unsigned, byte_string, pair, scheme, dtn_part, ipn_part, version, primary_block, primary_check_type, block, block_too_many, block_number, block_check_type, check_field, closing}
+use Rattle.link_bundle_heads.specs.declared.endpoint.Scheme.TheVariants.{Dtn}
 use Rattle.link_bundle_blocks.specs.Reading.{Stop, stopped, head_at, row_at}
 use Rattle.link_bundle_blocks.specs.EndpointId.{eid_at, specific_at}
 use Rattle.link_bundle_blocks.specs.CheckField.{field_at}
@@ -19,53 +15,33 @@ use Rattle.link_bundle_blocks.specs.Primary.{fragment_at}
 use Rattle.link_bundle_blocks.specs.Blocks.{Primary}
 use Rattle.link_bundle_blocks.specs.Bundle.{cut_in, blocks_at}
 use Rattle.link_bundle_blocks.specs.Canonical.{heads_at}
-use Rattle.link_bundle.specs.declared.stage.BlockKind.TheVariants.{Primary as PrimaryKind, Canonical}
+use Rattle.link_bundle.specs.declared.stage.BlockKind.TheVariants.{Canonical}
 use Rattle.link_bundle_types.specs.declared.fault.BundleFault.TheVariants.{Cut, BadHead}
 use Rattle.link_bundle.specs.Left.{current, field_block, field_left, primary_of, primary_block_left, version_left, flags_left, check_type_left, timestamp_left, time_left, sequence_left, lifetime_left, fragment_offset_left, total_length_left, scheme_left, allocator_left, node_left, service_left, type_left, number_left, block_flags_left, block_check_type_left, data_left}
-
-row_at-stopped : {A : Type 0} (row : Head → Result A BundleFault) (bytes : List ℕ)
-    (offset : ℕ) (stop : Stop)
-    → head_at bytes offset ≡ Err stop → row_at row bytes offset ≡ Err stop
-unfolding row_at
-row_at-stopped row bytes offset stop outcome = rw outcome refl
 
 blocks_at-stopped : (left : ℕ) (numbers : List ℕ) (primary : Primary) (bytes : List ℕ)
     (offset : ℕ) (stop : Stop)
     → head_at bytes offset ≡ Err stop → blocks_at left numbers primary bytes offset ≡ Err stop
-unfolding blocks_at heads_at
-blocks_at-stopped zero numbers primary bytes offset stop outcome =
-    rw (row_at-stopped block_too_many bytes offset stop outcome) refl
-blocks_at-stopped (suc left) numbers primary bytes offset stop outcome =
-    rw (row_at-stopped block bytes offset stop outcome) refl
+unfolding blocks_at heads_at row_at
+blocks_at-stopped zero numbers primary bytes offset stop outcome = rw outcome refl
+blocks_at-stopped (suc left) numbers primary bytes offset stop outcome = rw outcome refl
 
 -- a stop at a field; inside the check field of a canonical block, it knows the block
 abbrev pub stop_at : Field → Draft → Stop → Stop
-stop_at (field.Primary which) draft stop = stop
-stop_at (field.Endpoint role which) draft stop = stop
-stop_at (field.Canonical which) draft stop = stop
-stop_at (field.Check PrimaryKind kind) draft stop = stop
 stop_at (field.Check Canonical kind) draft stop =
     record stop { cut_block = cut_in stop.fault (current draft (Some kind)) }
-stop_at field.Closing draft stop = stop
+stop_at _ draft stop = stop
 
 pub stop_at-cut : (which : Field) (draft : Draft) (offset : ℕ)
     → stop_at which draft (stopped Cut offset)
     ≡ record (stopped Cut offset) { cut_block = field_block which draft }
-stop_at-cut (field.Primary which) draft offset = refl
-stop_at-cut (field.Endpoint role which) draft offset = refl
-stop_at-cut (field.Canonical which) draft offset = refl
-stop_at-cut (field.Check PrimaryKind kind) draft offset = refl
 stop_at-cut (field.Check Canonical kind) draft offset = refl
-stop_at-cut field.Closing draft offset = refl
+stop_at-cut _ draft offset = refl
 
 pub stop_at-bad : (which : Field) (draft : Draft) (offset : ℕ)
     → stop_at which draft (stopped BadHead offset) ≡ stopped BadHead offset
-stop_at-bad (field.Primary which) draft offset = refl
-stop_at-bad (field.Endpoint role which) draft offset = refl
-stop_at-bad (field.Canonical which) draft offset = refl
-stop_at-bad (field.Check PrimaryKind kind) draft offset = refl
 stop_at-bad (field.Check Canonical kind) draft offset = refl
-stop_at-bad field.Closing draft offset = refl
+stop_at-bad _ draft offset = refl
 
 pub field_left-stopped : (which : Field) (draft : Draft) (bytes : List ℕ)
     (offset : ℕ) (stop : Stop)
@@ -74,57 +50,12 @@ pub field_left-stopped : (which : Field) (draft : Draft) (bytes : List ℕ)
 unfolding field_left primary_block_left version_left flags_left check_type_left timestamp_left
     time_left sequence_left lifetime_left fragment_offset_left total_length_left fragment_at eid_at
     specific_at scheme_left allocator_left node_left service_left type_left number_left
-    block_flags_left block_check_type_left data_left field_at
-field_left-stopped (field.Primary primary.Block) draft bytes offset stop outcome =
-    rw (row_at-stopped primary_block bytes offset stop outcome) refl
-field_left-stopped (field.Primary primary.Version) draft bytes offset stop outcome =
-    rw (row_at-stopped version bytes offset stop outcome) refl
-field_left-stopped (field.Primary primary.Flags) draft bytes offset stop outcome =
-    rw (row_at-stopped unsigned bytes offset stop outcome) refl
-field_left-stopped (field.Primary primary.CheckType) draft bytes offset stop outcome =
-    rw (row_at-stopped (primary_check_type draft.count draft.flags) bytes offset stop outcome) refl
-field_left-stopped (field.Primary primary.Timestamp) draft bytes offset stop outcome =
-    rw (row_at-stopped pair bytes offset stop outcome) refl
-field_left-stopped (field.Primary primary.Time) draft bytes offset stop outcome =
-    rw (row_at-stopped unsigned bytes offset stop outcome) refl
-field_left-stopped (field.Primary primary.Sequence) draft bytes offset stop outcome =
-    rw (row_at-stopped unsigned bytes offset stop outcome) refl
-field_left-stopped (field.Primary primary.Lifetime) draft bytes offset stop outcome =
-    rw (row_at-stopped unsigned bytes offset stop outcome) refl
-field_left-stopped (field.Primary primary.FragmentOffset) draft bytes offset stop outcome =
-    rw (row_at-stopped unsigned bytes offset stop outcome) refl
-field_left-stopped (field.Primary primary.TotalLength) draft bytes offset stop outcome =
-    rw (row_at-stopped unsigned bytes offset stop outcome) refl
-field_left-stopped (field.Endpoint role part.Array) draft bytes offset stop outcome =
-    rw (row_at-stopped pair bytes offset stop outcome) refl
-field_left-stopped (field.Endpoint role part.Scheme) draft bytes offset stop outcome =
-    rw (row_at-stopped scheme bytes offset stop outcome) refl
-field_left-stopped (field.Endpoint role (part.Specific Dtn)) draft bytes offset stop outcome =
-    rw (row_at-stopped dtn_part bytes offset stop outcome) refl
-field_left-stopped (field.Endpoint role (part.Specific Ipn)) draft bytes offset stop outcome =
-    rw (row_at-stopped ipn_part bytes offset stop outcome) refl
-field_left-stopped (field.Endpoint role part.Allocator) draft bytes offset stop outcome =
-    rw (row_at-stopped unsigned bytes offset stop outcome) refl
-field_left-stopped (field.Endpoint role part.Node) draft bytes offset stop outcome =
-    rw (row_at-stopped unsigned bytes offset stop outcome) refl
-field_left-stopped (field.Endpoint role part.Service) draft bytes offset stop outcome =
-    rw (row_at-stopped unsigned bytes offset stop outcome) refl
+    block_flags_left block_check_type_left data_left field_at row_at
 field_left-stopped (field.Canonical canonical.Block) draft bytes offset stop outcome =
     blocks_at-stopped (64 - length draft.numbers) draft.numbers
     (primary_of draft) bytes offset stop outcome
-field_left-stopped (field.Canonical canonical.Type) draft bytes offset stop outcome =
-    rw (row_at-stopped unsigned bytes offset stop outcome) refl
-field_left-stopped (field.Canonical canonical.Number) draft bytes offset stop outcome =
-    rw (row_at-stopped (block_number draft.block.block_type draft.numbers) bytes offset stop outcome) refl
-field_left-stopped (field.Canonical canonical.Flags) draft bytes offset stop outcome =
-    rw (row_at-stopped unsigned bytes offset stop outcome) refl
-field_left-stopped (field.Canonical canonical.CheckType) draft bytes offset stop outcome =
-    rw (row_at-stopped (block_check_type draft.count) bytes offset stop outcome) refl
-field_left-stopped (field.Canonical canonical.Data) draft bytes offset stop outcome =
-    rw (row_at-stopped byte_string bytes offset stop outcome) refl
-field_left-stopped (field.Check PrimaryKind kind) draft bytes offset stop outcome =
-    rw (row_at-stopped (check_field kind) bytes offset stop outcome) refl
-field_left-stopped (field.Check Canonical kind) draft bytes offset stop outcome =
-    rw (row_at-stopped (check_field kind) bytes offset stop outcome) refl
-field_left-stopped field.Closing draft bytes offset stop outcome =
-    rw (row_at-stopped closing bytes offset stop outcome) refl
+field_left-stopped (field.Primary primary.Block) draft bytes offset stop outcome = rw outcome refl
+field_left-stopped (field.Endpoint role (part.Specific Dtn)) draft bytes offset stop outcome =
+    rw outcome refl
+field_left-stopped (field.Check Canonical kind) draft bytes offset stop outcome = rw outcome refl
+field_left-stopped _ draft bytes offset stop outcome = rw outcome refl

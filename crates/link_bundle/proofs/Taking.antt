@@ -28,10 +28,9 @@ blocks_grown : (old new : BundleScan) (after : List Block) (seen run : List ℕ)
     → after ++ last_of new ≡ (come.before ++ last_of old) ++ ending new
     → blocks_in (seen ++ run) ≡ blocks_in seen ++ ending new
 blocks_grown old new after seen run come now grew =
-    blocks_of-seen new.stage new.cursor new.draft after (seen ++ run) now new.fits
+    blocks_of-seen {scan = new} (record { before = after; come = now })
     ∙ grew
-    ∙ ap (λ (blocks : List Block). blocks ++ ending new)
-    (sym (blocks_of-seen old.stage old.cursor old.draft come.before seen come.come old.fits))
+    ∙ ap (λ (blocks : List Block). blocks ++ ending new) (sym (blocks_of-seen come))
 
 -- a stage that is entered, or a fault
 pub takes_on : {old new : BundleScan} {run : List ℕ}

@@ -21,12 +21,14 @@ use Rattle.link_bundle.specs.declared.stage.Role.{Role}
 use Rattle.link_cbor.specs.declared.check.CheckKind.{CheckKind}
 use Rattle.link_bundle_types.specs.declared.fault.State.{State}
 use Rattle.link_bundle_types.specs.declared.info.BundleInfo.{BundleInfo}
+use Rattle.link_bundle_blocks.specs.declared.block.CanonicalBlock.{CanonicalBlock}
 use Rattle.link_bundle_blocks.specs.Blocks.{Block}
 use Rattle.link_bundle_blocks.specs.Bundle.{Bundle, with_blocks, opening_at, bundle_at, judged_bundle, verdict_by, verdict, payload_of, payload_in, payload_seen, state_of, blocks_of, blocks_in, cut_block_of, cut_block_in}
-use Rattle.link_bundle.specs.Left.{bundle_of, read_alone, with_known_payload, kept_name, name_left, zeroed_check, stored_left, after_field, kind_block, stage_block, last_block, stage_last, stage_left}
+use Rattle.link_bundle.specs.Left.{span_of, bundle_of, read_alone, with_known_payload, kept_name, name_left, zeroed_check, stored_left, after_field, kind_block, stage_block, last_block, stage_last, stage_left}
 use Rattle.link_bundle_blocks.proofs.Blocks.{verdict_by-blocks, payload_of-blocks, blocks_of-blocks, cut_block_of-blocks}
 use Rattle.link_bundle.proofs.Steps.{at_head}
-use Rattle.link_bundle.specs.Scan.{HasSeen}
+use Rattle.link_bundle.specs.declared.scan.BundleScan.{BundleScan}
+use Rattle.link_bundle.specs.Scan.{HasSeen, HasScanned}
 use Rattle.link_bundle.specs.Stages.{stage_state}
 use Rattle.link_bundle.proofs.Fields.{has_room, some_left}
 use Rattle.link_bundle.proofs.Heads.{read_alone-stopped}
@@ -152,51 +154,44 @@ failed_stop fault offset cursor draft before seen come =
 
 -- ---- the reading of the bytes seen, at each stage
 
--- the reading after the whole blocks
-abbrev pub seen_reading : Stage → ℕ → ℕ → Draft → Result Bundle Stop
-seen_reading Start offset count draft =
-    with_known_payload draft.payload_span (Err (cut_at Start draft count))
-seen_reading (Head which) offset count draft =
-    with_known_payload draft.payload_span (Err (cut_at (Head which) draft count))
-seen_reading (Name role left) offset count draft =
-    with_known_payload draft.payload_span (Err (cut_at (Name role left) draft count))
-seen_reading (Content left) offset count draft =
-    with_known_payload draft.payload_span (Err (cut_at (Content left) draft count))
-seen_reading (Stored field left stored block kind) offset count draft =
-    with_known_payload draft.payload_span
-    (Err (cut_at (Stored field left stored block kind) draft count))
-seen_reading Ended offset count draft = Ok (bundle_of draft offset)
-seen_reading (Failed fault at) offset count draft =
-    with_known_payload draft.payload_span (Err (stopped fault at))
+-- a stop before a block is whole, with what the draft has of the payload
+abbrev stop_of : Draft → BundleFault → ℕ → Option CanonicalBlock → Stop
+stop_of draft fault at cut =
+    record (stopped fault at) { payload_span = draft.payload_span; cut_block = cut }
 
-pub seen_is : (stage : Stage) (cursor : Cursor) (draft : Draft) (before : List Block)
-    (seen : List ℕ)
+known_stop : (payload : Option (ℕ × ℕ)) (fault : BundleFault) (at : ℕ)
+    (cut : Option CanonicalBlock)
+    → with_known_payload payload (Err (record (stopped fault at) { cut_block = cut }))
+    ≡ Err (record (stopped fault at) { payload_span = payload; cut_block = cut })
+known_stop None fault at cut = refl
+known_stop (Some payload) fault at cut = refl
+
+-- the reading after the whole blocks
+abbrev seen_reading : Stage → ℕ → ℕ → Draft → Result Bundle Stop
+seen_reading Ended offset count draft = Ok (bundle_of draft offset)
+seen_reading (Failed fault at) offset count draft = Err (stop_of draft fault at None)
+seen_reading stage offset count draft = Err (stop_of draft Cut count (stage_block stage draft))
+
+seen_is : (stage : Stage) (cursor : Cursor) (draft : Draft) (before : List Block) (seen : List ℕ)
     → HasSeen stage cursor draft before seen → IsTrue (scan_fits stage cursor draft)
     → judged_bundle seen
     ≡ with_blocks (before ++ stage_last stage draft cursor.offset)
     (seen_reading stage cursor.offset cursor.count draft)
-seen_is Start cursor draft before seen come fits =
-    rw come.count (going_cut Start cursor draft before seen come fits refl)
-seen_is (Head which) cursor draft before seen come fits =
-    rw come.count (going_cut (Head which) cursor draft before seen come fits refl)
-seen_is (Name role left) cursor draft before seen come fits =
-    rw come.count (going_cut (Name role left) cursor draft before seen come fits refl)
-seen_is (Content left) cursor draft before seen come fits =
-    rw come.count (going_cut (Content left) cursor draft before seen come fits refl)
-seen_is (Stored field left stored block kind) cursor draft before seen come fits =
-    rw come.count
-    (going_cut (Stored field left stored block kind) cursor draft before seen come fits refl)
 seen_is Ended cursor draft before seen come fits =
     rw (append-nil before) (ended_whole cursor draft before seen come)
 seen_is (Failed fault at) cursor draft before seen come fits =
-    rw (append-nil before) (failed_stop fault at cursor draft before seen come)
+    rw (append-nil before)
+    (failed_stop fault at cursor draft before seen come
+    ∙ ap (λ (reading : Result Bundle Stop). with_blocks before reading)
+    (known_stop draft.payload_span fault at None))
+seen_is stage cursor draft before seen come fits =
+    rw come.count
+    (going_cut stage cursor draft before seen come fits refl
+    ∙ ap (λ (reading : Result Bundle Stop).
+    with_blocks (before ++ stage_last stage draft cursor.offset) reading)
+    (known_stop draft.payload_span Cut (length seen) (stage_block stage draft)))
 
 -- ---- what follows from it
-
-stopped_verdict : (payload : Option (ℕ × ℕ)) (stop : Stop)
-    → verdict_by (with_known_payload payload (Err stop)) ≡ Err (stop.fault, stop.offset)
-stopped_verdict None stop = refl
-stopped_verdict (Some span) stop = refl
 
 -- the verdict at a stage
 abbrev pub stage_verdict : State → ℕ → ℕ → Draft → Result BundleInfo (BundleFault × ℕ)
@@ -207,138 +202,80 @@ stage_verdict (state.Failed fault at) offset count draft = Err (fault, at)
 reading_verdict : (stage : Stage) (offset count : ℕ) (draft : Draft)
     → verdict_by (seen_reading stage offset count draft)
     ≡ stage_verdict (stage_state stage) offset count draft
-reading_verdict Start offset count draft = stopped_verdict draft.payload_span _
-reading_verdict (Head which) offset count draft = stopped_verdict draft.payload_span _
-reading_verdict (Name role left) offset count draft = stopped_verdict draft.payload_span _
-reading_verdict (Content left) offset count draft = stopped_verdict draft.payload_span _
-reading_verdict (Stored field left stored block kind) offset count draft =
-    stopped_verdict draft.payload_span _
 reading_verdict Ended offset count draft = refl
-reading_verdict (Failed fault at) offset count draft = stopped_verdict draft.payload_span _
-
-pub verdict_of-seen : (stage : Stage) (cursor : Cursor) (draft : Draft) (before : List Block)
-    (seen : List ℕ)
-    → HasSeen stage cursor draft before seen → IsTrue (scan_fits stage cursor draft)
-    → verdict seen ≡ stage_verdict (stage_state stage) cursor.offset cursor.count draft
-unfolding verdict
-verdict_of-seen stage cursor draft before seen come fits =
-    ap verdict_by (seen_is stage cursor draft before seen come fits)
-    ∙ verdict_by-blocks (before ++ stage_last stage draft cursor.offset)
-    (seen_reading stage cursor.offset cursor.count draft)
-    ∙ reading_verdict stage cursor.offset cursor.count draft
+reading_verdict _ offset count draft = refl
 
 -- the state that a caller sees
 verdict_state : (stage : Stage) (cursor : Cursor) (draft : Draft)
     → IsTrue (scan_fits stage cursor draft)
     → stage_state stage
     ≡ state_of (stage_verdict (stage_state stage) cursor.offset cursor.count draft)
-verdict_state Start cursor draft fits = refl
-verdict_state (Head which) cursor draft fits = refl
-verdict_state (Name role left) cursor draft fits = refl
-verdict_state (Content left) cursor draft fits = refl
-verdict_state (Stored field left stored block kind) cursor draft fits = refl
-verdict_state Ended cursor draft fits = refl
 verdict_state (Failed fault at) cursor draft fits = rw fits refl
-
-pub state_of-seen : (stage : Stage) (cursor : Cursor) (draft : Draft) (before : List Block)
-    (seen : List ℕ)
-    → HasSeen stage cursor draft before seen → IsTrue (scan_fits stage cursor draft)
-    → stage_state stage ≡ state_of (verdict seen)
-state_of-seen stage cursor draft before seen come fits =
-    verdict_state stage cursor draft fits
-    ∙ ap state_of (sym (verdict_of-seen stage cursor draft before seen come fits))
+verdict_state _ cursor draft fits = refl
 
 -- the offset and the length of the payload
-stopped_payload : (payload : Option (ℕ × ℕ)) (stop : Stop) → stop.payload_span ≡ None
-    → payload_of (with_known_payload payload (Err stop)) ≡ payload
-stopped_payload None stop none = none
-stopped_payload (Some span) stop none = refl
-
-span_back : (payload : Option (ℕ × ℕ)) (draft : Draft) (offset : ℕ)
-    → draft.payload_span ≡ payload → is_some payload ≡ true
-    → payload_of (Ok (bundle_of draft offset)) ≡ payload
-span_back None draft offset is known = cc
-span_back (Some payload) draft offset is known = rw is refl
+span_back : (payload : Option (ℕ × ℕ)) → is_some payload ≡ true → Some (span_of payload) ≡ payload
+span_back None known = cc
+span_back (Some payload) known = refl
 
 reading_payload : (stage : Stage) (cursor : Cursor) (draft : Draft)
     → IsTrue (scan_fits stage cursor draft)
     → payload_of (seen_reading stage cursor.offset cursor.count draft) ≡ draft.payload_span
-reading_payload Start cursor draft fits = stopped_payload draft.payload_span _ refl
-reading_payload (Head which) cursor draft fits = stopped_payload draft.payload_span _ refl
-reading_payload (Name role left) cursor draft fits = stopped_payload draft.payload_span _ refl
-reading_payload (Content left) cursor draft fits = stopped_payload draft.payload_span _ refl
-reading_payload (Stored field left stored block kind) cursor draft fits =
-    stopped_payload draft.payload_span _ refl
-reading_payload Ended cursor draft fits =
-    span_back draft.payload_span draft cursor.offset refl fits
-reading_payload (Failed fault at) cursor draft fits = stopped_payload draft.payload_span _ refl
-
-pub payload_of-seen : (stage : Stage) (cursor : Cursor) (draft : Draft) (before : List Block)
-    (seen : List ℕ)
-    → HasSeen stage cursor draft before seen → IsTrue (scan_fits stage cursor draft)
-    → payload_of (judged_bundle seen) ≡ draft.payload_span
-payload_of-seen stage cursor draft before seen come fits =
-    ap payload_of (seen_is stage cursor draft before seen come fits)
-    ∙ payload_of-blocks (before ++ stage_last stage draft cursor.offset)
-    (seen_reading stage cursor.offset cursor.count draft)
-    ∙ reading_payload stage cursor draft fits
-
--- the blocks
-stopped_blocks : (payload : Option (ℕ × ℕ)) (stop : Stop)
-    → blocks_of (with_known_payload payload (Err stop)) ≡ stop.blocks
-stopped_blocks None stop = refl
-stopped_blocks (Some span) stop = refl
-
-stopped_in : (payload : Option (ℕ × ℕ)) (stop : Stop)
-    → cut_block_of (with_known_payload payload (Err stop)) ≡ stop.cut_block
-stopped_in None stop = refl
-stopped_in (Some span) stop = refl
+reading_payload Ended cursor draft fits = span_back draft.payload_span fits
+reading_payload _ cursor draft fits = refl
 
 reading_blocks : (stage : Stage) (offset count : ℕ) (draft : Draft)
     → blocks_of (seen_reading stage offset count draft) ≡ []
-reading_blocks Start offset count draft = stopped_blocks draft.payload_span _
-reading_blocks (Head which) offset count draft = stopped_blocks draft.payload_span _
-reading_blocks (Name role left) offset count draft = stopped_blocks draft.payload_span _
-reading_blocks (Content left) offset count draft = stopped_blocks draft.payload_span _
-reading_blocks (Stored field left stored block kind) offset count draft =
-    stopped_blocks draft.payload_span _
 reading_blocks Ended offset count draft = refl
-reading_blocks (Failed fault at) offset count draft = stopped_blocks draft.payload_span _
+reading_blocks _ offset count draft = refl
 
 reading_in : (stage : Stage) (offset count : ℕ) (draft : Draft)
     → cut_block_of (seen_reading stage offset count draft) ≡ stage_block stage draft
-reading_in Start offset count draft = stopped_in draft.payload_span _
-reading_in (Head which) offset count draft = stopped_in draft.payload_span _
-reading_in (Name role left) offset count draft = stopped_in draft.payload_span _
-reading_in (Content left) offset count draft = stopped_in draft.payload_span _
-reading_in (Stored field left stored block kind) offset count draft =
-    stopped_in draft.payload_span _
 reading_in Ended offset count draft = refl
-reading_in (Failed fault at) offset count draft = stopped_in draft.payload_span _
+reading_in _ offset count draft = refl
 
-pub blocks_of-seen : (stage : Stage) (cursor : Cursor) (draft : Draft) (before : List Block)
-    (seen : List ℕ)
-    → HasSeen stage cursor draft before seen → IsTrue (scan_fits stage cursor draft)
-    → blocks_in seen ≡ before ++ stage_last stage draft cursor.offset
-unfolding blocks_in
-blocks_of-seen stage cursor draft before seen come fits =
-    let all = before ++ stage_last stage draft cursor.offset in
-    ap blocks_of (seen_is stage cursor draft before seen come fits)
-    ∙ blocks_of-blocks all (seen_reading stage cursor.offset cursor.count draft)
-    ∙ ap (λ (blocks : List Block). all ++ blocks)
-    (reading_blocks stage cursor.offset cursor.count draft)
-    ∙ append-nil all
+module _ {scan : BundleScan} {seen : List ℕ} (come : HasScanned scan seen) where
+  abbrev all : List Block
+  all = come.before ++ stage_last scan.stage scan.draft scan.cursor.offset
 
-pub cut_block_of-seen : (stage : Stage) (cursor : Cursor) (draft : Draft) (before : List Block)
-    (seen : List ℕ)
-    → HasSeen stage cursor draft before seen → IsTrue (scan_fits stage cursor draft)
-    → cut_block_in seen ≡ stage_block stage draft
-unfolding cut_block_in
-cut_block_of-seen stage cursor draft before seen come fits =
-    ap cut_block_of (seen_is stage cursor draft before seen come fits)
-    ∙ cut_block_of-blocks (before ++ stage_last stage draft cursor.offset)
-    (seen_reading stage cursor.offset cursor.count draft)
-    ∙ reading_in stage cursor.offset cursor.count draft
+  abbrev reading : Result Bundle Stop
+  reading = seen_reading scan.stage scan.cursor.offset scan.cursor.count scan.draft
+
+  scan_reads : judged_bundle seen ≡ with_blocks all reading
+  scan_reads = seen_is scan.stage scan.cursor scan.draft come.before seen come.come scan.fits
+
+  -- the verdict in a state that a caller sees
+  pub verdict_at : {now : State} → stage_state scan.stage ≡ now
+      → verdict seen ≡ stage_verdict now scan.cursor.offset scan.cursor.count scan.draft
+  unfolding verdict
+  verdict_at is =
+      ap verdict_by scan_reads ∙ verdict_by-blocks all reading
+      ∙ reading_verdict scan.stage scan.cursor.offset scan.cursor.count scan.draft
+      ∙ ap (λ (now : State). stage_verdict now scan.cursor.offset scan.cursor.count scan.draft) is
+
+  pub state_of-seen : stage_state scan.stage ≡ state_of (verdict seen)
+  state_of-seen =
+      verdict_state scan.stage scan.cursor scan.draft scan.fits ∙ ap state_of (sym (verdict_at refl))
+
+  pub payload_of-seen : payload_of (judged_bundle seen) ≡ scan.draft.payload_span
+  payload_of-seen =
+      ap payload_of scan_reads ∙ payload_of-blocks all reading
+      ∙ reading_payload scan.stage scan.cursor scan.draft scan.fits
+
+  pub blocks_of-seen : blocks_in seen
+      ≡ come.before ++ stage_last scan.stage scan.draft scan.cursor.offset
+  unfolding blocks_in
+  blocks_of-seen =
+      ap blocks_of scan_reads ∙ blocks_of-blocks all reading
+      ∙ ap (λ (blocks : List Block). all ++ blocks)
+      (reading_blocks scan.stage scan.cursor.offset scan.cursor.count scan.draft)
+      ∙ append-nil all
+
+  pub cut_block_of-seen : cut_block_in seen ≡ stage_block scan.stage scan.draft
+  unfolding cut_block_in
+  cut_block_of-seen =
+      ap cut_block_of scan_reads ∙ cut_block_of-blocks all reading
+      ∙ reading_in scan.stage scan.cursor.offset scan.cursor.count scan.draft
 
 -- the number of payload bytes that are there
 pub seen_of-none : (seen : List ℕ) (payload : Option (ℕ × ℕ)) → payload_of (judged_bundle seen) ≡ payload

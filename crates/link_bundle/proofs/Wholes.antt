@@ -85,14 +85,16 @@ goes_by_cut payload bytes before (Err stop) cut is =
     (read_alone-stopped payload bytes stop))
 
 -- more bytes are needed inside a canonical block
-pub goes_in_canonical : (cursor : Cursor) (draft : Draft) (before : List Block)
-    (seen piece : List ℕ) (block : CanonicalBlock) (size count : ℕ)
+pub goes_in_canonical : {cursor : Cursor} {draft : Draft} {before : List Block} {seen : List ℕ}
+    {piece : List ℕ} {block : CanonicalBlock} {size : ℕ} (count : ℕ)
     → HasSeen (Head (field.Canonical canonical.Block)) cursor draft before seen
     → cursor.offset ≡ cursor.count → length draft.numbers < 64
-    → Begins (λ bytes. whole_canonical draft.numbers bytes 0) block size piece → count < size
+    → Begins (λ read. read.1) (λ bytes. whole_canonical draft.numbers bytes 0) (block, size) piece
+    → count < size
     → bundle_goes (seen ++ take count piece) ≡ true
 unfolding stage_left field_left
-goes_in_canonical cursor draft before seen piece block size count come here room begins sooner =
+goes_in_canonical {cursor = cursor} {draft = draft} {before = before} {seen = seen} {piece = piece}
+    count come here room begins sooner =
     let run = take count piece in
     let bytes = seen ++ run in
     let numbers = draft.numbers in
@@ -146,8 +148,8 @@ lies_there numbers seen run more block size offset count here counted is =
     ∙ ap (λ (reading : ReadAt CanonicalBlock). shifted (length seen) (moved (length seen)) reading) is
     ∙ ap (λ (count : ℕ). Ok (moved count block, count + size)) (sym counted)
 
-pub canonical_come : (old new : Cursor) (draft after : Draft) (stage : Stage)
-    (before : List Block) (seen run : List ℕ) (block : CanonicalBlock)
+pub canonical_come : {old new : Cursor} {draft after : Draft} {stage : Stage}
+    {before : List Block} {seen : List ℕ} (run : List ℕ) (block : CanonicalBlock)
     → HasSeen (Head (field.Canonical canonical.Block)) old draft before seen
     → old.offset ≡ old.count → is_none draft.payload_span ≡ true → length draft.numbers < 64
     → AreBytes run
@@ -159,15 +161,14 @@ pub canonical_come : (old new : Cursor) (draft after : Draft) (stage : Stage)
     → HasSeen stage new after (before ++ last_block (field.Canonical canonical.Block) draft old.offset)
     (seen ++ run)
 unfolding stage_left field_left
-canonical_come old new draft after stage before seen run block come here none room are whole ends
-    starts zero keeps enters =
+canonical_come {old = old} {draft = draft} {after = after} {stage = stage} {before = before}
+    {seen = seen} run block come here none room are whole ends starts zero keeps enters =
     let numbers = draft.numbers in
     let primary = primary_of draft in
     let all = before ++ last_block block_field draft old.offset in
     let size : old.count + length run ≡ length (seen ++ run) =
     omega (arith, length-append seen run, come.count) in
-    entered stage (record old { count = old.count + length run }) new (Is None) after old.count all
-    (seen ++ run) (all_grown seen run come.all_bytes are) size (omega arith) tt
+    entered {start = old.count} (Is None) (all_grown seen run come.all_bytes are) size (omega arith) tt
     (starts ∙ omega arith) keeps enters
     (λ more.
     let bytes = (seen ++ run) ++ more in
@@ -192,11 +193,12 @@ cut_on (Ok read) next cut = absurd cut
 cut_on (Err stop) next cut = cut
 
 -- more bytes are needed inside the primary block
-pub goes_in_primary : (cursor : Cursor) (draft : Draft) (before : List Block)
-    (seen piece : List ℕ) (read : Primary × Option CheckKind) (size count : ℕ)
-    → HasSeen Start cursor draft before seen → Begins whole_primary read size piece
+pub goes_in_primary : {cursor : Cursor} {draft : Draft} {before : List Block} {seen : List ℕ}
+    {piece : List ℕ} {read : Primary × Option CheckKind} {size : ℕ} (count : ℕ)
+    → HasSeen Start cursor draft before seen
+    → Begins (λ read. read.1) whole_primary (read, size) piece
     → count < size → bundle_goes (seen ++ take count piece) ≡ true
-goes_in_primary cursor draft before seen piece read size count come begins sooner =
+goes_in_primary {piece = piece} count come begins sooner =
     let run = take count piece in
     ap (λ (seen : List ℕ). bundle_goes (seen ++ run)) come.stands.nothing
     ∙ cut_goes-on run (rw (bundle_parts run)
@@ -215,27 +217,25 @@ known_primary draft after stage check bytes next none blank whole ends =
     (primary_read bytes (primary_of draft) check next whole)
     ∙ (rw (none, blank) at (ends bytes next))
 
-pub primary_come : (old new : Cursor) (draft after : Draft) (stage : Stage)
-    (before : List Block) (seen run : List ℕ) (check : Option CheckKind)
+pub primary_come : {old new : Cursor} {draft after : Draft} {stage : Stage}
+    {before : List Block} {seen : List ℕ} (run : List ℕ) (check : Option CheckKind)
     → HasSeen Start old draft before seen → IsTrue (stage_fits Start draft) → AreBytes run
     → whole_primary run ≡ Ok ((primary_of draft, check), length run)
     → BlockEnds PrimaryKind check draft stage after → after.block.start ≡ 1
     → KeepsCheck (Is None) stage after.check
     → Enters stage (record old { count = old.count + length run }) new
     → HasSeen stage new after before (seen ++ run)
-primary_come old new draft after stage before seen run check come fits are whole ends starts keeps
-    enters =
+primary_come {old = old} {draft = draft} {after = after} {stage = stage} {before = before}
+    {seen = seen} run check come fits are whole ends starts keeps enters =
     let read : Primary × Option CheckKind = (primary_of draft, check) in
     let begins = begins_primary run read (length run) whole in
     let none = blank draft fits in
     let size : old.count + length run ≡ length (seen ++ run) =
     omega (arith, length-append seen run, come.count) in
-    entered stage (record old { count = old.count + length run }) new (Is None) after 1 before
-    (seen ++ run) (all_grown seen run come.all_bytes are) size
+    entered {start = 1} (Is None) (all_grown seen run come.all_bytes are) size
     (omega (arith, length-append seen run, begins.some)) tt starts keeps enters
     (λ more.
-    after_first old draft before seen run more
-    (stage_left stage after (length run) (run ++ more) (length run)) come
+    after_first run more come
     (known_primary draft after stage check (run ++ more) (length run) none.payload none.numbers
     (primary_lasts run more read (length run) whole) ends)
     ∙ ap (λ (seen : List ℕ). with_blocks before (stage_left stage after (length (seen ++ run))

@@ -29,26 +29,15 @@ primary_fits primary.Block draft = is_unread draft.check
 primary_fits primary.Version draft = is_unread draft.check
 primary_fits primary.Flags draft = is_unread draft.check
 primary_fits primary.CheckType draft = is_unread draft.check
-primary_fits primary.Timestamp draft = true
-primary_fits primary.Time draft = true
-primary_fits primary.Sequence draft = true
-primary_fits primary.Lifetime draft = true
-primary_fits primary.FragmentOffset draft = true
-primary_fits primary.TotalLength draft = true
+primary_fits _ draft = true
 
 -- the payload block was not seen yet, and there is room for the number of the block
 abbrev pub canonical_fits : CanonicalField → Draft → Bool
 canonical_fits canonical.Block draft = is_none draft.payload_span && is_unread draft.check
-canonical_fits canonical.Type draft =
-    is_none draft.payload_span && (is_unread draft.check && nat_lt (length draft.numbers) 64)
-canonical_fits canonical.Number draft =
-    is_none draft.payload_span && (is_unread draft.check && nat_lt (length draft.numbers) 64)
-canonical_fits canonical.Flags draft =
-    is_none draft.payload_span && (is_unread draft.check && nat_lt (length draft.numbers) 64)
-canonical_fits canonical.CheckType draft =
-    is_none draft.payload_span && (is_unread draft.check && nat_lt (length draft.numbers) 64)
 canonical_fits canonical.Data draft =
     is_none draft.payload_span && nat_lt (length draft.numbers) 64
+canonical_fits _ draft =
+    is_none draft.payload_span && (is_unread draft.check && nat_lt (length draft.numbers) 64)
 
 abbrev pub field_fits : Field → Draft → Bool
 field_fits (field.Primary which) draft = primary_fits which draft
@@ -77,40 +66,13 @@ stage_fits (Failed fault offset) draft = lasts fault
 
 -- whether the stage is at the head of a block's array, where the block's checks begin
 abbrev pub is_block : Stage → Bool
-is_block Start = false
 is_block (Head (field.Primary primary.Block)) = true
-is_block (Head (field.Primary primary.Version)) = false
-is_block (Head (field.Primary primary.Flags)) = false
-is_block (Head (field.Primary primary.CheckType)) = false
-is_block (Head (field.Primary primary.Timestamp)) = false
-is_block (Head (field.Primary primary.Time)) = false
-is_block (Head (field.Primary primary.Sequence)) = false
-is_block (Head (field.Primary primary.Lifetime)) = false
-is_block (Head (field.Primary primary.FragmentOffset)) = false
-is_block (Head (field.Primary primary.TotalLength)) = false
-is_block (Head (field.Endpoint role part)) = false
 is_block (Head (field.Canonical canonical.Block)) = true
-is_block (Head (field.Canonical canonical.Type)) = false
-is_block (Head (field.Canonical canonical.Number)) = false
-is_block (Head (field.Canonical canonical.Flags)) = false
-is_block (Head (field.Canonical canonical.CheckType)) = false
-is_block (Head (field.Canonical canonical.Data)) = false
-is_block (Head (field.Check block kind)) = false
-is_block (Head field.Closing) = false
-is_block (Name role left) = false
-is_block (Content left) = false
-is_block (Stored offset left stored block kind) = false
-is_block Ended = false
-is_block (Failed fault offset) = false
+is_block _ = false
 
 abbrev pub is_begun : Stage → Bool
 is_begun Start = false
-is_begun (Head which) = true
-is_begun (Name role left) = true
-is_begun (Content left) = true
-is_begun (Stored offset left stored block kind) = true
-is_begun Ended = true
-is_begun (Failed fault offset) = true
+is_begun _ = true
 
 -- once the check type was read, what the checks cover stays covered until the end of the block
 abbrev pub KeepsCheck : CheckType → Stage → CheckType → Type 0
@@ -125,13 +87,8 @@ Follows result draft =
     MatchResult result (λ stage. IsTrue (stage_fits stage draft)) (λ fault. IsTrue (lasts fault))
 
 abbrev pub head_fits : Stage → HeadScan → Bool
-head_fits Start head = true
 head_fits (Head which) head = may_scan_head head
-head_fits (Name role left) head = true
-head_fits (Content left) head = true
-head_fits (Stored offset left stored block kind) head = true
-head_fits Ended head = true
-head_fits (Failed fault offset) head = true
+head_fits _ head = true
 
 abbrev pub scan_fits : Stage → Cursor → Draft → Bool
 scan_fits stage cursor draft = head_fits stage cursor.head && stage_fits stage draft

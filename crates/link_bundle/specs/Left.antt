@@ -335,24 +335,8 @@ canonical_left canonical.Data draft bytes offset =
 -- the offset of the current block: the head of an array begins its block
 abbrev pub block_start : Field → ℕ → ℕ → ℕ
 block_start (field.Primary primary.Block) start offset = offset
-block_start (field.Primary primary.Version) start offset = start
-block_start (field.Primary primary.Flags) start offset = start
-block_start (field.Primary primary.CheckType) start offset = start
-block_start (field.Primary primary.Timestamp) start offset = start
-block_start (field.Primary primary.Time) start offset = start
-block_start (field.Primary primary.Sequence) start offset = start
-block_start (field.Primary primary.Lifetime) start offset = start
-block_start (field.Primary primary.FragmentOffset) start offset = start
-block_start (field.Primary primary.TotalLength) start offset = start
-block_start (field.Endpoint role which) start offset = start
 block_start (field.Canonical canonical.Block) start offset = offset
-block_start (field.Canonical canonical.Type) start offset = start
-block_start (field.Canonical canonical.Number) start offset = start
-block_start (field.Canonical canonical.Flags) start offset = start
-block_start (field.Canonical canonical.CheckType) start offset = start
-block_start (field.Canonical canonical.Data) start offset = start
-block_start (field.Check block kind) start offset = start
-block_start field.Closing start offset = start
+block_start _ start offset = start
 
 -- the rest from each field on
 unfoldable pub field_left : Field → Draft → List ℕ → ℕ → Result Bundle Stop
@@ -376,34 +360,21 @@ kind_block Canonical draft kind = Some (current draft (Some kind))
 
 -- the canonical block whose check field has this head
 abbrev pub field_block : Field → Draft → Option CanonicalBlock
-field_block (field.Primary which) draft = None
-field_block (field.Endpoint role which) draft = None
-field_block (field.Canonical which) draft = None
 field_block (field.Check block kind) draft = kind_block block draft kind
-field_block field.Closing draft = None
+field_block _ draft = None
 
 -- the canonical block whose data or check field goes on at a stage
 abbrev pub stage_block : Stage → Draft → Option CanonicalBlock
-stage_block Start draft = None
 stage_block (Head which) draft = field_block which draft
-stage_block (Name role left) draft = None
 stage_block (Content left) draft = Some (current draft (kind_of draft.check))
 stage_block (Stored head left stored block kind) draft = kind_block block draft kind
-stage_block Ended draft = None
-stage_block (Failed fault at) draft = None
+stage_block _ draft = None
 
 -- whether a block ends before this field
 abbrev pub follows_block : Field → Bool
-follows_block (field.Primary which) = false
-follows_block (field.Endpoint role which) = false
 follows_block (field.Canonical canonical.Block) = true
-follows_block (field.Canonical canonical.Type) = false
-follows_block (field.Canonical canonical.Number) = false
-follows_block (field.Canonical canonical.Flags) = false
-follows_block (field.Canonical canonical.CheckType) = false
-follows_block (field.Canonical canonical.Data) = false
-follows_block (field.Check block kind) = false
 follows_block field.Closing = true
+follows_block _ = false
 
 -- the block that ends before the head at `head`, if one does
 abbrev pub last_block : Field → Draft → ℕ → List Block
@@ -412,13 +383,8 @@ last_block which draft head =
 
 -- whether a block ends before this stage
 abbrev pub stage_follows : Stage → Bool
-stage_follows Start = false
 stage_follows (Head which) = follows_block which
-stage_follows (Name role left) = false
-stage_follows (Content left) = false
-stage_follows (Stored field left stored block kind) = false
-stage_follows Ended = false
-stage_follows (Failed fault at) = false
+stage_follows _ = false
 
 abbrev pub stage_last : Stage → Draft → ℕ → List Block
 stage_last stage draft head =

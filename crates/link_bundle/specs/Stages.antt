@@ -12,13 +12,9 @@ use Rattle.link_bundle.specs.declared.stage.Stage.{Stage}
 use Rattle.link_bundle.specs.declared.stage.Stage.TheVariants.{Start, Head, Name, Content, Stored, Ended, Failed}
 
 abbrev pub stage_state : Stage → State
-stage_state Start = state.Going
-stage_state (Head field) = state.Going
-stage_state (Name role left) = state.Going
-stage_state (Content left) = state.Going
-stage_state (Stored offset left stored block kind) = state.Going
 stage_state Ended = state.Ended
 stage_state (Failed fault offset) = state.Failed fault offset
+stage_state _ = state.Going
 
 -- the stage at the head after an endpoint ID
 abbrev pub stage_after : Role → Stage

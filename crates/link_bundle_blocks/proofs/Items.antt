@@ -190,19 +190,11 @@ three_of bytes offset first second third word first_is second_is third_is are sp
     let last = get_or-drop offset bytes 2 0 in
     let more = get_or-drop offset bytes 3 0 in
     let number = rw (zeroth, next, last, more) at spells in
-    record {
-      one = omega (arith, number, is, are offset, are (offset + 1), are (offset + 2), are (offset + 3));
-      two = omega (arith, number, is, are offset, are (offset + 1), are (offset + 2), are (offset + 3));
-      three = omega (
-        arith,
-        number,
-        is,
-        are offset,
-        are (offset + 1),
-        are (offset + 2),
-        are (offset + 3),
-      );
-    }
+    let byte0 = are offset in
+    let byte1 = are (offset + 1) in
+    let byte2 = are (offset + 2) in
+    let byte3 = are (offset + 3) in
+    record { one = omega arith; two = omega arith; three = omega arith }
 
 -- a head of one byte at a later offset
 small_value : (major value from offset next : ℕ) (bytes : List ℕ) → from ≡ offset → next ≡ offset + 1

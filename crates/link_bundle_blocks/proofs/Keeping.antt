@@ -1,6 +1,6 @@
 -- A bundle that is read from some bytes, and from those bytes with more after them.
 
-use Rattle.std.proofs.Common.{◌≡◌, ℕ, zero, suc, ◌+◌, ◌<◌, ◌≤◌, ◌⊎◌, inl, inr, Bool, true, false, List, [], ◌∷◌, ◌++◌, length, Option, None, Some, Result, Ok, Err, refl, sym, ap, subst, ◌∙◌, ⊎_elim, arith, ltb}
+use Rattle.std.proofs.Common.{◌≡◌, ℕ, zero, suc, ◌+◌, ◌<◌, ◌≤◌, ◌⊎◌, inl, inr, Bool, true, List, [], ◌∷◌, ◌++◌, length, Option, None, Some, Result, Ok, Err, refl, sym, ap, subst, ◌∙◌, ⊎_elim, arith, ltb}
 use Rattle.std.specs.Prelude.{◌==◌, if◌then◌else◌}
 use Rattle.std.proofs.lemmas.Bool.{cases_lt, lt-ltb}
 use Rattle.link_bundle_types.specs.declared.fault.BundleFault.TheVariants.{Cut}
@@ -9,12 +9,11 @@ use Rattle.link_bundle_heads.specs.Rows.{◌>>=◌, unsigned, byte_string, block
 use Rattle.link_bundle_blocks.specs.declared.block.CanonicalBlock.{CanonicalBlock}
 use Rattle.link_bundle_blocks.specs.Blocks.{Primary, Block, PrimaryOf, CanonicalOf, ended}
 use Rattle.link_bundle_blocks.specs.Reading.{Stop, ReadAt, stopped, cut_short, row_at, bytes_at}
-use Rattle.link_bundle_blocks.specs.CheckField.{field_at}
-use Rattle.link_bundle_blocks.specs.Primary.{primary_at}
 use Rattle.link_bundle_blocks.specs.Canonical.{heads_at, content_at}
-use Rattle.link_bundle_blocks.specs.Bundle.{Bundle, with_payload, with_blocks, cut_in, inside as inside_block, info_of, rest_of, payload_at, blocks_at, opening_at, bundle_at, payload_of}
+use Rattle.link_bundle_blocks.specs.Bundle.{Bundle, with_payload, with_blocks, cut_in, inside as inside_block, info_of, rest_of, payload_at, blocks_at, bundle_at, payload_of}
 use Rattle.link_bundle_blocks.proofs.Blocks.{payload_of-blocks}
-use Rattle.link_bundle_blocks.proofs.Steady.{EndsCut, Reads, short, whole, row_at-reads, field_at-reads, content_at-reads, heads_at-reads, primary_at-reads, opening_at-reads}
+use Rattle.link_bundle_blocks.proofs.Steady.{EndsCut, Reads, GoesTo, EndsWithin, Lasts, short, whole, cuts, same, both_either, row_at-reads, content_at-reads, heads_at-reads, whole_primary-reads}
+use Rattle.link_bundle_blocks.proofs.Readings.{bundle_parts}
 
 -- ---- the offsets of the payload and of the bundle's end
 
@@ -30,13 +29,11 @@ PayloadWithin bytes (Some payload) = payload.0 + payload.1 ≤ length bytes
 
 -- the bundle ends at this offset or after it
 abbrev pub EndFrom : ℕ → Result Bundle Stop → Type 0
-EndFrom offset (Ok bundle) = offset ≤ bundle.length
-EndFrom offset (Err stop) = Unit {0}
+EndFrom offset reading = GoesTo (λ bundle. bundle.length) offset reading
 
 -- the bundle ends within the bytes
 abbrev pub EndWithin : List ℕ → Result Bundle Stop → Type 0
-EndWithin bytes (Ok bundle) = bundle.length ≤ length bytes
-EndWithin bytes (Err stop) = Unit {0}
+EndWithin bytes reading = EndsWithin (λ bundle. bundle.length) bytes reading
 
 pub record BundleFrom (offset : ℕ) (reading : Result Bundle Stop) : Type 0 where
   pub payload : PayloadFrom offset (payload_of reading)
@@ -163,21 +160,21 @@ bound_plain : {A : Type 0} (reading : ReadAt A) (next : A × ℕ → Result Bund
 bound_plain (Ok value) next = refl
 bound_plain (Err stop) next = refl
 
-keeps-then-of : {A : Type 0} (bytes : List ℕ) (offset : ℕ) (now later : ReadAt A)
-    (next next_later : A × ℕ → Result Bundle Stop) → Reads bytes offset now later
+keeps-then-of : {A : Type 0} {bytes : List ℕ} {offset : ℕ} {now later : ReadAt A}
+    {next next_later : A × ℕ → Result Bundle Stop} → Reads bytes offset now later
     → ((value : A × ℕ) → (now ≡ Ok value) ⊎ (later ≡ Ok value)
     → Keeps bytes value.1 (next value) (next_later value))
     → Keeps bytes offset (now >>= next) (later >>= next_later)
-keeps-then-of bytes offset now later next next_later reads each =
+keeps-then-of {bytes = bytes} {offset = offset} {now = now} {later = later} {next = next}
+    {next_later = next_later} reads each =
     rw (sym (bound_plain now next), sym (bound_plain later next_later))
     (keeps-bound (λ stop. stop) unchanged bytes offset now later next next_later reads each)
 
-keeps-then : {A : Type 0} (bytes : List ℕ) (offset : ℕ) (now later : ReadAt A)
-    (next next_later : A × ℕ → Result Bundle Stop) → Reads bytes offset now later
+keeps-then : {A : Type 0} {bytes : List ℕ} {offset : ℕ} {now later : ReadAt A}
+    {next next_later : A × ℕ → Result Bundle Stop} → Reads bytes offset now later
     → ((value : A × ℕ) → Keeps bytes value.1 (next value) (next_later value))
     → Keeps bytes offset (now >>= next) (later >>= next_later)
-keeps-then bytes offset now later next next_later reads each =
-    keeps-then-of bytes offset now later next next_later reads (λ value read. each value)
+keeps-then reads each = keeps-then-of reads (λ value read. each value)
 
 -- a stop inside a block
 in_this : CanonicalBlock → Stop → Stop
@@ -194,21 +191,15 @@ unfolding in_this
 bound_inside block (Ok value) next = refl
 bound_inside block (Err stop) next = refl
 
-keeps-inside : (block : CanonicalBlock) (bytes : List ℕ) (offset : ℕ) (now later : ReadAt Bool)
-    (next next_later : Bool × ℕ → Result Bundle Stop) → Reads bytes offset now later
+keeps-inside : (block : CanonicalBlock) {bytes : List ℕ} {offset : ℕ} {now later : ReadAt Bool}
+    {next next_later : Bool × ℕ → Result Bundle Stop} → Reads bytes offset now later
     → ((value : Bool × ℕ) → Keeps bytes value.1 (next value) (next_later value))
     → Keeps bytes offset (inside_block block now >>= next) (inside_block block later >>= next_later)
-keeps-inside block bytes offset now later next next_later reads each =
+keeps-inside block {bytes = bytes} {offset = offset} {now = now} {later = later} {next = next}
+    {next_later = next_later} reads each =
     rw (sym (bound_inside block now next), sym (bound_inside block later next_later))
     (keeps-bound (in_this block) (in_this-harmless block) bytes offset now later next next_later
     reads (λ value read. each value))
-
-keeps-if : (test : Bool) (bytes : List ℕ) (offset : ℕ)
-    (now later other other_later : Result Bundle Stop)
-    → Keeps bytes offset now later → Keeps bytes offset other other_later
-    → Keeps bytes offset (if test then now else other) (if test then later else other_later)
-keeps-if true bytes offset now later other other_later taken passed = taken
-keeps-if false bytes offset now later other other_later taken passed = passed
 
 -- the blocks before a reading do not change where it ends
 from-blocks : (blocks : List Block) (offset : ℕ) (reading : Result Bundle Stop)
@@ -241,10 +232,10 @@ ends-blocks blocks bytes now later (after is within) =
     after (ap (λ (reading : Result Bundle Stop). with_blocks blocks reading) is)
     (within-blocks blocks bytes now within)
 
-keeps-blocks : (blocks : List Block) (bytes : List ℕ) (offset : ℕ)
-    (now later : Result Bundle Stop) → Keeps bytes offset now later
+keeps-blocks : (blocks : List Block) {bytes : List ℕ} {offset : ℕ} {now later : Result Bundle Stop}
+    → Keeps bytes offset now later
     → Keeps bytes offset (with_blocks blocks now) (with_blocks blocks later)
-keeps-blocks blocks bytes offset now later keeps = record {
+keeps-blocks blocks {bytes = bytes} {offset = offset} {now = now} {later = later} keeps = record {
   from = from-blocks blocks offset later keeps.from;
   ends = ends-blocks blocks bytes now later keeps.ends;
 }
@@ -542,39 +533,26 @@ blocks_at-keeps : (left : ℕ) (numbers : List ℕ) (primary : Primary)
     (blocks_at left numbers primary (bytes ++ more) start)
 unfolding blocks_at
 blocks_at-keeps zero numbers primary bytes more start =
-    keeps-then bytes start (row_at block_too_many bytes start)
-    (row_at block_too_many (bytes ++ more) start) _ _
-    (row_at-reads block_too_many bytes more start)
+    keeps-then (row_at-reads block_too_many bytes more start)
     (λ (_, offset). keeps-cut bytes more offset)
 blocks_at-keeps (suc left) numbers primary bytes more start =
-    keeps-then-of bytes start (heads_at numbers bytes start)
-    (heads_at numbers (bytes ++ more) start) _ _
-    (heads_at-reads numbers bytes more start)
+    keeps-then-of (heads_at-reads numbers bytes more start)
     (λ (block, next) read.
     rw (begun-of-either numbers bytes more start block next read).place
-    (keeps-if (block.block_type == 1) bytes block.data_start _ _ _ _
+    (both_either (Keeps bytes block.data_start) (block.block_type == 1) _ _ _ _
     (payload_at-keeps primary (length numbers + 1) block bytes more)
-    (keeps-inside block bytes block.data_start
-    (content_at block.data_length block.check block.start bytes block.data_start)
-    (content_at block.data_length block.check block.start (bytes ++ more) block.data_start) _ _
+    (keeps-inside block
     (content_at-reads block.data_length block.check block.start bytes more block.data_start)
-    (λ (_, end). keeps-blocks (CanonicalOf (ended block end) ∷ []) bytes end _ _
+    (λ (_, end). keeps-blocks (CanonicalOf (ended block end) ∷ [])
     (blocks_at-keeps left (numbers ++ block.number ∷ []) primary bytes more end)))))
 
 bundle_at-keeps : (bytes more : List ℕ)
     → Keeps bytes 0 (bundle_at bytes) (bundle_at (bytes ++ more))
-unfolding bundle_at
 bundle_at-keeps bytes more =
-    keeps-then bytes 0 (opening_at bytes) (opening_at (bytes ++ more)) _ _
-    (opening_at-reads bytes more)
-    (λ (_, start). keeps-then bytes start (primary_at bytes start)
-    (primary_at (bytes ++ more) start) _ _
-    (primary_at-reads bytes more start)
-    (λ ((primary, check), offset). keeps-then bytes offset (field_at check start bytes offset)
-    (field_at check start (bytes ++ more) offset) _ _
-    (field_at-reads check start bytes more offset)
-    (λ (_, end). keeps-blocks (PrimaryOf primary check end ∷ []) bytes end _ _
-    (blocks_at-keeps 64 [] primary bytes more end))))
+    rw (bundle_parts bytes, bundle_parts (bytes ++ more))
+    (keeps-then (whole_primary-reads bytes more)
+    (λ ((primary, check), end). keeps-blocks (PrimaryOf primary check end ∷ [])
+    (blocks_at-keeps 64 [] primary bytes more end)))
 
 -- ---- what follows of a whole bundle
 
@@ -582,47 +560,14 @@ pub bundle_at-ends : (bytes more : List ℕ)
     → Ends bytes (bundle_at bytes) (bundle_at (bytes ++ more))
 bundle_at-ends bytes more = (bundle_at-keeps bytes more).ends
 
--- either the first bytes end inside the bundle, or it is the same
-pub data Stays : Result Bundle Stop → Result Bundle Stop → Type 0 where
-  cuts : {now later : Result Bundle Stop} → EndsCut now → Stays now later
-  same : {now later : Result Bundle Stop} → later ≡ now → Stays now later
+ends_last : (bytes : List ℕ) (now later : Result Bundle Stop) → Ends bytes now later
+    → Lasts (λ bundle. bundle.length) bytes now later
+ends_last bytes (Ok bundle) later (before cut from) = absurd cut
+ends_last bytes (Err stop) later (before cut from) = cuts cut.0 from.end
+ends_last bytes now later (inside cut is past) = cuts cut past
+ends_last bytes now later (after is within) = same is within.end
 
-stays_of : (bytes : List ℕ) (now later : Result Bundle Stop) → Ends bytes now later
-    → Stays now later
-stays_of bytes (Ok bundle) later (before cut from) = absurd cut
-stays_of bytes (Err stop) later (before cut from) = cuts cut.0
-stays_of bytes now later (inside cut is past) = cuts cut
-stays_of bytes now later (after is within) = same is
-
-pub bundle_at-stays : (bytes more : List ℕ) → Stays (bundle_at bytes) (bundle_at (bytes ++ more))
-bundle_at-stays bytes more =
-    stays_of bytes (bundle_at bytes) (bundle_at (bytes ++ more)) (bundle_at-ends bytes more)
-
-within_of : (bytes : List ℕ) (now later : Result Bundle Stop) → Ends bytes now later
-    → EndWithin bytes now
-within_of bytes (Err stop) later ends = tt
-within_of bytes (Ok bundle) later (before cut from) = absurd cut
-within_of bytes (Ok bundle) later (inside cut is past) = absurd cut
-within_of bytes (Ok bundle) later (after is within) = within.end
-
--- a bundle ends within the bytes
-pub bundle_at-within : (bytes : List ℕ) → EndWithin bytes (bundle_at bytes)
-bundle_at-within bytes =
-    within_of bytes (bundle_at bytes) (bundle_at (bytes ++ [])) (bundle_at-ends bytes [])
-
-alone_of : (bytes : List ℕ) (now later : Result Bundle Stop) (bundle : Bundle)
-    → Ends bytes now later
-    → later ≡ Ok bundle → bundle.length ≤ length bytes → now ≡ Ok bundle
-alone_of bytes now later bundle (before cut from) is here =
-    absurd (let past : EndFrom (suc (length bytes)) (Ok bundle) = rw is at from.end in omega arith)
-alone_of bytes now later bundle (inside cut kept from) is here =
-    absurd (let past : EndFrom (suc (length bytes)) (Ok bundle) = rw is at from in omega arith)
-alone_of bytes now later bundle (after kept within) is here = sym kept ∙ is
-
--- a bundle that ends within the bytes is read from them alone
-pub bundle_at-alone : (bytes more : List ℕ) (bundle : Bundle)
-    → bundle_at (bytes ++ more) ≡ Ok bundle → bundle.length ≤ length bytes
-    → bundle_at bytes ≡ Ok bundle
-bundle_at-alone bytes more bundle is here =
-    alone_of bytes (bundle_at bytes) (bundle_at (bytes ++ more)) bundle
-    (bundle_at-ends bytes more) is here
+pub bundle_at-lasts : (bytes more : List ℕ)
+    → Lasts (λ bundle. bundle.length) bytes (bundle_at bytes) (bundle_at (bytes ++ more))
+bundle_at-lasts bytes more =
+    ends_last bytes (bundle_at bytes) (bundle_at (bytes ++ more)) (bundle_at-ends bytes more)

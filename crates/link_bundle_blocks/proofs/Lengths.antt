@@ -1,6 +1,6 @@
 -- A bundle that is read lies within the bytes. Laws of the verdict follow.
 
-use Rattle.std.proofs.Common.{◌≡◌, ℕ, ◌<◌, ◌≤◌, false, List, ◌∷◌, ◌++◌, length, Result, Ok, Err, refl, sym, ap, ◌∙◌, ⊎_elim, length-append, arith}
+use Rattle.std.proofs.Common.{◌≡◌, ℕ, ◌<◌, false, List, ◌∷◌, ◌++◌, length, Result, Ok, Err, refl, sym, ap, ◌∙◌, ⊎_elim, length-append, arith}
 use Rattle.std.specs.Prelude.{◌==◌, IsTrue}
 use Rattle.std.proofs.lemmas.Bool.{cases_Bool, false≢true, eqb-true, ne_eqb}
 use Rattle.std.proofs.lemmas.Bool.Decides.{nat_tests}
@@ -12,11 +12,8 @@ use Rattle.link_bundle_heads.specs.Rows.{◌>>=◌}
 use Rattle.link_bundle_blocks.specs.Laws.{FaultLasts, TrailingLasts}
 use Rattle.link_bundle_blocks.specs.Reading.{Stop}
 use Rattle.link_bundle_blocks.specs.Bundle.{Bundle, bundle_at, if_alone, judged_bundle, verdict_by, verdict}
-use Rattle.link_bundle_blocks.proofs.Keeping.{EndWithin, Stays, cuts, same, bundle_at-within, bundle_at-stays}
-
-pub bundle_within : (bytes : List ℕ) (bundle : Bundle) → bundle_at bytes ≡ Ok bundle
-    → bundle.length ≤ length bytes
-bundle_within bytes bundle is = rw is at (bundle_at-within bytes)
+use Rattle.link_bundle_blocks.proofs.Steady.{Lasts, cuts, same}
+use Rattle.link_bundle_blocks.proofs.Keeping.{bundle_at-lasts}
 
 -- the verdict, by the reading of the bundle
 judgement : List ℕ → Result Bundle Stop → Result BundleInfo (BundleFault × ℕ)
@@ -31,15 +28,15 @@ fault_of (Err stop) = stop.0
 
 fault-lasts : (bytes more : List ℕ) (fault : BundleFault) (offset : ℕ)
     (now later : Result Bundle Stop) → IsTrue (lasts fault)
-    → EndWithin bytes now → Stays now later → judgement bytes now ≡ Err (fault, offset)
+    → Lasts (λ bundle. bundle.length) bytes now later → judgement bytes now ≡ Err (fault, offset)
     → judgement (bytes ++ more) later ≡ Err (fault, offset)
 unfolding judgement fault_of
-fault-lasts bytes more fault offset (Err stop) later lasting within (cuts cut) fails =
+fault-lasts bytes more fault offset (Err stop) later lasting (cuts cut past) fails =
     let is : stop.fault ≡ fault = ap fault_of fails in
     absurd (false≢true (ap lasts (sym cut ∙ is) ∙ lasting))
-fault-lasts bytes more fault offset (Err stop) later lasting within (same is) fails = rw is fails
-fault-lasts bytes more fault offset (Ok bundle) later lasting within (cuts cut) fails = absurd cut
-fault-lasts bytes more fault offset (Ok bundle) later lasting within (same is) fails =
+fault-lasts bytes more fault offset (Err stop) later lasting (same is within) fails = rw is fails
+fault-lasts bytes more fault offset (Ok bundle) later lasting (cuts cut past) fails = absurd cut
+fault-lasts bytes more fault offset (Ok bundle) later lasting (same is within) fails =
     ⊎_elim
     (λ whole. absurd (let ok : Ok bundle.info ≡ Err (fault, offset) = rw whole at fails in cc))
     (λ other.
@@ -52,12 +49,12 @@ fault-lasts bytes more fault offset (Ok bundle) later lasting within (same is) f
 
 trailing-lasts : (bytes more : List ℕ) (byte : ℕ) (info : BundleInfo)
     (now later : Result Bundle Stop)
-    → Stays now later → judgement bytes now ≡ Ok info
+    → Lasts (λ bundle. bundle.length) bytes now later → judgement bytes now ≡ Ok info
     → judgement (bytes ++ byte ∷ more) later ≡ Err (Trailing, length bytes)
 unfolding judgement
 trailing-lasts bytes more byte info (Err stop) later stays whole = cc
-trailing-lasts bytes more byte info (Ok bundle) later (cuts cut) whole = absurd cut
-trailing-lasts bytes more byte info (Ok bundle) later (same is) whole =
+trailing-lasts bytes more byte info (Ok bundle) later (cuts cut past) whole = absurd cut
+trailing-lasts bytes more byte info (Ok bundle) later (same is within) whole =
     ⊎_elim
     (λ ends_here.
     let here : bundle.length ≡ length bytes = eqb-true bundle.length (length bytes) ends_here in
@@ -73,10 +70,10 @@ pub FaultLasts-holds : FaultLasts
 unfolding verdict judged_bundle judgement
 FaultLasts-holds bytes more fault offset lasting outcome =
     fault-lasts bytes more fault offset (bundle_at bytes) (bundle_at (bytes ++ more)) lasting
-    (bundle_at-within bytes) (bundle_at-stays bytes more) outcome
+    (bundle_at-lasts bytes more) outcome
 
 pub TrailingLasts-holds : TrailingLasts
 unfolding verdict judged_bundle judgement
 TrailingLasts-holds bytes more byte info outcome =
     trailing-lasts bytes more byte info (bundle_at bytes) (bundle_at (bytes ++ byte ∷ more))
-    (bundle_at-stays bytes (byte ∷ more)) outcome
+    (bundle_at-lasts bytes (byte ∷ more)) outcome

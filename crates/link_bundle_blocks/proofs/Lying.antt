@@ -1,6 +1,6 @@
 -- The whole blocks lie within the bytes.
 
-use Rattle.std.proofs.Common.{◌≡◌, ℕ, zero, suc, ◌+◌, ◌≤◌, Bool, true, false, List, [], ◌∷◌, ◌++◌, length, Option, Result, Ok, Err, refl, ap, ⊎_elim, arith, ltb}
+use Rattle.std.proofs.Common.{◌≡◌, ℕ, zero, suc, ◌+◌, ◌≤◌, Bool, true, List, [], ◌∷◌, ◌++◌, length, Option, Result, Ok, Err, refl, ap, ⊎_elim, arith, ltb}
 use Rattle.std.specs.Prelude.{◌==◌, if◌then◌else◌}
 use Rattle.std.specs.List.{All}
 use Rattle.std.proofs.lemmas.Bool.{cases_lt, lt-ltb}
@@ -9,15 +9,14 @@ use Rattle.link_cbor.specs.declared.check.CheckKind.{CheckKind}
 use Rattle.link_bundle_heads.specs.Rows.{◌>>=◌, block_too_many, closing}
 use Rattle.link_bundle_blocks.specs.declared.block.CanonicalBlock.{CanonicalBlock}
 use Rattle.link_bundle_blocks.specs.Blocks.{Primary, Block, PrimaryOf, CanonicalOf, ended, LiesWithin}
-use Rattle.link_bundle_blocks.specs.Reading.{Stop, ReadAt, cut_short, row_at, bytes_at}
-use Rattle.link_bundle_blocks.specs.CheckField.{field_at}
-use Rattle.link_bundle_blocks.specs.Primary.{primary_at}
-use Rattle.link_bundle_blocks.specs.Canonical.{heads_at, content_at}
-use Rattle.link_bundle_blocks.specs.Bundle.{Bundle, with_blocks, inside, rest_of, payload_at, blocks_at, opening_at, bundle_at, blocks_of}
+use Rattle.link_bundle_blocks.specs.Reading.{Stop, ReadAt, cut_short, bytes_at}
+use Rattle.link_bundle_blocks.specs.Canonical.{content_at}
+use Rattle.link_bundle_blocks.specs.Bundle.{Bundle, with_blocks, inside, rest_of, payload_at, blocks_at, bundle_at, blocks_of}
 use Rattle.link_bundle_blocks.specs.Laws.{BlocksWithin}
 use Rattle.link_bundle_blocks.proofs.Blocks.{blocks_of-blocks}
 use Rattle.link_bundle_blocks.proofs.Showing.{blocks_payload, blocks_judged}
-use Rattle.link_bundle_blocks.proofs.Steady.{Reads, short, whole, row_at-reads, field_at-reads, content_at-reads, heads_at-reads, primary_at-reads, opening_at-reads}
+use Rattle.link_bundle_blocks.proofs.Steady.{Reads, short, whole, of_either, row_at-reads, content_at-reads, heads_at-reads, whole_primary-reads}
+use Rattle.link_bundle_blocks.proofs.Readings.{bundle_parts}
 
 -- the blocks of a reading lie within the bytes
 abbrev Lie : List ℕ → Result Bundle Stop → Type 0
@@ -40,19 +39,14 @@ ends_within : {A : Type 0} (bytes : List ℕ) (offset : ℕ) (value : A × ℕ) 
 ends_within bytes offset value later begins (short cut onward past) = absurd cut
 ends_within bytes offset value later begins (whole is onward within) = within begins
 
-lies-then : {A : Type 0} (bytes : List ℕ) (offset : ℕ) (now later : ReadAt A)
+lies-then : {A : Type 0} {bytes : List ℕ} {offset : ℕ} {now later : ReadAt A}
     (next : A × ℕ → Result Bundle Stop) → offset ≤ length bytes → Reads bytes offset now later
     → ((value : A × ℕ) → value.1 ≤ length bytes → Lie bytes (next value))
     → Lie bytes (now >>= next)
-lies-then bytes offset (Ok value) later next begins reads each =
+lies-then {bytes = bytes} {offset = offset} {now = Ok value} {later = later} next begins reads each =
     each value (ends_within bytes offset value later begins reads)
-lies-then bytes offset (Err stop) later next begins reads each =
+lies-then {bytes = bytes} {offset = offset} {now = Err stop} {later = later} next begins reads each =
     bare_lies bytes stop.blocks (stops_bare bytes offset stop later reads)
-
-lies-if : (test : Bool) (bytes : List ℕ) (one other : Result Bundle Stop)
-    → Lie bytes one → Lie bytes other → Lie bytes (if test then one else other)
-lies-if true bytes one other taken passed = taken
-lies-if false bytes one other taken passed = passed
 
 -- data that is read lies within the bytes
 content_within : (size : ℕ) (check : Option CheckKind) (start : ℕ) (bytes : List ℕ) (offset : ℕ)
@@ -102,39 +96,31 @@ unfolding payload_at
 payload_at-lies primary blocks block bytes =
     rw (blocks_payload (block.data_start, block.data_length) _)
     (rest_lies block bytes _
-    (λ end ends. lies-then bytes end (row_at closing bytes end) (row_at closing (bytes ++ []) end) _
-    ends (row_at-reads closing bytes [] end) (λ value _. All-nil (LiesWithin (length bytes)))))
+    (λ end ends. lies-then _ ends (row_at-reads closing bytes [] end)
+    (λ value _. All-nil (LiesWithin (length bytes)))))
 
 blocks_at-lies : (left : ℕ) (numbers : List ℕ) (primary : Primary) (bytes : List ℕ) (start : ℕ)
     → start ≤ length bytes → Lie bytes (blocks_at left numbers primary bytes start)
 unfolding blocks_at
 blocks_at-lies zero numbers primary bytes start begins =
-    lies-then bytes start (row_at block_too_many bytes start)
-    (row_at block_too_many (bytes ++ []) start) _ begins
-    (row_at-reads block_too_many bytes [] start)
+    lies-then _ begins (row_at-reads block_too_many bytes [] start)
     (λ value _. All-nil (LiesWithin (length bytes)))
 blocks_at-lies (suc left) numbers primary bytes start begins =
-    lies-then bytes start (heads_at numbers bytes start) (heads_at numbers (bytes ++ []) start) _
-    begins (heads_at-reads numbers bytes [] start)
-    (λ (block, _) _. lies-if (block.block_type == 1) bytes _ _
+    lies-then _ begins (heads_at-reads numbers bytes [] start)
+    (λ (block, _) _. of_either (Lie bytes) (block.block_type == 1) _ _
     (payload_at-lies primary (length numbers + 1) block bytes)
     (rest_lies block bytes _
     (λ end ends. blocks_at-lies left (numbers ++ block.number ∷ []) primary bytes end ends)))
 
 bundle_at-lies : (bytes : List ℕ) → Lie bytes (bundle_at bytes)
-unfolding bundle_at
 bundle_at-lies bytes =
-    lies-then bytes 0 (opening_at bytes) (opening_at (bytes ++ [])) _ (omega arith)
-    (opening_at-reads bytes [])
-    (λ (_, start) starts. lies-then bytes start (primary_at bytes start)
-    (primary_at (bytes ++ []) start) _ starts (primary_at-reads bytes [] start)
-    (λ ((primary, check), offset) read. lies-then bytes offset (field_at check start bytes offset)
-    (field_at check start (bytes ++ []) offset) _ read (field_at-reads check start bytes [] offset)
-    (λ (_, end) ends.
+    rw (bundle_parts bytes)
+    (lies-then _ (omega arith) (whole_primary-reads bytes [])
+    (λ ((primary, check), end) ends.
     rw (blocks_of-blocks (PrimaryOf primary check end ∷ []) (blocks_at 64 [] primary bytes end))
     (All-cons (LiesWithin (length bytes)) (PrimaryOf primary check end)
     (blocks_of (blocks_at 64 [] primary bytes end)) ends
-    (blocks_at-lies 64 [] primary bytes end ends)))))
+    (blocks_at-lies 64 [] primary bytes end ends))))
 
 pub BlocksWithin-holds : BlocksWithin
 BlocksWithin-holds bytes = rw (blocks_judged bytes) (bundle_at-lies bytes)

@@ -10,23 +10,19 @@ use Rattle.link_bundle_blocks.specs.Laws.{PayloadLasts, PayloadPlaced, PayloadEn
 use Rattle.link_bundle_heads.specs.Rows.{◌>>=◌}
 use Rattle.link_bundle_blocks.specs.Reading.{Stop}
 use Rattle.link_bundle_blocks.specs.Bundle.{Bundle, bundle_at, if_alone, judged_bundle, verdict_by, verdict, payload_of, bytes_of, payload_in, state_of, is_going, bundle_goes}
-use Rattle.link_bundle_blocks.proofs.Steady.{EndsCut}
+use Rattle.link_bundle_blocks.proofs.Steady.{EndsCut, of_either}
 use Rattle.link_bundle_blocks.proofs.Keeping.{PayloadFrom, PayloadWithin, Ends, before, inside, after, bundle_at-ends}
 
 -- the reading of all of the bytes; bytes after a bundle do not change its payload
 whole_of : List ℕ → Result Bundle Stop → Result Bundle Stop
 whole_of bytes reading = reading >>= λ bundle. if_alone bytes bundle
 
-payload_of-chosen : (test : Bool) (bundle : Bundle) (stop : Stop)
-    → stop.payload_span ≡ Some bundle.payload_span
-    → payload_of (if test then Ok bundle else Err stop) ≡ Some bundle.payload_span
-payload_of-chosen true bundle stop is = refl
-payload_of-chosen false bundle stop is = is
-
 payload_of-whole : (bytes : List ℕ) (reading : Result Bundle Stop)
     → payload_of (whole_of bytes reading) ≡ payload_of reading
 unfolding whole_of
-payload_of-whole bytes (Ok bundle) = payload_of-chosen (bundle.length == length bytes) bundle _ refl
+payload_of-whole bytes (Ok bundle) =
+    of_either (λ (reading : Result Bundle Stop). payload_of reading ≡ Some bundle.payload_span)
+    (bundle.length == length bytes) _ _ refl refl
 payload_of-whole bytes (Err stop) = refl
 
 payload_of-judged : (bytes : List ℕ) → payload_of (judged_bundle bytes) ≡ payload_of (bundle_at bytes)

@@ -9,15 +9,14 @@ use Rattle.link_bundle_types.specs.Faults.{lasts}
 use Rattle.link_bundle_heads.specs.Rows.{◌>>=◌, block_too_many, closing}
 use Rattle.link_bundle_blocks.specs.declared.block.CanonicalBlock.{CanonicalBlock}
 use Rattle.link_bundle_blocks.specs.Blocks.{Primary, Block, PrimaryOf, CanonicalOf, ended, next_of}
-use Rattle.link_bundle_blocks.specs.Reading.{Stop, ReadAt, stopped, row_at}
-use Rattle.link_bundle_blocks.specs.CheckField.{field_at}
-use Rattle.link_bundle_blocks.specs.Primary.{primary_at}
-use Rattle.link_bundle_blocks.specs.Canonical.{heads_at, content_at}
-use Rattle.link_bundle_blocks.specs.Bundle.{Bundle, with_payload, with_blocks, inside, payload_at, blocks_at, opening_at, bundle_at, if_alone, judged_bundle, blocks_of, cut_block_of, blocks_in, cut_block_in}
-use Rattle.link_bundle_blocks.proofs.Steady.{EndsCut, Reads, short, whole, row_at-reads, field_at-reads, content_at-reads, heads_at-reads, primary_at-reads, opening_at-reads}
+use Rattle.link_bundle_blocks.specs.Reading.{Stop, ReadAt, stopped}
+use Rattle.link_bundle_blocks.specs.Canonical.{heads_at}
+use Rattle.link_bundle_blocks.specs.Bundle.{Bundle, with_payload, with_blocks, inside, payload_at, blocks_at, bundle_at, if_alone, judged_bundle, blocks_of, cut_block_of, blocks_in, cut_block_in}
+use Rattle.link_bundle_blocks.proofs.Steady.{EndsCut, Reads, Lasts, cuts, same, short, whole, of_either, both_either, row_at-reads, content_at-reads, heads_at-reads, whole_primary-reads}
+use Rattle.link_bundle_blocks.proofs.Readings.{bundle_parts}
 use Rattle.link_bundle_blocks.specs.Laws.{BlocksGrow, BlocksEnd, BlockPlaced}
 use Rattle.link_bundle_blocks.proofs.Blocks.{blocks_of-blocks, cut_block_of-blocks}
-use Rattle.link_bundle_blocks.proofs.Keeping.{Stays, cuts, same, begun-of-either, bundle_at-stays}
+use Rattle.link_bundle_blocks.proofs.Keeping.{begun-of-either, bundle_at-lasts}
 use Rattle.link_bundle_blocks.proofs.Payloads.{cut_goes-on}
 
 -- The blocks of a bundle that is read from an offset on: more bytes add some. The canonical block
@@ -91,19 +90,12 @@ shows-then-of bytes offset (Err stop) later next next_later (whole is onward wit
     rw is (both_stop bytes offset stop stop (no_blocks stop onward) (no_blocks stop onward)
     (λ block cuts. absurd (let none : None ≡ Some block = sym (no_cut stop onward) ∙ cuts in cc)))
 
-shows-then : {A : Type 0} (bytes : List ℕ) (offset : ℕ) (now later : ReadAt A)
-    (next next_later : A × ℕ → Result Bundle Stop) → Reads bytes offset now later
+shows-then : {A : Type 0} {bytes : List ℕ} {offset : ℕ} {now later : ReadAt A}
+    {next next_later : A × ℕ → Result Bundle Stop} → Reads bytes offset now later
     → ((value : A × ℕ) → Shows bytes value.1 (next value) (next_later value))
     → Shows bytes offset (now >>= next) (later >>= next_later)
-shows-then bytes offset now later next next_later reads each =
-    shows-then-of bytes offset now later next next_later reads (λ value read. each value)
-
-shows-if : (test : Bool) (bytes : List ℕ) (offset : ℕ)
-    (now later other other_later : Result Bundle Stop)
-    → Shows bytes offset now later → Shows bytes offset other other_later
-    → Shows bytes offset (if test then now else other) (if test then later else other_later)
-shows-if true bytes offset now later other other_later taken passed = taken
-shows-if false bytes offset now later other other_later taken passed = passed
+shows-then {bytes = bytes} {offset = offset} {now = now} {later = later} reads each =
+    shows-then-of bytes offset now later _ _ reads (λ value read. each value)
 
 -- the same blocks at both
 shows-same : (bytes : List ℕ) (offset : ℕ) (now later : Result Bundle Stop)
@@ -127,16 +119,15 @@ next_after : (block : CanonicalBlock) (end : ℕ) (reading : Result Bundle Stop)
     → next_of (blocks_of (with_blocks (CanonicalOf (ended block end) ∷ []) reading))
     (cut_block_of (with_blocks (CanonicalOf (ended block end) ∷ []) reading)) ≡ Some found
     → block ≡ found
-next_after block end (Ok bundle) found none is =
-    ap (λ (end : Option ℕ). record block { end = end }) none ∙ some_is _ _ is
+next_after block end reading found none is =
+    ap (λ (end : Option ℕ). record block { end = end }) none ∙ some_is reading is
   where
-    some_is : (one other : CanonicalBlock) → Some one ≡ Some other → one ≡ other
-    some_is one other is = cc
-next_after block end (Err stop) found none is =
-    ap (λ (end : Option ℕ). record block { end = end }) none ∙ some_is _ _ is
-  where
-    some_is : (one other : CanonicalBlock) → Some one ≡ Some other → one ≡ other
-    some_is one other is = cc
+    some_is : (reading : Result Bundle Stop)
+        → next_of (blocks_of (with_blocks (CanonicalOf (ended block end) ∷ []) reading))
+        (cut_block_of (with_blocks (CanonicalOf (ended block end) ∷ []) reading)) ≡ Some found
+        → record block { end = None } ≡ found
+    some_is (Ok bundle) is = cc
+    some_is (Err stop) is = cc
 
 placed_at : (offset : ℕ) (block found : CanonicalBlock) → offset ≤ block.data_start → block ≡ found
     → offset ≤ found.data_start
@@ -239,12 +230,9 @@ payload_at-shows : (primary : Primary) (blocks : ℕ) (block : CanonicalBlock) �
 unfolding payload_at
 payload_at-shows primary blocks block whole_end bytes more =
     shows-payload (block.data_start, block.data_length) bytes block.data_start _ _
-    (shows-inside block whole_end bytes
-    (content_at block.data_length block.check block.start bytes block.data_start)
-    (content_at block.data_length block.check block.start (bytes ++ more) block.data_start) _ _
+    (shows-inside block whole_end bytes _ _ _ _
     (content_at-reads block.data_length block.check block.start bytes more block.data_start)
-    (λ end. shows-then bytes end (row_at closing bytes end) (row_at closing (bytes ++ more) end) _ _
-    (row_at-reads closing bytes more end)
+    (λ end. shows-then (row_at-reads closing bytes more end)
     (λ (_, last). shows-same bytes last _ _ refl refl refl)))
 
 blocks_at-shows : (left : ℕ) (numbers : List ℕ) (primary : Primary)
@@ -253,9 +241,7 @@ blocks_at-shows : (left : ℕ) (numbers : List ℕ) (primary : Primary)
     (blocks_at left numbers primary (bytes ++ more) start)
 unfolding blocks_at
 blocks_at-shows zero numbers primary bytes more start =
-    shows-then bytes start (row_at block_too_many bytes start)
-    (row_at block_too_many (bytes ++ more) start) _ _
-    (row_at-reads block_too_many bytes more start)
+    shows-then (row_at-reads block_too_many bytes more start)
     (λ (_, offset). shows-same bytes offset _ _ refl refl refl)
 blocks_at-shows (suc left) numbers primary bytes more start =
     shows-then-of bytes start (heads_at numbers bytes start)
@@ -264,11 +250,9 @@ blocks_at-shows (suc left) numbers primary bytes more start =
     (λ (block, next) read.
     let begun = begun-of-either numbers bytes more start block next read in
     rw begun.place
-    (shows-if (block.block_type == 1) bytes block.data_start _ _ _ _
+    (both_either (Shows bytes block.data_start) (block.block_type == 1) _ _ _ _
     (payload_at-shows primary (length numbers + 1) block begun.end bytes more)
-    (shows-inside block begun.end bytes
-    (content_at block.data_length block.check block.start bytes block.data_start)
-    (content_at block.data_length block.check block.start (bytes ++ more) block.data_start) _ _
+    (shows-inside block begun.end bytes _ _ _ _
     (content_at-reads block.data_length block.check block.start bytes more block.data_start)
     (λ end. blocks_at-shows left (numbers ++ block.number ∷ []) primary bytes more end))))
 
@@ -301,39 +285,26 @@ shows-primary primary check end bytes now later shows =
 
 bundle_at-shows : (bytes more : List ℕ)
     → Shows bytes 0 (bundle_at bytes) (bundle_at (bytes ++ more))
-unfolding bundle_at
 bundle_at-shows bytes more =
-    shows-then bytes 0 (opening_at bytes) (opening_at (bytes ++ more)) _ _
-    (opening_at-reads bytes more)
-    (λ (_, start). shows-then bytes start (primary_at bytes start)
-    (primary_at (bytes ++ more) start) _ _
-    (primary_at-reads bytes more start)
-    (λ ((primary, check), offset). shows-then bytes offset (field_at check start bytes offset)
-    (field_at check start (bytes ++ more) offset) _ _
-    (field_at-reads check start bytes more offset)
-    (λ (_, end). shows-primary primary check end bytes _ _
-    (blocks_at-shows 64 [] primary bytes more end))))
+    rw (bundle_parts bytes, bundle_parts (bytes ++ more))
+    (shows-then (whole_primary-reads bytes more)
+    (λ ((primary, check), end). shows-primary primary check end bytes _ _
+    (blocks_at-shows 64 [] primary bytes more end)))
 
 -- ---- all of the bytes
 
-alone_blocks : (test : Bool) (bundle : Bundle) (stop : Stop) → stop.blocks ≡ bundle.blocks
-    → blocks_of (if test then Ok bundle else Err stop) ≡ bundle.blocks
-alone_blocks true bundle stop is = refl
-alone_blocks false bundle stop is = is
-
-alone_cut : (test : Bool) (bundle : Bundle) (stop : Stop) → stop.cut_block ≡ None
-    → cut_block_of (if test then Ok bundle else Err stop) ≡ None
-alone_cut true bundle stop none = refl
-alone_cut false bundle stop none = none
-
 blocks_alone : (bytes : List ℕ) (reading : Result Bundle Stop)
     → blocks_of (reading >>= λ bundle. if_alone bytes bundle) ≡ blocks_of reading
-blocks_alone bytes (Ok bundle) = alone_blocks (bundle.length == length bytes) bundle _ refl
+blocks_alone bytes (Ok bundle) =
+    of_either (λ (reading : Result Bundle Stop). blocks_of reading ≡ bundle.blocks)
+    (bundle.length == length bytes) _ _ refl refl
 blocks_alone bytes (Err stop) = refl
 
 cut_alone : (bytes : List ℕ) (reading : Result Bundle Stop)
     → cut_block_of (reading >>= λ bundle. if_alone bytes bundle) ≡ cut_block_of reading
-cut_alone bytes (Ok bundle) = alone_cut (bundle.length == length bytes) bundle _ refl
+cut_alone bytes (Ok bundle) =
+    of_either (λ (reading : Result Bundle Stop). cut_block_of reading ≡ None)
+    (bundle.length == length bytes) _ _ refl refl
 cut_alone bytes (Err stop) = refl
 
 pub blocks_judged : (bytes : List ℕ) → blocks_in bytes ≡ blocks_of (bundle_at bytes)
@@ -354,15 +325,16 @@ BlocksGrow-holds bytes more =
           ∙ ap (λ (blocks : List Block). blocks ++ shows.new) (sym (blocks_judged bytes)),
     )
 
-stays_blocks : (bytes : List ℕ) (now later : Result Bundle Stop) → Stays now later
+stays_blocks : (bytes : List ℕ) (now later : Result Bundle Stop)
+    → Lasts (λ bundle. bundle.length) bytes now later
     → (EndsCut now → ⊥) → blocks_of later ≡ blocks_of now
-stays_blocks bytes now later (cuts cut) other = absurd (other cut)
-stays_blocks bytes now later (same is) other = ap blocks_of is
+stays_blocks bytes now later (cuts cut past) other = absurd (other cut)
+stays_blocks bytes now later (same is within) other = ap blocks_of is
 
 pub BlocksEnd-holds : BlocksEnd
 BlocksEnd-holds bytes more stops =
     blocks_judged (bytes ++ more)
-    ∙ stays_blocks bytes (bundle_at bytes) (bundle_at (bytes ++ more)) (bundle_at-stays bytes more)
+    ∙ stays_blocks bytes (bundle_at bytes) (bundle_at (bytes ++ more)) (bundle_at-lasts bytes more)
     (λ cut. false≢true (sym stops ∙ cut_goes-on bytes cut))
     ∙ sym (blocks_judged bytes)
 

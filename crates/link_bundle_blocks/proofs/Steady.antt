@@ -1,6 +1,6 @@
 -- The parts that are read from some bytes, and from those bytes with more after them.
 
-use Rattle.std.proofs.Common.{◌≡◌, ℕ, suc, ◌+◌, ◌-◌, ◌<◌, ◌≤◌, Bool, true, false, List, [], ◌∷◌, ◌++◌, length, drop, Option, None, Some, Result, Ok, Err, refl, ◌⊎◌, inl, inr, ⊎_elim, length-append, length-drop, arith, ltb}
+use Rattle.std.proofs.Common.{◌≡◌, ℕ, suc, ◌+◌, ◌-◌, ◌<◌, ◌≤◌, Bool, true, false, List, [], ◌∷◌, ◌++◌, length, drop, Option, None, Some, Result, Ok, Err, refl, ap, ◌⊎◌, inl, inr, ⊎_elim, length-append, length-drop, arith, ltb}
 use Rattle.std.specs.Prelude.{◌==◌, slice_range, if◌then◌else◌}
 use Rattle.std.proofs.lemmas.Bool.{cases_lt, lt-ltb, le-ltb}
 use Rattle.std.proofs.lemmas.List.{drop-append-le, take-append-le}
@@ -9,7 +9,6 @@ use Rattle.link_cbor.specs.declared.check.CheckKind.{CheckKind}
 use Rattle.link_cbor.specs.declared.head.Head.{Head}
 use Rattle.link_cbor.specs.Head.{HeadFront, Cut as CutHead, IllFormed, Whole, head_front}
 use Rattle.link_cbor.proofs.HeadLaws.{EndsFrom, HeadStays, ends_inside, ends_after, head_stays}
-use Rattle.link_bundle_types.specs.declared.eid.Eid.{Eid}
 use Rattle.link_bundle_types.specs.declared.fault.BundleFault.{BundleFault}
 use Rattle.link_bundle_types.specs.declared.fault.BundleFault.TheVariants.{Cut, NotABundle, CheckDiffers}
 use Rattle.link_bundle_heads.specs.declared.endpoint.Scheme.{Scheme}
@@ -21,6 +20,7 @@ use Rattle.link_bundle_blocks.specs.CheckField.{number_from, check_of, field_at}
 use Rattle.link_bundle_blocks.specs.Primary.{fragment_at, primary_at}
 use Rattle.link_bundle_blocks.specs.Canonical.{heads_at, content_at}
 use Rattle.link_bundle_blocks.specs.Bundle.{opening_at}
+use Rattle.link_bundle_blocks.specs.Whole.{whole_primary}
 
 -- ---- how far one reading goes
 
@@ -57,17 +57,18 @@ within-from : {A : Type 0} (bytes : List ℕ) (offset start : ℕ) (reading : Re
 within-from bytes offset start (Ok (value, next)) reach within = λ here. within (reach here)
 within-from bytes offset start (Err stop) reach within = tt
 
-onward-if : {A : Type 0} (offset : ℕ) (test : Bool) (one other : ReadAt A)
-    → Onward offset one → Onward offset other
-    → Onward offset (if test then one else other)
-onward-if offset true one other taken passed = taken
-onward-if offset false one other taken passed = passed
+-- what holds of both branches holds of the one that is chosen
+pub of_either : {A : Type 0} (P : A → Type 0) (test : Bool) (one other : A) → P one → P other
+    → P (if test then one else other)
+of_either P true one other taken passed = taken
+of_either P false one other taken passed = passed
 
-past-if : {A : Type 0} (limit : ℕ) (test : Bool) (one other : ReadAt A)
-    → Past limit one → Past limit other
-    → Past limit (if test then one else other)
-past-if limit true one other taken passed = taken
-past-if limit false one other taken passed = passed
+-- the same of two choices
+pub both_either : {A : Type 0} (P : A → A → Type 0) (test : Bool) (one also other another : A)
+    → P one also → P other another
+    → P (if test then one else other) (if test then also else another)
+both_either P true one also other another taken passed = taken
+both_either P false one also other another taken passed = passed
 
 onward-then : {A B : Type 0} (offset : ℕ) (reading : ReadAt A) (next : A × ℕ → ReadAt B)
     → Onward offset reading
@@ -78,21 +79,20 @@ onward-then offset (Err stop) next onward each = onward
 
 onward-placed : (bytes : List ℕ) (offset : ℕ) (front : HeadFront)
     → Onward offset (head_by bytes offset front)
-onward-placed bytes offset CutHead = refl
-onward-placed bytes offset IllFormed = refl
 onward-placed bytes offset (Whole head size) = omega arith
+onward-placed bytes offset _ = refl
 
 past-placed : (bytes : List ℕ) (limit offset missing : ℕ) (front : HeadFront)
     → limit < offset + missing → EndsFrom missing front
     → Past limit (head_by bytes offset front)
-past-placed bytes limit offset missing CutHead beyond ends = tt
-past-placed bytes limit offset missing IllFormed beyond ends = tt
 past-placed bytes limit offset missing (Whole head size) beyond ends = omega arith
+past-placed bytes limit offset missing _ beyond ends = tt
 
 onward-bytes : (count : ℕ) (bytes : List ℕ) (offset : ℕ) → Onward offset (bytes_at count bytes offset)
 unfolding bytes_at
 onward-bytes count bytes offset =
-    onward-if offset (ltb (length bytes) (offset + count)) (cut_short bytes) (Ok _) refl (omega arith)
+    of_either (Onward offset) (ltb (length bytes) (offset + count)) (cut_short bytes) (Ok _) refl
+    (omega arith)
 
 -- ---- two readings
 
@@ -155,13 +155,13 @@ reads-then-of bytes offset (Ok (value, end)) later next next_later (whole is onw
 reads-then-of bytes offset (Err stop) later next next_later (whole is onward within) each =
     whole (rw is refl) onward tt
 
-pub reads-then : {A B : Type 0} (bytes : List ℕ) (offset : ℕ) (now later : ReadAt A)
-    (next next_later : A × ℕ → ReadAt B)
+pub reads-then : {A B : Type 0} {bytes : List ℕ} {offset : ℕ} {now later : ReadAt A}
+    {next next_later : A × ℕ → ReadAt B}
     → Reads bytes offset now later
     → ((value : A × ℕ) → Reads bytes value.1 (next value) (next_later value))
     → Reads bytes offset (now >>= next) (later >>= next_later)
-reads-then bytes offset now later next next_later reads each =
-    reads-then-of bytes offset now later next next_later reads (λ value read. each value)
+reads-then {bytes = bytes} {offset = offset} {now = now} {later = later} reads each =
+    reads-then-of bytes offset now later _ _ reads (λ value read. each value)
 
 -- no more bytes are read
 pub ended : {A : Type 0} (bytes : List ℕ) (value : A) (offset : ℕ)
@@ -219,19 +219,8 @@ pub row_at-reads : {A : Type 0} (row : Head → Result A BundleFault)
     → Reads bytes offset (row_at row bytes offset) (row_at row (bytes ++ more) offset)
 unfolding row_at
 row_at-reads row bytes more offset =
-    reads-then bytes offset (head_at bytes offset) (head_at (bytes ++ more) offset) _ _
-    (head_at-reads bytes more offset)
+    reads-then (head_at-reads bytes more offset)
     (λ (head, next). judged-reads bytes offset next (row head))
-
-row-then : {A B : Type 0} (row : Head → Result A BundleFault) (bytes more : List ℕ) (offset : ℕ)
-    (next next_later : A × ℕ → ReadAt B)
-    → ((value : A × ℕ) → Reads bytes value.1 (next value) (next_later value))
-    → Reads bytes offset (row_at row bytes offset >>= next)
-    (row_at row (bytes ++ more) offset >>= next_later)
-row-then row bytes more offset next next_later each =
-    reads-then bytes offset (row_at row bytes offset)
-    (row_at row (bytes ++ more) offset) next next_later
-    (row_at-reads row bytes more offset) each
 
 bytes_at-reads : (count : ℕ) (bytes more : List ℕ) (offset : ℕ)
     → Reads bytes offset (bytes_at count bytes offset) (bytes_at count (bytes ++ more) offset)
@@ -242,9 +231,8 @@ bytes_at-reads count bytes more offset =
     let short_now : ltb (length bytes) (offset + count) ≡ true =
     lt-ltb (length bytes) (offset + count) missing in
     short (rw short_now refl) (onward-bytes count (bytes ++ more) offset)
-    (past-if (length bytes) (ltb (length (bytes ++ more)) (offset + count))
-    (cut_short (bytes ++ more)) (Ok _) tt
-    (omega arith)))
+    (of_either (Past (length bytes)) (ltb (length (bytes ++ more)) (offset + count))
+    (cut_short (bytes ++ more)) (Ok _) tt (omega arith)))
     (λ there.
     let now : ltb (length bytes) (offset + count) ≡ false =
     le-ltb (length bytes) (offset + count) there in
@@ -267,52 +255,47 @@ dtn_at-reads : (part : Option ℕ) (bytes more : List ℕ) (offset : ℕ)
 unfolding dtn_at
 dtn_at-reads None bytes more offset = ended bytes _ offset
 dtn_at-reads (Some count) bytes more offset =
-    reads-then bytes offset (bytes_at count bytes offset) (bytes_at count (bytes ++ more) offset) _ _
-    (bytes_at-reads count bytes more offset)
-    (λ (name, end). ended bytes _ end)
+    reads-then (bytes_at-reads count bytes more offset) (λ (name, end). ended bytes _ end)
 
 ipn_at-reads : (allocated : Bool) (bytes more : List ℕ) (offset : ℕ)
     → Reads bytes offset (ipn_at allocated bytes offset) (ipn_at allocated (bytes ++ more) offset)
 unfolding ipn_at
 ipn_at-reads false bytes more offset =
-    row-then unsigned bytes more offset _ _
-    (λ (node, offset). row-then unsigned bytes more offset _ _ (λ (service, end). ended bytes _ end))
+    reads-then (row_at-reads unsigned bytes more offset)
+    (λ (node, offset). reads-then (row_at-reads unsigned bytes more offset)
+    (λ (service, end). ended bytes _ end))
 ipn_at-reads true bytes more offset =
-    row-then unsigned bytes more offset _ _
-    (λ (allocator, offset). row-then unsigned bytes more offset _ _
-    (λ (node, offset). row-then unsigned bytes more offset _ _ (λ (service, end). ended bytes _ end)))
+    reads-then (row_at-reads unsigned bytes more offset)
+    (λ (allocator, offset). reads-then (row_at-reads unsigned bytes more offset)
+    (λ (node, offset). reads-then (row_at-reads unsigned bytes more offset)
+    (λ (service, end). ended bytes _ end)))
 
 specific_at-reads : (which : Scheme) (bytes more : List ℕ) (offset : ℕ)
     → Reads bytes offset (specific_at which bytes offset) (specific_at which (bytes ++ more) offset)
 unfolding specific_at
 specific_at-reads Dtn bytes more offset =
-    row-then dtn_part bytes more offset _ _ (λ (part, next). dtn_at-reads part bytes more next)
+    reads-then (row_at-reads dtn_part bytes more offset)
+    (λ (part, next). dtn_at-reads part bytes more next)
 specific_at-reads Ipn bytes more offset =
-    row-then ipn_part bytes more offset _ _
+    reads-then (row_at-reads ipn_part bytes more offset)
     (λ (count, next). ipn_at-reads (count == 3) bytes more next)
 
 eid_at-reads : (bytes more : List ℕ) (offset : ℕ)
     → Reads bytes offset (eid_at bytes offset) (eid_at (bytes ++ more) offset)
 unfolding eid_at
 eid_at-reads bytes more offset =
-    row-then pair bytes more offset _ _
-    (λ (_, offset). row-then scheme bytes more offset _ _
+    reads-then (row_at-reads pair bytes more offset)
+    (λ (_, offset). reads-then (row_at-reads scheme bytes more offset)
     (λ (which, offset). specific_at-reads which bytes more offset))
-
-eid-then : {B : Type 0} (bytes more : List ℕ) (offset : ℕ) (next next_later : Eid × ℕ → ReadAt B)
-    → ((value : Eid × ℕ) → Reads bytes value.1 (next value) (next_later value))
-    → Reads bytes offset (eid_at bytes offset >>= next) (eid_at (bytes ++ more) offset >>= next_later)
-eid-then bytes more offset next next_later each =
-    reads-then bytes offset (eid_at bytes offset) (eid_at (bytes ++ more) offset) next next_later
-    (eid_at-reads bytes more offset) each
 
 fragment_at-reads : (is : Bool) (bytes more : List ℕ) (offset : ℕ)
     → Reads bytes offset (fragment_at is bytes offset) (fragment_at is (bytes ++ more) offset)
 unfolding fragment_at
 fragment_at-reads false bytes more offset = ended bytes _ offset
 fragment_at-reads true bytes more offset =
-    row-then unsigned bytes more offset _ _
-    (λ (fragment_offset, offset). row-then unsigned bytes more offset _ _ (λ (total, end). ended bytes _ end))
+    reads-then (row_at-reads unsigned bytes more offset)
+    (λ (fragment_offset, offset). reads-then (row_at-reads unsigned bytes more offset)
+    (λ (total, end). ended bytes _ end))
 
 -- a check field: the bytes that are checked come before its content
 slice-stays : (bytes more : List ℕ) (start end : ℕ) → end ≤ length bytes
@@ -341,9 +324,8 @@ unfolding compared
 compared-onward kind start offset content bytes =
     onward-then content (bytes_at (check_width kind) bytes content) _
     (onward-bytes (check_width kind) bytes content)
-    (λ (stored, next). onward-if next (number_from 0 stored == check_of kind start content bytes)
-    (Ok _) (Err _)
-    (omega arith) refl)
+    (λ (stored, next). of_either (Onward next)
+    (number_from 0 stored == check_of kind start content bytes) (Ok _) (Err _) (omega arith) refl)
 
 compared-reads : (kind : CheckKind) (bytes more : List ℕ) (start offset content : ℕ)
     → Reads bytes content (compared kind start offset content bytes)
@@ -360,9 +342,7 @@ compared-reads kind bytes more start offset content =
     (omega arith) onward))
     (λ within.
     rw (slice-stays bytes more start content within)
-    (reads-then bytes content (bytes_at (check_width kind) bytes content)
-    (bytes_at (check_width kind) (bytes ++ more) content) _ _
-    (bytes_at-reads (check_width kind) bytes more content)
+    (reads-then (bytes_at-reads (check_width kind) bytes more content)
     (λ (stored, next). chosen-reads bytes next next offset CheckDiffers
     (number_from 0 stored == check_of kind start content bytes) (omega arith) (λ here. here))))
     (cases_lt (length bytes) content)
@@ -373,7 +353,7 @@ pub field_at-reads : (check : Option CheckKind) (start : ℕ) (bytes more : List
 unfolding field_at compared
 field_at-reads None start bytes more offset = ended bytes true offset
 field_at-reads (Some kind) start bytes more offset =
-    row-then (check_field kind) bytes more offset _ _
+    reads-then (row_at-reads (check_field kind) bytes more offset)
     (λ (_, content). compared-reads kind bytes more start offset content)
 
 pub content_at-reads : (size : ℕ) (check : Option CheckKind) (start : ℕ)
@@ -382,57 +362,95 @@ pub content_at-reads : (size : ℕ) (check : Option CheckKind) (start : ℕ)
     (content_at size check start (bytes ++ more) offset)
 unfolding content_at
 content_at-reads size check start bytes more offset =
-    reads-then bytes offset (bytes_at size bytes offset) (bytes_at size (bytes ++ more) offset) _ _
-    (bytes_at-reads size bytes more offset)
+    reads-then (bytes_at-reads size bytes more offset)
     (λ (_, offset). field_at-reads check start bytes more offset)
 
 pub heads_at-reads : (numbers bytes more : List ℕ) (offset : ℕ)
     → Reads bytes offset (heads_at numbers bytes offset) (heads_at numbers (bytes ++ more) offset)
 unfolding heads_at
 heads_at-reads numbers bytes more offset =
-    row-then block bytes more offset _ _
-    (λ (count, offset). row-then unsigned bytes more offset _ _
-    (λ (type, offset). row-then (block_number type numbers) bytes more offset _ _
-    (λ (number, offset). row-then unsigned bytes more offset _ _
-    (λ (flags, offset). row-then (block_check_type count) bytes more offset _ _
-    (λ (check, offset). row-then byte_string bytes more offset _ _
+    reads-then (row_at-reads block bytes more offset)
+    (λ (count, offset). reads-then (row_at-reads unsigned bytes more offset)
+    (λ (type, offset). reads-then (row_at-reads (block_number type numbers) bytes more offset)
+    (λ (number, offset). reads-then (row_at-reads unsigned bytes more offset)
+    (λ (flags, offset). reads-then (row_at-reads (block_check_type count) bytes more offset)
+    (λ (check, offset). reads-then (row_at-reads byte_string bytes more offset)
     (λ (size, offset). ended bytes _ offset))))))
 
 pub primary_at-reads : (bytes more : List ℕ) (offset : ℕ)
     → Reads bytes offset (primary_at bytes offset) (primary_at (bytes ++ more) offset)
 unfolding primary_at
 primary_at-reads bytes more offset =
-    row-then primary_block bytes more offset _ _
-    (λ (count, offset). row-then version bytes more offset _ _
-    (λ (_, offset). row-then unsigned bytes more offset _ _
-    (λ (flags, offset). row-then (primary_check_type count flags) bytes more offset _ _
-    (λ (check, offset). eid-then bytes more offset _ _
-    (λ (destination, offset). eid-then bytes more offset _ _
-    (λ (source, offset). eid-then bytes more offset _ _
-    (λ (report_to, offset). row-then pair bytes more offset _ _
-    (λ (_, offset). row-then unsigned bytes more offset _ _
-    (λ (time, offset). row-then unsigned bytes more offset _ _
-    (λ (sequence, offset). row-then unsigned bytes more offset _ _
-    (λ (lifetime, offset). reads-then bytes offset (fragment_at (is_fragment flags) bytes offset)
-    (fragment_at (is_fragment flags) (bytes ++ more) offset) _ _
-    (fragment_at-reads (is_fragment flags) bytes more offset)
+    reads-then (row_at-reads primary_block bytes more offset)
+    (λ (count, offset). reads-then (row_at-reads version bytes more offset)
+    (λ (_, offset). reads-then (row_at-reads unsigned bytes more offset)
+    (λ (flags, offset). reads-then (row_at-reads (primary_check_type count flags) bytes more offset)
+    (λ (check, offset). reads-then (eid_at-reads bytes more offset)
+    (λ (destination, offset). reads-then (eid_at-reads bytes more offset)
+    (λ (source, offset). reads-then (eid_at-reads bytes more offset)
+    (λ (report_to, offset). reads-then (row_at-reads pair bytes more offset)
+    (λ (_, offset). reads-then (row_at-reads unsigned bytes more offset)
+    (λ (time, offset). reads-then (row_at-reads unsigned bytes more offset)
+    (λ (sequence, offset). reads-then (row_at-reads unsigned bytes more offset)
+    (λ (lifetime, offset). reads-then (fragment_at-reads (is_fragment flags) bytes more offset)
     (λ (fragment, end). ended bytes _ end))))))))))))
 
 opening_at-onward : (bytes : List ℕ) → Onward 0 (opening_at bytes)
 unfolding opening_at
 opening_at-onward [] = refl
 opening_at-onward (first ∷ rest) =
-    onward-if 0 (first == 0x9f) (Ok (true, 1)) (Err _) (omega arith) refl
+    of_either (Onward 0) (first == 0x9f) (Ok (true, 1)) (Err _) (omega arith) refl
 
 opening_at-past : (bytes : List ℕ) → Past 0 (opening_at bytes)
 unfolding opening_at
 opening_at-past [] = tt
-opening_at-past (first ∷ rest) = past-if 0 (first == 0x9f) (Ok (true, 1)) (Err _) (omega arith) tt
+opening_at-past (first ∷ rest) =
+    of_either (Past 0) (first == 0x9f) (Ok (true, 1)) (Err _) (omega arith) tt
 
-pub opening_at-reads : (bytes more : List ℕ)
+opening_at-reads : (bytes more : List ℕ)
     → Reads bytes 0 (opening_at bytes) (opening_at (bytes ++ more))
 unfolding opening_at
 opening_at-reads [] more =
     short refl (opening_at-onward more) (opening_at-past more)
 opening_at-reads (first ∷ rest) more =
     chosen-reads (first ∷ rest) 0 1 0 NotABundle (first == 0x9f) (omega arith) (λ _. omega arith)
+
+-- the first byte of a bundle and its primary block
+pub whole_primary-reads : (bytes more : List ℕ)
+    → Reads bytes 0 (whole_primary bytes) (whole_primary (bytes ++ more))
+unfolding whole_primary
+whole_primary-reads bytes more =
+    reads-then (opening_at-reads bytes more)
+    (λ (_, start). reads-then (primary_at-reads bytes more start)
+    (λ ((primary, check), offset). reads-then (field_at-reads check start bytes more offset)
+    (λ (_, next). ended bytes (primary, check) next)))
+
+-- ---- whether more bytes change a reading
+
+-- what is read ends at this offset or after it; `size` is the offset after a value
+abbrev pub GoesTo : {A : Type 0} → (A → ℕ) → ℕ → Result A Stop → Type 0
+GoesTo size offset (Ok value) = offset ≤ size value
+GoesTo size offset (Err stop) = Unit {0}
+
+-- what is read ends within the bytes
+abbrev pub EndsWithin : {A : Type 0} → (A → ℕ) → List ℕ → Result A Stop → Type 0
+EndsWithin size bytes (Ok value) = size value ≤ length bytes
+EndsWithin size bytes (Err stop) = Unit {0}
+
+-- What is read of some bytes, and of those bytes with more after them. Either the first bytes end
+-- inside it, and then it ends after them, or it is the same and ends within them.
+pub data Lasts {A : Type 0} (size : A → ℕ) : List ℕ → Result A Stop → Result A Stop → Type 0 where
+  cuts : {bytes : List ℕ} {now later : Result A Stop}
+      → EndsCut now → GoesTo size (suc (length bytes)) later → Lasts size bytes now later
+  same : {bytes : List ℕ} {now later : Result A Stop}
+      → later ≡ now → EndsWithin size bytes now → Lasts size bytes now later
+
+pub reads_last : {A : Type 0} (bytes : List ℕ) (now later : ReadAt A) → Reads bytes 0 now later
+    → Lasts (λ read. read.1) bytes now later
+reads_last bytes (Ok read) later (short cut onward past) = absurd cut
+reads_last bytes (Err stop) (Ok read) (short cut onward past) =
+    cuts (ap (λ (stop : Stop). stop.fault) cut) (omega arith)
+reads_last bytes (Err stop) (Err other) (short cut onward past) =
+    cuts (ap (λ (stop : Stop). stop.fault) cut) tt
+reads_last bytes (Ok read) later (whole is onward within) = same is (within (omega arith))
+reads_last bytes (Err stop) later (whole is onward within) = same is tt

@@ -10,8 +10,8 @@ use Rattle.link_bundle.proofs.scan.BundleScan.advance_canonical.Goals.{In-Ok}
 
 -- the block that the piece begins with
 begins : (c : In-Ok)
-    → Begins (λ bytes. whole_canonical c.args.self.now.draft.numbers bytes 0) c.in-Ok.block
-    c.in-Ok.size c.args.piece.now
+    → Begins (λ read. read.1) (λ bytes. whole_canonical c.args.self.now.draft.numbers bytes 0)
+    (c.in-Ok.block, c.in-Ok.size) c.args.piece.now
 begins c =
     begins_block c.args.self.now.draft.numbers c.args.piece.now c.in-Ok.block c.in-Ok.size
     c.in-Ok.ensures.read
@@ -31,6 +31,4 @@ returns-in-Ok-clause-advances c =
     let at = begins (goal.at.returns-in-Ok-clause-advances c).In-Ok in
     as_taken at.some at.within (search rules) (search rules) (λ seen come count below.
     let now = c.args.self.now in
-    goes_in_canonical now.cursor now.draft come.before seen c.args.piece.now c.in-Ok.block
-    c.in-Ok.size count (at_stage now _ come.before seen c.requires.stage come.come)
-    c.requires.begins c.in-Ok.ensures.room at below)
+    goes_in_canonical count (at_stage now c.requires.stage come.come) c.requires.begins c.in-Ok.ensures.room at below)

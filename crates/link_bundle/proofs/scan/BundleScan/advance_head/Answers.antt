@@ -27,8 +27,8 @@ returns-in-Some-clause-advances c =
     let size = c.in-Some.size in
     ap (λ (bytes : List ℕ). bundle_goes (seen ++ bytes))
     (sym (take-take count size piece (omega arith)))
-    ∙ goes_in_head c.args.field now.cursor now.draft come.before seen (take size piece) c.in-Some.head count
-    (at_stage now _ come.before seen c.requires.stage come.come)
+    ∙ goes_in_head (take size piece) c.in-Some.head count
+    (at_stage now c.requires.stage come.come)
     c.requires.begins
     (whole (goal.at.returns-in-Some-clause-advances c).In-Some)
     (omega (arith, length-take-le size piece c.in-Some.ensures.within)))

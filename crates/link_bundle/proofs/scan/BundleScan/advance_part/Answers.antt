@@ -8,16 +8,14 @@ pub returns-in-Name-clause-advances : goal.returns-in-Name-clause-advances
 returns-in-Name-clause-advances c =
     as_taken (search rules) (search rules) (search rules) (search rules) (λ seen come count below.
     let now = c.args.self.now in
-    goes_in_name c.in-Name.role c.in-Name.left now.cursor now.draft come.before seen
-    (take count c.args.piece.now)
-    (at_stage now _ come.before seen c.in-Name.is come.come)
+    goes_in_name (take count c.args.piece.now)
+    (at_stage now c.in-Name.is come.come)
     (omega (arith, length-take count c.args.piece.now, c.first_of-run.ensures.size)))
 
 pub returns-in-Content-clause-advances : goal.returns-in-Content-clause-advances
 returns-in-Content-clause-advances c =
     as_taken (search rules) (search rules) (search rules) (search rules) (λ seen come count below.
     let now = c.args.self.now in
-    goes_in_content c.in-Content.left now.cursor now.draft come.before seen
-    (take count c.args.piece.now)
-    (at_stage now _ come.before seen c.in-Content.is come.come)
+    goes_in_content (take count c.args.piece.now)
+    (at_stage now c.in-Content.is come.come)
     (omega (arith, length-take count c.args.piece.now, c.first_of-run-in-Content.ensures.size)))

@@ -12,8 +12,8 @@ use Rattle.link_bundle.proofs.scan.BundleScan.advance_primary.Goals.{In-Ok}
 
 -- the primary block that the piece begins with
 begins : (c : In-Ok)
-    → Begins whole_primary (primary_of c.whole_primary.new.self, c.in-Ok.check) c.in-Ok.size
-    c.args.piece.now
+    → Begins (λ read. read.1) whole_primary
+    ((primary_of c.whole_primary.new.self, c.in-Ok.check), c.in-Ok.size) c.args.piece.now
 begins c =
     begins_primary c.args.piece.now (primary_of c.whole_primary.new.self, c.in-Ok.check)
     c.in-Ok.size c.in-Ok.ensures.read
@@ -35,9 +35,7 @@ returns-in-Ok c =
     let taken = taken_anew c.requires.stage refl refl c.primary_run.ensures in
     record {
       advances = as_taken at.some at.within (search rules) taken.seen (λ seen come count below.
-          goes_in_primary now.cursor now.draft come.before seen c.args.piece.now
-          (primary_of c.whole_primary.new.self, c.in-Ok.check) c.in-Ok.size count
-          (at_stage now _ come.before seen c.requires.stage come.come) at below);
+          goes_in_primary count (at_stage now c.requires.stage come.come) at below);
       blocks = taken.blocks;
     }
 

@@ -1,8 +1,9 @@
 use Rattle.std.proofs.Common.{ℕ, ◌<◌, refl, ◌+◌, arith, rules}
 use Rattle.std.proofs.lemmas.List.Elements.{All-from_get_or}
 use Rattle.link_bundle.specs.Left.{bundle_of}
-use Rattle.link_bundle_blocks.specs.Bundle.{Bundle}
-use Rattle.link_bundle.proofs.Alone.{BeginsWith, begins_with, whole_come, goes_in_whole, first_taken}
+use Rattle.link_bundle_blocks.specs.Bundle.{Bundle, bundle_at}
+use Rattle.link_bundle_blocks.proofs.Beginnings.{Begins, begins_bundle}
+use Rattle.link_bundle.proofs.Alone.{whole_come, goes_in_whole, first_taken}
 use Rattle.link_bundle.proofs.Feeding.{as_taken}
 use Rattle.link_bundle.proofs.Steps.{at_stage}
 use Rattle.link_bundle.proofs.scan.BundleScan.advance_start.Goals as goal
@@ -12,9 +13,9 @@ use Rattle.link_bundle.proofs.scan.BundleScan.advance_start.Goals.{In-Ok}
 bundle : In-Ok → Bundle
 bundle c = record (bundle_of c.whole.new.self c.in-Ok.size) { blocks = c.in-Ok.ensures.read.0 }
 
-begins : (c : In-Ok) → BeginsWith (bundle c) c.args.piece.now
+begins : (c : In-Ok) → Begins (λ bundle. bundle.length) bundle_at (bundle c) c.args.piece.now
 unfolding bundle
-begins c = begins_with (bundle c) c.args.piece.now c.in-Ok.ensures.read.1
+begins c = begins_bundle (bundle c) c.args.piece.now c.in-Ok.ensures.read.1
 
 pub overflow_add-self : goal.overflow_add-self
 unfolding bundle
@@ -34,17 +35,13 @@ returns-in-Ok c =
       size = search rules;
       seen = λ seen come. record {
         before = c.in-Ok.ensures.read.0;
-        come = whole_come now.cursor (record now.cursor { count = count; offset = count }) now.draft
-            c.whole.new.self come.before c.in-Ok.ensures.read.0 seen piece size
-            (at_stage now _ come.before seen c.requires.stage come.come)
+        come = whole_come (at_stage now c.requires.stage come.come)
             (All-from_get_or (λ (byte : ℕ). byte < 256) piece 0
             (λ k within. omega (arith, c.type_inv.piece k)))
             begins_here refl refl;
       };
       goes = λ seen come count below.
-          goes_in_whole now.cursor now.draft come.before _ seen piece count
-          (at_stage now _ come.before seen c.requires.stage come.come)
-          begins_here below;
+          goes_in_whole count (at_stage now c.requires.stage come.come) begins_here below;
     }
 
 pub returns-in-Err : goal.returns-in-Err

@@ -36,8 +36,7 @@ returns c =
     (λ before seen come.
     subst (λ (last : List Block). HasSeen stage c.pass.new.self draft (before ++ last) (seen ++ c.args.run.now))
     (sym (ap (λ (stage : Stage). stage_last stage now.draft now.cursor.offset) c.requires.stage))
-    (canonical_come now.cursor c.pass.new.self now.draft draft stage before seen c.args.run.now
-    c.args.block (at_stage now _ before seen c.requires.stage come) c.requires.begins none
+    (canonical_come c.args.run.now c.args.block (at_stage now c.requires.stage come) c.requires.begins none
     c.requires.numbers
     (All-from_get_or (λ (byte : ℕ). byte < 256) c.args.run.now 0
     (λ k within. omega (arith, c.type_inv.run k)))

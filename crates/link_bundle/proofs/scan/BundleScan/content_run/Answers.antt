@@ -12,11 +12,9 @@ returns-in-Content c =
     takes_plain (search rules) (none_last now _ c.requires.stage refl)
     (ends_nowhere now.draft c.content_run.new.self)
     (λ before seen come.
-    grown_content c.args.left _ now.cursor c.content_run.new.self now.draft before seen
-    c.args.run.now (at_stage now _ before seen c.requires.stage come)
-    (omega arith) (omega arith)
+    grown_content (at_stage now c.requires.stage come)
     (All-from_get_or (λ (byte : ℕ). byte < 256) c.args.run.now 0
-    (λ k within. omega (arith, c.type_inv.run k))) c.content_run.ensures)
+    (λ k within. omega (arith, c.type_inv.run k))) c.content_run.ensures _ (omega arith) (omega arith))
 
 pub returns-else-rest-gt0 : goal.returns-else-rest-gt0
 returns-else-rest-gt0 c =
@@ -25,11 +23,9 @@ returns-else-rest-gt0 c =
     (ends_here c.after_fields-stage.result c.after_fields-stage.new.self c.enter.new.self
     (c.enter.ensures.offset ∙ sym c.enter.ensures.count))
     (λ before seen come.
-    ended_content c.args.left now.cursor c.content_run.new.self c.enter.new.self now.draft
-    c.after_fields-stage.new.self c.after_fields-stage.result before
-    seen c.args.run.now (at_stage now _ before seen c.requires.stage come)
-    (ltb-true 0 c.args.left (fits_at now _ c.requires.stage)) (omega arith)
+    ended_content (at_stage now c.requires.stage come)
     (All-from_get_or (λ (byte : ℕ). byte < 256) c.args.run.now 0
     (λ k within. omega (arith, c.type_inv.run k))) c.content_run.ensures
+    (ltb-true 0 c.args.left (fits_at now _ c.requires.stage)) (omega arith)
     c.after_fields-stage.ensures.reads c.after_fields-stage.ensures.start
     c.after_fields-stage.ensures.keeps c.enter.ensures)

@@ -3,7 +3,4 @@ use Rattle.link_bundle.proofs.Verdicts.{cut_block_of-seen}
 use Rattle.link_bundle.proofs.scan.BundleScan.cut_block.Goals as goal
 
 pub returns : goal.returns
-returns c = λ seen come.
-    let now = c.args.self.now in
-    c.block_at.ensures
-    ∙ sym (cut_block_of-seen now.stage now.cursor now.draft come.before seen come.come now.fits)
+returns c = λ seen come. c.block_at.ensures ∙ sym (cut_block_of-seen come)

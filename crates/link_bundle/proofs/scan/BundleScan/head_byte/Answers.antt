@@ -19,8 +19,7 @@ grown : (c : After-head_byte) (before : List Block) (seen : List ℕ)
     (seen ++ c.args.byte ∷ [])
 grown c before seen come =
     let now = c.args.self.now in
-    grown_head c.args.field now.cursor c.head_byte.new.self now.draft before seen (c.args.byte ∷ [])
-    (at_stage now _ before seen c.requires.stage come) (one_byte c.args.byte (omega arith))
+    grown_head (at_stage now c.requires.stage come) (one_byte c.args.byte (omega arith))
     c.head_byte.ensures.takes
 
 scanned : (c : After-head_byte) (before : List Block) (seen : List ℕ)
@@ -29,8 +28,7 @@ scanned : (c : After-head_byte) (before : List Block) (seen : List ℕ)
     (drop c.head_byte.new.self.offset (seen ++ c.args.byte ∷ []))
 scanned c before seen come =
     let now = c.args.self.now in
-    grown_bytes c.args.field now.cursor c.head_byte.new.self now.draft before seen c.args.byte
-    (at_stage now _ before seen c.requires.stage come) c.head_byte.ensures.takes.offset
+    grown_bytes (at_stage now c.requires.stage come) c.head_byte.new.self c.args.byte c.head_byte.ensures.takes.offset
     c.head_byte.ensures.head
 
 -- the block that ended before the head, after its byte
@@ -57,13 +55,13 @@ returns-in-More c =
       c.head_byte.ensures.takes.offset,
       c.head_byte.ensures.takes.count,
       come.count,
-      (at_stage now _ before seen c.requires.stage come).stands.at.in_bytes,
+      (at_stage now c.requires.stage come).stands.at.in_bytes,
     ))) refl)
     (λ before seen come.
     let bytes = seen ++ c.args.byte ∷ [] in
     let head = scanned at before seen come in
     subst (λ (stage : Stage). HasSeen stage new now.draft before bytes) (sym c.requires.stage)
-    (more_head c.args.field new now.draft before bytes (grown at before seen come) head
+    (more_head (grown at before seen come) head
     (c.in-More.ensures.front (drop new.offset bytes) head)))
 
 pub returns-in-Bad : goal.returns-in-Bad
@@ -75,7 +73,7 @@ returns-in-Bad c =
     (λ before seen come.
     let bytes = seen ++ c.args.byte ∷ [] in
     subst (λ (last : List Block). HasSeen (Failed BadHead new.offset) new now.draft (before ++ last) bytes) (same_last at)
-    (bad_head c.args.field new now.draft before bytes (grown at before seen come)
+    (bad_head (grown at before seen come)
     (c.in-Bad.ensures.front (drop new.offset bytes) (scanned at before seen come))))
 
 pub returns-in-Done : goal.returns-in-Done

@@ -22,8 +22,7 @@ returns c =
     c.content_run.ensures.offset
     ∙ ap (λ (stage : Stage). stage_last stage now.draft now.cursor.offset) (sym c.requires.stage))
     (c.take_head-self.ensures.seen before (seen ++ run)
-    (grown_head c.args.field now.cursor c.content_run.new.self now.draft before seen run
-    (at_stage now _ before seen c.requires.stage come)
+    (grown_head (at_stage now c.requires.stage come)
     (All-from_get_or (λ (byte : ℕ). byte < 256) run 0
     (λ k within. omega (arith, c.type_inv.run k)))
     c.content_run.ensures)

@@ -12,9 +12,7 @@ returns c =
     (ends_here c.name_run-stage.result c.name_run-stage.new.self c.enter.new.self
     (c.enter.ensures.offset ∙ sym c.enter.ensures.count))
     (λ before seen come.
-    grown_name c.args.role c.args.left now.cursor c.content_run.new.self c.enter.new.self now.draft
-    c.name_run-stage.new.self c.name_run-stage.result before seen c.args.run.now
-    (at_stage now _ before seen c.requires.stage come)
+    grown_name (at_stage now c.requires.stage come)
     (All-from_get_or (λ (byte : ℕ). byte < 256) c.args.run.now 0
     (λ k within. omega (arith, c.type_inv.run k))) c.content_run.ensures
     c.name_run-stage.ensures.reads c.name_run-stage.ensures.start c.name_run-stage.ensures.keeps

@@ -10,8 +10,7 @@ returns-then-byte-eq-OPENING c =
     takes_plain (search rules) (none_last now _ c.requires.stage refl)
     (ends_nowhere now.draft c.enter.new.self)
     (λ before seen come.
-    opened now.cursor c.enter.new.self now.draft before seen c.args.byte
-    (at_stage now _ before seen c.requires.stage come) (fits_at now _ c.requires.stage)
+    opened c.args.byte (at_stage now c.requires.stage come) (fits_at now _ c.requires.stage)
     c.if-byte-eq-OPENING.true c.enter.ensures.count c.enter.ensures.offset c.enter.ensures.head
     c.enter.ensures.checks)
 
@@ -22,6 +21,5 @@ returns-else-byte-eq-OPENING c =
     takes_plain (search rules) (none_last now _ c.requires.stage refl)
     (ends_nowhere now.draft cursor)
     (λ before seen come.
-    not_opened now.cursor cursor now.draft before seen c.args.byte
-    (at_stage now _ before seen c.requires.stage come) (omega arith)
+    not_opened c.args.byte (at_stage now c.requires.stage come) (omega arith)
     (fits_at now _ c.requires.stage) c.if-byte-eq-OPENING.false refl)

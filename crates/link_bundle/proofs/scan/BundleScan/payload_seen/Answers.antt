@@ -7,7 +7,7 @@ returns-in_err-offset c = λ seen come.
     let now = c.args.self.now in
     c.from_residual.ensures
     ∙ sym (seen_of-none seen now.draft.payload_span
-    (payload_of-seen now.stage now.cursor now.draft come.before seen come.come now.fits) c.in_err-offset.was)
+    (payload_of-seen come) c.in_err-offset.was)
 
 pub returns : goal.returns
 returns c = λ seen come.
@@ -16,5 +16,4 @@ returns c = λ seen come.
     (c.min.ensures ∙ ap (λ (left : ℕ). min c.in_ok-offset.size left) c.saturating_sub.ensures)
     ∙ sym (seen_of-some seen now.draft.payload_span c.in_ok-offset.offset c.in_ok-offset.size
     now.cursor.count
-    (payload_of-seen now.stage now.cursor now.draft come.before seen come.come now.fits) c.in_ok-offset.was
-    come.come.count)
+    (payload_of-seen come) c.in_ok-offset.was come.come.count)

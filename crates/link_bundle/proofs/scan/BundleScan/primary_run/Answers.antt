@@ -14,8 +14,7 @@ returns c =
     takes_plain (search rules) (none_last now _ c.requires.stage refl)
     (ends_here stage draft c.pass.new.self (c.pass.ensures.offset ∙ sym c.pass.ensures.count))
     (λ before seen come.
-    primary_come now.cursor c.pass.new.self now.draft draft stage before seen c.args.run.now
-    c.args.check (at_stage now _ before seen c.requires.stage come)
+    primary_come c.args.run.now c.args.check (at_stage now c.requires.stage come)
     (fits_at now _ c.requires.stage)
     (All-from_get_or (λ (byte : ℕ). byte < 256) c.args.run.now 0
     (λ k within. omega (arith, c.type_inv.run k)))

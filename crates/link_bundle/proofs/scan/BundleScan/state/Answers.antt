@@ -3,6 +3,4 @@ use Rattle.link_bundle.proofs.Verdicts.{state_of-seen}
 use Rattle.link_bundle.proofs.scan.BundleScan.state.Goals as goal
 
 pub returns-clause-seen : goal.returns-clause-seen
-returns-clause-seen c = λ seen come.
-    let now = c.args.self.now in
-    c.state.ensures ∙ state_of-seen now.stage now.cursor now.draft come.before seen come.come now.fits
+returns-clause-seen c = λ seen come. c.state.ensures ∙ state_of-seen come

@@ -49,10 +49,8 @@ returns-then-left-gt1 c =
     (ends_nowhere now.draft c.content_run.new.self)
     (λ before seen come.
     rw c.from.ensures
-    (grown_stored c.args.offset c.args.left c.args.stored c.args.block c.args.kind now.cursor
-    c.content_run.new.self now.draft before seen c.args.byte
-    (at_stage now _ before seen c.requires.stage come) (omega arith) (omega arith)
-    c.content_run.ensures))
+    (grown_stored c.args.byte (at_stage now c.requires.stage come) (omega arith) c.content_run.ensures
+    (omega arith)))
 
 pub returns-then-stored-value : goal.returns-then-stored-value
 returns-then-stored-value c =
@@ -62,14 +60,10 @@ returns-then-stored-value c =
     (ends_here c.after_block-stage.result c.after_block-stage.new.self c.enter.new.self
     (c.enter.ensures.offset ∙ sym c.enter.ensures.count))
     (λ before seen come.
-    equal_stored c.args.offset c.args.left c.args.stored c.value.result c.args.block c.args.kind
-    now.cursor c.content_run.new.self c.enter.new.self
-    now.draft c.after_block-stage.new.self c.after_block-stage.result before seen c.args.byte
-    (at_stage now _ before seen c.requires.stage come)
-    (omega arith) (omega (arith, at.more.wants))
+    equal_stored c.args.byte (at_stage now c.requires.stage come) (omega arith) c.content_run.ensures
+    c.value.result (omega (arith, at.more.wants)) (record { is = at.same; outcome = c.value.ensures })
     (eq-eqb (c.args.stored * 256 + c.args.byte) c.value.result
     (ap (λ (byte : ℕ). c.args.stored * 256 + byte) (sym c.from.ensures) ∙ c.if-stored-value.true))
-    c.content_run.ensures (record { is = at.same; outcome = c.value.ensures })
     c.after_block-stage.ensures.reads c.after_block-stage.ensures.start
     c.after_block-stage.ensures.keeps c.enter.ensures)
 
@@ -80,10 +74,8 @@ returns-else-stored-value c =
     takes_plain (search rules) (none_last now _ c.requires.stage refl)
     (ends_nowhere now.draft c.content_run.new.self)
     (λ before seen come.
-    other_stored c.args.offset c.args.left c.args.stored c.value.result c.args.block c.args.kind
-    now.cursor c.content_run.new.self now.draft before seen c.args.byte
-    (at_stage now _ before seen c.requires.stage come) (omega arith) (omega (arith, at.more.wants))
+    other_stored c.args.byte (at_stage now c.requires.stage come) (omega arith) c.content_run.ensures
+    c.value.result (omega (arith, at.more.wants)) (record { is = at.same; outcome = c.value.ensures })
     (ne_eqb (c.args.stored * 256 + c.args.byte) c.value.result
     (λ same. c.if-stored-value.false
-    (ap (λ (byte : ℕ). c.args.stored * 256 + byte) c.from.ensures ∙ same)))
-    c.content_run.ensures (record { is = at.same; outcome = c.value.ensures }))
+    (ap (λ (byte : ℕ). c.args.stored * 256 + byte) c.from.ensures ∙ same))))

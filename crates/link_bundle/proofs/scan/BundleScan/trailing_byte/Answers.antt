@@ -11,6 +11,5 @@ returns c =
     takes_plain (search rules) (none_last now _ c.requires.stage refl)
     (ends_nowhere now.draft cursor)
     (λ before seen come.
-    trailing now.cursor cursor now.draft before seen c.args.byte
-    (at_stage now _ before seen c.requires.stage come) (omega arith)
+    trailing c.args.byte (at_stage now c.requires.stage come) (omega arith)
     (fits_at now _ c.requires.stage) refl)

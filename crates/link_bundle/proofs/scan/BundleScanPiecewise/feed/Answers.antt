@@ -11,9 +11,7 @@ all : (c : In-Content) (seen : List ℕ) → HasScanned c.args.self.now seen
     → length c.args.bytes.now < c.in-Content.left
     → TakenInAll seen c.args.bytes.now (length c.args.bytes.now)
 all c seen come short =
-    let now = c.args.self.now in
-    content_taken c.in-Content.left now.cursor now.draft come.before seen c.args.bytes.now
-    (at_stage now _ come.before seen c.in-Content.is come.come) short
+    content_taken c.args.bytes.now (at_stage c.args.self.now c.in-Content.is come.come) short
 
 pub returns-in-Content-clause-seen : goal.returns-in-Content-clause-seen
 returns-in-Content-clause-seen c = λ seen come.
