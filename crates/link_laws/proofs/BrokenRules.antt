@@ -8,7 +8,7 @@ use Rattle.link_run.specs.Run.{Texts, ◌then◌}
 use Rattle.link_run.specs.Writers.{on_output}
 use Rattle.link_run.proofs.Runs.{texts_as}
 use Rattle.link_walk.specs.Saying.{kept_after, said_from}
-use Rattle.link_walk.specs.Walk.{WalkEvent, ContactHeader, MessageHead, Data, Whole, LeftOpen}
+use Rattle.link_walk.specs.Walk.{WalkEvent, MessageHead}
 use Rattle.link_message_rules.specs.Heads.{JudgedHead}
 use Rattle.link_message_rules.specs.declared.limits.PeerLimits.{PeerLimits}
 use Rattle.link_rule_report.specs.declared.line.RuleText.{RuleText}
@@ -28,14 +28,6 @@ pub counts_append : (must : Bool) (first second : List RuleText)
     → none_counts must (first ++ second) ≡ (none_counts must first && none_counts must second)
 unfolding none_counts
 counts_append must first second = list_all-append (λ line. not (counts must line)) first second
-
-no_lines : (must : Bool) → lines_of must [] ≡ []
-unfolding lines_of
-no_lines must = refl
-
-pub none_count : (must : Bool) → none_counts must [] ≡ true
-unfolding none_counts
-none_count must = refl
 
 -- ---- rules
 
@@ -79,16 +71,14 @@ module _ (peer : PeerLimits) where
 
     broken_same : (kept : Kept) (event : WalkEvent)
         → broken_by (options must) kept event ≡ broken_with kept.heads kept.latest event
-    broken_same kept (ContactHeader contact) = refl
     broken_same kept (MessageHead head) = refl
-    broken_same kept (Data byte) = refl
-    broken_same kept Whole = refl
-    broken_same kept LeftOpen = refl
+    broken_same kept event = refl
 
     pub lines_said : (events : List WalkEvent) (kept : Kept)
         → said_from (checking (options must)) kept events
         ≡ on_output (lines_of must (broken_from kept.heads kept.latest events))
-    lines_said [] kept = texts_as (sym (no_lines must)) refl
+    unfolding lines_of
+    lines_said [] kept = refl
     lines_said (event ∷ more) kept =
         ap₂ (λ (now later : Texts). now then later)
         (ap (λ broken. on_output (lines_of must broken)) (broken_same kept event))
@@ -98,7 +88,8 @@ module _ (peer : PeerLimits) where
     pub good_kept : (events : List WalkEvent) (kept : Kept)
         → (kept_after (checking (options must)) kept events).good
         ≡ (kept.good && none_counts must (broken_from kept.heads kept.latest events))
-    good_kept [] kept = sym (ap (λ b. kept.good && b) (none_count must) ∙ and-true kept.good)
+    unfolding none_counts
+    good_kept [] kept = sym (and-true kept.good)
     good_kept (event ∷ more) kept =
         let now = broken_with kept.heads kept.latest event in
         let later = broken_from (heads_with kept.heads event) (latest_with kept.latest event) more in

@@ -66,9 +66,6 @@ module _ (options : PackOptions) where
 
   -- ---- in order
 
-  stands_init : Stands (init_entry options ∷ []) (carrying None) []
-  stands_init = stands_more [] fresh [] (init_entry options) SessInit refl refl stands_none
-
   whole_by : (number count : ℕ) (bundle : Packed) (heads : List Entry) (earlier : List Transfer)
       (offset : ℕ) → 0 < count → count ≡ chunk_count (segment_size options) (length bundle.bytes)
       → Stands heads (carrying None) earlier
@@ -162,4 +159,5 @@ module _ (options : PackOptions) where
       → AreCarried (packed_entries options input) (packed_transfers input)
   packed_carried input are =
       carried_rest (length input.bundles) input.rest _ (onto 0 input.bundles []) _ _
-      (stands_bundles 0 input.bundles (init_entry options ∷ []) [] (6 + length (init_bytes options)) are stands_init)
+      (stands_bundles 0 input.bundles (init_entry options ∷ []) [] (6 + length (init_bytes options)) are
+      (stands_more [] fresh [] (init_entry options) SessInit refl refl stands_none))

@@ -1,8 +1,9 @@
 -- The messages of a packed stream break no rule of messages.
-use Rattle.std.proofs.Common.{◌≡◌, ℕ, suc, ◌+◌, ◌<◌, ◌≤◌, Bool, true, false, ◌&&◌, ◌==◌, nat_lt, nat_le, is_some, List, [], ◌∷◌, ◌++◌, reverse, filter_map, Option, Some, None, if◌then◌else◌, refl, ap, sym, ◌∙◌, arith}
+use Rattle.std.proofs.Common.{◌≡◌, ℕ, suc, ◌+◌, ◌<◌, ◌≤◌, Bool, true, false, ◌==◌, nat_le, is_some, List, [], ◌∷◌, ◌++◌, reverse, filter_map, Option, Some, None, if◌then◌else◌, refl, ap, sym, ◌∙◌, arith}
+use Rattle.std.proofs.Math.Bool.{and-false}
 use Rattle.std.specs.Prelude.{IfSome}
 use Rattle.std.specs.List.{All, list_any}
-use Rattle.std.proofs.lemmas.Bool.{ne_eqb, ltb-true}
+use Rattle.std.proofs.lemmas.Bool.{ne_eqb, le-ltb}
 use Rattle.std.proofs.lemmas.List.{map-append, reverse-append}
 use Rattle.std.proofs.lemmas.List.Elements.{All-nil, All-cons, All-head, All-tail}
 use Rattle.link_wire.specs.Spelling.{segment_with, sess_init_with}
@@ -23,13 +24,12 @@ use Rattle.link_transfer.proofs.Joining.{refusal-at, stray-at, effect-at, IsJoin
 use Rattle.link_message_rules.specs.Flags.{item_flags, segment_flags, term_flags}
 use Rattle.link_message_rules.specs.Heads.{JudgedHead, messages_of, start_id}
 use Rattle.link_message_rules.specs.Lengths.{peer_segment, size_of, if_passed, if_exceeded, peer_transfer, ack_length}
-use Rattle.link_message_rules.specs.MessageRules.{judged_rules, broken_rules}
+use Rattle.link_message_rules.specs.MessageRules.{broken_rules}
 use Rattle.link_message_rules.specs.NodeIds.{node_id}
 use Rattle.link_message_rules.specs.Session.{order, before_session, keepalive}
 use Rattle.link_message_rules.specs.TransferIds.{abandoned_by, interleaved, descending, transfer_id}
 use Rattle.link_message_rules.specs.declared.limits.PeerLimits.{PeerLimits}
 use Rattle.link_message_rules.specs.declared.rule.MessageRule.{MessageRule}
-use Rattle.link_message_rules.specs.declared.rule.MessageRule.TheVariants.{PeerTransferLength}
 use Rattle.link_run.proofs.Continued.{entry}
 use Rattle.link_walk.specs.Walk.{head_at}
 use Rattle.link_check.specs.Checking.{judged}
@@ -38,15 +38,6 @@ use Rattle.link_laws.proofs.InOrder.{not_stray, taken_more}
 use Rattle.link_laws.proofs.Sent.{starts_as}
 
 -- ---- rules, one by one
-
-abbrev AllNone : List (Option MessageRule) → Type 0
-AllNone [] = Unit {0}
-AllNone (first ∷ others) = (first ≡ None) × AllNone others
-
-none_left : (rules : List (Option MessageRule)) → AllNone rules
-    → filter_map (λ judged. judged) rules ≡ []
-none_left [] none = refl
-none_left (first ∷ others) none = rw none.0 (none_left others none.1)
 
 none_if : (test : Bool) → ◌≡◌ {A = Option MessageRule} (if test then None else None) None
 none_if true = refl
@@ -76,9 +67,8 @@ module _ (peer : PeerLimits) (before : List JudgedHead) where
         by_flags : (first last : Bool)
             → segment_flags (segment_with (flags_of first last) id size announce) ≡ None
         by_flags true true = refl
-        by_flags true false = refl
         by_flags false true = refl
-        by_flags false false = refl
+        by_flags first last = refl
 
     -- in order, and it abandons no transfer
     pub segment_clear : abandoned_by (Some turn) ≡ None → transfer_id before segment ≡ None
@@ -87,19 +77,7 @@ module _ (peer : PeerLimits) (before : List JudgedHead) where
         → broken_rules peer before segment_head ≡ []
     unfolding broken_rules node_id order before_session interleaved ack_length keepalive term_flags
     segment_clear none new short within =
-        none_left (judged_rules peer before segment_head) (
-          refl,
-          (
-            items_none,
-            (
-              refl,
-              (
-                none_if (has_sess_init (messages_of before)),
-                (rw none refl, (flags_none, (new, (short, (within, (refl, (refl, (refl, tt)))))))),
-              ),
-            ),
-          ),
-        )
+        rw (items_none, none_if (has_sess_init (messages_of before)), none, flags_none, new, short, within)
 
   -- ---- messages that are no segments
 
@@ -123,34 +101,7 @@ module _ (peer : PeerLimits) (before : List JudgedHead) where
     pub init_clear : node_id init ≡ None → broken_rules peer before init_head ≡ []
     unfolding broken_rules item_flags order before_session interleaved segment_flags transfer_id ack_length keepalive term_flags
     init_clear keeps =
-        none_left (judged_rules peer before init_head) (
-          keeps,
-          (
-            refl,
-            (
-              refl,
-              (
-                none_if (has_sess_init (messages_of before)),
-                (
-                  refl,
-                  (
-                    refl,
-                    (
-                      refl,
-                      (
-                        init_short peer.segment,
-                        (
-                          init_within peer.transfer,
-                          (refl, (refl, (refl, tt))),
-                        ),
-                      ),
-                    ),
-                  ),
-                ),
-              ),
-            ),
-          ),
-        )
+        rw (keeps, none_if (has_sess_init (messages_of before)), init_short, init_within)
 
   abbrev term_head : JudgedHead
   term_head = record { message = message.SessTerm 0 0; fault = None; turn = Some turn.Other }
@@ -168,34 +119,7 @@ module _ (peer : PeerLimits) (before : List JudgedHead) where
   pub term_clear : broken_rules peer before term_head ≡ []
   unfolding broken_rules node_id item_flags order before_session interleaved segment_flags transfer_id ack_length keepalive term_flags
   term_clear =
-      none_left (judged_rules peer before term_head) (
-        refl,
-        (
-          refl,
-          (
-            refl,
-            (
-              none_if (has_sess_init (messages_of before)),
-              (
-                refl,
-                (
-                  refl,
-                  (
-                    refl,
-                    (
-                      term_short peer.segment,
-                      (
-                        term_within peer.transfer,
-                        (refl, (refl, (refl, tt))),
-                      ),
-                    ),
-                  ),
-                ),
-              ),
-            ),
-          ),
-        ),
-      )
+      rw (none_if (has_sess_init (messages_of before)), term_short, term_within)
 
 -- ---- transfer IDs
 
@@ -258,22 +182,9 @@ IsAtMost limit Absent = Unit {0}
 IsAtMost limit (Total total) = total ≤ limit
 IsAtMost limit Malformed = Unit {0}
 
-no_more : (limit size : ℕ) → size ≤ limit → nat_lt limit size ≡ false
-no_more limit size within = by_test (nat_lt limit size) refl
-  where
-    by_test : (test : Bool) → nat_lt limit size ≡ test → test ≡ false
-    by_test false is = refl
-    by_test true is = absurd (let more = ltb-true limit size is in omega arith)
-
 passes_none : (limit before size : ℕ) → before + size ≤ limit → if_passed limit before size ≡ None
 passes_none limit before size within =
-    rw (no_more limit (before + size) within)
-    (by_test (nat_le before limit) (PeerTransferLength (before + size) limit))
-  where
-    by_test : (test : Bool) (broken : MessageRule)
-        → ◌≡◌ {A = Option MessageRule} (if test && false then Some broken else None) None
-    by_test true broken = refl
-    by_test false broken = refl
+    rw (le-ltb limit (before + size) within, and-false (nat_le before limit))
 
 pub exceeds_none : (limit : ℕ) (said : Announced) (head : SegmentHead) (earlier : List SegmentHead)
     → IsAtMost limit said → size_of earlier + head.length ≤ limit
@@ -281,7 +192,7 @@ pub exceeds_none : (limit : ℕ) (said : Announced) (head : SegmentHead) (earlie
 exceeds_none limit Absent head earlier most within =
     passes_none limit (size_of earlier) head.length within
 exceeds_none limit (Total total) head earlier most within =
-    rw (no_more limit total most) (passes_none limit (size_of earlier) head.length within)
+    rw (le-ltb limit total most) (passes_none limit (size_of earlier) head.length within)
 exceeds_none limit Malformed head earlier most within =
     passes_none limit (size_of earlier) head.length within
 
@@ -289,7 +200,7 @@ pub short_none : (limit : Option ℕ) (head : SegmentHead) → IfSome limit (λ 
     → peer_segment limit (message.Segment head) ≡ None
 unfolding peer_segment
 short_none None head short = refl
-short_none (Some limit) head short = rw (no_more limit head.length short) refl
+short_none (Some limit) head short = rw (le-ltb limit head.length short) refl
 
 -- ---- one head of a walk
 

@@ -14,7 +14,6 @@ use Rattle.link_transfer.specs.declared.announcement.Announced.TheVariants.{Abse
 use Rattle.link_message_rules.specs.TransferData.{data_rule, may_be_bundle}
 use Rattle.link_message_rules.specs.TransferRules.{broken_transfer_rules, if_malformed, if_different, length_item, length_differs, length_of_one_segment, transfer_level_of}
 use Rattle.link_message_rules.specs.declared.limits.PeerLimits.{PeerLimits}
-use Rattle.link_message_rules.specs.declared.rule.MessageRule.{MessageRule}
 use Rattle.link_message_rules.specs.declared.rule.TransferRule.{TransferRule}
 use Rattle.link_message_rules.specs.declared.rule.TransferRule.TheVariants.{Unfinished, Bundle, NotRead}
 use Rattle.link_report.specs.Judgement.{judged_length, judged_data}
@@ -25,7 +24,7 @@ use Rattle.link_rule_report.specs.declared.rule.BrokenRule.TheVariants as rule
 use Rattle.link_check.specs.Checking.{closed_rules, data_rules}
 use Rattle.link_check.specs.Lines.{is_must, counts, none_counts, at_offset}
 use Rattle.link_laws.specs.Checked.{MayBeJudged, IsAllowed}
-use Rattle.link_laws.proofs.Placed.{Placed, transfers_in, begun_of, due_of, rules_of}
+use Rattle.link_laws.proofs.Placed.{Placed, Choice, transfers_in, begun_of, due_of, rules_of}
 use Rattle.link_laws.proofs.Telling.{closed_not}
 
 -- whether it is a rule of transfers of level `must`
@@ -34,12 +33,13 @@ is_due (rule.Message broken) = false
 is_due (rule.Transfer id broken) = is_must (transfer_level_of broken)
 is_due (rule.Bundle where_it_is broken) = false
 
-pub never_message : (broken : MessageRule) → is_due (rule.Message broken) ≡ false
-never_message broken = refl
-
 pub never_unfinished : (id size : ℕ) → is_due (rule.Transfer id (Unfinished size)) ≡ false
 unfolding transfer_level_of
 never_unfinished id size = refl
+
+abbrev pub due_choice : Choice
+due_choice =
+    record { chosen = is_due; no_message = λ broken. refl; no_unfinished = never_unfinished }
 
 abbrev pub due_rules : List RuleText → List RuleText
 due_rules lines = filter (λ (line : RuleText). is_due line.rule) lines
@@ -103,10 +103,10 @@ module _ (offset id : ℕ) where
 
 module _ (peer : PeerLimits) where
   abbrev pub due : Placed → List RuleText
-  due placed = due_of is_due never_message never_unfinished peer placed
+  due placed = due_of due_choice peer placed
 
   abbrev pub rules : List Placed → List RuleText
-  rules placed = rules_of is_due never_message never_unfinished peer placed
+  rules placed = rules_of due_choice peer placed
 
   closed_allowed : (placed : Placed)
       → due_rules (at_offset placed.offset (closed_rules (begun_of placed))) ≡ []

@@ -24,9 +24,7 @@ use Rattle.link_laws.proofs.Whole.{IsWhole, FitsData, AreWhole, AreRead, Reading
 abbrev pub Follows : (before : List WalkEvent) → WalkEvent → Type 0
 Follows before (ContactHeader contact) = before ≡ []
 Follows before (MessageHead head) = ComesAfter before head
-Follows before (Data byte) = has_open before ≡ true
-Follows before Whole = has_open before ≡ true
-Follows before LeftOpen = has_open before ≡ true
+Follows before event = has_open before ≡ true
 
 -- a walk may tell these events after the first ones, one by one
 abbrev pub AllFollow : (before more : List WalkEvent) → Type 0
@@ -84,10 +82,9 @@ bytes_follow before bytes test opened =
 open_bytes : (last none all : Bool) → (none ≡ true → all ≡ true)
     → fold open_after_event (not (last && none)) (whole_events (last && (not none && all)))
     ≡ not (last && all)
-open_bytes false none all known = refl
 open_bytes true true all known = ap not (sym (known refl))
 open_bytes true false true known = refl
-open_bytes true false false known = refl
+open_bytes last none all known = refl
 
 module _ (was : Bool) (size : ℕ) (content : List ℕ) (fits : size ≡ 0 → content ≡ []) where
   none_all : (size == 0) ≡ true → (length content == size) ≡ true
@@ -148,10 +145,6 @@ record Stands (walked : Walked) : Type 0 where
 pub record Told (walked : Walked) : Type 0 where
   pub follow : AllFollow [] walked.events
   pub opened : is_some (open_of walked.taken) ≡ true → has_open walked.events ≡ true
-
-told_of_stands : (walked : Walked) → Stands walked → Told walked
-told_of_stands walked stands =
-    record { follow = stands.follow; opened = λ some. stands.opened ∙ some }
 
 module _ (manner : Manner) (was : Walked) (stands : Stands was) (head : Entry)
     (fits : FitsData head) where
@@ -260,7 +253,8 @@ module _ (manner : Manner) where
 
   heads_told : (heads : List Entry) (was : Walked) → AreRead heads → Stands was
       → Told (fold (with_next manner) was heads)
-  heads_told [] was read stands = told_of_stands was stands
+  heads_told [] was read stands =
+      record { follow = stands.follow; opened = λ some. stands.opened ∙ some }
   heads_told (head ∷ more) was read stands =
       ⊎_elim
       (λ all. heads_told more (with_next manner was head) read.2

@@ -35,10 +35,8 @@ use Rattle.link_laws.proofs.Whole.{FitsData, AreWhole, AreRead, no_content}
 use Rattle.link_laws.proofs.Telling.{closed_not, told_as, content_told, head_of, said_of, head_told}
 
 begins_none : (happened : Event) → is_segment happened ≡ false → begins happened ≡ false
-begins_none event.SessInit other = refl
-begins_none event.SessTerm other = refl
 begins_none (event.Segment flags id) other = absurd (cc)
-begins_none event.Other other = refl
+begins_none happened other = refl
 
 pub stray_is : (taken : List Message) (happened : Event)
     → is_stray taken happened ≡ not (is_some (effect_of taken happened))

@@ -43,10 +43,6 @@ first_may before head more is =
 
 -- ---- a list of heads from its beginning
 
-pub in_order_none : AreInOrder []
-unfolding ordered ordered_after
-in_order_none = refl
-
 more_ordered : (before : List Message) (heads : List Entry) (last : Entry)
     → ordered_after before heads ≡ all heads
     → refusal (before ++ messages_of heads) (event_of last.message) ≡ None

@@ -1,6 +1,6 @@
 -- `check` finds only rules of bundles broken in a packed stream.
-use Rattle.std.proofs.Common.{◌≡◌, ℕ, suc, ◌+◌, inl, inr, ◌⊎◌, Bool, true, false, ◌&&◌, ◌==◌, nat_lt, nat_le, is_some, List, [], ◌∷◌, ◌++◌, length, map, filter_map, Option, Some, None, Result, Ok, Err, if◌then◌else◌, refl, ap, ap₂, sym, ◌∙◌, subst, append-nil, append_assoc, arith}
-use Rattle.std.specs.List.{All, filter, fold}
+use Rattle.std.proofs.Common.{◌≡◌, ℕ, suc, ◌+◌, inl, inr, ◌⊎◌, Bool, true, false, ◌&&◌, ◌==◌, nat_lt, nat_le, is_some, List, [], ◌∷◌, ◌++◌, length, map, filter_map, Option, Some, None, Result, Ok, Err, if◌then◌else◌, refl, ap, ap₂, sym, ◌∙◌, subst, append-nil, arith}
+use Rattle.std.specs.List.{All, filter}
 use Rattle.std.proofs.lemmas.Bool.{eq-eqb, ne_eqb, ltb-true}
 use Rattle.std.proofs.lemmas.List.{map-append}
 use Rattle.std.proofs.lemmas.List.Elements.{All-nil, All-cons, All-head, All-tail, filter-append}
@@ -17,10 +17,9 @@ use Rattle.link_bundle_blocks.specs.Bundle.{verdict}
 use Rattle.link_bundle_rules.specs.declared.rule.BundleRule.{BundleRule}
 use Rattle.link_transfer.specs.Announced.{announced_of}
 use Rattle.link_transfer.specs.Cutting.{announcement}
-use Rattle.link_transfer.specs.Event.{event_of}
-use Rattle.link_transfer.specs.Order.{refusal, open_of, with_taken}
+use Rattle.link_transfer.specs.Order.{open_of, with_taken}
 use Rattle.link_transfer.specs.declared.announcement.Announced.{Announced}
-use Rattle.link_transfer.specs.declared.announcement.Announced.TheVariants.{Absent, Total, Malformed}
+use Rattle.link_transfer.specs.declared.announcement.Announced.TheVariants.{Absent, Total}
 use Rattle.link_transfer.specs.declared.joiner.Turn.{Turn}
 use Rattle.link_transfer.specs.declared.joiner.Turn.TheVariants as turn
 use Rattle.link_transfer.proofs.Due.{chunk_left}
@@ -38,10 +37,10 @@ use Rattle.link_rule_report.specs.declared.rule.BrokenRule.{BrokenRule}
 use Rattle.link_rule_report.specs.declared.rule.BrokenRule.TheVariants as rule
 use Rattle.link_rule_report.specs.declared.rule.BundlePlace.{BundlePlace}
 use Rattle.link_rule_report.specs.declared.rule.BundlePlace.TheVariants as place
-use Rattle.link_walk.specs.Walk.{head_at, closes, WalkEvent, ContactHeader, MessageHead, Data, Whole, LeftOpen, data_events, content_events, Walked, with_next, walked_of, end_events}
+use Rattle.link_walk.specs.Walk.{head_at, closes, WalkEvent, MessageHead, Data, Whole, data_events, content_events, walked_of, end_events}
 use Rattle.link_unpack.specs.Transfers.{Transfer}
 use Rattle.link_check.specs.BundleRules.{bundle_rules}
-use Rattle.link_check.specs.Checking.{Begun, begun_by, closed_rules, data_rules, optional, latest_with, rules_at}
+use Rattle.link_check.specs.Checking.{Begun, begun_by, closed_rules, data_rules, latest_with, rules_at}
 use Rattle.link_check.specs.Lines.{at_offset}
 use Rattle.link_bundle_walk.specs.Bundles.{Packed, Divided, divided}
 use Rattle.link_pack.specs.Packing.{sending}
@@ -59,8 +58,8 @@ use Rattle.link_laws.proofs.Entries.{packed_entries, packed_reading, some_size}
 use Rattle.link_laws.proofs.GivenBack.{gives_back}
 use Rattle.link_laws.proofs.InOrder.{unpacked_in_order}
 use Rattle.link_laws.proofs.Limits.{none_announced, total_announced}
-use Rattle.link_laws.proofs.Placed.{Placed, transfers_in, begun_of, AfterAll, due_of, rules_of}
-use Rattle.link_laws.proofs.PlainHeads.{going, judged_taken}
+use Rattle.link_laws.proofs.Placed.{Placed, Choice, transfers_in, begun_of, AfterAll, due_of, rules_of}
+use Rattle.link_laws.proofs.PlainHeads.{going, walk_events, taken_by, walk_is}
 use Rattle.link_laws.proofs.Readings.{input, packed, nothing_left, IsPacked}
 use Rattle.link_laws.proofs.SameLines as recording
 use Rattle.link_laws.proofs.SameRules as same
@@ -104,10 +103,6 @@ module _ (offset : ℕ) where
         → NoneOf (map (λ one. rule.Transfer id one) (filter_map (λ judged. judged)
         (if_malformed announced ∷ if_different announced size
         ∷ (if single then Some transfer_rule.LengthOfOneSegment else None) ∷ [])))
-    of_lengths Absent size true = refl
-    of_lengths Absent size false = refl
-    of_lengths Malformed size true = refl
-    of_lengths Malformed size false = refl
     of_lengths (Total total) size single = by_total (total == size) single
       where
         by_total : (same single : Bool)
@@ -115,9 +110,10 @@ module _ (offset : ℕ) where
             (None ∷ (if same then None else Some (transfer_rule.LengthDiffers total size))
             ∷ (if single then Some transfer_rule.LengthOfOneSegment else None) ∷ [])))
         by_total true true = refl
-        by_total true false = refl
         by_total false true = refl
-        by_total false false = refl
+        by_total same single = refl
+    of_lengths said size true = refl
+    of_lengths said size single = refl
 
     of_data : (content : List ℕ) (said : Result BundleInfo (BundleFault × ℕ))
         → NoneOf (data_rules id content said)
@@ -147,42 +143,6 @@ of_latest (Some begun) =
     (of_data begun.offset begun.first.id begun.content (verdict begun.content))
 
 -- ---- the walk over heads
-
-abbrev events_at : (taken : List Message) → Entry → List WalkEvent
-events_at taken head =
-    let at = head_at taken head.offset head.message in
-    MessageHead at ∷ content_events at.turn (data_length head.message) head.content
-
-abbrev walk_events : (taken : List Message) → List Entry → List WalkEvent
-walk_events taken [] = []
-walk_events taken (head ∷ more) =
-    events_at taken head ++ walk_events (with_taken taken head.message) more
-
-abbrev taken_by : (taken : List Message) → List Entry → List Message
-taken_by taken [] = taken
-taken_by taken (head ∷ more) = taken_by (with_taken taken head.message) more
-
-walk_is : (heads : List Entry) (taken : List Message) (events : List WalkEvent)
-    → fold (with_next (going true)) (record { taken = taken; events = events; refused = None }) heads
-    ≡ record {
-      taken = taken_by taken heads;
-      events = events ++ walk_events taken heads;
-      refused = None;
-    }
-walk_is [] taken events =
-    ap (λ (events : List WalkEvent). record { taken = taken; events = events; refused = None })
-    (sym (append-nil events))
-walk_is (head ∷ more) taken events =
-    let next = with_taken taken head.message in
-    ap (λ (was : Walked). fold (with_next (going true)) was more)
-    (judged_taken true (refusal taken (event_of head.message))
-    (record { taken = taken; events = events; refused = None }) head)
-    ∙ walk_is more next (events ++ events_at taken head)
-    ∙ ap (λ (events : List WalkEvent). record {
-      taken = taken_by next more;
-      events = events;
-      refused = None;
-    }) (append_assoc events (events_at taken head) (walk_events next more))
 
 module _ (peer : PeerLimits) where
   -- no rule of messages is broken by these events, whichever transfer began last
@@ -216,7 +176,7 @@ module _ (peer : PeerLimits) where
   closing_none false latest = refl
 
   heads_none : (heads : List Entry) (taken : List Message) (before : List JudgedHead)
-      → AreClear peer taken before heads → BreakNone before (walk_events taken heads)
+      → AreClear peer taken before heads → BreakNone before (walk_events true taken heads)
   heads_none [] taken before clear latest = refl
   heads_none (head ∷ more) taken before clear latest =
       let at = head_at taken head.offset head.message in
@@ -228,12 +188,12 @@ module _ (peer : PeerLimits) where
       of_messages (at_offset head.offset (map (λ one. rule.Message one) broken))) clear.0)
       (closing_none (closes at) (begun_by at latest)))
       (content_none at.turn (data_length head.message) head.content (before ++ now ∷ [])
-      (walk_events (with_taken taken head.message) more)
+      (walk_events true (with_taken taken head.message) more)
       (heads_none more (with_taken taken head.message) (before ++ now ∷ []) clear.1)
       (begun_by at latest))
 
   none_open : (heads : List Entry) (taken : List Message) (before : List JudgedHead)
-      → AreClear peer taken before heads → is_some (open_of (taken_by taken heads)) ≡ false
+      → AreClear peer taken before heads → is_some (open_of (taken_by true taken heads)) ≡ false
   none_open [] taken before clear = clear
   none_open (head ∷ more) taken before clear =
       none_open more (with_taken taken head.message) (before ++ judged_at peer taken head ∷ [])
@@ -243,26 +203,16 @@ module _ (peer : PeerLimits) where
   abbrev contact : Contact
   contact = record { flags = 0 }
 
-  contact_none : contact_flags contact ≡ None
-  unfolding contact_flags
-  contact_none = refl
-
   stream_none : (heads : List Entry) → AreClear peer [] [] heads
       → (let was = walked_of (going true) (Some contact) heads in
       of_messages (broken_from peer [] None (was.events ++ end_events was.taken)) ≡ [])
-  unfolding walked_of
+  unfolding contact_flags
   stream_none heads clear =
-      ap (λ (was : Walked).
-      of_messages (broken_from peer [] None (was.events ++ end_events was.taken)))
-      (walk_is heads [] (ContactHeader contact ∷ []))
-      ∙ ap (λ opened. of_messages (broken_from peer [] None
-      ((ContactHeader contact ∷ walk_events [] heads) ++ (if opened then LeftOpen ∷ [] else []))))
-      (none_open heads [] [] clear)
-      ∙ ap (λ (events : List WalkEvent). of_messages (broken_from peer [] None events))
-      (append-nil (ContactHeader contact ∷ walk_events [] heads))
-      ∙ messages_both (broken_with peer [] None (ContactHeader contact)) _
-      (ap (λ found. of_messages (at_offset 0 (map (λ one. rule.Message one) (optional found))))
-      contact_none)
+      rw (
+        walk_is true (Some contact) heads,
+        none_open heads [] [] clear,
+        append-nil (walk_events true [] heads),
+      )
       (heads_none heads [] [] clear None)
 
 -- ---- rules of closed transfers
@@ -272,6 +222,10 @@ is_of_transfer (rule.Message broken) = false
 is_of_transfer (rule.Transfer id (transfer_rule.Unfinished size)) = false
 is_of_transfer (rule.Transfer id broken) = true
 is_of_transfer (rule.Bundle where_it_is broken) = false
+
+abbrev transfer_choice : Choice
+transfer_choice =
+    record { chosen = is_of_transfer; no_message = λ broken. refl; no_unfinished = λ id size. refl }
 
 abbrev of_transfers : List RuleText → List RuleText
 of_transfers lines = filter (λ (line : RuleText). is_of_transfer line.rule) lines
@@ -289,10 +243,10 @@ of_good_bundle offset where_it_is (one ∷ more) = of_good_bundle offset where_i
 
 module _ (peer : PeerLimits) where
   abbrev rules : List Placed → List RuleText
-  rules placed = rules_of is_of_transfer (λ broken. refl) (λ id size. refl) peer placed
+  rules placed = rules_of transfer_choice peer placed
 
   due_none : (placed : Placed) → BreaksNone placed.transfer
-      → due_of is_of_transfer (λ broken. refl) (λ id size. refl) peer placed ≡ []
+      → due_of transfer_choice peer placed ≡ []
   due_none placed none = by_closed placed.transfer.closed
     where
       by_closed : (closed : Bool)
@@ -321,31 +275,15 @@ only_bundles : (lines : List RuleText) → of_messages lines ≡ [] → of_trans
     → same.of_bundles lines ≡ lines
 only_bundles [] messages transfers = refl
 only_bundles (line ∷ more) messages transfers =
-    by_rule line.rule refl (only_bundles more) messages transfers
+    by_rule line.rule (only_bundles more) messages transfers
   where
-    by_rule : (broken : BrokenRule) → line.rule ≡ broken
+    by_rule : (broken : BrokenRule)
         → (of_messages more ≡ [] → of_transfers more ≡ [] → same.of_bundles more ≡ more)
-        → of_messages (record { offset = line.offset; rule = broken } ∷ more) ≡ []
-        → of_transfers (record { offset = line.offset; rule = broken } ∷ more) ≡ []
-        → same.of_bundles (record { offset = line.offset; rule = broken } ∷ more)
-        ≡ record { offset = line.offset; rule = broken } ∷ more
-    by_rule (rule.Message broken) is rest messages transfers = absurd (cc)
-    by_rule (rule.Transfer id (transfer_rule.Unfinished size)) is rest messages transfers =
-        absurd (cc)
-    by_rule (rule.Transfer id transfer_rule.LengthItem) is rest messages transfers = absurd (cc)
-    by_rule (rule.Transfer id (transfer_rule.LengthDiffers total size)) is rest messages transfers =
-        absurd (cc)
-    by_rule (rule.Transfer id transfer_rule.LengthOfOneSegment) is rest messages transfers =
-        absurd (cc)
-    by_rule (rule.Transfer id (transfer_rule.Bundle fault byte)) is rest messages transfers =
-        absurd (cc)
-    by_rule (rule.Transfer id (transfer_rule.NotRead fault byte)) is rest messages transfers =
-        absurd (cc)
-    by_rule (rule.Bundle where_it_is broken) is rest messages transfers =
-        ap (λ (lines : List RuleText). record {
-          offset = line.offset;
-          rule = rule.Bundle where_it_is broken;
-        } ∷ lines) (rest messages transfers)
+        → (let lines : List RuleText = record line { rule = broken } ∷ more in
+        of_messages lines ≡ [] → of_transfers lines ≡ [] → same.of_bundles lines ≡ lines)
+    by_rule (rule.Bundle where_it_is broken) rest messages transfers = cc (rest messages transfers)
+    by_rule (rule.Transfer id (transfer_rule.Unfinished size)) rest messages transfers = absurd (cc)
+    by_rule broken rest messages transfers = absurd (cc)
 
 -- ---- the transfers of a packed stream
 
@@ -453,14 +391,14 @@ module _ (options : PackOptions) (bytes : List ℕ) (is_packed : IsPacked option
       (subst (AreClear peer [] []) (sym (append-nil (packed_entries options all_bundles)))
       (packed_clear options peer allows keeps bundles is_packed.divides.bundles))
 
-  placed : AfterAll is_of_transfer (λ broken. refl) (λ id size. refl) peer [] [] None
+  placed : AfterAll transfer_choice peer [] [] None
       (same.events peer stream clean)
-  placed = same.placed_by peer stream clean is_of_transfer (λ broken. refl) (λ id size. refl)
+  placed = same.placed_by peer stream clean transfer_choice
 
   transfers : transfers_in placed.after ≡ onto options 0 bundles []
   unfolding placed
   transfers =
-      same.transfers_by peer stream clean is_of_transfer (λ broken. refl) (λ id size. refl)
+      same.transfers_by peer stream clean transfer_choice
       ∙ (unpacked_in_order all (heads_of (reading_of stream)) (reading_read stream).heads
       is_packed.carries.in_order).made
       ∙ is_packed.carries.makes

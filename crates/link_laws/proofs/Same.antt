@@ -4,7 +4,6 @@ use Rattle.std.specs.List.{fold}
 use Rattle.std.proofs.Math.Bool.{and-true, and-false, and_assoc}
 use Rattle.std.proofs.lemmas.List.Folds.{list_all-append}
 use Rattle.std.proofs.Math.Path.{fun_ext}
-use Rattle.link_wire.specs.Message.{data_length}
 use Rattle.link_wire.specs.Stream.{Entry, End, Clean, Cut, Fault, Reading, reading_of, cut_heads, heads_of}
 use Rattle.link_wire.specs.declared.message.Contact.{Contact}
 use Rattle.link_wire.specs.declared.message.Message.{Message}
@@ -13,7 +12,7 @@ use Rattle.link_transfer.specs.Order.{refusal, with_taken}
 use Rattle.link_transfer.specs.declared.fault.OrderFault.{OrderFault}
 use Rattle.link_run.specs.Made.{StreamStop, Made, whole_by, so_far_by, shows_fault, stop_of, tool_of}
 use Rattle.link_run.specs.Run.{Texts, Outcome, Tool}
-use Rattle.link_walk.specs.Walk.{head_at, WalkEvent, LeftOpen, head_events, content_events, Walked, taken_with, with_judged, with_next, contact_events, walked_of, end_events, told_by, told_of, stop_by}
+use Rattle.link_walk.specs.Walk.{WalkEvent, LeftOpen, Walked, with_judged, with_next, contact_events, walked_of, end_events, told_by, told_of, stop_by}
 use Rattle.link_walk.specs.declared.consumer.Manner.{Manner}
 use Rattle.link_laws.specs.Transfers.{Ordered, ordered_by, ordered_after, ordered, settled, are_good, abandoned_line, unpacking_by, Unpacked, none_unpacked, with_head, unpacked_of, going_on_by, made_of, by_transfers}
 use Rattle.link_unpack.specs.Transfers.{Transfer}
@@ -25,6 +24,7 @@ use Rattle.link_laws.proofs.Accepted.{accepted_read, accepted_in_order, all_in_o
 use Rattle.link_laws.proofs.Due.{latest_open, all_good, goods_due, abandoned_due, settled_all, goods_are}
 use Rattle.link_laws.proofs.InOrder.{not_stray, taken_more, unpacked_in_order, made_in_order}
 use Rattle.link_laws.proofs.OneHead.{KnowsWhole, added, through, heads_whole}
+use Rattle.link_laws.proofs.PlainHeads.{judged_taken, events_at}
 use Rattle.link_laws.proofs.Telling.{told_as}
 use Rattle.link_laws.proofs.Whole.{FitsData, AreRead, ReadingReads, reading_read}
 
@@ -36,19 +36,8 @@ manner goes_on = record { goes_on = goes_on; all_heads = false }
 abbrev started : List Message → List WalkEvent → Walked
 started taken events = record { taken = taken; events = events; refused = None }
 
-abbrev events_at : List Message → Entry → List WalkEvent
-events_at taken head =
-    let at = head_at taken head.offset head.message in
-    head_events false at ++ content_events at.turn (data_length head.message) head.content
-
 abbrev walk_from : Bool → Walked → List Entry → Walked
 walk_from goes_on from heads = fold (with_next (manner goes_on)) from heads
-
--- a run that goes on takes any head
-judged_taken : (refused : Option OrderFault) (from : Walked) (head : Entry)
-    → with_judged refused (manner true) from head ≡ taken_with (manner true) from head
-judged_taken None from head = refl
-judged_taken (Some fault) from head = refl
 
 good_parts : (before in_order ordered more : Bool)
     → (((before && in_order) && ordered) && more) ≡ ((before && more) && (in_order && ordered))
@@ -77,9 +66,9 @@ module _ (wanted : Wanted) where
       let refused = refusal u.taken (event_of head.message) in
       let before = u.report ++ order_line head.offset refused in
       record {
-        events = so.events ++ events_at u.taken head;
-        told = told_push wanted so.events (events_at u.taken head)
-            ∙ ap (λ t. told_then wanted t (events_at u.taken head)) so.told
+        events = so.events ++ events_at false u.taken head;
+        told = told_push wanted so.events (events_at false u.taken head)
+            ∙ ap (λ t. told_then wanted t (events_at false u.taken head)) so.told
             ∙ new.told u.report (settled_good u && u.in_order)
             ∙ told_as _ _ _ _ _ (ap (λ (xs : List ℕ). before ++ xs) (sym new.lines))
             (good_parts (settled_good u) u.in_order (not (is_some refused)) (all_good new.entries)
@@ -87,7 +76,7 @@ module _ (wanted : Wanted) where
             (sym (ap all_good new.settles
             ∙ list_all-append _ (entries_of wanted (settled u.transfers)) new.entries)));
         walked = ap (λ w. walk_from true w more)
-            (sym (judged_taken refused (started u.taken so.events) head))
+            (sym (judged_taken false refused (started u.taken so.events) head))
             ∙ so.walked;
       }
 
@@ -135,13 +124,13 @@ unfolding ordered_after
 ordered_walk [] taken events = refl
 ordered_walk (head ∷ more) taken events =
     by_refusal (refusal taken (event_of head.message)) refl
-    (ordered_walk more (with_taken taken head.message) (events ++ events_at taken head))
+    (ordered_walk more (with_taken taken head.message) (events ++ events_at false taken head))
   where
     from : Walked
     from = started taken events
 
     next : Walked
-    next = started (with_taken taken head.message) (events ++ events_at taken head)
+    next = started (with_taken taken head.message) (events ++ events_at false taken head)
 
     by_refusal : (refused : Option OrderFault) → refusal taken (event_of head.message) ≡ refused
         → walk_from false next more ≡ walk_order (ordered_after next.taken more) next
@@ -156,7 +145,7 @@ ordered_walk (head ∷ more) taken events =
         ∙ ap (λ ms. walk_order (ordered_after ms more) next)
         (taken_more taken head.message (not_stray taken (event_of head.message) is))
         ∙ ap (λ w. ended_at order.refused (walk_from true w order.heads))
-        (sym (judged_taken (refusal taken (event_of head.message)) from head)))
+        (sym (judged_taken false (refusal taken (event_of head.message)) from head)))
 
 -- ---- what is made of a stream
 
@@ -337,13 +326,9 @@ module _ (wanted : Wanted) where
     same_by true = going_same
     same_by false = ending_same order.refused refl
 
-  same_made : (bytes : List ℕ)
-      → SameMade (unpacking_of wanted bytes) (by_transfers wanted bytes)
-  unfolding told_of by_transfers
-  same_made bytes = same_by (reading_of bytes) (reading_read bytes) wanted.keep_going
-
   -- what `unpack` says of the events of a stream is what the transfers of the stream make
   pub same_tool : unpack_tool wanted ≡ tool_of (by_transfers wanted)
+  unfolding told_of by_transfers
   same_tool =
       let tool : (List ℕ → Outcome × Texts × Bool) → Tool = λ parts. record {
         whole = λ bytes. (parts bytes).0;
@@ -351,7 +336,8 @@ module _ (wanted : Wanted) where
         shows = λ bytes. (parts bytes).2;
       } in
       ap tool (fun_ext (λ bytes.
-      same_parts (unpacking_of wanted bytes) (by_transfers wanted bytes) (same_made bytes)
+      same_parts (unpacking_of wanted bytes) (by_transfers wanted bytes)
+      (same_by (reading_of bytes) (reading_read bytes) wanted.keep_going)
       (unpacking_of wanted bytes).stop refl))
 
   pub whole_is : (bytes : List ℕ) → (unpack_tool wanted).whole bytes

@@ -10,13 +10,11 @@ use Rattle.link_wire.specs.SpelledStream.{IsReading}
 use Rattle.link_wire.specs.Stream.{Entry, End, Reading, reading_of, heads_of}
 use Rattle.link_wire.specs.declared.message.Contact.{Contact}
 use Rattle.link_transfer.specs.declared.fault.OrderFault.{OrderFault}
-use Rattle.link_transfer.specs.declared.joiner.Turn.{Turn}
-use Rattle.link_transfer.specs.declared.joiner.Turn.TheVariants as turn
 use Rattle.link_run.specs.Made.{StreamStop, Made, whole_by, stop_of}
 use Rattle.link_run.specs.Run.{Texts}
 use Rattle.link_run.specs.Writers.{on_output}
 use Rattle.link_run.proofs.Runs.{texts_as}
-use Rattle.link_walk.specs.Walk.{WalkEvent, MessageHead, LeftOpen, Whole, data_events, Head, head_at, head_events, content_events, contact_events, Walked, taken_with, with_judged, with_entry_unless, with_next, none_walked, walked_of, walked, end_events, has_open, stop_by, told_of}
+use Rattle.link_walk.specs.Walk.{WalkEvent, MessageHead, LeftOpen, Head, head_at, head_events, contact_events, Walked, taken_with, with_judged, with_entry_unless, with_next, none_walked, walked_of, walked, end_events, has_open, stop_by, told_of}
 use Rattle.link_walk.specs.declared.consumer.Manner.{Manner}
 use Rattle.link_unpack.specs.Transfers.{Transfer}
 use Rattle.link_unpack.specs.Unpacking.{Told, told_after, unpacking_of, unpack_tool, parts_of}
@@ -31,6 +29,7 @@ use Rattle.link_laws.proofs.DataSize.{reading_size, order_size}
 use Rattle.link_laws.proofs.EveryByte.{every_byte}
 use Rattle.link_laws.proofs.Following.{closed_at_end}
 use Rattle.link_laws.proofs.GoodBundles.{carries, joined_lines}
+use Rattle.link_laws.proofs.PlainHeads.{content_none}
 use Rattle.link_laws.proofs.Same.{clean_end, clean_told}
 use Rattle.link_laws.proofs.Whole.{AreWhole, reading_read}
 
@@ -45,19 +44,6 @@ module _ (manner : Manner) (stops : manner.goes_on ≡ false) where
   no_lines_both first second one two =
       rw (flat_map-append order_line_of first second, one, two) refl
 
-  data_none : (bytes : List ℕ) (test : Bool)
-      → NoLines (data_events bytes ++ (if test then Whole ∷ [] else []))
-  data_none [] true = refl
-  data_none [] false = refl
-  data_none (byte ∷ bytes) test = data_none bytes test
-
-  content_none : (effect : Option Turn) (size : ℕ) (content : List ℕ)
-      → NoLines (content_events effect size content)
-  content_none None size content = refl
-  content_none (Some turn.Other) size content = refl
-  content_none (Some (turn.Begin abandoned last)) size content = data_none content _
-  content_none (Some (turn.Continue last)) size content = data_none content _
-
   head_none : (head : Head) (test : Bool) → head.fault ≡ None
       → NoLines (if test then MessageHead head ∷ [] else [])
   head_none head true may = rw may refl
@@ -71,7 +57,7 @@ module _ (manner : Manner) (stops : manner.goes_on ≡ false) where
     taken_none may =
         no_lines_both was.events _ none
         (no_lines_both (head_events manner.all_heads here) _ (head_none here _ may)
-        (content_none here.turn (data_length head.message) head.content))
+        (content_none order_line_of (λ byte. refl) refl here.turn (data_length head.message) head.content))
 
     judged_none : (fault : Option OrderFault) → here.fault ≡ fault
         → NoLines (with_judged fault manner was head).events

@@ -11,10 +11,7 @@ use Rattle.link_bundle_types.specs.declared.info.BundleInfo.{BundleInfo}
 use Rattle.link_bundle_rules.specs.declared.rule.BundleRule.{BundleRule}
 use Rattle.link_message_rules.specs.TransferRules.{broken_transfer_rules}
 use Rattle.link_message_rules.specs.declared.limits.PeerLimits.{PeerLimits}
-use Rattle.link_message_rules.specs.declared.rule.MessageRule.{MessageRule}
 use Rattle.link_message_rules.specs.declared.rule.TransferRule.{TransferRule}
-use Rattle.link_message_rules.specs.declared.rule.TransferRule.TheVariants.{Unfinished}
-use Rattle.link_rule_report.specs.declared.rule.BrokenRule.{BrokenRule}
 use Rattle.link_rule_report.specs.declared.line.RuleText.{RuleText}
 use Rattle.link_rule_report.specs.declared.rule.BrokenRule.TheVariants as rule
 use Rattle.link_rule_report.specs.declared.rule.BundlePlace.{BundlePlace}
@@ -24,7 +21,7 @@ use Rattle.link_wire.specs.SpelledStream.{IsReading}
 use Rattle.link_wire.specs.Stream.{Reading, reading_of, heads_of}
 use Rattle.link_run.specs.Made.{Made, whole_by}
 use Rattle.link_run.specs.Run.{Texts}
-use Rattle.link_walk.specs.Walk.{Walked, WalkEvent, walked, end_events, has_open, stop_by, told_of}
+use Rattle.link_walk.specs.Walk.{Walked, WalkEvent, walked, end_events, stop_by, told_of}
 use Rattle.link_unpack.specs.Unpacking.{unpack_tool, parts_of}
 use Rattle.link_bundle_walk.specs.Bundles.{divided}
 use Rattle.link_bundle_walk.proofs.Outcomes.{told_as}
@@ -41,13 +38,17 @@ use Rattle.link_laws.specs.Transfers.{are_good}
 use Rattle.link_laws.proofs.BrokenRules.{options, broken_from, lines_said, good_kept}
 use Rattle.link_laws.proofs.Following.{follow_both, reading_told, end_follows}
 use Rattle.link_laws.proofs.GoodBundles.{divided_all, good_transfer}
-use Rattle.link_laws.proofs.Placed.{after_events, Placed, transfers_in, begun_of, told_transfers, rules_of, due_of, AfterAll, all_after}
+use Rattle.link_laws.proofs.Placed.{after_events, Placed, Choice, transfers_in, begun_of, told_transfers, rules_of, due_of, AfterAll, from_start}
 use Rattle.link_laws.proofs.PlainHeads.{going, quieter, all_matter}
 use Rattle.link_laws.proofs.Same.{walked_on}
 use Rattle.link_laws.proofs.SameLines as recording
 use Rattle.link_laws.proofs.Whole.{reading_read}
 
 -- ---- the rules of bundles among others
+
+abbrev bundle_choice : Choice
+bundle_choice =
+    record { chosen = is_of_bundle; no_message = λ broken. refl; no_unfinished = λ id size. refl }
 
 abbrev pub of_bundles : List RuleText → List RuleText
 of_bundles lines = filter (λ (line : RuleText). is_of_bundle line.rule) lines
@@ -70,10 +71,10 @@ of_bundle offset where_it_is (one ∷ more) =
 
 module _ (peer : PeerLimits) where
   abbrev due : Placed → List RuleText
-  due placed = due_of is_of_bundle (λ broken. refl) (λ id size. refl) peer placed
+  due placed = due_of bundle_choice peer placed
 
   abbrev pub rules : List Placed → List RuleText
-  rules placed = rules_of is_of_bundle (λ broken. refl) (λ id size. refl) peer placed
+  rules placed = rules_of bundle_choice peer placed
 
   module _ (placed : Placed) (info : BundleInfo)
       (good : verdict placed.transfer.content ≡ Ok info)
@@ -189,21 +190,14 @@ module _ (peer : PeerLimits) where
           status = if good then 0 else 1;
         }) (lines_said peer must events none_kept) (good_kept peer must events none_kept)
 
-    none_open : has_open [] ≡ true → ⊥
-    unfolding has_open
-    none_open opened = absurd (cc)
-
     -- the transfers of the recording, and the rules of a choice that they break
-    module _ (chosen : BrokenRule → Bool)
-        (no_message : (broken : MessageRule) → chosen (rule.Message broken) ≡ false)
-        (no_unfinished : (id size : ℕ) → chosen (rule.Transfer id (Unfinished size)) ≡ false) where
-      pub placed_by : AfterAll chosen no_message no_unfinished peer [] [] None events
+    module _ (choice : Choice) where
+      pub placed_by : AfterAll choice peer [] [] None events
       placed_by =
           let told = reading_told (going true) reading (reading_read bytes) in
-          all_after chosen no_message no_unfinished peer events [] [] [] None
+          from_start choice peer events
           (follow_both [] every.events (end_events every.taken) told.follow
           (end_follows every told))
-          (λ opened. absurd (none_open opened))
 
       pub transfers_by : transfers_in placed_by.after ≡ recording.transfers bytes
       transfers_by =
@@ -215,12 +209,12 @@ module _ (peer : PeerLimits) where
           ∙ sym (told_transfers all (recording.events bytes))
           ∙ clean.are
 
-    pub placed : AfterAll is_of_bundle (λ broken. refl) (λ id size. refl) peer [] [] None events
-    placed = placed_by is_of_bundle (λ broken. refl) (λ id size. refl)
+    pub placed : AfterAll bundle_choice peer [] [] None events
+    placed = placed_by bundle_choice
 
     pub same_transfers : transfers_in placed.after ≡ recording.transfers bytes
     unfolding placed
-    same_transfers = transfers_by is_of_bundle (λ broken. refl) (λ id size. refl)
+    same_transfers = transfers_by bundle_choice
 
     pub carries : CarryAll placed.after
     carries = carry_all placed.after (ap are_good same_transfers ∙ clean.good)
@@ -229,21 +223,21 @@ module _ (peer : PeerLimits) where
     unpacks =
         recording.unpacks bytes clean ∙ ap (parts_of all) (sym same_transfers) ∙ carries.parts
 
-    same_by : IsReading bytes reading → InputFits bytes → HasSameRules peer bytes
-    same_by spelled input = record {
-      transfers = carries.transfers;
-      good = carries.good;
-      unpacks = unpacks;
-      broken = broken;
-      recorded = recorded;
-      of_bundles = sym placed.rules ∙ carries.broken;
-      joined = λ must.
-          joined_rules must (unpacked bytes) carries.transfers carries.good unpacks
-          (recording.fits bytes clean spelled input);
-    }
-
   pub same_rules : (bytes : List ℕ)
       → ((bytes : List ℕ) → AreBytes bytes → IsReading bytes (reading_of bytes))
       → InputFits bytes → ((unpack_tool all).whole bytes).status ≡ 0 → HasSameRules peer bytes
   same_rules bytes spelled input is =
-      same_by bytes (recording.clean bytes is) (spelled bytes input.are) input
+      let clean = recording.clean bytes is in
+      let carried_all = carries bytes clean in
+      let joins = unpacks bytes clean in
+      record {
+        transfers = carried_all.transfers;
+        good = carried_all.good;
+        unpacks = joins;
+        broken = broken bytes clean;
+        recorded = recorded bytes clean;
+        of_bundles = sym (placed bytes clean).rules ∙ carried_all.broken;
+        joined = λ must.
+            joined_rules must (unpacked bytes) carried_all.transfers carried_all.good joins
+            (recording.fits bytes clean (spelled bytes input.are) input);
+      }

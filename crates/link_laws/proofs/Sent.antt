@@ -1,5 +1,6 @@
 -- The segments of a transfer are in order, and their chunks are its data.
-use Rattle.std.proofs.Common.{◌≡◌, ℕ, suc, ◌*◌, Bool, true, false, ◌&&◌, List, [], ◌∷◌, ◌++◌, length, take, Option, Some, None, if◌then◌else◌, refl, ap, sym, ◌∙◌, subst, arith}
+use Rattle.std.proofs.Common.{◌≡◌, ℕ, suc, ◌*◌, Bool, true, false, List, [], ◌∷◌, ◌++◌, length, take, Option, Some, None, if◌then◌else◌, refl, ap, sym, ◌∙◌, subst, arith}
+use Rattle.std.proofs.Math.Bool.{and-true}
 use Rattle.std.specs.Prelude.{◌==◌}
 use Rattle.std.proofs.lemmas.Bool.{eq-eqb}
 use Rattle.std.proofs.Math.Seq.{take-add}
@@ -21,15 +22,13 @@ use Rattle.link_laws.proofs.Standing.{Stands, carrying, stands_more}
 
 pub starts_as : (first last : Bool) → is_start (flags_of first last) ≡ first
 starts_as true true = refl
-starts_as true false = refl
 starts_as false true = refl
-starts_as false false = refl
+starts_as first last = refl
 
 pub ends_as : (first last : Bool) → is_end (flags_of first last) ≡ last
 ends_as true true = refl
-ends_as true false = refl
 ends_as false true = refl
-ends_as false false = refl
+ends_as first last = refl
 
 -- a first segment may come if no transfer is open, and another one if its own transfer is open
 pub first_may : (last : Bool) (id : ℕ)
@@ -52,10 +51,6 @@ opens_by first last id = ap (λ test. if test then None else Some id) (ends_as f
 
 -- ---- the transfers after a segment
 
-and_true : (test : Bool) → (test && true) ≡ test
-and_true true = refl
-and_true false = refl
-
 abbrev pub head_of : (id : ℕ) → Sending → (k : ℕ) → SegmentHead
 head_of id sending k = record {
   flags = flags_of (cut_at sending k).first (cut_at sending k).last;
@@ -66,7 +61,7 @@ head_of id sending k = record {
 
 closes_as : (head : SegmentHead) (content : List ℕ) (last : Bool) → is_end head.flags ≡ last
     → length content ≡ head.length → closes head content ≡ last
-closes_as head content last ends size = rw (ends, eq-eqb (length content) head.length size) (and_true last)
+closes_as head content last ends size = rw (ends, eq-eqb (length content) head.length size) (and-true last)
 
 -- a transfer after `count` of its chunks were sent
 abbrev pub sent : (id : ℕ) → Sending → (count : ℕ) → (closed : Bool) → Transfer

@@ -10,8 +10,8 @@ use Rattle.link_transfer.specs.declared.event.Event.{Event}
 use Rattle.link_transfer.specs.declared.joiner.Joiner.{Joiner}
 use Rattle.link_transfer.proofs.Joining.{refusal-at, IsJoinerAt-none, IsJoinerAt-then}
 use Rattle.link_unpack.specs.Transfers.{Transfer, after_message}
-use Rattle.link_laws.specs.Transfers.{transfers_of}
-use Rattle.link_laws.proofs.Orders.{messages_of, AreInOrder, in_order_none, in_order_more}
+use Rattle.link_laws.specs.Transfers.{ordered, ordered_after, transfers_of}
+use Rattle.link_laws.proofs.Orders.{messages_of, AreInOrder, in_order_more}
 
 -- These heads are in order, and these are their transfers. A joiner that accepted their messages
 -- has this value.
@@ -29,8 +29,8 @@ abbrev pub carrying : Option ℕ → Joiner
 carrying transfer = record { initiated = true; terminated = false; transfer = transfer }
 
 pub stands_none : Stands [] fresh []
-unfolding transfers_of
-stands_none = record { in_order = in_order_none; joins = IsJoinerAt-none; makes = refl }
+unfolding ordered ordered_after transfers_of
+stands_none = record { in_order = refl; joins = IsJoinerAt-none; makes = refl }
 
 -- one more head, which may come here
 pub stands_more : (heads : List Entry) (joiner : Joiner) (transfers : List Transfer) (head : Entry)
