@@ -80,9 +80,7 @@ module _ (peer : PeerLimits) where
     unfolding lines_of
     lines_said [] kept = refl
     lines_said (event ∷ more) kept =
-        ap₂ (λ (now later : Texts). now then later)
-        (ap (λ broken. on_output (lines_of must broken)) (broken_same kept event))
-        (lines_said more (kept_with (options must) kept event))
+        cc (broken_same kept event, lines_said more (kept_with (options must) kept event))
         ∙ texts_as (sym (lines_append must (broken_with kept.heads kept.latest event) _)) refl
 
     pub good_kept : (events : List WalkEvent) (kept : Kept)
@@ -94,7 +92,6 @@ module _ (peer : PeerLimits) where
         let now = broken_with kept.heads kept.latest event in
         let later = broken_from (heads_with kept.heads event) (latest_with kept.latest event) more in
         good_kept more (kept_with (options must) kept event)
-        ∙ ap (λ broken. (kept.good && none_counts must broken) && none_counts must later)
-        (broken_same kept event)
+        ∙ cc (broken_same kept event)
         ∙ and_assoc kept.good (none_counts must now) (none_counts must later)
         ∙ ap (λ b. kept.good && b) (sym (counts_append must now later))

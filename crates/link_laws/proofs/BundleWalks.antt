@@ -113,8 +113,7 @@ module _ (telling : BundleTelling) (grows : Grows telling) where
         (λ beyond. subst Judged (sym (beyond_limit limit all beyond))
         (refused_begins bundles begun (take (limit - length begun) run) _ (Longer limit)
         (take-append limit begun run opened.within)))
-        (λ inside. subst Judged (sym (within_limit limit all inside))
-        (judged_begins (verdict all) refl))
+        (λ inside. rw (within_limit limit all inside) (judged_begins (verdict all) refl))
         (cases_lt limit (length all)))
 
   all_begin : (count : ℕ) → AllBegin count

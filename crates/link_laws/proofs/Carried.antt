@@ -80,8 +80,7 @@ module _ (options : PackOptions) where
       let taken : take (suc count * segment_size options) bundle.bytes ≡ bundle.bytes =
       take_all (suc count * segment_size options) bundle.bytes (rw all (all_bytes (segment_size options) (length bundle.bytes) (some_size options))) in
       subst (λ (content : List ℕ). Stands entries (carrying None) (record { first = first; content = content; closed = true } ∷ earlier)) taken
-      (subst (λ (closed : Bool). Stands entries (carrying (open_by number closed)) (sent number whole (suc count) closed ∷ earlier)) last
-      (sent_all number whole earlier count heads offset (omega (arith, all)) at))
+      (rw last at (sent_all number whole earlier count heads offset (omega (arith, all)) at))
 
   stands_bundle : (number : ℕ) (bundle : Packed) (heads : List Entry) (earlier : List Transfer)
       (offset : ℕ) → 0 < length bundle.bytes
@@ -140,8 +139,7 @@ module _ (options : PackOptions) where
       let going : last_at number part count ≡ false = ap (λ whole. whole && (count + 1 == chunk_count part.segment (length part.bundle))) goes in
       let entries = heads ++ segment_entries number part 0 (suc count) offset in
       carried_as entries (entries ++ []) (sent number part (suc count) false ∷ earlier) (sym (append-nil entries))
-      (subst (λ (closed : Bool). Stands entries (carrying (open_by number closed)) (sent number part (suc count) closed ∷ earlier)) going
-      (sent_all number part earlier count heads offset few at))
+      (rw going at (sent_all number part earlier count heads offset few at))
 
   carried_rest : (number : ℕ) (rest : Option Rest) (heads : List Entry) (earlier : List Transfer)
       (offset after : ℕ) → Stands heads (carrying None) earlier
@@ -159,5 +157,6 @@ module _ (options : PackOptions) where
       → AreCarried (packed_entries options input) (packed_transfers input)
   packed_carried input are =
       carried_rest (length input.bundles) input.rest _ (onto 0 input.bundles []) _ _
-      (stands_bundles 0 input.bundles (init_entry options ∷ []) [] (6 + length (init_bytes options)) are
+      (stands_bundles 0 input.bundles (init_entry options ∷ []) []
+      (6 + length (init_bytes options)) are
       (stands_more [] fresh [] (init_entry options) SessInit refl refl stands_none))

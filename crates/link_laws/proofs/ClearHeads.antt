@@ -77,7 +77,8 @@ module _ (peer : PeerLimits) (before : List JudgedHead) where
         → broken_rules peer before segment_head ≡ []
     unfolding broken_rules node_id order before_session interleaved ack_length keepalive term_flags
     segment_clear none new short within =
-        rw (items_none, none_if (has_sess_init (messages_of before)), none, flags_none, new, short, within)
+        rw (items_none, none_if (has_sess_init (messages_of before)), none, flags_none, new)
+        (rw (short, within))
 
   -- ---- messages that are no segments
 

@@ -298,7 +298,8 @@ module _ (options : PackOptions) (peer : PeerLimits) (allows : AllowsLimits opti
       → AfterSegment id begun peer (last_at id whole k) (size_at (suc k)) taken before
       (entry offset (message_of id whole k) (chunk_of whole k))
   step zero offset taken before at =
-      let same : length (chunk_of whole 0) ≡ size_at 1 = ap length (taken_first whole.segment bundle) in
+      let same : length (chunk_of whole 0) ≡ size_at 1 =
+      ap length (taken_first whole.segment bundle) in
       subst (λ size. AfterSegment id begun peer (last_at id whole 0) size taken before
       (entry offset (message_of id whole 0) (chunk_of whole 0))) same
       (first_after peer id (last_at id whole 0) offset (chunk_of whole 0)

@@ -47,8 +47,7 @@ module _ (keep_going : Bool) where
   head_added effect stray head rest transfers none same (Strays is) = rw (same, is) refl
   head_added effect stray head rest transfers none same (Passes is other) =
       rw (same, is, transfers_same transfers head.message head.content other)
-      (ap (λ (xs : List ℕ). parts transfers ++ (xs ++ flat_map data_of rest))
-      (sym (none is)))
+      (cc (none is))
   head_added effect stray head rest transfers none same
       (Begins first abandoned is starts does also) =
       rw (same, does, is, transfer_begins transfers first head.content starts, parts_more)
@@ -65,8 +64,7 @@ module _ (keep_going : Bool) where
         parts_more everything new earlier,
         parts_more everything latest earlier,
       )
-      (ap (λ (xs : List ℕ). xs ++ flat_map data_of rest)
-      (sym (append_assoc (parts earlier) latest.content head.content))
+      (cc (append_assoc (parts earlier) latest.content head.content)
       ∙ append_assoc (parts earlier ++ latest.content) head.content (flat_map data_of rest))
 
   -- the bytes so far, and then those of the heads to come

@@ -76,8 +76,7 @@ module _ (options : PackOptions) where
       let good = judged_good number bundle are.0.is in
       let rest = good_lines (suc number) (start + size) more in
       lines_onto (suc number) more (latest ∷ earlier) are.1
-      ∙ ap (λ (n : ℕ). (lines_of all earlier ++ line_of all latest earlier)
-      ++ good_lines (suc number) n more) (parts_length number bundle earlier)
+      ∙ cc (parts_length number bundle earlier)
       ∙ append_assoc (lines_of all earlier) (line_of all latest earlier) rest
       ∙ ap (λ j. lines_of all earlier ++ (transfer_text (record { id = number; start = start; written = size; length = size; judgement = j }) ++ rest)) good
 
@@ -111,11 +110,9 @@ module _ (options : PackOptions) (bytes : List ℕ) (is_packed : IsPacked option
   unfolding by_transfers
   unpacked =
       whole_is all stream
-      ∙ ap₂ (λ (end : End) (order : Ordered). whole_of (unpacking_by all end order))
-      (ap (λ (r : Reading). r.end) is_packed.reads) is_packed.carries.in_order
+      ∙ cc (is_packed.reads, is_packed.carries.in_order)
       ∙ ap over_clean is_packed.carries.makes
-      ∙ ap (λ r. over_clean (rest_onto options (length bundles) r (onto options 0 bundles [])))
-      (nothing_left options bytes clean)
+      ∙ cc (nothing_left options bytes clean)
 
   pub gives_back : GivesBack options bytes stream
   unfolding parts_of lines_of are_good
@@ -126,6 +123,5 @@ module _ (options : PackOptions) (bytes : List ℕ) (is_packed : IsPacked option
             ∙ parts_onto options 0 bundles [] ∙ so.whole (nothing_left options bytes clean);
         report = ap (λ (o : Outcome). o.texts.report) unpacked
             ∙ lines_onto options 0 bundles [] so.bundles;
-        status = ap (λ (o : Outcome). o.status) unpacked
-            ∙ ap (λ good. if good then 0 else 1) (good_onto options 0 bundles [] so.bundles refl);
+        status = cc (unpacked, good_onto options 0 bundles [] so.bundles refl);
       }

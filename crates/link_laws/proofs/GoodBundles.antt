@@ -92,8 +92,7 @@ module _ {A : Type 0} (bundle_of : A → Packed) where
       let size = length-append bundle.bytes rest in
       divided_whole limit bundle.bytes rest bundle.info (good_prefix bundle.bytes bundle.info first)
       first (omega arith)
-      ∙ ap (with_bundle bundle)
-      (divided_all limit more (All-tail HasGood item more good) (omega arith))
+      ∙ cc (divided_all limit more (All-tail HasGood item more good) (omega arith))
 
 lines_renumbered : (from : ℕ) (bundles : List Numbered)
     → bundle_lines from (map (λ numbered. numbered.1) bundles)
@@ -114,9 +113,7 @@ joined_lines bytes bundles good is few =
     } =
     ap (divided bundle_limit) is
     ∙ divided_all (λ (numbered : Numbered). numbered.1) bundle_limit bundles good (rw (← is) few) in
-    ap (λ (made : Made). whole_by made.stop made) (told_as bundle_blocks_telling bytes _ divides)
-    ∙ ap (λ (lines : List ℕ). record { texts = on_output lines; status = 0 })
-    (lines_renumbered 0 bundles)
+    cc (told_as bundle_blocks_telling bytes _ divides, lines_renumbered 0 bundles)
 
 -- ---- good transfers
 
@@ -192,19 +189,14 @@ one_more latest earlier info is judged before =
       good = All-append IsGood before.bundles one before.good
           (All-cons IsGood (id, bundle) [] is (All-nil IsGood));
       lines =
-          ap (λ (lines : List ℕ). lines ++ (block_lines id latest.content ++ end_line latest))
-          before.lines
-          ∙ ap (λ judgement. lines_under before.bundles
-          ++ (block_lines id latest.content ++ end_text id (length latest.content) judgement))
-          judged
-          ∙ ap (λ (lines : List ℕ). lines_under before.bundles ++ lines)
-          (sym (append-nil (whole_lines id bundle)))
-          ∙ sym (flat_map-append (λ (n : Numbered). whole_lines n.0 n.1) before.bundles one);
+          cc (
+            before.lines,
+            judged,
+            append-nil (whole_lines id bundle),
+            flat_map-append (λ (n : Numbered). whole_lines n.0 n.1) before.bundles one,
+          );
       parts =
-          ap (λ (bytes : List ℕ). bytes ++ latest.content) before.parts
-          ∙ ap (λ (bytes : List ℕ). flat_map bytes_in before.bundles ++ bytes)
-          (sym (append-nil latest.content))
-          ∙ sym (flat_map-append bytes_in before.bundles one);
+          cc (before.parts, append-nil latest.content, flat_map-append bytes_in before.bundles one);
     }
 
 pub carries : (transfers : List Transfer) → are_good transfers ≡ true → Carries transfers

@@ -58,8 +58,7 @@ module _ (wanted : Wanted) where
         in_order = rw (first.0, so.in_order) refl;
         report = ap (λ (xs : List ℕ). (u.report ++ order_line head.offset refused) ++ xs) new.lines
             ∙ ap (λ r. (u.report ++ order_line head.offset r) ++ lines) first.0
-            ∙ ap (λ (xs : List ℕ). xs ++ lines)
-            (append-nil u.report ∙ so.report ∙ lines_are wanted (settled u.transfers))
+            ∙ cc (append-nil u.report, so.report, lines_are wanted (settled u.transfers))
             ∙ sym (flat_map-append transfer_text (entries_of wanted (settled u.transfers)) _)
             ∙ ap (flat_map transfer_text) (sym new.settles)
             ∙ sym (lines_are wanted (settled after));

@@ -143,8 +143,7 @@ keeps options bytes is =
       clean = ap (λ (r : Reading). (whole_of (listing_by r)).status) is.reads;
       in_order = is.carries.in_order;
       segments =
-          subst (λ (r : Reading). All (Fits options) r.entries) (sym is.reads)
-          (packed_fits options whole);
+          rw is.reads (packed_fits options whole);
       transfers =
           subst (All (TransferFits options)) (sym is.carries.makes)
           (rest_kept options (length whole.bundles) whole.rest _ parts.rest

@@ -126,8 +126,7 @@ module _ (options : PackOptions) (bytes : List ℕ) (is_packed : IsPacked option
   listing_is : list_tool.whole (packed options bytes).texts.output ≡ listing_with None
   unfolding listing_of
   listing_is =
-      ap (λ (r : Reading). whole_of (listing_by r)) is_packed.reads
-      ∙ ap listing_with (nothing_left options bytes clean)
+      cc (is_packed.reads, nothing_left options bytes clean)
 
   pub listed : IsListed options bytes (packed options bytes).texts.output
   listed =

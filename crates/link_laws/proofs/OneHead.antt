@@ -79,14 +79,12 @@ module _ (wanted : Wanted) (offset : ℕ) (fault : Option OrderFault) (content :
     texts_due : line_due wanted abandoning transfers ++ line_due wanted closing after
         ≡ flat_map transfer_text due
     texts_due =
-        ap₂ (λ (xs ys : List ℕ). xs ++ ys) (lines_due wanted abandoning transfers)
-        (lines_due wanted closing after)
+        cc (lines_due wanted abandoning transfers, lines_due wanted closing after)
         ∙ sym (flat_map-append transfer_text (entries_due wanted abandoning transfers) _)
 
     all_due : (good_due abandoning transfers && good_due closing after) ≡ all_good due
     all_due =
-        ap₂ (λ (a b : Bool). a && b) (goods_due wanted abandoning transfers)
-        (goods_due wanted closing after)
+        cc (goods_due wanted abandoning transfers, goods_due wanted closing after)
         ∙ sym (list_all-append _ (entries_due wanted abandoning transfers) _)
 
     adds : ((report : List ℕ) (good : Bool)
@@ -174,9 +172,7 @@ module _ (wanted : Wanted) (offset : ℕ) (fault : Option OrderFault) (content :
           closed_due wanted (closes head content) new transfers,
         ) refl)
         (rw is (sym (closed_last wanted (closes head content) new transfers)
-        ∙ ap (λ (es : List TransferEntry).
-        es ++ entries_due wanted (closes head content) (new ∷ transfers))
-        (sym (settled_all wanted transfers))
+        ∙ cc (settled_all wanted transfers)
         ∙ append_assoc (entries_of wanted (settled transfers))
         (entries_due wanted (latest_open transfers) transfers) _))
         not_closed
@@ -265,9 +261,7 @@ module _ (wanted : Wanted) (u : Unpacked) (head : Entry) (whole : KnowsWhole u)
   pub whole_after : length head.content ≡ data_length head.message
       → KnowsWhole (with_head wanted u head)
   whole_after all =
-      added.opened all
-      ∙ ap (open_with (effect_of u.taken happened) (is_last (effect_of u.taken happened))) whole
-      ∙ sym (open_then u.taken head.message)
+      cc (added.opened all, whole, open_then u.taken head.message)
 
 -- ---- heads, one by one
 
@@ -288,8 +282,7 @@ module _ (wanted : Wanted) (P : Unpacked → List Entry → Type 0)
       ⊎_elim
       (λ all. through_from more next read.2 (whole_after wanted u head whole read.0 all) then_so)
       (λ none.
-      subst (λ es. P (fold (with_head wanted) next es) []) (sym none)
-      (subst (P next) none then_so))
+      rw none (subst (P next) none then_so))
       read.1
 
   pub through : (heads : List Entry) → AreRead heads → P none_unpacked heads

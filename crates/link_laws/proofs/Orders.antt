@@ -55,8 +55,7 @@ more_ordered before (head ∷ heads) last are may =
     let seen = before ++ head.message ∷ [] in
     rw first.0
     (ap (ordered_by None head) (more_ordered seen heads last first.1
-    (ap (λ ms. refusal ms (event_of last.message))
-    (append_assoc before (head.message ∷ []) (messages_of heads)) ∙ may)))
+    (cc (append_assoc before (head.message ∷ []) (messages_of heads), may))))
 
 pub in_order_more : (heads : List Entry) (head : Entry) → AreInOrder heads
     → refusal (messages_of heads) (event_of head.message) ≡ None → AreInOrder (heads ++ head ∷ [])

@@ -52,8 +52,7 @@ module _ (wanted : Wanted) where
       → (fold (told_event wanted) told events).transfers ≡ after_events told.transfers events
   told_all [] told = refl
   told_all (event ∷ more) told =
-      told_all more (told_event wanted told event)
-      ∙ ap (λ transfers. after_events transfers more) (told_one told event)
+      cc (told_all more (told_event wanted told event), told_one told event)
 
   -- the transfers of which `unpack` has told
   pub told_transfers : (events : List WalkEvent)
@@ -97,7 +96,8 @@ module _ (choice : Choice) (peer : PeerLimits) where
 
   choice_both : (first second : List RuleText)
       → chosen_in (first ++ second) ≡ chosen_in first ++ chosen_in second
-  choice_both first second = filter-append (λ (line : RuleText). choice.chosen line.rule) first second
+  choice_both first second =
+      filter-append (λ (line : RuleText). choice.chosen line.rule) first second
 
   -- the chosen rules that a transfer breaks, if it is closed
   abbrev pub due_of : Placed → List RuleText
@@ -330,12 +330,8 @@ module _ (choice : Choice) (peer : PeerLimits) where
         are = rest.are
             ∙ ap (λ transfers. after_events transfers (mattering more)) now.are
             ∙ quiet_one (transfers_in placed) event more now.quiet;
-        rules = rest.rules
-            ∙ ap (λ (lines : List RuleText). lines ++ chosen_in (broken_from peer (heads_with heads event)
-            (latest_with latest event) more)) now.rules
-            ∙ append_assoc (rules_of placed) (chosen_in broken) _
-            ∙ ap (λ (lines : List RuleText). rules_of placed ++ lines)
-            (sym (choice_both broken _));
+        rules = rw (rest.rules, now.rules, choice_both broken)
+            (append_assoc (rules_of placed) (chosen_in broken) _);
       }
 
   -- all events of a stream

@@ -38,8 +38,7 @@ bytes_matter : (bytes : List ℕ) (test : Bool)
     ≡ data_events bytes ++ (if test then Whole ∷ [] else [])
 bytes_matter bytes test =
     filter-append matters (data_events bytes) (if test then Whole ∷ [] else [])
-    ∙ ap₂ (λ (first second : List WalkEvent). first ++ second) (data_matter bytes)
-    (whole_matters test)
+    ∙ cc (data_matter bytes, whole_matters test)
 
 content_matters : (effect : Option Turn) (size : ℕ) (content : List ℕ)
     → mattering (content_events effect size content) ≡ content_events effect size content
@@ -164,6 +163,5 @@ quieter contact heads =
 pub all_matter : (few every : Walked) → IsQuieter few every
     → few.events ++ end_events few.taken ≡ mattering (every.events ++ end_events every.taken)
 all_matter few every so =
-    ap₂ (λ (first second : List WalkEvent). first ++ second) so.events
-    (ap end_events so.taken ∙ sym (end_matters _))
+    cc (so.events, so.taken, end_matters _)
     ∙ sym (filter-append matters every.events (end_events every.taken))

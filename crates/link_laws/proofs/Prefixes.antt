@@ -26,8 +26,7 @@ module _ (before after : Made) (on : MadeOn before after) where
       → AreFronts (so_far_by before.stop before.texts) (whole_by after.stop after).texts
   shown_first shown =
       fronts_same _ _
-      (shown_sofar before.stop before shown
-      ∙ sym (ap (λ (m : Made). (whole_by m.stop m).texts) (on.stays shown)))
+      (cc (shown_sofar before.stop before shown, on.stays shown))
 
   sofar_first : AreFronts (so_far_by before.stop before.texts) (whole_by after.stop after).texts
   sofar_first =

@@ -54,6 +54,5 @@ module _ (options : PackOptions) (bytes : List ℕ) where
         divides = divides;
         reads = reads;
         carries =
-            subst (λ (all : List Entry). AreCarried options all (packed_transfers options input))
-            (sym heads) (packed_carried options input divides.bundles);
+            rw heads (packed_carried options input divides.bundles);
       }

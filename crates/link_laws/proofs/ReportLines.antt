@@ -162,6 +162,5 @@ cuts_on wanted bytes =
       faults = all.faults_are;
       entries = all.entries;
       divides =
-          subst (λ (o : Outcome). Divides now o.texts.output (lined stop u.transfers)) (sym whole)
-          (cut_by_lines now stop (by_transfers now bytes) u.transfers refl refl);
+          rw whole (cut_by_lines now stop (by_transfers now bytes) u.transfers refl refl);
     }

@@ -228,8 +228,7 @@ module _ (wanted : Wanted) where
     end_told whole =
         told_push wanted walked.events (end_events walked.taken)
         ∙ ap (λ told. told_then wanted told (end_events walked.taken)) walked_told
-        ∙ ap (λ (w : Walked). told_then wanted (said wanted u) (end_events w.taken))
-        (sym tells.walked)
+        ∙ cc (tells.walked)
         ∙ end_said u whole
 
   -- ---- both kinds of runs
@@ -272,11 +271,7 @@ module _ (wanted : Wanted) where
         ≡ walked_of (manner true) reading.contact heads
     walked_same none =
         let tells = heads_tell wanted reading.contact heads reads.heads in
-        walked_ordered
-        ∙ ap (λ (o : Ordered). ended_at o.refused (walked_of (manner true) reading.contact o.heads))
-        (all_in_order heads none)
-        ∙ ap (λ r. ended_at r (walked_of (manner true) reading.contact heads))
-        (sym (unrefused _ _ tells))
+        cc (walked_ordered, all_in_order heads none, unrefused _ _ tells)
 
     -- the same, if no head ended the walk
     pub walked_on : (walked_of (manner false) reading.contact heads).refused ≡ None

@@ -25,8 +25,7 @@ module _ (wanted : Wanted) where
   line_same false transfers = refl
   line_same true [] = refl
   line_same true (latest ∷ earlier) =
-      ap (λ (parts : List ℕ). transfer_text (entry_of wanted latest (length parts)))
-      (parts_same earlier)
+      cc (parts_same earlier)
 
   event_same : (told : Told) (event : WalkEvent)
       → told_event (going_on wanted) told event ≡ told_event (stopping wanted) told event
@@ -40,8 +39,7 @@ module _ (wanted : Wanted) where
       → told_after (going_on wanted) events ≡ told_after (stopping wanted) events
   unfolding told_after
   told_same events =
-      ap (λ (next : Told → WalkEvent → Told). fold next none_told events)
-      (fun_ext (λ told. fun_ext (event_same told)))
+      cc (fun_ext (λ told. fun_ext (event_same told)))
 
   made_same : (end : End) (walked : Walked) → told_by (unpack_telling (going_on wanted)) end walked
       ≡ told_by (unpack_telling (stopping wanted)) end walked
@@ -51,6 +49,4 @@ module _ (wanted : Wanted) where
   unfolding told_of
   same bytes none =
       let reading = reading_of bytes in
-      ap (told_by (unpack_telling (going_on wanted)) reading.end)
-      (sym (walked_same wanted reading (reading_read bytes) none))
-      ∙ made_same reading.end _
+      cc (walked_same wanted reading (reading_read bytes) none, made_same reading.end _)

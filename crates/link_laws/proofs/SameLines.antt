@@ -57,7 +57,8 @@ module _ (manner : Manner) (stops : manner.goes_on ≡ false) where
     taken_none may =
         no_lines_both was.events _ none
         (no_lines_both (head_events manner.all_heads here) _ (head_none here _ may)
-        (content_none order_line_of (λ byte. refl) refl here.turn (data_length head.message) head.content))
+        (content_none order_line_of (λ byte. refl) refl here.turn (data_length head.message)
+        head.content))
 
     judged_none : (fault : Option OrderFault) → here.fault ≡ fault
         → NoLines (with_judged fault manner was head).events
@@ -142,8 +143,7 @@ module _ (bytes : List ℕ) where
     pub unpacks : unpacked bytes ≡ parts_of all transfers
     unfolding told_of
     unpacks =
-        ap (λ stop. (whole_by stop (unpacking_of all bytes)).texts.output) is.stop
-        ∙ ap (parts_of all) is.are
+        cc (is.stop, is.are)
 
     pub whole_heads : AreWhole (heads_of reading)
     whole_heads = rw (clean_end reading.end is.end, append-nil) (reading_read bytes).whole
@@ -163,20 +163,13 @@ module _ (bytes : List ℕ) where
 
     said : lines_of None (has_open events) told.transfers ≡ lines_of None false transfers
     said =
-        ap (λ opened. lines_of None opened told.transfers)
-        (closed_at_end stopping reading.contact (heads_of reading) whole_heads)
-        ∙ ap (lines_of None false) is.are
+        cc (closed_at_end stopping reading.contact (heads_of reading) whole_heads, is.are)
 
     shows : (blocks_tool shown).whole bytes
         ≡ record { texts = on_output (lines_of None false transfers); status = 0 }
     unfolding told_of
     shows =
-        ap (λ stop. whole_by stop (blocks_of shown bytes)) is.stop
-        ∙ ap (λ good. record {
-          texts = (blocks_of shown bytes).ended;
-          status = if good then 0 else 1;
-        }) is.told_good
-        ∙ ap (λ (texts : Texts). record { texts = texts; status = 0 }) (texts_as said no_report)
+        cc (is.stop, is.told_good, texts_as said no_report)
 
     pub fits : IsReading bytes reading → InputFits bytes → length (unpacked bytes) ≤ bundle_limit
     fits spelled input =
@@ -201,8 +194,7 @@ module _ (bytes : List ℕ) where
         bundles = carried.bundles;
         good = carried.good;
         unpacks = joins;
-        recorded = shows so
-            ∙ ap (λ (lines : List ℕ). record { texts = on_output lines; status = 0 }) carried.lines;
+        recorded = cc (shows so, carried.lines);
         joined =
             joined_lines (unpacked bytes) carried.bundles carried.good joins
             (fits so (spelled bytes input.are) input);

@@ -61,7 +61,8 @@ head_of id sending k = record {
 
 closes_as : (head : SegmentHead) (content : List ℕ) (last : Bool) → is_end head.flags ≡ last
     → length content ≡ head.length → closes head content ≡ last
-closes_as head content last ends size = rw (ends, eq-eqb (length content) head.length size) (and-true last)
+closes_as head content last ends size =
+    rw (ends, eq-eqb (length content) head.length size) (and-true last)
 
 -- a transfer after `count` of its chunks were sent
 abbrev pub sent : (id : ℕ) → Sending → (count : ℕ) → (closed : Bool) → Transfer

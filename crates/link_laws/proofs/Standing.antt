@@ -44,8 +44,7 @@ stands_more heads joiner transfers head event is may at =
     let after = λ (ts : List Transfer) (h : Entry). after_message ts h.message h.content in
     record {
       in_order = in_order_more heads head at.in_order
-          (ap (refusal (messages_of heads)) is
-          ∙ sym (refusal-at joiner (messages_of heads) event at.joins) ∙ may);
+          (cc (is, refusal-at joiner (messages_of heads) event at.joins, may));
       joins = subst (IsJoinerAt (joiner_after joiner event))
           (sym (map_push (λ (h : Entry). h.message) heads head))
           (IsJoinerAt-then joiner (messages_of heads) head.message event is at.joins);
