@@ -260,9 +260,7 @@ module _ (peer : PeerLimits) (bytes : List ℕ)
       is in
       record {
         unstopped =
-            ap (λ refused. stop_by refused reading.end)
-            (sym (quieter reading.contact heads).unrefused)
-            ∙ both.0;
+            cc ((quieter reading.contact heads).unrefused, both.0);
         none = sym (good_kept peer true (walk.events ++ end_events walk.taken) none_kept) ∙ both.1;
       }
 
@@ -273,8 +271,7 @@ module _ (peer : PeerLimits) (bytes : List ℕ)
 
   faults : All IsSecondInit (faults_after [] heads)
   faults =
-      subst (All IsSecondInit) (heads_faults reading.contact heads)
-      (events_allowed peer walk.events [] None keeps)
+      rw (← heads_faults reading.contact heads) (events_allowed peer walk.events [] None keeps)
 
   -- the heads before the first that is refused
   abbrev accepted : List Entry

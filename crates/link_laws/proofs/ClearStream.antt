@@ -200,10 +200,7 @@ module _ (peer : PeerLimits) (id : ℕ) (begun : SegmentHead) (last : Bool) (off
   unfolding peer_transfer
   next_within None most = refl
   next_within (Some limit) most =
-      ap (λ (segments : List SegmentHead).
-      if_exceeded limit (announced_first continues segments) continues segments) at.segments
-      ∙ ap (λ (first : SegmentHead).
-      if_exceeded limit (announced_of first.items.items) continues (at.last ∷ at.earlier)) at.first
+      cc (at.segments, at.first)
       ∙ exceeds_none limit (announced_of begun.items.items) continues (at.last ∷ at.earlier) most.0
       (omega (arith, at.sized))
 
@@ -275,8 +272,7 @@ module _ (options : PackOptions) (peer : PeerLimits) (allows : AllowsLimits opti
       → message_of id whole k
       ≡ segment_with (flags_of false (last_at id whole k)) id (length (chunk_of whole k)) None
   later_message k later =
-      ap (λ first. segment_with (flags_of first (last_at id whole k)) id (length (chunk_of whole k))
-      (if first then announcement (cutting_of whole) else None)) later
+      cc later
 
   sizes : (k : ℕ) → size_at k + length (chunk_of whole k) ≡ size_at (suc k)
   sizes k =

@@ -80,8 +80,7 @@ of_messages lines = filter (λ (line : RuleText). is_of_message line.rule) lines
 messages_both : (first second : List RuleText) → of_messages first ≡ [] → of_messages second ≡ []
     → of_messages (first ++ second) ≡ []
 messages_both first second one two =
-    filter-append (λ (line : RuleText). is_of_message line.rule) first second
-    ∙ ap₂ (λ (a b : List RuleText). a ++ b) one two
+    cc (filter-append (λ (line : RuleText). is_of_message line.rule) first second, one, two)
 
 module _ (offset : ℕ) where
   abbrev NoneOf : List BrokenRule → Type 0
@@ -184,8 +183,7 @@ module _ (peer : PeerLimits) where
       messages_both (broken_with peer before latest (MessageHead at)) _
       (messages_both
       (at_offset head.offset (map (λ one. rule.Message one) (broken_rules peer before now))) _
-      (ap (λ (broken : List MessageRule).
-      of_messages (at_offset head.offset (map (λ one. rule.Message one) broken))) clear.0)
+      (cc clear.0)
       (closing_none (closes at) (begun_by at latest)))
       (content_none at.turn (data_length head.message) head.content (before ++ now ∷ [])
       (walk_events true (with_taken taken head.message) more)
@@ -384,9 +382,7 @@ module _ (options : PackOptions) (bytes : List ℕ) (is_packed : IsPacked option
 
   messages : of_messages broken ≡ []
   messages =
-      ap (λ (reading : Reading).
-      let was = walked_of (going true) reading.contact (heads_of reading) in
-      of_messages (broken_from peer [] None (was.events ++ end_events was.taken))) reads
+      cc reads
       ∙ stream_none peer (heads_of (packed_reading options all_bundles))
       (subst (AreClear peer [] []) (sym (append-nil (packed_entries options all_bundles)))
       (packed_clear options peer allows keeps bundles is_packed.divides.bundles))

@@ -228,7 +228,7 @@ module _ (wanted : Wanted) where
     end_told whole =
         told_push wanted walked.events (end_events walked.taken)
         ∙ ap (λ told. told_then wanted told (end_events walked.taken)) walked_told
-        ∙ cc (tells.walked)
+        ∙ cc tells.walked
         ∙ end_said u whole
 
   -- ---- both kinds of runs

@@ -63,9 +63,7 @@ of_bundle : (offset : ℕ) (where_it_is : BundlePlace) (rules : List BundleRule)
     ≡ at_offset offset (map (λ one. rule.Bundle where_it_is one) rules)
 of_bundle offset where_it_is [] = refl
 of_bundle offset where_it_is (one ∷ more) =
-    ap (λ (lines : List RuleText).
-    record { offset = offset; rule = rule.Bundle where_it_is one } ∷ lines)
-    (of_bundle offset where_it_is more)
+    cc (of_bundle offset where_it_is more)
 
 -- ---- good transfers
 
@@ -93,10 +91,7 @@ module _ (peer : PeerLimits) where
         (broken_transfer_rules placed.transfer.first (length placed.transfer.content)) in
         let broken = map (λ one. rule.Bundle (place.Transfer id) one)
         (bundle_rules placed.transfer.content info) in
-        ap (λ test. if test then of_bundles (at_offset placed.offset
-        (closed_rules (begun_of placed))) else []) closed
-        ∙ ap (λ said. of_bundles (at_offset placed.offset
-        (of_length ++ data_rules id placed.transfer.content said))) good
+        cc (closed, good)
         ∙ ap of_bundles (map-append (λ one. record { offset = placed.offset; rule = one }) of_length
         broken)
         ∙ filter-append (λ (line : RuleText). is_of_bundle line.rule)
@@ -133,8 +128,7 @@ module _ (peer : PeerLimits) where
             (All-cons IsGood one [] first.is (All-nil IsGood));
         parts =
             ap (λ (bytes : List ℕ). bytes ++ latest.transfer.content) before.parts
-            ∙ ap (λ (bytes : List ℕ). flat_map bytes_in before.transfers ++ bytes)
-            (sym (append-nil latest.transfer.content))
+            ∙ cc (append-nil latest.transfer.content)
             ∙ sym (flat_map-append bytes_in before.transfers (one ∷ []));
         broken =
             ap₂ (λ (first second : List RuleText). first ++ second) before.broken
@@ -183,12 +177,9 @@ module _ (peer : PeerLimits) where
     pub recorded : (must : Bool) → (check_tool (options peer must)).whole bytes ≡ reports must broken
     unfolding told_of
     recorded must =
-        ap (λ stop. whole_by stop (check_of (options peer must) bytes))
-        (ap (λ refused. stop_by refused reading.end) unrefused ∙ clean.end)
-        ∙ ap₂ (λ (texts : Texts) (good : Bool). record {
-          texts = texts;
-          status = if good then 0 else 1;
-        }) (lines_said peer must events none_kept) (good_kept peer must events none_kept)
+        let lines = lines_said peer must events none_kept in
+        let good = good_kept peer must events none_kept in
+        cc (unrefused, clean.end, lines, good)
 
     -- the transfers of the recording, and the rules of a choice that they break
     module _ (choice : Choice) where
@@ -201,11 +192,9 @@ module _ (peer : PeerLimits) where
 
       pub transfers_by : transfers_in placed_by.after ≡ recording.transfers bytes
       transfers_by =
-          placed_by.are
-          ∙ ap (after_events [])
-          (sym (all_matter few every (quieter reading.contact (heads_of reading))))
-          ∙ ap (λ (was : Walked). after_events [] (was.events ++ end_events was.taken))
-          (sym (walked_on all reading (reading_read bytes) clean.unrefused))
+          let matter = all_matter few every (quieter reading.contact (heads_of reading)) in
+          let same = walked_on all reading (reading_read bytes) clean.unrefused in
+          placed_by.are ∙ cc (matter, same)
           ∙ sym (told_transfers all (recording.events bytes))
           ∙ clean.are
 
