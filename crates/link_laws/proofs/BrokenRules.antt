@@ -1,10 +1,9 @@
 -- The rules that `check` finds broken in events, whether or not they have a line.
-use Rattle.std.proofs.Common.{◌≡◌, Bool, true, false, not, ◌&&◌, List, [], ◌∷◌, ◌++◌, Option, refl, ap, ap₂, sym, ◌∙◌}
+use Rattle.std.proofs.Common.{◌≡◌, Bool, true, false, not, ◌&&◌, List, [], ◌∷◌, ◌++◌, Option, refl, ap, sym, ◌∙◌, arith}
 use Rattle.std.proofs.Math.Bool.{and-true, and_assoc}
 use Rattle.std.proofs.lemmas.Bool.{and_parts}
 use Rattle.std.proofs.lemmas.Grind.{flat_map-append}
 use Rattle.std.proofs.lemmas.List.Folds.{list_all-append}
-use Rattle.link_run.specs.Run.{Texts, ◌then◌}
 use Rattle.link_run.specs.Writers.{on_output}
 use Rattle.link_run.proofs.Runs.{texts_as}
 use Rattle.link_walk.specs.Saying.{kept_after, said_from}
@@ -89,9 +88,4 @@ module _ (peer : PeerLimits) where
     unfolding none_counts
     good_kept [] kept = sym (and-true kept.good)
     good_kept (event ∷ more) kept =
-        let now = broken_with kept.heads kept.latest event in
-        let later = broken_from (heads_with kept.heads event) (latest_with kept.latest event) more in
-        good_kept more (kept_with (options must) kept event)
-        ∙ cc (broken_same kept event)
-        ∙ and_assoc kept.good (none_counts must now) (none_counts must later)
-        ∙ ap (λ b. kept.good && b) (sym (counts_append must now later))
+        grind (arith, and_assoc, broken_same, counts_append, good_kept more)

@@ -1,5 +1,5 @@
 -- The messages of a packed stream are in order, and its transfers are the bundles.
-use Rattle.std.proofs.Common.{◌≡◌, ℕ, zero, suc, ◌+◌, ◌-◌, ◌*◌, ◌<◌, ◌≤◌, Bool, true, false, ◌&&◌, List, [], ◌∷◌, ◌++◌, length, take, Option, Some, None, refl, ap, sym, ◌∙◌, subst, append-nil, append_assoc, ⊎_elim, arith}
+use Rattle.std.proofs.Common.{◌≡◌, ℕ, zero, suc, ◌+◌, ◌-◌, ◌*◌, ◌<◌, ◌≤◌, Bool, true, false, ◌&&◌, List, [], ◌∷◌, ◌++◌, length, take, Option, Some, None, refl, ap, sym, ◌∙◌, subst, append-nil, append_assoc, arith}
 use Rattle.std.specs.Prelude.{◌==◌}
 use Rattle.std.proofs.lemmas.Bool.{eq-eqb, cases_lt}
 use Rattle.std.proofs.lemmas.List.{take_all}
@@ -19,17 +19,14 @@ use Rattle.link_laws.proofs.Divided.{AreBundles}
 use Rattle.link_laws.proofs.Entries.{due_entries, init_bytes, init_entry, bundle_entries, rest_entries, term_entries, end_entries, packed_entries, some_size}
 use Rattle.link_laws.proofs.Segments.{segment_entries}
 use Rattle.link_laws.proofs.Sendings.{sent_all}
-use Rattle.link_laws.proofs.Sent.{open_by, sent, head_of, last_at}
+use Rattle.link_laws.proofs.Sent.{sent, head_of, last_at}
 use Rattle.link_laws.proofs.Standing.{Stands, fresh, carrying, stands_none, stands_more}
 
 -- ---- counts of chunks
 
 -- all chunks together have all bytes
 all_bytes : (segment size : ℕ) → 0 < segment → size ≤ chunk_count segment size * segment
-all_bytes segment size some = ⊎_elim
-    (λ (fewer : chunk_count segment size * segment < size). absurd (omega (arith, chunk_left segment (chunk_count segment size) size some fewer)))
-    (λ (enough : size ≤ chunk_count segment size * segment). enough)
-    (cases_lt (chunk_count segment size * segment) size)
+all_bytes segment size some = grind (arith, cases_lt, chunk_left)
 
 pub some_chunk : (segment size : ℕ) → 0 < segment → 0 < size → 0 < chunk_count segment size
 some_chunk segment size some byte = chunk_left segment 0 size some (omega arith)

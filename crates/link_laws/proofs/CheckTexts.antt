@@ -1,5 +1,5 @@
 -- The texts of `check` that some bytes determine are prefixes of its texts for longer inputs.
-use Rattle.std.proofs.Common.{ℕ, suc, ◌+◌, Bool, List, [], ◌∷◌, ◌++◌, length, refl}
+use Rattle.std.proofs.Common.{ℕ, suc, ◌+◌, Bool, List, [], ◌∷◌, ◌++◌, length, arith}
 use Rattle.std.proofs.lemmas.Grind.{flat_map-append}
 use Rattle.link_rule_report.specs.declared.line.RuleText.{RuleText}
 use Rattle.link_walk.specs.Saying.{Keeping, said_from}
@@ -48,15 +48,7 @@ lines_front must rules all front =
     rw (front.1, flat_map-append (line_of must) rules front.0) (front_first _ _)
 
 check_grows : (must : Bool) → Grows (bundle_check_telling must)
-check_grows must = record {
-  part = λ before run. fronts_same _ _ refl;
-  whole = λ before run info some. record {
-    output = lines_front must _ _ (broken_front 0 0 before.bundles
-        (record { bytes = before.begun ++ run; info = info } ∷ []));
-    report = front_same _ _ refl;
-  };
-  ended = λ bundles. fronts_same _ _ refl;
-}
+check_grows must = grind (arith, broken_front, front_same, fronts_same, lines_front)
 
 pub bundle_check_prefix : (must : Bool) (bytes more : List ℕ)
     → IsPrefixed (bundle_check_tool must) bytes more

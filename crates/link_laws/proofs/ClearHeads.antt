@@ -5,7 +5,7 @@ use Rattle.std.specs.Prelude.{IfSome}
 use Rattle.std.specs.List.{All, list_any}
 use Rattle.std.proofs.lemmas.Bool.{ne_eqb, le-ltb}
 use Rattle.std.proofs.lemmas.List.{map-append, reverse-append}
-use Rattle.std.proofs.lemmas.List.Elements.{All-nil, All-cons, All-head, All-tail}
+use Rattle.std.proofs.lemmas.List.Elements.{All-head, All-tail}
 use Rattle.link_wire.specs.Spelling.{segment_with, sess_init_with}
 use Rattle.link_wire.specs.Stream.{Entry}
 use Rattle.link_wire.specs.declared.message.Message.{Message}
@@ -53,22 +53,11 @@ module _ (peer : PeerLimits) (before : List JudgedHead) where
 
     items_none : item_flags segment ≡ None
     unfolding item_flags
-    items_none = by_announce announce
-      where
-        by_announce : (total : Option ℕ)
-            → item_flags (segment_with (flags_of first last) id size total) ≡ None
-        by_announce None = refl
-        by_announce (Some total) = refl
+    items_none = grind arith
 
     flags_none : segment_flags segment ≡ None
     unfolding segment_flags
-    flags_none = by_flags first last
-      where
-        by_flags : (first last : Bool)
-            → segment_flags (segment_with (flags_of first last) id size announce) ≡ None
-        by_flags true true = refl
-        by_flags false true = refl
-        by_flags first last = refl
+    flags_none = grind arith
 
     -- in order, and it abandons no transfer
     pub segment_clear : abandoned_by (Some turn) ≡ None → transfer_id before segment ≡ None
@@ -131,20 +120,13 @@ ids_of before = filter_map start_id (reverse (messages_of before))
 pub ids_then : (before : List JudgedHead) (head : JudgedHead)
     → ids_of (before ++ head ∷ [])
     ≡ filter_map start_id (head.message ∷ reverse (messages_of before))
-ids_then before head =
-    ap (filter_map start_id)
-    (ap reverse (map-append (λ (one : JudgedHead). one.message) before (head ∷ []))
-    ∙ reverse-append (messages_of before) (head.message ∷ []))
+ids_then before head = grind (arith, map-append, reverse-append)
 
 abbrev pub AreBelow : (next : ℕ) → List ℕ → Type 0
 AreBelow next ids = All (λ id. id < next) ids
 
 pub below_more : (next : ℕ) (ids : List ℕ) → AreBelow next ids → AreBelow (suc next) ids
-below_more next [] below = All-nil (λ id. id < suc next)
-below_more next (id ∷ ids) below =
-    let first = All-head (λ id. id < next) id ids below in
-    All-cons (λ id. id < suc next) id ids (omega arith)
-    (below_more next ids (All-tail (λ id. id < next) id ids below))
+below_more next ids below = grind arith
 
 not_among : (next : ℕ) (ids : List ℕ) → AreBelow next ids
     → list_any (λ earlier. earlier == next) (descending ids) ≡ false
@@ -190,12 +172,7 @@ passes_none limit before size within =
 pub exceeds_none : (limit : ℕ) (said : Announced) (head : SegmentHead) (earlier : List SegmentHead)
     → IsAtMost limit said → size_of earlier + head.length ≤ limit
     → if_exceeded limit said head earlier ≡ None
-exceeds_none limit Absent head earlier most within =
-    passes_none limit (size_of earlier) head.length within
-exceeds_none limit (Total total) head earlier most within =
-    rw (le-ltb limit total most) (passes_none limit (size_of earlier) head.length within)
-exceeds_none limit Malformed head earlier most within =
-    passes_none limit (size_of earlier) head.length within
+exceeds_none limit said head earlier most within = grind (arith, le-ltb, passes_none)
 
 pub short_none : (limit : Option ℕ) (head : SegmentHead) → IfSome limit (λ most. head.length ≤ most)
     → peer_segment limit (message.Segment head) ≡ None

@@ -1,5 +1,5 @@
 -- The heads of a packed stream break no rule of messages, one after another.
-use Rattle.std.proofs.Common.{◌≡◌, ℕ, zero, suc, ◌+◌, ◌*◌, ◌<◌, ◌≤◌, inl, inr, ◌⊎◌, Bool, true, false, ◌==◌, is_some, List, [], ◌∷◌, ◌++◌, length, take, drop, reverse, Option, Some, None, if◌then◌else◌, refl, ap, sym, ◌∙◌, subst, append-nil, append_assoc, length-append, length-take, arith}
+use Rattle.std.proofs.Common.{◌≡◌, ℕ, zero, suc, ◌+◌, ◌*◌, ◌<◌, ◌≤◌, Bool, true, false, ◌==◌, is_some, List, [], ◌∷◌, ◌++◌, length, take, reverse, Option, Some, None, if◌then◌else◌, refl, ap, sym, ◌∙◌, subst, append-nil, append_assoc, length-append, length-take, arith}
 use Rattle.std.specs.Prelude.{IfSome}
 use Rattle.std.proofs.lemmas.Bool.{eq-eqb, ne_eqb}
 use Rattle.std.proofs.lemmas.List.{reverse-append}
@@ -17,14 +17,12 @@ use Rattle.link_transfer.specs.Cutting.{announcement, due}
 use Rattle.link_transfer.specs.Joiner.{IsJoinerAt}
 use Rattle.link_transfer.specs.Order.{with_taken, refusal_by, turn_by}
 use Rattle.link_transfer.specs.Event.{event_of}
-use Rattle.link_transfer.specs.declared.announcement.Announced.{Announced}
-use Rattle.link_transfer.specs.declared.announcement.Announced.TheVariants.{Absent, Total}
 use Rattle.link_transfer.specs.declared.event.Event.TheVariants as event
 use Rattle.link_transfer.specs.declared.joiner.Turn.{Turn}
 use Rattle.link_transfer.specs.declared.joiner.Turn.TheVariants as turn
 use Rattle.link_transfer.proofs.Joining.{IsJoinerAt-none}
 use Rattle.link_message_rules.specs.Heads.{JudgedHead}
-use Rattle.link_message_rules.specs.Lengths.{segments_back, segments_of, first_segment, size_of, if_exceeded, announced_first, peer_transfer}
+use Rattle.link_message_rules.specs.Lengths.{segments_back, segments_of, first_segment, size_of, peer_transfer}
 use Rattle.link_message_rules.specs.MessageRules.{broken_rules}
 use Rattle.link_message_rules.specs.declared.limits.PeerLimits.{PeerLimits}
 use Rattle.link_run.proofs.Continued.{entry}
@@ -162,10 +160,7 @@ module _ (peer : PeerLimits) (id : ℕ) (last : Bool) (offset : ℕ) (chunk : Li
         × (length chunk ≤ limit))
         → peer_transfer limit before (judged_for true) ≡ None
     unfolding peer_transfer
-    begin_within None most = refl
-    begin_within (Some limit) most =
-        exceeds_none limit (announced_of (announced announce)) (segment true) [] most.0
-        (omega arith)
+    begin_within limit most = grind (arith, exceeds_none)
 
     first_after : AfterSegment id (segment true) peer last (length chunk) taken before (here true)
     first_after =
@@ -198,11 +193,7 @@ module _ (peer : PeerLimits) (id : ℕ) (begun : SegmentHead) (last : Bool) (off
       → IfSome limit (λ limit. IsAtMost limit (announced_of begun.items.items) × (size ≤ limit))
       → peer_transfer limit before continues_judged ≡ None
   unfolding peer_transfer
-  next_within None most = refl
-  next_within (Some limit) most =
-      cc (at.segments, at.first)
-      ∙ exceeds_none limit (announced_of begun.items.items) continues (at.last ∷ at.earlier) most.0
-      (omega (arith, at.sized))
+  next_within limit most = grind (arith, exceeds_none)
 
   next_after : AfterSegment id begun peer last size taken before
       (here peer id last offset chunk None taken before short false)
@@ -244,20 +235,11 @@ module _ (options : PackOptions) (peer : PeerLimits) (allows : AllowsLimits opti
   size_at count = length (take (count * whole.segment) bundle)
 
   short_chunk : (k : ℕ) → IfSome peer.segment (λ most. length (chunk_of whole k) ≤ most)
-  short_chunk k =
-      if_some peer.segment
-      (λ most allowed. omega (arith, length-take whole.segment (drop (k * whole.segment) bundle)))
-      allows.segment
+  short_chunk k = grind (arith, if_some, length-take)
 
   announced_most : (limit : ℕ) → length bundle ≤ limit
       → IsAtMost limit (announced_of begun.items.items)
-  announced_most limit fits = by_case (announced_of begun.items.items) (announces (cutting_of whole))
-    where
-      by_case : (said : Announced)
-          → (said ≡ Absent) ⊎ ((true ≡ true) × (said ≡ Total (length bundle)))
-          → IsAtMost limit said
-      by_case said (inl absent) = rw absent tt
-      by_case said (inr total) = rw total.1 fits
+  announced_most limit fits = grind (arith, announces)
 
   most_at : (count : ℕ) → IfSome peer.transfer (λ limit.
       IsAtMost limit (announced_of begun.items.items) × (size_at count ≤ limit))

@@ -1,5 +1,5 @@
 -- A stream has no less bytes than its segments have data.
-use Rattle.std.proofs.Common.{ℕ, ◌+◌, ◌≤◌, List, [], ◌∷◌, length, Option, Some, None, ap, length-append, arith}
+use Rattle.std.proofs.Common.{ℕ, ◌+◌, ◌≤◌, List, [], ◌∷◌, length, Option, ap, length-append, arith}
 use Rattle.std.specs.List.{flat_map}
 use Rattle.link_wire.specs.Spelled.{Spelled}
 use Rattle.link_wire.specs.SpelledStream.{IsStream, IsReadingBy, IsReading}
@@ -13,14 +13,7 @@ use Rattle.link_laws.specs.Transfers.{ordered}
 
 spelled_size : (sent : Message) (content bytes : List ℕ) → Spelled sent content bytes
     → length content ≤ length bytes
-spelled_size sent content bytes spelled =
-    let parts = spelled.1 in
-    omega (
-      arith,
-      ap length parts.parts,
-      length-append parts.before parts.after,
-      ap length parts.is_second.1,
-    )
+spelled_size sent content bytes spelled = grind (arith, length-append)
 
 stream_size : (entries : List Entry) (end : End) (offset : ℕ) (bytes : List ℕ)
     → IsStream entries end offset bytes → length (flat_map data_of entries) ≤ length bytes
@@ -37,15 +30,7 @@ stream_size (entry ∷ entries) end offset bytes stream =
 
 reading_by : (contact : Option Contact) (entries : List Entry) (end : End) (bytes : List ℕ)
     → IsReadingBy contact entries end bytes → length (flat_map data_of entries) ≤ length bytes
-reading_by None entries end bytes reading =
-    omega (arith, ap (λ es. length (flat_map data_of es)) reading.0)
-reading_by (Some contact) entries end bytes reading =
-    omega (
-      arith,
-      ap length reading.parts,
-      length-append reading.before reading.after,
-      stream_size entries end 6 reading.after reading.is_second,
-    )
+reading_by contact entries end bytes reading = grind (arith, length-append, stream_size)
 
 pub reading_size : (bytes : List ℕ) (reading : Reading) → IsReading bytes reading
     → length (flat_map data_of reading.entries) ≤ length bytes

@@ -68,13 +68,8 @@ accepted_within : (beyond : Bool) (limit : ℕ) (front : List ℕ)
     → nat_lt limit (length front) ≡ beyond
     → (if beyond then Err (Longer limit) else refused_by said) ≡ Err refusal
     → length (accepted_by refusal front) ≤ limit
-accepted_within true limit front said refusal test is =
-    let same : Longer limit ≡ refusal = cc in
-    subst (λ why. length (accepted_by why front) ≤ limit) same (omega (arith, length-take limit front))
-accepted_within false limit front (Ok info) refusal test is = absurd (cc)
-accepted_within false limit front (Err (fault, place)) refusal test is =
-    let same : Faulty fault place ≡ refusal = cc in
-    subst (λ why. length (accepted_by why front) ≤ limit) same (accepted_faulty (lasts fault) limit front (ltb-false limit (length front) test))
+accepted_within beyond limit front said refusal test is =
+    grind (arith, accepted_faulty, length-take, ltb-false)
 
 faulty_bytes : (stays : Bool) (front : List ℕ) → AreBytes front
     → AreBytes (if stays then take (length front - 1) front else front)
@@ -115,15 +110,7 @@ module _ (limit : ℕ) (next : List ℕ → Divided) (bytes : List ℕ) (are : A
         rest = after.rest;
         whole = λ none. ap (λ rest. front ++ rest) (after.whole none) ∙ ap (λ first. first ++ left) (front_first bytes) ∙ take-append-drop (length front) bytes;
       }
-  divides (Err refusal) is later there = record {
-    bundles = tt;
-    few = omega arith;
-    rest = record {
-      within = accepted_within (nat_lt limit (length front)) limit front (verdict front) refusal refl is;
-      are = accepted_bytes refusal front (front_bytes bytes are);
-    };
-    whole = λ none. absurd (cc);
-  }
+  divides (Err refusal) is later there = grind (arith, accepted_bytes, accepted_within, front_bytes)
 
 divided_so : (count limit : ℕ) (bytes : List ℕ) → AreBytes bytes → length bytes ≤ count
     → IsDivided limit bytes (divided_in count limit bytes)

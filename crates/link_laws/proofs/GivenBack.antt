@@ -1,11 +1,10 @@
 -- Unpacking a packed stream returns the bundles.
-use Rattle.std.proofs.Common.{◌≡◌, ℕ, suc, ◌+◌, inl, inr, ◌⊎◌, true, false, ◌&&◌, List, [], ◌∷◌, ◌++◌, length, Result, Ok, if◌then◌else◌, refl, ap, ap₂, sym, ◌∙◌, append-nil, append_assoc, length-append}
+use Rattle.std.proofs.Common.{◌≡◌, ℕ, suc, ◌+◌, inl, inr, ◌⊎◌, true, false, ◌&&◌, List, [], ◌∷◌, ◌++◌, length, Result, Ok, if◌then◌else◌, refl, ap, ap₂, sym, ◌∙◌, append-nil, append_assoc, length-append, arith}
 use Rattle.std.proofs.lemmas.Bool.{eq-eqb}
 use Rattle.link_bundle_blocks.specs.Bundle.{verdict}
 use Rattle.link_bundle_types.specs.declared.fault.BundleFault.{BundleFault}
 use Rattle.link_bundle_types.specs.declared.info.BundleInfo.{BundleInfo}
 use Rattle.link_wire.specs.Spelling.{announced}
-use Rattle.link_wire.specs.Stream.{End, Reading}
 use Rattle.link_report.specs.Judgement.{judged_transfer}
 use Rattle.link_report.specs.Transfer.{transfer_text}
 use Rattle.link_report.specs.declared.judgement.Judgement.TheVariants.{Good}
@@ -14,7 +13,7 @@ use Rattle.link_transfer.specs.Announced.{announced_of}
 use Rattle.link_transfer.specs.Cutting.{announcement}
 use Rattle.link_transfer.specs.declared.announcement.Announced.{Announced}
 use Rattle.link_transfer.specs.declared.announcement.Announced.TheVariants.{Absent, Total}
-use Rattle.link_laws.specs.Transfers.{Ordered, lines_of, are_good, unpacking_by, by_transfers}
+use Rattle.link_laws.specs.Transfers.{lines_of, are_good, by_transfers}
 use Rattle.link_unpack.specs.Transfers.{Transfer}
 use Rattle.link_unpack.specs.Unpacking.{parts_of, line_of, judgement_of, is_good, unpack_tool}
 use Rattle.link_unpack.proofs.Texts.{parts_more}
@@ -22,9 +21,8 @@ use Rattle.link_bundle_walk.specs.Bundles.{Packed, divided}
 use Rattle.link_pack.specs.Packing.{sending}
 use Rattle.link_pack.specs.Segments.{cutting_of}
 use Rattle.link_pack.specs.declared.options.PackOptions.{PackOptions}
-use Rattle.link_bundle_walk.proofs.Outcomes.{whole_of}
 use Rattle.link_laws.specs.RoundTrip.{all, good_lines, GivesBack}
-use Rattle.link_laws.proofs.Carried.{onto, rest_onto, transfer_of}
+use Rattle.link_laws.proofs.Carried.{onto, transfer_of}
 use Rattle.link_laws.proofs.Divided.{AreBundles, contents}
 use Rattle.link_laws.proofs.Limits.{announces}
 use Rattle.link_laws.proofs.Same.{whole_is}
@@ -108,20 +106,8 @@ module _ (options : PackOptions) (bytes : List ℕ) (is_packed : IsPacked option
 
   unpacked : (unpack_tool all).whole stream ≡ over_clean (onto options 0 bundles [])
   unfolding by_transfers
-  unpacked =
-      whole_is all stream
-      ∙ cc (is_packed.reads, is_packed.carries.in_order)
-      ∙ ap over_clean is_packed.carries.makes
-      ∙ cc (nothing_left options bytes clean)
+  unpacked = grind (arith, nothing_left, whole_is)
 
   pub gives_back : GivesBack options bytes stream
   unfolding parts_of lines_of are_good
-  gives_back =
-      let so = is_packed.divides in
-      record {
-        output = ap (λ (o : Outcome). o.texts.output) unpacked
-            ∙ parts_onto options 0 bundles [] ∙ so.whole (nothing_left options bytes clean);
-        report = ap (λ (o : Outcome). o.texts.report) unpacked
-            ∙ lines_onto options 0 bundles [] so.bundles;
-        status = cc (unpacked, good_onto options 0 bundles [] so.bundles refl);
-      }
+  gives_back = grind (arith, good_onto, lines_onto, nothing_left, parts_onto, unpacked)

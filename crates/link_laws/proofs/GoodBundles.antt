@@ -1,5 +1,5 @@
 -- Good bundles, one after another: how they are divided, and the lines of their blocks.
-use Rattle.std.proofs.Common.{◌≡◌, ℕ, suc, ◌≤◌, Bool, true, false, not, ◌==◌, List, [], ◌∷◌, ◌++◌, length, drop, map, None, Result, Ok, Err, refl, ap, sym, ◌∙◌, ⊎_elim, append-nil, length-append, arith}
+use Rattle.std.proofs.Common.{◌≡◌, ℕ, suc, ◌≤◌, Bool, true, false, List, [], ◌∷◌, ◌++◌, length, drop, map, None, Result, Ok, Err, refl, ap, sym, ◌∙◌, ⊎_elim, append-nil, length-append, arith}
 use Rattle.std.specs.List.{All, flat_map}
 use Rattle.std.proofs.lemmas.Bool.{cases_Bool, and_parts}
 use Rattle.std.proofs.lemmas.Grind.{flat_map-append}
@@ -11,23 +11,18 @@ use Rattle.link_bundle_types.specs.declared.fault.BundleFault.{BundleFault}
 use Rattle.link_bundle_types.specs.declared.info.BundleInfo.{BundleInfo}
 use Rattle.link_bundle_blocks.specs.Bundle.{verdict, state_of, is_going, bundle_goes}
 use Rattle.link_bundle_blocks.proofs.Lengths.{FaultLasts-holds, TrailingLasts-holds}
-use Rattle.link_transfer.specs.Announced.{announced_of}
 use Rattle.link_transfer.specs.declared.announcement.Announced.{Announced}
-use Rattle.link_transfer.specs.declared.announcement.Announced.TheVariants.{Absent, Total, Malformed}
 use Rattle.link_report.specs.Judgement.{judged_transfer, judged_length, judged_data}
 use Rattle.link_report.specs.declared.judgement.Judgement.TheVariants.{Good}
-use Rattle.link_run.specs.Made.{Made, whole_by}
 use Rattle.link_run.specs.Writers.{on_output}
 use Rattle.link_unpack.specs.Transfers.{Transfer}
 use Rattle.link_unpack.specs.Unpacking.{parts_of, judgement_of, is_good}
-use Rattle.link_bundle_walk.specs.Bundles.{Packed, bundle_prefix, with_bundle, divided}
+use Rattle.link_bundle_walk.specs.Bundles.{Packed, bundle_prefix, divided}
 use Rattle.link_bundle_walk.proofs.Dividing.{divided_none, divided_whole}
 use Rattle.link_bundle_walk.proofs.Divisions.{stopped_lasts}
 use Rattle.link_bundle_walk.proofs.Outcomes.{told_as}
-use Rattle.link_blocks.specs.BlockLines.{block_lines}
 use Rattle.link_blocks.specs.Bundles.{whole_lines, bundle_lines, bundle_limit, bundle_blocks_telling, bundle_blocks_tool}
-use Rattle.link_blocks.specs.Showing.{end_line, lines_of}
-use Rattle.link_block_report.specs.Blocks.{end_text}
+use Rattle.link_blocks.specs.Showing.{lines_of}
 use Rattle.link_laws.specs.RoundTrip.{all}
 use Rattle.link_laws.specs.SameLines.{lines_under, renumbered}
 use Rattle.link_laws.specs.Transfers.{are_good}
@@ -126,12 +121,7 @@ data_good (Err (fault, place)) good = absurd (cc)
 length_good : (announced : Announced) (size : ℕ) (said : Result BundleInfo (BundleFault × ℕ))
     → is_good (judged_length announced size said) ≡ true
     → (info : BundleInfo) × (said ≡ Ok info) × (judged_length announced size said ≡ Good info)
-length_good Absent size said good = data_good said good
-length_good Malformed size said good = absurd (cc)
-length_good (Total total) size said good =
-    ⊎_elim (λ same. let holds = rw same at good in rw same (data_good said holds))
-    (λ differs. absurd (let never = rw differs at good in cc))
-    (cases_Bool (total == size))
+length_good announced size said good = grind (arith, cases_Bool, data_good)
 
 transfer_good : (abandoned : Bool) (announced : Announced) (size : ℕ)
     (said : Result BundleInfo (BundleFault × ℕ))
@@ -150,23 +140,7 @@ pub record IsGoodTransfer (transfer : Transfer) : Type 0 where
 
 pub good_transfer : (transfer : Transfer) → is_good (judgement_of transfer) ≡ true
     → IsGoodTransfer transfer
-good_transfer transfer good =
-    let judged = transfer_good (not transfer.closed) (announced_of transfer.first.items.items)
-    (length transfer.content) (verdict transfer.content) good in
-    record {
-      info = judged.0;
-      is = judged.1;
-      judged = judged.2;
-      closed = by_closed transfer.closed
-          (announced_of transfer.first.items.items) (length transfer.content)
-          (verdict transfer.content) good;
-    }
-  where
-    by_closed : (closed : Bool) (announced : Announced) (size : ℕ)
-        (said : Result BundleInfo (BundleFault × ℕ))
-        → is_good (judged_transfer (not closed) announced size said) ≡ true → closed ≡ true
-    by_closed true announced size said good = refl
-    by_closed false announced size said good = absurd (cc)
+good_transfer transfer good = grind (arith, transfer_good)
 
 -- These transfers are these bundles, each under its ID. The latest transfer comes first in its list
 -- and last in the other.

@@ -1,5 +1,5 @@
 -- What one head does: to the transfers, to what is said of its events, and to the lines.
-use Rattle.std.proofs.Common.{◌≡◌, ℕ, Bool, true, false, not, ◌&&◌, ◌==◌, is_some, List, [], ◌∷◌, ◌++◌, length, Option, Some, None, refl, ap, ap₂, sym, ◌∙◌, subst, ⊎_elim, append-nil, append_assoc}
+use Rattle.std.proofs.Common.{◌≡◌, ℕ, Bool, true, false, not, ◌&&◌, ◌==◌, is_some, List, [], ◌∷◌, ◌++◌, length, Option, Some, None, refl, ap, sym, ◌∙◌, subst, ⊎_elim, append-nil, append_assoc, arith}
 use Rattle.std.specs.List.{flat_map, fold}
 use Rattle.std.proofs.Math.Bool.{and-true, and_assoc}
 use Rattle.std.proofs.lemmas.Bool.{eq-eqb}
@@ -12,7 +12,7 @@ use Rattle.link_wire.specs.declared.message.Message.{Message}
 use Rattle.link_wire.specs.declared.message.Message.TheVariants as message
 use Rattle.link_wire.specs.declared.message.SegmentHead.{SegmentHead}
 use Rattle.link_transfer.specs.Event.{event_of}
-use Rattle.link_transfer.specs.Order.{begins, is_segment, is_stray, refusal, effect_of, effect_by, turn_of, open_of}
+use Rattle.link_transfer.specs.Order.{begins, is_segment, is_stray, refusal, effect_of, open_of}
 use Rattle.link_transfer.specs.declared.event.Event.{Event}
 use Rattle.link_transfer.specs.declared.event.Event.TheVariants as event
 use Rattle.link_transfer.specs.declared.fault.OrderFault.{OrderFault}
@@ -41,11 +41,7 @@ begins_none happened other = refl
 pub stray_is : (taken : List Message) (happened : Event)
     → is_stray taken happened ≡ not (is_some (effect_of taken happened))
 unfolding effect_of
-stray_is taken happened = by_stray (is_stray taken happened)
-  where
-    by_stray : (stray : Bool) → stray ≡ not (is_some (effect_by stray (turn_of taken happened)))
-    by_stray true = refl
-    by_stray false = refl
+stray_is taken happened = grind arith
 
 -- The head of this message, with the data `content`, changes the transfers. These entries are those
 -- of the transfers that are over now, and were not before.
@@ -103,39 +99,19 @@ module _ (wanted : Wanted) (offset : ℕ) (fault : Option OrderFault) (content :
         → (length content ≡ data_length sent
         → latest_open after ≡ open_with effect (is_last effect) (latest_open transfers))
         → Adds wanted offset fault effect sent content stray transfers after
-    adds told lines settles opened = record {
-      entries = due;
-      told = λ report good.
-          told report good
-          ∙ told_as after _ _ _ _
-          (append_assoc (report ++ order_line offset fault) (line_due wanted abandoning transfers) _
-          ∙ ap (λ (xs : List ℕ). (report ++ order_line offset fault) ++ xs) texts_due)
-          (and_assoc (good && not (is_some fault)) (good_due abandoning transfers) _
-          ∙ ap (λ (b : Bool). (good && not (is_some fault)) && b) all_due);
-      lines = lines ∙ texts_due;
-      settles = settles;
-      opened = opened;
-    }
+    adds told lines settles opened =
+        grind (arith, all_due, and_assoc, append_assoc, texts_due, told_as)
 
   -- ---- the kinds of heads
 
   strays : (sent : Message) (transfers : List Transfer)
       → Adds wanted offset fault None sent content true transfers transfers
-  strays sent transfers =
-      adds None sent true transfers transfers false false
-      (λ report good.
-      head_told wanted offset sent transfers report good fault None content (λ plain. refl))
-      refl (sym (append-nil _)) (λ all. refl)
+  strays sent transfers = grind (arith, adds, append-nil, head_told)
 
   passes : (sent : Message) (transfers : List Transfer) → is_segment (event_of sent) ≡ false
       → Adds wanted offset fault (Some turn.Other) sent content false transfers transfers
   passes sent transfers other =
-      adds (Some turn.Other) sent false transfers transfers false false
-      (λ report good.
-      head_told wanted offset sent transfers report good fault (Some turn.Other) content
-      (λ plain. transfers_same transfers sent [] other)
-      ∙ rw (transfers_same transfers sent [] other) refl)
-      (rw (begins_none (event_of sent) other, other) refl) (sym (append-nil _)) (λ all. refl)
+      grind (arith, adds, append-nil, begins_none, head_told, transfers_same)
 
   module _ (head : SegmentHead) (fits : head.length ≡ 0 → content ≡ []) where
     abbrev last : Bool

@@ -1,5 +1,5 @@
 -- The order of heads, and what one more head does to the transfers.
-use Rattle.std.proofs.Common.{◌≡◌, ℕ, List, [], ◌∷◌, ◌++◌, Option, Some, None, refl, ap, sym, ◌∙◌, subst, map, append-nil, append_assoc}
+use Rattle.std.proofs.Common.{◌≡◌, List, [], ◌∷◌, ◌++◌, Option, None, refl, ap, sym, ◌∙◌, map, append-nil, append_assoc, arith}
 use Rattle.link_wire.specs.Stream.{Entry}
 use Rattle.link_wire.specs.declared.message.Message.{Message}
 use Rattle.link_transfer.specs.Event.{event_of}
@@ -22,15 +22,7 @@ all heads = record { heads = heads; refused = None }
 -- if a list is in order, its first head is not refused, and the others are in order after it
 by_first : (refused : Option OrderFault) (head : Entry) (rest : Ordered) (more : List Entry)
     → ordered_by refused head rest ≡ all (head ∷ more) → (refused ≡ None) × (rest ≡ all more)
-by_first (Some fault) head rest more is =
-    let refused = ap (λ (o : Ordered). o.refused) is in
-    absurd (cc)
-by_first None head rest more is =
-    let joined = ap (λ (o : Ordered). o.heads) is in
-    let heads : rest.heads ≡ more = cc in
-    let refused : rest.refused ≡ None = ap (λ (o : Ordered). o.refused) is in
-    let P : Option (ℕ × OrderFault) → Type 0 = λ r. rest ≡ record { heads = rest.heads; refused = r } in
-    (refl, subst P refused refl ∙ ap all heads)
+by_first refused head rest more is = grind arith
 
 pub first_may : (before : List Message) (head : Entry) (more : List Entry)
     → ordered_after before (head ∷ more) ≡ all (head ∷ more)

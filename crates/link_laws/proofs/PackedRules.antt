@@ -7,7 +7,7 @@ use Rattle.std.proofs.lemmas.List.Elements.{All-nil, All-cons, All-head, All-tai
 use Rattle.link_wire.specs.Codes.{is_start, is_end}
 use Rattle.link_wire.specs.Message.{data_length}
 use Rattle.link_wire.specs.Spelling.{announced}
-use Rattle.link_wire.specs.Stream.{Entry, Reading, reading_of, heads_of}
+use Rattle.link_wire.specs.Stream.{Entry, reading_of, heads_of}
 use Rattle.link_wire.specs.declared.message.Contact.{Contact}
 use Rattle.link_wire.specs.declared.message.Message.{Message}
 use Rattle.link_wire.specs.declared.message.SegmentHead.{SegmentHead}
@@ -29,7 +29,6 @@ use Rattle.link_message_rules.specs.MessageRules.{broken_rules}
 use Rattle.link_message_rules.specs.TransferData.{data_rule, may_be_bundle}
 use Rattle.link_message_rules.specs.TransferRules.{broken_transfer_rules, if_malformed, if_different, has_length_item, length_item, length_differs, length_of_one_segment}
 use Rattle.link_message_rules.specs.declared.limits.PeerLimits.{PeerLimits}
-use Rattle.link_message_rules.specs.declared.rule.MessageRule.{MessageRule}
 use Rattle.link_message_rules.specs.declared.rule.TransferRule.{TransferRule}
 use Rattle.link_message_rules.specs.declared.rule.TransferRule.TheVariants as transfer_rule
 use Rattle.link_rule_report.specs.declared.line.RuleText.{RuleText}

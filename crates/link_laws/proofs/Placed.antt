@@ -1,5 +1,5 @@
 -- The transfers of a stream with their offsets, and the rules that they break once they are closed.
-use Rattle.std.proofs.Common.{◌≡◌, ℕ, Bool, true, false, not, ◌&&◌, ◌==◌, is_some, List, [], ◌∷◌, ◌++◌, map, length, Option, Some, None, option_map, if◌then◌else◌, refl, ap, sym, ◌∙◌, append-nil, append_assoc}
+use Rattle.std.proofs.Common.{◌≡◌, ℕ, Bool, true, false, not, ◌&&◌, ◌==◌, is_some, List, [], ◌∷◌, ◌++◌, map, Option, Some, None, option_map, if◌then◌else◌, refl, ap, sym, ◌∙◌, append-nil, append_assoc, arith}
 use Rattle.std.specs.List.{filter, fold}
 use Rattle.std.proofs.lemmas.List.Elements.{filter-append}
 use Rattle.link_wire.specs.Codes.{is_start, is_end}
@@ -23,7 +23,7 @@ use Rattle.link_message_rules.specs.declared.rule.TransferRule.TheVariants.{Unfi
 use Rattle.link_rule_report.specs.declared.line.RuleText.{RuleText}
 use Rattle.link_rule_report.specs.declared.rule.BrokenRule.{BrokenRule}
 use Rattle.link_rule_report.specs.declared.rule.BrokenRule.TheVariants as rule
-use Rattle.link_check.specs.Checking.{Begun, closed_rules, open_rules as open_rules_of, heads_with, latest_with, rules_at, with_bytes}
+use Rattle.link_check.specs.Checking.{Begun, closed_rules, heads_with, latest_with, with_bytes}
 use Rattle.link_check.specs.Lines.{at_offset}
 use Rattle.link_laws.proofs.BrokenRules.{broken_with, broken_from}
 use Rattle.link_laws.proofs.Following.{Follows, AllFollow}
@@ -133,12 +133,7 @@ module _ (choice : Choice) (peer : PeerLimits) where
   head_choice : (offset : ℕ) (broken : List MessageRule) (closing : Bool) (others : List RuleText)
       → chosen_in (at_offset offset (map (λ one. rule.Message one) broken)
       ++ (if closing then others else [])) ≡ (if closing then chosen_in others else [])
-  head_choice offset broken true others =
-      choice_both (at_offset offset (map (λ one. rule.Message one) broken)) others
-      ∙ ap (λ (lines : List RuleText). lines ++ chosen_in others) (none_of_messages offset broken)
-  head_choice offset broken false others =
-      choice_both (at_offset offset (map (λ one. rule.Message one) broken)) []
-      ∙ ap (λ (lines : List RuleText). lines ++ []) (none_of_messages offset broken)
+  head_choice offset broken closing others = grind (arith, choice_both, none_of_messages)
 
   -- a transfer that is not closed adds nothing
   open_rules : (placed : Placed) (earlier : List Placed) → placed.transfer.closed ≡ false
@@ -152,13 +147,7 @@ module _ (choice : Choice) (peer : PeerLimits) where
         → chosen_in (broken_with peer heads latest event) ≡ []
         → (open_after_event opened event ≡ true → IsOpenAt (latest_with latest event) placed)
         → AfterOne opened placed heads latest event
-    passes opened placed event same none opens = record {
-      after = placed;
-      are = sym same;
-      rules = rw (none, append-nil (rules_of placed));
-      opens = opens;
-      quiet = λ plain. same;
-    }
+    passes opened placed event same none opens = grind (arith, append-nil)
 
     -- ---- heads
 
@@ -222,15 +211,9 @@ module _ (choice : Choice) (peer : PeerLimits) where
       head_after : (placed : List Placed) (sent : Message) (effect : Option Turn)
           → (opened ≡ true → IsOpenAt latest placed) → Does effect sent opened
           → AfterOne opened placed heads latest (MessageHead (head_as sent effect))
-      head_after placed sent effect at (Strays is) =
-          rw is
-          (passes opened placed (MessageHead (head_as sent None)) refl
-          (head_choice offset _ false []) at)
+      head_after placed sent effect at (Strays is) = grind (arith, false, head_choice, passes)
       head_after placed sent effect at (Passes is other) =
-          rw is
-          (passes opened placed (MessageHead (head_as sent (Some turn.Other)))
-          (transfers_same (transfers_in placed) sent [] other)
-          (head_choice offset _ false []) at)
+          grind (arith, false, head_choice, passes, transfers_same)
       head_after placed sent effect at (Begins first abandoned is starts does same) =
           rw (does, is) (begins_after placed first abandoned starts)
       head_after [] sent effect at (Continues first is starts does also) = absurd (at also)
@@ -264,11 +247,7 @@ module _ (choice : Choice) (peer : PeerLimits) where
 
     left_after : (one : Placed) (earlier : List Placed) → IsOpenAt latest (one ∷ earlier)
         → AfterOne true (one ∷ earlier) heads latest LeftOpen
-    left_after one earlier at =
-        passes true (one ∷ earlier) LeftOpen refl
-        (ap (λ (at_latest : Option Begun). chosen_in (rules_at open_rules_of at_latest)) at.1
-        ∙ rw (choice.no_unfinished one.transfer.first.id (length one.transfer.content)) refl)
-        (λ open_now. absurd (cc))
+    left_after one earlier at = grind (arith, passes, true)
 
   -- ---- events
 
@@ -303,13 +282,7 @@ module _ (choice : Choice) (peer : PeerLimits) where
       → (matters event ≡ false → after_event transfers event ≡ transfers)
       → after_events (after_event transfers event) (mattering more)
       ≡ after_events transfers (mattering (event ∷ more))
-  quiet_one transfers event more quiet = by_matter (matters event) refl
-    where
-      by_matter : (test : Bool) → matters event ≡ test
-          → after_events (after_event transfers event) (mattering more)
-          ≡ after_events transfers (mattering (event ∷ more))
-      by_matter true is = rw is refl
-      by_matter false is = rw (is, quiet is) refl
+  quiet_one transfers event more quiet = grind (arith, false, mattering, matters, true)
 
   pub all_after : (more before : List WalkEvent) (placed : List Placed) (heads : List JudgedHead)
       (latest : Option Begun) → AllFollow before more

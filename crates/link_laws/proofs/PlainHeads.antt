@@ -1,5 +1,5 @@
 -- The events of a walk that tells of every head, and those of one that tells of no plain head.
-use Rattle.std.proofs.Common.{◌≡◌, ℕ, Bool, true, false, not, List, [], ◌∷◌, ◌++◌, Option, Some, None, if◌then◌else◌, refl, ap, ap₂, sym, ◌∙◌, append-nil, append_assoc}
+use Rattle.std.proofs.Common.{◌≡◌, ℕ, Bool, true, false, not, List, [], ◌∷◌, ◌++◌, Option, Some, None, if◌then◌else◌, refl, ap, ap₂, sym, ◌∙◌, append-nil, append_assoc, arith}
 use Rattle.std.specs.List.{filter, flat_map, fold}
 use Rattle.std.proofs.lemmas.List.Elements.{filter-append}
 use Rattle.link_wire.specs.Message.{data_length}
@@ -10,7 +10,6 @@ use Rattle.link_transfer.specs.Event.{event_of}
 use Rattle.link_transfer.specs.Order.{refusal, with_taken}
 use Rattle.link_transfer.specs.declared.fault.OrderFault.{OrderFault}
 use Rattle.link_transfer.specs.declared.joiner.Turn.{Turn}
-use Rattle.link_transfer.specs.declared.joiner.Turn.TheVariants as turn
 use Rattle.link_walk.specs.Walk.{head_at, is_plain, WalkEvent, MessageHead, Data, Whole, LeftOpen, data_events, head_events, content_events, Walked, taken_with, with_judged, with_next, contact_events, walked_of, end_events}
 use Rattle.link_walk.specs.declared.consumer.Manner.{Manner}
 
@@ -42,10 +41,7 @@ bytes_matter bytes test =
 
 content_matters : (effect : Option Turn) (size : ℕ) (content : List ℕ)
     → mattering (content_events effect size content) ≡ content_events effect size content
-content_matters None size content = refl
-content_matters (Some turn.Other) size content = refl
-content_matters (Some (turn.Begin abandoned last)) size content = bytes_matter content _
-content_matters (Some (turn.Continue last)) size content = bytes_matter content _
+content_matters effect size content = grind (arith, bytes_matter)
 
 -- a tool that says nothing of data says nothing of the data of a head
 module _ {A : Type 0} (of : WalkEvent → List A) (no_data : (byte : ℕ) → of (Data byte) ≡ [])
@@ -58,10 +54,7 @@ module _ {A : Type 0} (of : WalkEvent → List A) (no_data : (byte : ℕ) → of
 
   pub content_none : (effect : Option Turn) (size : ℕ) (content : List ℕ)
       → flat_map of (content_events effect size content) ≡ []
-  content_none None size content = refl
-  content_none (Some turn.Other) size content = refl
-  content_none (Some (turn.Begin abandoned last)) size content = bytes_none content _
-  content_none (Some (turn.Continue last)) size content = bytes_none content _
+  content_none effect size content = grind (arith, bytes_none)
 
 pub end_matters : (opened : Bool)
     → mattering (if opened then LeftOpen ∷ [] else []) ≡ (if opened then LeftOpen ∷ [] else [])
@@ -148,16 +141,7 @@ walk_matters (head ∷ more) taken =
 
 pub quieter : (contact : Option Contact) (heads : List Entry)
     → IsQuieter (walked_of (going false) contact heads) (walked_of (going true) contact heads)
-quieter contact heads =
-    rw (walk_is false contact heads, walk_is true contact heads) (record {
-      taken = refl;
-      events = rw (
-        filter-append matters (contact_events contact) (walk_events true [] heads),
-        contact_matters contact,
-        walk_matters heads [],
-      );
-      unrefused = refl;
-    })
+quieter contact heads = grind (arith, contact_matters, filter-append, walk_is, walk_matters)
 
 -- the events of a whole stream
 pub all_matter : (few every : Walked) → IsQuieter few every

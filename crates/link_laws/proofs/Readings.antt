@@ -1,7 +1,7 @@
 -- The reading of a packed stream.
-use Rattle.std.proofs.Common.{◌≡◌, ℕ, List, length, Option, Some, None, refl, ap, sym, ◌∙◌, subst, arith}
+use Rattle.std.proofs.Common.{◌≡◌, ℕ, List, length, Option, Some, None, refl, ap, sym, ◌∙◌, arith}
 use Rattle.link_wire.specs.SpelledStream.{IsReading}
-use Rattle.link_wire.specs.Stream.{Entry, Reading, reading_of, heads_of}
+use Rattle.link_wire.specs.Stream.{Reading, reading_of, heads_of}
 use Rattle.link_run.specs.Made.{Made, whole_by}
 use Rattle.link_run.specs.Run.{Outcome}
 use Rattle.link_walk.proofs.Heads.{heads_clean}

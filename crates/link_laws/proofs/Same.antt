@@ -1,10 +1,10 @@
 -- What `unpack` says of the events of a stream is what the transfers of the stream make.
-use Rattle.std.proofs.Common.{◌≡◌, ℕ, Bool, true, false, not, ◌&&◌, is_some, List, [], ◌∷◌, ◌++◌, Option, Some, None, if◌then◌else◌, refl, ap, sym, ◌∙◌, append-nil}
+use Rattle.std.proofs.Common.{◌≡◌, ℕ, Bool, true, false, not, ◌&&◌, is_some, List, [], ◌∷◌, ◌++◌, Option, Some, None, if◌then◌else◌, refl, ap, sym, ◌∙◌, append-nil, arith}
 use Rattle.std.specs.List.{fold}
 use Rattle.std.proofs.Math.Bool.{and-true, and-false, and_assoc}
 use Rattle.std.proofs.lemmas.List.Folds.{list_all-append}
 use Rattle.std.proofs.Math.Path.{fun_ext}
-use Rattle.link_wire.specs.Stream.{Entry, End, Clean, Cut, Fault, Reading, reading_of, cut_heads, heads_of}
+use Rattle.link_wire.specs.Stream.{Entry, End, Clean, Cut, Fault, Reading, cut_heads, heads_of}
 use Rattle.link_wire.specs.declared.message.Contact.{Contact}
 use Rattle.link_wire.specs.declared.message.Message.{Message}
 use Rattle.link_transfer.specs.Event.{event_of}
@@ -12,11 +12,11 @@ use Rattle.link_transfer.specs.Order.{refusal, with_taken}
 use Rattle.link_transfer.specs.declared.fault.OrderFault.{OrderFault}
 use Rattle.link_run.specs.Made.{StreamStop, Made, whole_by, so_far_by, shows_fault, stop_of, tool_of}
 use Rattle.link_run.specs.Run.{Texts, Outcome, Tool}
-use Rattle.link_walk.specs.Walk.{WalkEvent, LeftOpen, Walked, with_judged, with_next, contact_events, walked_of, end_events, told_by, told_of, stop_by}
+use Rattle.link_walk.specs.Walk.{WalkEvent, LeftOpen, Walked, with_next, contact_events, walked_of, end_events, told_by, told_of, stop_by}
 use Rattle.link_walk.specs.declared.consumer.Manner.{Manner}
-use Rattle.link_laws.specs.Transfers.{Ordered, ordered_by, ordered_after, ordered, settled, are_good, abandoned_line, unpacking_by, Unpacked, none_unpacked, with_head, unpacked_of, going_on_by, made_of, by_transfers}
+use Rattle.link_laws.specs.Transfers.{Ordered, ordered_after, ordered, settled, are_good, abandoned_line, unpacking_by, Unpacked, none_unpacked, with_head, unpacked_of, going_on_by, made_of, by_transfers}
 use Rattle.link_unpack.specs.Transfers.{Transfer}
-use Rattle.link_unpack.specs.Unpacking.{parts_of, unpacking_of, unpack_tool, Told, told_after, unpack_telling, with_line, order_line, good_due}
+use Rattle.link_unpack.specs.Unpacking.{parts_of, unpack_tool, Told, told_after, unpack_telling, with_line, order_line, good_due}
 use Rattle.link_unpack.proofs.Events.{told_then, told_push}
 use Rattle.link_unpack.specs.declared.wanted.Wanted.{Wanted}
 use Rattle.link_laws.specs.Cuts.{entries_of}
@@ -123,29 +123,14 @@ ordered_walk : (heads : List Entry) (taken : List Message) (events : List WalkEv
 unfolding ordered_after
 ordered_walk [] taken events = refl
 ordered_walk (head ∷ more) taken events =
-    by_refusal (refusal taken (event_of head.message)) refl
-    (ordered_walk more (with_taken taken head.message) (events ++ events_at false taken head))
-  where
-    from : Walked
-    from = started taken events
-
-    next : Walked
-    next = started (with_taken taken head.message) (events ++ events_at false taken head)
-
-    by_refusal : (refused : Option OrderFault) → refusal taken (event_of head.message) ≡ refused
-        → walk_from false next more ≡ walk_order (ordered_after next.taken more) next
-        → walk_from false
-        (with_judged (refusal taken (event_of head.message)) (manner false) from head) more
-        ≡ walk_order (ordered_by (refusal taken (event_of head.message)) head
-        (ordered_after (taken ++ head.message ∷ []) more)) from
-    by_refusal (Some fault) is later = rw is (ended_stays more from (head.offset, fault))
-    by_refusal None is later =
-        let order = ordered_after (taken ++ head.message ∷ []) more in
-        rw is (later
-        ∙ ap (λ ms. walk_order (ordered_after ms more) next)
-        (taken_more taken head.message (not_stray taken (event_of head.message) is))
-        ∙ ap (λ w. ended_at order.refused (walk_from true w order.heads))
-        (sym (judged_taken false (refusal taken (event_of head.message)) from head)))
+    grind (
+      arith,
+      ended_stays,
+      judged_taken,
+      not_stray,
+      taken_more,
+      ordered_walk more (with_taken taken head.message) (events ++ events_at false taken head),
+    )
 
 -- ---- what is made of a stream
 
@@ -162,10 +147,7 @@ tool_parts made =
 
 same_parts : (one other : Made) → SameMade one other → (stop : Option StreamStop) → one.stop ≡ stop
     → tool_parts one ≡ tool_parts other
-same_parts one other same None is =
-    let clean = same.clean is in
-    rw (← same.stop, is, same.texts, clean.0, clean.1) refl
-same_parts one other same (Some stop) is = rw (← same.stop, is, same.texts) refl
+same_parts one other same stop is = grind arith
 
 pub clean_end : (end : End) → stop_of end ≡ None → cut_heads end ≡ []
 clean_end Clean none = refl
@@ -225,11 +207,7 @@ module _ (wanted : Wanted) where
 
     end_told : KnowsWhole u
         → told_after wanted (walked.events ++ end_events walked.taken) ≡ at_end u
-    end_told whole =
-        told_push wanted walked.events (end_events walked.taken)
-        ∙ ap (λ told. told_then wanted told (end_events walked.taken)) walked_told
-        ∙ cc tells.walked
-        ∙ end_said u whole
+    end_told whole = grind (arith, end_said, told_push, told_then, walked_told)
 
   -- ---- both kinds of runs
 
@@ -297,10 +275,7 @@ module _ (wanted : Wanted) where
     ending_same : (refused : Option (ℕ × OrderFault)) → order.refused ≡ refused
         → SameMade (walk_made false reading) (unpacking_by wanted reading.end order)
     ending_same None is =
-        let one : walk_made false reading ≡ walk_made true reading =
-        ap (told_by (unpack_telling wanted) reading.end) (walked_same is) in
-        rw (one, made_in_order wanted reading.end heads reads.heads (all_in_order heads is))
-        going_same
+        grind (arith, all_in_order, false, going_same, made_in_order, true, walked_same)
     ending_same (Some fault) is =
         let made : walk_made false reading ≡ made_at order.refused order.heads =
         ap (told_by (unpack_telling wanted) reading.end) walked_ordered in
@@ -324,16 +299,7 @@ module _ (wanted : Wanted) where
   -- what `unpack` says of the events of a stream is what the transfers of the stream make
   pub same_tool : unpack_tool wanted ≡ tool_of (by_transfers wanted)
   unfolding told_of by_transfers
-  same_tool =
-      let tool : (List ℕ → Outcome × Texts × Bool) → Tool = λ parts. record {
-        whole = λ bytes. (parts bytes).0;
-        so_far = λ bytes. (parts bytes).1;
-        shows = λ bytes. (parts bytes).2;
-      } in
-      ap tool (fun_ext (λ bytes.
-      same_parts (unpacking_of wanted bytes) (by_transfers wanted bytes)
-      (same_by (reading_of bytes) (reading_read bytes) wanted.keep_going)
-      (unpacking_of wanted bytes).stop refl))
+  same_tool = grind (arith, fun_ext, reading_read, same_by, same_parts)
 
   pub whole_is : (bytes : List ℕ) → (unpack_tool wanted).whole bytes
       ≡ whole_by (by_transfers wanted bytes).stop (by_transfers wanted bytes)

@@ -1,12 +1,10 @@
 -- If no head is refused, `unpack` makes the same, whether or not a fault of the order ends the run.
-use Rattle.std.proofs.Common.{◌≡◌, ℕ, Bool, true, false, List, [], ◌∷◌, ◌++◌, length, refl, ap, sym, ◌∙◌}
+use Rattle.std.proofs.Common.{◌≡◌, ℕ, Bool, List, [], ◌∷◌, ◌++◌, refl, ap, arith}
 use Rattle.std.proofs.Math.Path.{fun_ext}
-use Rattle.std.specs.List.{fold}
 use Rattle.link_wire.specs.Stream.{End, reading_of}
-use Rattle.link_report.specs.Transfer.{transfer_text}
 use Rattle.link_walk.specs.Walk.{WalkEvent, ContactHeader, MessageHead, Data, Whole, LeftOpen, Walked, told_by, told_of}
 use Rattle.link_unpack.specs.Transfers.{Transfer}
-use Rattle.link_unpack.specs.Unpacking.{part_of, parts_of, entry_of, line_due, Told, none_told, told_event, told_after, unpack_telling}
+use Rattle.link_unpack.specs.Unpacking.{part_of, parts_of, line_due, Told, told_event, told_after, unpack_telling}
 use Rattle.link_unpack.specs.declared.wanted.Wanted.{Wanted}
 use Rattle.link_laws.specs.Cuts.{going_on, stopping, IsSameInOrder}
 use Rattle.link_laws.proofs.Same.{walked_same}
@@ -22,10 +20,7 @@ module _ (wanted : Wanted) where
 
   line_same : (due : Bool) (transfers : List Transfer)
       → line_due (going_on wanted) due transfers ≡ line_due (stopping wanted) due transfers
-  line_same false transfers = refl
-  line_same true [] = refl
-  line_same true (latest ∷ earlier) =
-      cc (parts_same earlier)
+  line_same due transfers = grind (arith, parts_same)
 
   event_same : (told : Told) (event : WalkEvent)
       → told_event (going_on wanted) told event ≡ told_event (stopping wanted) told event

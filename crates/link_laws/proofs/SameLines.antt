@@ -1,26 +1,23 @@
 -- If every transfer of a recording is over and good, `blocks` writes the lines of the bundles that
 -- `unpack` joins.
-use Rattle.std.proofs.Common.{◌≡◌, ℕ, ◌≤◌, Bool, true, false, List, [], ◌∷◌, ◌++◌, length, Option, Some, None, if◌then◌else◌, refl, ap, sym, ◌∙◌, append-nil, arith}
+use Rattle.std.proofs.Common.{◌≡◌, ℕ, ◌≤◌, Bool, true, false, List, [], ◌∷◌, ◌++◌, length, Option, Some, None, if◌then◌else◌, refl, ◌∙◌, append-nil, arith}
 use Rattle.std.specs.List.{flat_map, fold}
 use Rattle.std.proofs.lemmas.Bool.{and_parts}
 use Rattle.std.proofs.lemmas.Grind.{flat_map-append}
 use Rattle.link_wire.specs.Bytes.{AreBytes}
-use Rattle.link_wire.specs.Message.{data_length}
 use Rattle.link_wire.specs.SpelledStream.{IsReading}
 use Rattle.link_wire.specs.Stream.{Entry, End, Reading, reading_of, heads_of}
 use Rattle.link_wire.specs.declared.message.Contact.{Contact}
 use Rattle.link_transfer.specs.declared.fault.OrderFault.{OrderFault}
 use Rattle.link_run.specs.Made.{StreamStop, Made, whole_by, stop_of}
-use Rattle.link_run.specs.Run.{Texts}
 use Rattle.link_run.specs.Writers.{on_output}
 use Rattle.link_run.proofs.Runs.{texts_as}
-use Rattle.link_walk.specs.Walk.{WalkEvent, MessageHead, LeftOpen, Head, head_at, head_events, contact_events, Walked, taken_with, with_judged, with_entry_unless, with_next, none_walked, walked_of, walked, end_events, has_open, stop_by, told_of}
+use Rattle.link_walk.specs.Walk.{WalkEvent, MessageHead, LeftOpen, Head, head_at, contact_events, Walked, taken_with, with_judged, with_entry_unless, with_next, none_walked, walked_of, walked, end_events, has_open, stop_by, told_of}
 use Rattle.link_walk.specs.declared.consumer.Manner.{Manner}
 use Rattle.link_unpack.specs.Transfers.{Transfer}
-use Rattle.link_unpack.specs.Unpacking.{Told, told_after, unpacking_of, unpack_tool, parts_of}
+use Rattle.link_unpack.specs.Unpacking.{Told, told_after, unpack_tool, parts_of}
 use Rattle.link_blocks.specs.Bundles.{bundle_limit}
-use Rattle.link_blocks.specs.Showing.{order_line_of, lines_of, blocks_of, blocks_tool}
-use Rattle.link_laws.specs.Cuts.{data_of}
+use Rattle.link_blocks.specs.Showing.{order_line_of, lines_of, blocks_tool}
 use Rattle.link_laws.specs.Ranges.{InputFits}
 use Rattle.link_laws.specs.RoundTrip.{all}
 use Rattle.link_laws.specs.SameLines.{shown, unpacked, HasSameLines}
@@ -54,11 +51,7 @@ module _ (manner : Manner) (stops : manner.goes_on ≡ false) where
     here = head_at was.taken head.offset head.message
 
     taken_none : here.fault ≡ None → NoLines (taken_with manner was head).events
-    taken_none may =
-        no_lines_both was.events _ none
-        (no_lines_both (head_events manner.all_heads here) _ (head_none here _ may)
-        (content_none order_line_of (λ byte. refl) refl here.turn (data_length head.message)
-        head.content))
+    taken_none may = grind (arith, content_none, head_none, no_lines_both)
 
     judged_none : (fault : Option OrderFault) → here.fault ≡ fault
         → NoLines (with_judged fault manner was head).events
@@ -84,12 +77,7 @@ module _ (manner : Manner) (stops : manner.goes_on ≡ false) where
 
 pub status_clean : (stop : Option StreamStop) (made : Made) → (whole_by stop made).status ≡ 0
     → (stop ≡ None) × (made.good ≡ true)
-status_clean (Some stop) made is = absurd (omega arith)
-status_clean None made is = (refl, by_good made.good is)
-  where
-    by_good : (good : Bool) → ◌≡◌ {A = ℕ} (if good then 0 else 1) 0 → good ≡ true
-    by_good true is = refl
-    by_good false is = absurd (omega arith)
+status_clean stop made is = grind arith
 
 stop_clean : (refused : Option (ℕ × OrderFault)) (end : End) → stop_by refused end ≡ None
     → (refused ≡ None) × (stop_of end ≡ None)
@@ -126,18 +114,7 @@ module _ (bytes : List ℕ) where
 
   pub clean : ((unpack_tool all).whole bytes).status ≡ 0 → IsClean
   unfolding told_of
-  clean is =
-      let both = status_clean (stop_by was.refused reading.end) (unpacking_of all bytes) is in
-      let stops = stop_clean was.refused reading.end both.0 in
-      let said = clean_told all reading (reading_read bytes) stops.0 stops.1 in
-      record {
-        stop = both.0;
-        unrefused = stops.0;
-        end = stops.1;
-        told_good = both.1;
-        are = ap (λ (t : Told). t.transfers) said;
-        good = (and_parts (are_good transfers) _ (ap (λ (t : Told). t.good) (sym said) ∙ both.1)).0;
-      }
+  clean is = grind (arith, and_parts, clean_told, reading_read, status_clean, stop_clean)
 
   module _ (is : IsClean) where
     pub unpacks : unpacked bytes ≡ parts_of all transfers
@@ -172,17 +149,7 @@ module _ (bytes : List ℕ) where
         cc (is.stop, is.told_good, texts_as said no_report)
 
     pub fits : IsReading bytes reading → InputFits bytes → length (unpacked bytes) ≤ bundle_limit
-    fits spelled input =
-        let heads = ap (λ hs. reading.entries ++ hs) (clean_end reading.end is.end)
-        ∙ append-nil reading.entries in
-        omega (
-          arith,
-          ap length (every_byte bytes),
-          order_size (heads_of reading),
-          ap (λ hs. length (flat_map data_of hs)) heads,
-          reading_size bytes reading spelled,
-          input.few,
-        )
+    fits spelled input = grind (arith, append-nil, clean_end, every_byte, order_size, reading_size)
 
   pub same_lines : ((bytes : List ℕ) → AreBytes bytes → IsReading bytes (reading_of bytes))
       → InputFits bytes → ((unpack_tool all).whole bytes).status ≡ 0 → HasSameLines bytes

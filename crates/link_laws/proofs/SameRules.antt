@@ -1,6 +1,6 @@
 -- If every transfer of a recording is over and good, `check --bundles` finds the same rules broken
 -- in the bundles that `unpack` joins as `check` does in the recording.
-use Rattle.std.proofs.Common.{◌≡◌, ℕ, ◌≤◌, Bool, true, false, List, [], ◌∷◌, ◌++◌, length, map, None, Ok, if◌then◌else◌, refl, ap, ap₂, sym, ◌∙◌, append-nil}
+use Rattle.std.proofs.Common.{◌≡◌, ℕ, ◌≤◌, Bool, true, false, List, [], ◌∷◌, ◌++◌, length, map, None, Ok, refl, ap, ap₂, sym, ◌∙◌, append-nil}
 use Rattle.std.specs.List.{All, filter, flat_map}
 use Rattle.std.proofs.lemmas.Bool.{and_parts}
 use Rattle.std.proofs.lemmas.Grind.{flat_map-append}
@@ -20,15 +20,14 @@ use Rattle.link_wire.specs.Bytes.{AreBytes}
 use Rattle.link_wire.specs.SpelledStream.{IsReading}
 use Rattle.link_wire.specs.Stream.{Reading, reading_of, heads_of}
 use Rattle.link_run.specs.Made.{Made, whole_by}
-use Rattle.link_run.specs.Run.{Texts}
-use Rattle.link_walk.specs.Walk.{Walked, WalkEvent, walked, end_events, stop_by, told_of}
+use Rattle.link_walk.specs.Walk.{Walked, WalkEvent, walked, end_events, told_of}
 use Rattle.link_unpack.specs.Unpacking.{unpack_tool, parts_of}
 use Rattle.link_bundle_walk.specs.Bundles.{divided}
 use Rattle.link_bundle_walk.proofs.Outcomes.{told_as}
 use Rattle.link_blocks.specs.Bundles.{bundle_limit}
 use Rattle.link_check.specs.BundleRules.{bundle_rules}
 use Rattle.link_check.specs.Bundles.{broken_bundles, bundle_check_telling, bundle_check_tool}
-use Rattle.link_check.specs.Checking.{closed_rules, data_rules, none_kept, check_of, check_tool}
+use Rattle.link_check.specs.Checking.{none_kept, check_tool}
 use Rattle.link_check.specs.Lines.{at_offset}
 use Rattle.link_laws.specs.Ranges.{InputFits}
 use Rattle.link_laws.specs.RoundTrip.{all}
@@ -38,7 +37,7 @@ use Rattle.link_laws.specs.Transfers.{are_good}
 use Rattle.link_laws.proofs.BrokenRules.{options, broken_from, lines_said, good_kept}
 use Rattle.link_laws.proofs.Following.{follow_both, reading_told, end_follows}
 use Rattle.link_laws.proofs.GoodBundles.{divided_all, good_transfer}
-use Rattle.link_laws.proofs.Placed.{after_events, Placed, Choice, transfers_in, begun_of, told_transfers, rules_of, due_of, AfterAll, from_start}
+use Rattle.link_laws.proofs.Placed.{Placed, Choice, transfers_in, told_transfers, rules_of, due_of, AfterAll, from_start}
 use Rattle.link_laws.proofs.PlainHeads.{going, quieter, all_matter}
 use Rattle.link_laws.proofs.Same.{walked_on}
 use Rattle.link_laws.proofs.SameLines as recording

@@ -101,9 +101,7 @@ module _ (id : ℕ) (sending : Sending) where
       → after_message earlier (message_of id sending 0) (chunk_of sending 0)
       ≡ sent id sending 1 (last_at 0) ∷ earlier
   first_sent earlier =
-      transfer_begins earlier (head_of id sending 0) (chunk_of sending 0) (starts_as true (last_at 0))
-      ∙ transfer_as (head_of id sending 0) (chunk_of sending 0) (take (1 * sending.segment) sending.bundle) (closes (head_of id sending 0) (chunk_of sending 0)) (last_at 0) earlier
-      (taken_first sending.segment sending.bundle) (closes_at 0)
+      grind (arith, closes_at, starts_as, taken_first, transfer_as, transfer_begins)
 
   next_sent : (k : ℕ) (closed : Bool) (earlier : List Transfer) → (k == 0) ≡ false
       → after_message (sent id sending k closed ∷ earlier) (message_of id sending k)

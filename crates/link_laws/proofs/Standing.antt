@@ -5,7 +5,7 @@ use Rattle.std.proofs.lemmas.List.{map_push}
 use Rattle.link_wire.specs.Stream.{Entry}
 use Rattle.link_transfer.specs.Event.{event_of}
 use Rattle.link_transfer.specs.Joiner.{IsJoinerAt, joiner_after}
-use Rattle.link_transfer.specs.Order.{refusal, refusal_by}
+use Rattle.link_transfer.specs.Order.{refusal_by}
 use Rattle.link_transfer.specs.declared.event.Event.{Event}
 use Rattle.link_transfer.specs.declared.joiner.Joiner.{Joiner}
 use Rattle.link_transfer.proofs.Joining.{refusal-at, IsJoinerAt-none, IsJoinerAt-then}

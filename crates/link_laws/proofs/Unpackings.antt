@@ -1,5 +1,5 @@
 -- The texts of `unpack` that some bytes determine are prefixes of its texts for longer inputs.
-use Rattle.std.proofs.Common.{ℕ, Bool, true, false, List, [], ◌∷◌, ◌++◌, Option, Some, None, if◌then◌else◌, refl, ⊎_elim}
+use Rattle.std.proofs.Common.{ℕ, Bool, true, false, List, [], ◌∷◌, ◌++◌, Option, Some, None, if◌then◌else◌, refl, ⊎_elim, arith}
 use Rattle.std.proofs.lemmas.Bool.{cases_Bool}
 use Rattle.link_wire.specs.Codes.{is_start}
 use Rattle.link_wire.specs.declared.message.Message.{Message}
@@ -67,18 +67,9 @@ module _ (wanted : Wanted) where
   event_front : (told : Told) (event : WalkEvent)
       → AreFronts (text_of told) (text_of (told_event wanted told event))
   event_front told (ContactHeader contact) = fronts_same _ _ refl
-  event_front told (MessageHead head) = record {
-    output = turn_front told.transfers head.turn head.message;
-    report = front_then _ _ _ (front_then _ _ _ (front_first told.report _));
-  }
-  event_front told (Data byte) = record {
-    output = continued_front told.transfers (byte ∷ []) false;
-    report = front_same _ _ refl;
-  }
-  event_front told Whole = record {
-    output = continued_front told.transfers [] true;
-    report = front_first _ _;
-  }
+  event_front told (MessageHead head) = grind (arith, front_first, front_then, turn_front)
+  event_front told (Data byte) = grind (arith, continued_front, front_same)
+  event_front told Whole = grind (arith, continued_front, front_first)
   event_front told LeftOpen = record { output = front_same _ _ refl; report = front_first _ _ }
 
   said_front : Adds (unpack_telling wanted)
