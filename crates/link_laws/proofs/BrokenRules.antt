@@ -79,8 +79,7 @@ module _ (peer : PeerLimits) where
     unfolding lines_of
     lines_said [] kept = refl
     lines_said (event ∷ more) kept =
-        cc (broken_same kept event, lines_said more (kept_with (options must) kept event))
-        ∙ texts_as (sym (lines_append must (broken_with kept.heads kept.latest event) _)) refl
+        grind (arith, broken_same, lines_append, texts_as, lines_said more)
 
     pub good_kept : (events : List WalkEvent) (kept : Kept)
         → (kept_after (checking (options must)) kept events).good

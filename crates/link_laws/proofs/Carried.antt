@@ -34,9 +34,7 @@ some_chunk segment size some byte = chunk_left segment 0 size some (omega arith)
 -- the chunks that are due of a bundle that goes on are among its chunks
 pub due_within : (segment hold count size : ℕ) → 0 < segment
     → count ≤ due_of false segment hold size → count ≤ chunk_count segment size
-due_within segment hold count size some few =
-    let within = given_within segment hold count size some few in
-    fits_back segment count (size + (segment - 1)) some (omega arith)
+due_within segment hold count size some few = grind (arith, fits_back, given_within)
 
 -- ---- the transfers
 

@@ -1,5 +1,5 @@
 -- What `unpack` reports of a recording in which `check --must` finds no rule broken.
-use Rattle.std.proofs.Common.{◌≡◌, ℕ, Bool, true, false, List, [], ◌∷◌, ◌++◌, map, filter_map, option_map, Option, Some, None, if◌then◌else◌, refl, ap, sym, ◌∙◌, subst}
+use Rattle.std.proofs.Common.{◌≡◌, ℕ, Bool, true, false, List, [], ◌∷◌, ◌++◌, map, filter_map, option_map, Option, Some, None, if◌then◌else◌, refl, ap, sym, ◌∙◌, subst, arith}
 use Rattle.std.specs.List.{All, flat_map}
 use Rattle.std.proofs.lemmas.Bool.{and_parts}
 use Rattle.std.proofs.lemmas.Grind.{flat_map-append, fold-append}
@@ -60,9 +60,7 @@ module _ (peer : PeerLimits) (contact : Option Contact) where
 
   module _ (heads : List Entry) (read : AreRead heads) where
     placed : AfterAll due_choice peer [] [] None (every heads).events
-    placed =
-        from_start due_choice peer (every heads).events
-        (walk_told (going true) contact heads read).follow
+    placed = grind (arith, due_choice, from_start, walk_told)
 
     same_transfers : (wanted : Wanted)
         → transfers_in placed.after ≡ (unpacked_of wanted heads).transfers
@@ -135,10 +133,7 @@ module _ (offset : ℕ) where
       (option_map message_rule.Order fault ∷ others))) ≡ true
       → All IsSecondInit (fault_at offset fault)
   unfolding none_counts rule_level level_of
-  order_rule None others none = All-nil IsSecondInit
-  order_rule (Some SecondSessInit) others none =
-      All-cons IsSecondInit (offset, SecondSessInit) [] refl (All-nil IsSecondInit)
-  order_rule (Some other) others none = absurd (cc)
+  order_rule fault others none = grind arith
 
   third_rule : (first second : Option MessageRule) (fault : Option OrderFault)
       (others : List (Option MessageRule))
@@ -255,19 +250,10 @@ module _ (peer : PeerLimits) (bytes : List ℕ)
 
   kept : IsKept
   unfolding told_of
-  kept =
-      let both = status_clean (stop_by walk.refused reading.end) (check_of (options peer true) bytes)
-      is in
-      record {
-        unstopped =
-            cc ((quieter reading.contact heads).unrefused, both.0);
-        none = sym (good_kept peer true (walk.events ++ end_events walk.taken) none_kept) ∙ both.1;
-      }
+  kept = grind (arith, good_kept, quieter, status_clean)
 
   keeps : KeepsMusts peer reading.contact heads
-  keeps =
-      none_before peer true [] None walk.events (walk.events ++ end_events walk.taken)
-      (front_first walk.events (end_events walk.taken)) kept.none
+  keeps = grind (arith, front_first, kept, none_before)
 
   faults : All IsSecondInit (faults_after [] heads)
   faults =

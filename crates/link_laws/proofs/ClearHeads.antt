@@ -65,9 +65,7 @@ module _ (peer : PeerLimits) (before : List JudgedHead) where
         → peer_transfer peer.transfer before segment_head ≡ None
         → broken_rules peer before segment_head ≡ []
     unfolding broken_rules node_id order before_session interleaved ack_length keepalive term_flags
-    segment_clear none new short within =
-        rw (items_none, none_if (has_sess_init (messages_of before)), none, flags_none, new)
-        (rw (short, within))
+    segment_clear none new short within = grind (arith, flags_none, items_none, none_if)
 
   -- ---- messages that are no segments
 

@@ -50,9 +50,7 @@ taken_by : (beyond : Bool) (limit : ℕ) (front : List ℕ) (said : Result Bundl
     (info : BundleInfo) → nat_lt limit (length front) ≡ beyond
     → (if beyond then Err (Longer limit) else refused_by said) ≡ Ok info
     → (length front ≤ limit) × (said ≡ Ok info)
-taken_by true limit front said info test is = absurd (cc)
-taken_by false limit front (Ok other) info test is = (ltb-false limit (length front) test, cc)
-taken_by false limit front (Err (fault, place)) info test is = absurd (cc)
+taken_by beyond limit front said info test is = grind (arith, ltb-false)
 
 taken_whole : (limit : ℕ) (front : List ℕ) (info : BundleInfo) → judged_front limit front ≡ Ok info
     → (length front ≤ limit) × (verdict front ≡ Ok info)

@@ -32,15 +32,11 @@ module _ (wanted : Wanted) where
 
   pub lines_due : (due : Bool) (transfers : List Transfer)
       → line_due wanted due transfers ≡ flat_map transfer_text (entries_due due transfers)
-  lines_due false transfers = refl
-  lines_due true [] = refl
-  lines_due true (latest ∷ earlier) = sym (append-nil _)
+  lines_due due transfers = grind (arith, append-nil)
 
   pub goods_due : (due : Bool) (transfers : List Transfer)
       → good_due due transfers ≡ all_good (entries_due due transfers)
-  goods_due false transfers = refl
-  goods_due true [] = refl
-  goods_due true (latest ∷ earlier) = sym (and-true _)
+  goods_due due transfers = grind (arith, and-true)
 
   pub abandoned_due : (transfers : List Transfer)
       → abandoned_line wanted transfers ≡ line_due wanted (latest_open transfers) transfers

@@ -1,6 +1,6 @@
 -- A closed transfer that breaks no rule of transfers of level `must` is good, or its data may be a
 -- bundle.
-use Rattle.std.proofs.Common.{◌≡◌, ℕ, Bool, true, false, not, ◌==◌, List, [], ◌∷◌, ◌++◌, length, map, filter_map, Option, Result, Ok, Err, if◌then◌else◌, refl, ap, sym, ◌∙◌}
+use Rattle.std.proofs.Common.{◌≡◌, ℕ, Bool, true, false, not, ◌==◌, List, [], ◌∷◌, ◌++◌, length, map, filter_map, Option, Result, Ok, Err, if◌then◌else◌, refl, ap, sym, ◌∙◌, arith}
 use Rattle.std.specs.List.{All, filter}
 use Rattle.std.proofs.lemmas.Bool.{and_parts}
 use Rattle.std.proofs.lemmas.List.{map-append}
@@ -49,9 +49,7 @@ due_rules lines = filter (λ (line : RuleText). is_due line.rule) lines
 allowed_rule : (broken : BrokenRule) → not (is_must (rule_level broken)) ≡ true
     → is_due broken ≡ false
 unfolding rule_level
-allowed_rule (rule.Message broken) is = refl
-allowed_rule (rule.Transfer id broken) is = closed_not (is_must (transfer_level_of broken)) is
-allowed_rule (rule.Bundle where_it_is broken) is = refl
+allowed_rule broken is = grind (arith, closed_not)
 
 pub none_due : (lines : List RuleText) → none_counts true lines ≡ true → due_rules lines ≡ []
 unfolding none_counts
@@ -76,14 +74,7 @@ module _ (offset id : ℕ) where
         → due_rules (at_offset offset (data_rules id content said)) ≡ []
         → MayBeJudged content (judged_data said)
     unfolding data_rule transfer_level_of
-    data_allowed (Ok info) none = tt
-    data_allowed (Err (fault, byte)) none = by_kind (may_be_bundle content fault byte) refl none
-      where
-        by_kind : (may : Bool) → may_be_bundle content fault byte ≡ may
-            → lines_for ((if may then NotRead fault byte else Bundle fault byte) ∷ []) ≡ []
-            → may_be_bundle content fault byte ≡ true
-        by_kind true is none = is
-        by_kind false is none = absurd (cc)
+    data_allowed said none = grind arith
 
     length_allowed : (announced : Announced) (size : ℕ) (single : Option TransferRule)
         (said : Result BundleInfo (BundleFault × ℕ))
@@ -92,14 +83,7 @@ module _ (offset id : ℕ) where
         → MayBeJudged content (judged_data said)
         → MayBeJudged content (judged_length announced size said)
     unfolding transfer_level_of
-    length_allowed Absent size single said none may = may
-    length_allowed Malformed size single said none may = absurd (cc)
-    length_allowed (Total total) size single said none may = by_total (total == size) refl
-      where
-        by_total : (same : Bool) → (total == size) ≡ same
-            → MayBeJudged content (judged_length (Total total) size said)
-        by_total true is = rw is may
-        by_total false is = absurd (let never = rw is at none in cc)
+    length_allowed announced size single said none may = grind arith
 
 module _ (peer : PeerLimits) where
   abbrev pub due : Placed → List RuleText
@@ -132,13 +116,7 @@ module _ (peer : PeerLimits) where
       (data_allowed placed.offset id transfer.content (verdict transfer.content) both.1)
 
   transfer_allowed : (placed : Placed) → due placed ≡ [] → IsAllowed placed.transfer
-  transfer_allowed placed none = by_closed placed.transfer.closed refl
-    where
-      by_closed : (closed : Bool) → placed.transfer.closed ≡ closed → IsAllowed placed.transfer
-      by_closed false is = rw is tt
-      by_closed true is =
-          let rules_none = rw is at none in
-          rw is (closed_allowed placed rules_none)
+  transfer_allowed placed none = grind (arith, closed_allowed)
 
   -- transfers that break no rule of transfers of level `must` once they are closed
   pub all_allowed : (placed : List Placed) → rules placed ≡ []

@@ -76,15 +76,11 @@ bytes_follow before bytes test opened =
 open_bytes : (last none all : Bool) → (none ≡ true → all ≡ true)
     → fold open_after_event (not (last && none)) (whole_events (last && (not none && all)))
     ≡ not (last && all)
-open_bytes true true all known = ap not (sym (known refl))
-open_bytes true false true known = refl
-open_bytes last none all known = refl
+open_bytes last none all known = grind arith
 
 module _ (was : Bool) (size : ℕ) (content : List ℕ) (fits : size ≡ 0 → content ≡ []) where
   none_all : (size == 0) ≡ true → (length content == size) ≡ true
-  none_all none =
-      let zero : size ≡ 0 = eqb-true size 0 none in
-      eq-eqb (length content) size (ap length (fits zero) ∙ sym zero)
+  none_all none = grind (arith, eq-eqb, eqb-true)
 
   turn_open : (last : Bool)
       → fold open_after_event (not (last && (size == 0))) (data_events content
@@ -142,10 +138,10 @@ module _ (manner : Manner) (was : Walked) (stands : Stands was) (head : Entry)
 
   head_opened : has_open (was.events ++ told)
       ≡ open_with here.turn (closes here) (has_open was.events)
-  head_opened = grind (arith, continues_some, has_open-append, is_some, not, open_if, plain_open)
+  head_opened = grind (arith, continues_some, has_open-append, open_if, plain_open)
 
   all_follow : AllFollow [] (was.events ++ (told ++ content))
-  all_follow = grind (arith, content_follow, follow_both, head_follows, head_opened, not)
+  all_follow = grind (arith, content_follow, follow_both, head_follows, head_opened)
 
   all_opened : has_open (was.events ++ (told ++ content))
       ≡ open_with here.turn (is_last here.turn && (length head.content == size))
@@ -159,10 +155,10 @@ module _ (manner : Manner) (was : Walked) (stands : Stands was) (head : Entry)
 
   -- all of its data has come
   taken_stands : IsWhole head → Stands (taken_with manner was head)
-  taken_stands all = grind (arith, all_follow, all_opened, and-true, eq-eqb, is_some, open_then)
+  taken_stands all = grind (arith, all_follow, all_opened, and-true, eq-eqb, open_then)
 
   taken_told : Told (taken_with manner was head)
-  taken_told = grind (arith, all_follow, all_opened, false, is_some, open_then, true)
+  taken_told = grind (arith, all_follow, all_opened, open_then)
 
 -- the walk takes the head, or ends before it
 module _ (manner : Manner) (was : Walked) (head : Entry) (P : Walked → Type 0)
@@ -243,4 +239,4 @@ module _ (manner : Manner) where
 
 pub end_follows : (walked : Walked) → Told walked
     → AllFollow walked.events (end_events walked.taken)
-end_follows walked told = grind (arith, false, is_some, true)
+end_follows walked told = grind arith

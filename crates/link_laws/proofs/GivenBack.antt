@@ -39,9 +39,7 @@ good_by outcome size said info is (inr total) = rw (total.1, is, eq-eqb size siz
 module _ (options : PackOptions) where
   judged_good : (number : ℕ) (bundle : Packed) → verdict bundle.bytes ≡ Ok bundle.info
       → judgement_of (transfer_of options number bundle) ≡ Good bundle.info
-  judged_good number bundle is =
-      let whole = cutting_of (sending options true bundle.bytes) in
-      good_by (announced_of (announced (announcement whole))) (length bundle.bytes) (verdict bundle.bytes) bundle.info is (announces whole)
+  judged_good number bundle is = grind (arith, announces, good_by)
 
   -- ---- all bundles
 

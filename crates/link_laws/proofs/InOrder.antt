@@ -1,5 +1,5 @@
 -- Heads that are all in order: it makes no difference whether a fault of the order ends the run.
-use Rattle.std.proofs.Common.{◌≡◌, ℕ, true, false, List, [], ◌∷◌, ◌++◌, None, refl, ap, ap₂, sym, ◌∙◌, append-nil}
+use Rattle.std.proofs.Common.{◌≡◌, ℕ, true, false, List, [], ◌∷◌, ◌++◌, None, refl, ap, ap₂, sym, ◌∙◌, append-nil, arith}
 use Rattle.std.specs.List.{flat_map, fold}
 use Rattle.std.proofs.Math.Bool.{and-true}
 use Rattle.std.proofs.lemmas.List.Concat.{flat_map-append}
@@ -88,6 +88,4 @@ module _ (wanted : Wanted) where
   pub made_in_order : (end : End) (heads : List Entry) → AreRead heads → AreInOrder heads
       → unpacking_by wanted end (ordered heads)
       ≡ going_on_by wanted end (unpacked_of wanted heads)
-  made_in_order end heads read are =
-      let so = unpacked_in_order heads read are in
-      rw (are, so.report, so.in_order, so.made, lines_abandoned (transfers_of heads), and-true) refl
+  made_in_order end heads read are = grind (arith, and-true, lines_abandoned, unpacked_in_order)

@@ -83,9 +83,7 @@ total_announced total = refl
 
 announces_by : (whole test : Bool) (size : ℕ)
     → Announces whole size (if whole && test then Some size else None)
-announces_by true true size = inr (refl, total_announced size)
-announces_by true false size = inl none_announced
-announces_by false test size = inl none_announced
+announces_by whole test size = grind (arith, none_announced, total_announced)
 
 pub announces : (so_far : Cutting)
     → Announces so_far.whole (length so_far.bundle) (announcement so_far)

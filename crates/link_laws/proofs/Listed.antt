@@ -23,16 +23,12 @@ use Rattle.link_laws.proofs.Segments.{chunk_of, segment_entries}
 length-list : (start : Bool) (announce : Option ℕ)
     → length (list_bytes start announce) ≡ list_size start announce
 unfolding announce_bytes total_bytes
-length-list true None = refl
-length-list true (Some total) = refl
-length-list false announce = refl
+length-list start announce = grind arith
 
 length-head : (flags id size : ℕ) (announce : Option ℕ)
     → length (segment_head_bytes flags id size announce) ≡ segment_head_size flags announce
 unfolding segment_head_bytes
-length-head flags id size announce =
-    let list = list_bytes (is_start flags) announce in
-    omega (arith, length-append (be 1 1 ++ be 1 flags ++ be 8 id ++ list) (be 8 size), length-append (be 1 1 ++ be 1 flags ++ be 8 id) list, length-list (is_start flags) announce)
+length-head flags id size announce = grind (arith, length-append, length-list)
 
 length-init : (interval segment_mru transfer_mru : ℕ) (node : List ℕ)
     → length (sess_init_bytes interval segment_mru transfer_mru node) ≡ 25 + length node
@@ -49,8 +45,7 @@ module _ (id : ℕ) (sending : Sending) where
   unfolding segments_from size_of_segments
   length-segments k zero = refl
   length-segments k (suc count) =
-      length-append (segment_bytes id (cut_at sending k) (chunk_of sending k)) (segments_from id sending (suc k) count)
-      ∙ ap₂ (λ a b. a + b) (length-segment k) (length-segments (suc k) count)
+      grind (arith, length-append, length-segment, length-segments (suc k) count)
 
   -- ---- lines
 

@@ -74,14 +74,10 @@ module _ (wanted : Wanted) (offset : ℕ) (fault : Option OrderFault) (content :
 
     texts_due : line_due wanted abandoning transfers ++ line_due wanted closing after
         ≡ flat_map transfer_text due
-    texts_due =
-        cc (lines_due wanted abandoning transfers, lines_due wanted closing after)
-        ∙ sym (flat_map-append transfer_text (entries_due wanted abandoning transfers) _)
+    texts_due = grind (arith, entries_due, flat_map-append, lines_due)
 
     all_due : (good_due abandoning transfers && good_due closing after) ≡ all_good due
-    all_due =
-        cc (goods_due wanted abandoning transfers, goods_due wanted closing after)
-        ∙ sym (list_all-append _ (entries_due wanted abandoning transfers) _)
+    all_due = grind (arith, entries_due, goods_due, list_all-append)
 
     adds : ((report : List ℕ) (good : Bool)
         → said_of wanted offset fault effect sent content
@@ -198,8 +194,7 @@ head_adds : (wanted : Wanted) (fault : Option OrderFault) (effect : Option Turn)
 head_adds wanted fault effect stray head transfers fits same (Strays is) =
     rw (same, is) (strays wanted head.offset fault head.content head.message transfers)
 head_adds wanted fault effect stray head transfers fits same (Passes is other) =
-    rw (same, is, transfers_same transfers head.message head.content other)
-    (passes wanted head.offset fault head.content head.message transfers other)
+    grind (arith, passes, transfers_same)
 head_adds wanted fault effect stray head transfers fits same
     (Begins first abandoned is starts does also) =
     let own = rw is at fits in

@@ -29,9 +29,7 @@ pub first_may : (before : List Message) (head : Entry) (more : List Entry)
     → (refusal before (event_of head.message) ≡ None)
     × (ordered_after (before ++ head.message ∷ []) more ≡ all more)
 unfolding ordered_after
-first_may before head more is =
-    by_first (refusal before (event_of head.message)) head
-    (ordered_after (before ++ head.message ∷ []) more) more is
+first_may before head more is = grind (arith, by_first)
 
 -- ---- a list of heads from its beginning
 

@@ -87,9 +87,7 @@ module _ (offset : ℕ) where
 
   of_both : (first second : List BrokenRule) → NoneOf first → NoneOf second
       → NoneOf (first ++ second)
-  of_both first second one two =
-      ap of_messages (map-append (λ broken. record { offset = offset; rule = broken }) first second)
-      ∙ messages_both (at_offset offset first) (at_offset offset second) one two
+  of_both first second one two = grind (arith, map-append, messages_both)
 
   of_bundle_rules : (where_it_is : BundlePlace) (broken : List BundleRule)
       → NoneOf (map (λ one. rule.Bundle where_it_is one) broken)
@@ -101,29 +99,13 @@ module _ (offset : ℕ) where
         → NoneOf (map (λ one. rule.Transfer id one) (filter_map (λ judged. judged)
         (if_malformed announced ∷ if_different announced size
         ∷ (if single then Some transfer_rule.LengthOfOneSegment else None) ∷ [])))
-    of_lengths (Total total) size single = by_total (total == size) single
-      where
-        by_total : (same single : Bool)
-            → NoneOf (map (λ one. rule.Transfer id one) (filter_map (λ judged. judged)
-            (None ∷ (if same then None else Some (transfer_rule.LengthDiffers total size))
-            ∷ (if single then Some transfer_rule.LengthOfOneSegment else None) ∷ [])))
-        by_total true true = refl
-        by_total false true = refl
-        by_total same single = refl
-    of_lengths said size true = refl
-    of_lengths said size single = refl
+    of_lengths announced size single = grind arith
 
     of_data : (content : List ℕ) (said : Result BundleInfo (BundleFault × ℕ))
         → NoneOf (data_rules id content said)
     unfolding data_rule
     of_data content (Ok info) = of_bundle_rules (place.Transfer id) (bundle_rules content info)
-    of_data content (Err (fault, byte)) = by_kind (may_be_bundle content fault byte)
-      where
-        by_kind : (may : Bool) → NoneOf (map (λ one. rule.Transfer id one)
-            ((if may then transfer_rule.NotRead fault byte else transfer_rule.Bundle fault byte)
-            ∷ []))
-        by_kind true = refl
-        by_kind false = refl
+    of_data content (Err (fault, byte)) = grind arith
 
   of_transfer : (first : SegmentHead) (size : ℕ)
       → NoneOf (map (λ one. rule.Transfer first.id one) (broken_transfer_rules first size))
@@ -151,9 +133,7 @@ module _ (peer : PeerLimits) where
   bytes_none : (bytes : List ℕ) (whole : Bool) (before : List JudgedHead) (rest : List WalkEvent)
       → BreakNone before rest
       → BreakNone before ((data_events bytes ++ (if whole then Whole ∷ [] else [])) ++ rest)
-  bytes_none [] true before rest none latest =
-      messages_both (rules_at closed_rules latest) (broken_from peer before latest rest)
-      (of_latest latest) (none latest)
+  bytes_none [] true before rest none latest = grind (arith, broken_from, messages_both, of_latest)
   bytes_none [] false before rest none latest = none latest
   bytes_none (byte ∷ bytes) whole before rest none latest =
       bytes_none bytes whole before rest none (latest_with latest (Data byte))
@@ -161,12 +141,7 @@ module _ (peer : PeerLimits) where
   content_none : (effect : Option Turn) (size : ℕ) (content : List ℕ) (before : List JudgedHead)
       (rest : List WalkEvent) → BreakNone before rest
       → BreakNone before (content_events effect size content ++ rest)
-  content_none None size content before rest none = none
-  content_none (Some turn.Other) size content before rest none = none
-  content_none (Some (turn.Begin abandoned last)) size content before rest none =
-      bytes_none content _ before rest none
-  content_none (Some (turn.Continue last)) size content before rest none =
-      bytes_none content _ before rest none
+  content_none effect size content before rest none = grind (arith, bytes_none)
 
   closing_none : (closing : Bool) (latest : Option Begun)
       → of_messages (if closing then rules_at closed_rules latest else []) ≡ []
@@ -204,13 +179,7 @@ module _ (peer : PeerLimits) where
       → (let was = walked_of (going true) (Some contact) heads in
       of_messages (broken_from peer [] None (was.events ++ end_events was.taken)) ≡ [])
   unfolding contact_flags
-  stream_none heads clear =
-      rw (
-        walk_is true (Some contact) heads,
-        none_open heads [] [] clear,
-        append-nil (walk_events true [] heads),
-      )
-      (heads_none heads [] [] clear None)
+  stream_none heads clear = grind (arith, append-nil, heads_none, none_open, walk_events, walk_is)
 
 -- ---- rules of closed transfers
 
@@ -271,16 +240,7 @@ module _ (peer : PeerLimits) where
 only_bundles : (lines : List RuleText) → of_messages lines ≡ [] → of_transfers lines ≡ []
     → same.of_bundles lines ≡ lines
 only_bundles [] messages transfers = refl
-only_bundles (line ∷ more) messages transfers =
-    by_rule line.rule (only_bundles more) messages transfers
-  where
-    by_rule : (broken : BrokenRule)
-        → (of_messages more ≡ [] → of_transfers more ≡ [] → same.of_bundles more ≡ more)
-        → (let lines : List RuleText = record line { rule = broken } ∷ more in
-        of_messages lines ≡ [] → of_transfers lines ≡ [] → same.of_bundles lines ≡ lines)
-    by_rule (rule.Bundle where_it_is broken) rest messages transfers = cc (rest messages transfers)
-    by_rule (rule.Transfer id (transfer_rule.Unfinished size)) rest messages transfers = absurd (cc)
-    by_rule broken rest messages transfers = absurd (cc)
+only_bundles (line ∷ more) messages transfers = grind (arith, only_bundles more)
 
 -- ---- the transfers of a packed stream
 
@@ -290,15 +250,7 @@ lengths_none : (said : Announced) (size : ℕ) (single : Bool)
     (if_malformed said ∷ if_different said size
     ∷ (if single && has_length_item said then Some transfer_rule.LengthOfOneSegment else None) ∷ [])
     ≡ []
-lengths_none said size single (inl absent) = rw absent (by_single single)
-  where
-    by_single : (single : Bool)
-        → filter_map (λ (judged : Option TransferRule). judged)
-        (None ∷ None
-        ∷ (if single && false then Some transfer_rule.LengthOfOneSegment else None) ∷ []) ≡ []
-    by_single true = refl
-    by_single false = refl
-lengths_none said size single (inr total) = rw (total.0, total.1, eq-eqb size size refl) refl
+lengths_none said size single is = grind (arith, eq-eqb)
 
 module _ (options : PackOptions) (id : ℕ) (bundle : List ℕ) where
   abbrev whole : Sending
@@ -334,12 +286,7 @@ module _ (options : PackOptions) (id : ℕ) (bundle : List ℕ) where
   transfer_none : (info : BundleInfo) → verdict bundle ≡ Ok info
       → BreaksNone (record { first = first; content = bundle; closed = true })
   unfolding broken_transfer_rules length_item length_differs length_of_one_segment
-  transfer_none info is = record {
-    lengths = lengths_none (announced_of first.items.items) (length bundle)
-        (is_start first.flags && is_end first.flags) announced_only;
-    info = info;
-    is = is;
-  }
+  transfer_none info is = grind (arith, announced_only, lengths_none)
 
 transfers_none : (options : PackOptions) (number : ℕ) (bundles : List Packed)
     (earlier : List Transfer) → AreBundles options.peer_transfer bundles → All BreaksNone earlier
@@ -381,10 +328,7 @@ module _ (options : PackOptions) (bytes : List ℕ) (is_packed : IsPacked option
 
   messages : of_messages broken ≡ []
   messages =
-      cc reads
-      ∙ stream_none peer (heads_of (packed_reading options all_bundles))
-      (subst (AreClear peer [] []) (sym (append-nil (packed_entries options all_bundles)))
-      (packed_clear options peer allows keeps bundles is_packed.divides.bundles))
+      grind (arith, append-nil, packed_clear, packed_entries, packed_reading, reads, stream_none)
 
   placed : AfterAll transfer_choice peer [] [] None
       (same.events peer stream clean)

@@ -211,9 +211,9 @@ module _ (choice : Choice) (peer : PeerLimits) where
       head_after : (placed : List Placed) (sent : Message) (effect : Option Turn)
           → (opened ≡ true → IsOpenAt latest placed) → Does effect sent opened
           → AfterOne opened placed heads latest (MessageHead (head_as sent effect))
-      head_after placed sent effect at (Strays is) = grind (arith, false, head_choice, passes)
+      head_after placed sent effect at (Strays is) = grind (arith, head_choice, passes)
       head_after placed sent effect at (Passes is other) =
-          grind (arith, false, head_choice, passes, transfers_same)
+          grind (arith, head_choice, passes, transfers_same)
       head_after placed sent effect at (Begins first abandoned is starts does same) =
           rw (does, is) (begins_after placed first abandoned starts)
       head_after [] sent effect at (Continues first is starts does also) = absurd (at also)
@@ -247,7 +247,7 @@ module _ (choice : Choice) (peer : PeerLimits) where
 
     left_after : (one : Placed) (earlier : List Placed) → IsOpenAt latest (one ∷ earlier)
         → AfterOne true (one ∷ earlier) heads latest LeftOpen
-    left_after one earlier at = grind (arith, passes, true)
+    left_after one earlier at = grind (arith, passes)
 
   -- ---- events
 
@@ -256,8 +256,7 @@ module _ (choice : Choice) (peer : PeerLimits) where
       → (has_open before ≡ true → IsOpenAt latest placed)
       → AfterOne (has_open before) placed heads latest event
   event_after before (ContactHeader contact) placed heads latest follows at =
-      passes heads latest (has_open before) placed (ContactHeader contact) refl
-      (none_of_messages 0 _) at
+      grind (arith, none_of_messages, passes)
   event_after before (MessageHead head) placed heads latest follows at =
       head_after heads latest (has_open before) head.offset head.fault placed head.message head.turn
       at (comes_does before head follows)
@@ -282,7 +281,7 @@ module _ (choice : Choice) (peer : PeerLimits) where
       → (matters event ≡ false → after_event transfers event ≡ transfers)
       → after_events (after_event transfers event) (mattering more)
       ≡ after_events transfers (mattering (event ∷ more))
-  quiet_one transfers event more quiet = grind (arith, false, mattering, matters, true)
+  quiet_one transfers event more quiet = grind arith
 
   pub all_after : (more before : List WalkEvent) (placed : List Placed) (heads : List JudgedHead)
       (latest : Option Begun) → AllFollow before more

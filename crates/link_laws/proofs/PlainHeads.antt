@@ -35,9 +35,7 @@ whole_matters false = refl
 bytes_matter : (bytes : List ℕ) (test : Bool)
     → mattering (data_events bytes ++ (if test then Whole ∷ [] else []))
     ≡ data_events bytes ++ (if test then Whole ∷ [] else [])
-bytes_matter bytes test =
-    filter-append matters (data_events bytes) (if test then Whole ∷ [] else [])
-    ∙ cc (data_matter bytes, whole_matters test)
+bytes_matter bytes test = grind (arith, data_matter, filter-append, whole_matters)
 
 content_matters : (effect : Option Turn) (size : ℕ) (content : List ℕ)
     → mattering (content_events effect size content) ≡ content_events effect size content
@@ -146,6 +144,4 @@ quieter contact heads = grind (arith, contact_matters, filter-append, walk_is, w
 -- the events of a whole stream
 pub all_matter : (few every : Walked) → IsQuieter few every
     → few.events ++ end_events few.taken ≡ mattering (every.events ++ end_events every.taken)
-all_matter few every so =
-    cc (so.events, so.taken, end_matters _)
-    ∙ sym (filter-append matters every.events (end_events every.taken))
+all_matter few every so = grind (arith, end_matters, filter-append)

@@ -150,9 +150,7 @@ same_parts : (one other : Made) → SameMade one other → (stop : Option Stream
 same_parts one other same stop is = grind arith
 
 pub clean_end : (end : End) → stop_of end ≡ None → cut_heads end ≡ []
-clean_end Clean none = refl
-clean_end (Cut offset sent content) none = absurd (cc)
-clean_end (Fault offset fault) none = refl
+clean_end end none = grind arith
 
 module _ (wanted : Wanted) where
   abbrev walk_made : Bool → Reading → Made
@@ -175,9 +173,7 @@ module _ (wanted : Wanted) where
   end_by : (opened : Bool) (transfers : List Transfer) (report : List ℕ) (good : Bool)
       → (let told : Told = record { transfers = transfers; report = report; good = good } in
       told_then wanted told (if opened then LeftOpen ∷ [] else []) ≡ with_line wanted opened told)
-  end_by true transfers report good = refl
-  end_by false transfers report good =
-      told_as transfers _ _ _ _ (sym (append-nil report)) (sym (and-true good))
+  end_by opened transfers report good = grind (arith, and-true, append-nil, told_as)
 
   good_end : (before in_order due : Bool)
       → ((before && in_order) && due) ≡ ((before && due) && in_order)
@@ -207,7 +203,7 @@ module _ (wanted : Wanted) where
 
     end_told : KnowsWhole u
         → told_after wanted (walked.events ++ end_events walked.taken) ≡ at_end u
-    end_told whole = grind (arith, end_said, told_push, told_then, walked_told)
+    end_told whole = grind (arith, end_said, told_push, walked_told)
 
   -- ---- both kinds of runs
 
@@ -275,7 +271,7 @@ module _ (wanted : Wanted) where
     ending_same : (refused : Option (ℕ × OrderFault)) → order.refused ≡ refused
         → SameMade (walk_made false reading) (unpacking_by wanted reading.end order)
     ending_same None is =
-        grind (arith, all_in_order, false, going_same, made_in_order, true, walked_same)
+        grind (arith, all_in_order, going_same, made_in_order, walked_same)
     ending_same (Some fault) is =
         let made : walk_made false reading ≡ made_at order.refused order.heads =
         ap (told_by (unpack_telling wanted) reading.end) walked_ordered in

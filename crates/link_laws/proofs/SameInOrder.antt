@@ -14,9 +14,7 @@ module _ (wanted : Wanted) where
   parts_same : (transfers : List Transfer)
       → parts_of (going_on wanted) transfers ≡ parts_of (stopping wanted) transfers
   unfolding parts_of
-  parts_same [] = refl
-  parts_same (latest ∷ earlier) =
-      ap (λ (parts : List ℕ). parts ++ part_of wanted latest) (parts_same earlier)
+  parts_same transfers = grind arith
 
   line_same : (due : Bool) (transfers : List Transfer)
       → line_due (going_on wanted) due transfers ≡ line_due (stopping wanted) due transfers
@@ -42,6 +40,4 @@ module _ (wanted : Wanted) where
 
   pub same : (bytes : List ℕ) → IsSameInOrder wanted bytes
   unfolding told_of
-  same bytes none =
-      let reading = reading_of bytes in
-      cc (walked_same wanted reading (reading_read bytes) none, made_same reading.end _)
+  same bytes none = grind (arith, made_same, reading_read, walked_same)

@@ -1,6 +1,6 @@
 -- If every transfer of a recording is over and good, `check --bundles` finds the same rules broken
 -- in the bundles that `unpack` joins as `check` does in the recording.
-use Rattle.std.proofs.Common.{◌≡◌, ℕ, ◌≤◌, Bool, true, false, List, [], ◌∷◌, ◌++◌, length, map, None, Ok, refl, ap, ap₂, sym, ◌∙◌, append-nil}
+use Rattle.std.proofs.Common.{◌≡◌, ℕ, ◌≤◌, Bool, true, false, List, [], ◌∷◌, ◌++◌, length, map, None, Ok, refl, ap, ap₂, sym, ◌∙◌, append-nil, arith}
 use Rattle.std.specs.List.{All, filter, flat_map}
 use Rattle.std.proofs.lemmas.Bool.{and_parts}
 use Rattle.std.proofs.lemmas.Grind.{flat_map-append}
@@ -175,10 +175,7 @@ module _ (peer : PeerLimits) where
 
     pub recorded : (must : Bool) → (check_tool (options peer must)).whole bytes ≡ reports must broken
     unfolding told_of
-    recorded must =
-        let lines = lines_said peer must events none_kept in
-        let good = good_kept peer must events none_kept in
-        cc (unrefused, clean.end, lines, good)
+    recorded must = grind (arith, good_kept, lines_said, unrefused)
 
     -- the transfers of the recording, and the rules of a choice that they break
     module _ (choice : Choice) where

@@ -62,9 +62,7 @@ head_spelled false false id size announce id_fits size_fits fits = segment_spell
 
 module _ (id : ℕ) (sending : Sending) (fits : SendingFits sending) (id_fits : id < 2 ^ 64) where
   small_chunk : (k : ℕ) → length (chunk_of sending k) < 2 ^ 64
-  small_chunk k =
-      let small = fits.small in
-      omega (arith, length-take sending.segment (drop (k * sending.segment) sending.bundle))
+  small_chunk k = grind (arith, length-take)
 
   -- the segments are these messages
   pub segments_stream : (k count offset : ℕ)

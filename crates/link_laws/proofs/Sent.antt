@@ -21,14 +21,10 @@ use Rattle.link_laws.proofs.Standing.{Stands, carrying, stands_more}
 -- ---- flags
 
 pub starts_as : (first last : Bool) → is_start (flags_of first last) ≡ first
-starts_as true true = refl
-starts_as false true = refl
-starts_as first last = refl
+starts_as first last = grind arith
 
 pub ends_as : (first last : Bool) → is_end (flags_of first last) ≡ last
-ends_as true true = refl
-ends_as false true = refl
-ends_as first last = refl
+ends_as first last = grind arith
 
 -- a first segment may come if no transfer is open, and another one if its own transfer is open
 pub first_may : (last : Bool) (id : ℕ)

@@ -43,9 +43,7 @@ module _ (wanted : Wanted) where
           good = good;
         }) (if whole then Whole ∷ [] else [])
         ≡ segment_told content whole
-    whole_told content true =
-        ap (λ xs. segment_told xs true) (append-nil content)
-    whole_told content false = told_as _ _ _ _ _ (sym (append-nil lines)) (sym (and-true good))
+    whole_told content whole = grind (arith, and-true, append-nil, told_as)
 
     no_line : (content : List ℕ) → segment_told content false ≡ record {
       transfers = record { first = first; content = content; closed = false } ∷ earlier;
@@ -103,9 +101,7 @@ module _ (wanted : Wanted) where
           report = (report ++ []) ++ [];
           good = (good && true) && true;
         }) ≡ told
-    plain_none after closing same is =
-        rw is (simp (append-nil, and-true)
-        (ap (λ ts. record { transfers = ts; report = report; good = good }) same))
+    plain_none after closing same is = grind (arith, and-true, append-nil)
 
     plain_told : (fault : Option OrderFault) (effect : Option Turn)
         → is_plain (head_of offset sent fault effect) ≡ true

@@ -129,9 +129,7 @@ module _ (manner : Manner) where
   -- what a stream tells begins what any longer stream tells
   pub events_grow : (bytes more : List ℕ)
       → Grows (walked manner (reading_of bytes)) (walked manner (reading_of (bytes ++ more)))
-  events_grow bytes more =
-      reading_grows (reading_of bytes) (reading_of (bytes ++ more)) (reading_on bytes more)
-      (unread bytes)
+  events_grow bytes more = grind (arith, reading_grows, reading_on, unread)
 
 -- ---- what a tool says of them
 
@@ -152,9 +150,7 @@ module _ (telling : Telling) (adds : Adds telling) where
 
   reading_added : (before after : Walked) → IsFront before.events after.events → Told after
       → AreFronts (telling.texts before.events) (telling.texts after.events)
-  reading_added before after front told =
-      rw front.1 (added before.events front.0
-      (follow_rest [] before.events front.0 (rw front.1 at told.follow)))
+  reading_added before after front told = grind (arith, added, follow_rest)
 
   -- So its texts for some bytes begin those for more.
   pub told_prefix : (bytes more : List ℕ) → IsPrefixed (tool_of (told_of telling)) bytes more
