@@ -11,7 +11,7 @@ use Rattle.link_walk.specs.Walk.{WalkEvent, MessageHead}
 use Rattle.link_message_rules.specs.Heads.{JudgedHead}
 use Rattle.link_message_rules.specs.declared.limits.PeerLimits.{PeerLimits}
 use Rattle.link_rule_report.specs.declared.line.RuleText.{RuleText}
-use Rattle.link_check.specs.Checking.{Begun, Kept, broken_by, heads_with, latest_with, kept_with, checking}
+use Rattle.link_check.specs.Checking.{Begun, Kept, broken_by, heads_with, latest_with, checking}
 use Rattle.link_check.specs.Lines.{counts, line_of, lines_of, none_counts}
 use Rattle.link_check.specs.declared.options.CheckOptions.{CheckOptions}
 use Rattle.link_laws.proofs.Fronts.{IsFront, front_after, front_none}

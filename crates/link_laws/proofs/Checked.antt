@@ -3,7 +3,7 @@ use Rattle.std.proofs.Common.{◌≡◌, ℕ, Bool, true, false, List, [], ◌�
 use Rattle.std.specs.List.{All, flat_map}
 use Rattle.std.proofs.lemmas.Bool.{and_parts}
 use Rattle.std.proofs.lemmas.Grind.{flat_map-append, fold-append}
-use Rattle.std.proofs.lemmas.List.Elements.{All-nil, All-cons, All-append, All-head, All-tail}
+use Rattle.std.proofs.lemmas.List.Elements.{All-nil, All-append, All-head, All-tail}
 use Rattle.link_wire.specs.Message.{data_length}
 use Rattle.link_wire.specs.Stream.{Entry, End, Reading, reading_of, heads_of}
 use Rattle.link_wire.specs.declared.message.Contact.{Contact}
@@ -11,7 +11,6 @@ use Rattle.link_wire.specs.declared.message.Message.{Message}
 use Rattle.link_transfer.specs.Event.{event_of}
 use Rattle.link_transfer.specs.Order.{refusal, with_taken}
 use Rattle.link_transfer.specs.declared.fault.OrderFault.{OrderFault}
-use Rattle.link_transfer.specs.declared.fault.OrderFault.TheVariants.{SecondSessInit}
 use Rattle.link_message_rules.specs.Flags.{item_flags}
 use Rattle.link_message_rules.specs.Heads.{JudgedHead}
 use Rattle.link_message_rules.specs.MessageRules.{broken_rules, judged_rules, level_of}
@@ -29,7 +28,7 @@ use Rattle.link_walk.specs.Walk.{head_at, closes, WalkEvent, MessageHead, conten
 use Rattle.link_unpack.specs.Transfers.{Transfer}
 use Rattle.link_unpack.specs.Unpacking.{Told}
 use Rattle.link_unpack.specs.declared.wanted.Wanted.{Wanted}
-use Rattle.link_check.specs.Checking.{Begun, begun_by, closed_rules, heads_with, judged, latest_with, rules_at, none_kept, check_of, check_tool}
+use Rattle.link_check.specs.Checking.{Begun, begun_by, closed_rules, heads_with, judged, latest_with, rules_at, check_tool}
 use Rattle.link_check.specs.Lines.{none_counts, at_offset}
 use Rattle.link_laws.specs.Checked.{IsAllowed, IsSecondInit, MayStop, HasOnlyAllowed}
 use Rattle.link_laws.specs.Cuts.{fault_at, faults_after, lined}

@@ -1,6 +1,6 @@
 -- A closed transfer that breaks no rule of transfers of level `must` is good, or its data may be a
 -- bundle.
-use Rattle.std.proofs.Common.{◌≡◌, ℕ, Bool, true, false, not, ◌==◌, List, [], ◌∷◌, ◌++◌, length, map, filter_map, Option, Result, Ok, Err, if◌then◌else◌, refl, ap, sym, ◌∙◌, arith}
+use Rattle.std.proofs.Common.{◌≡◌, ℕ, Bool, true, false, not, List, [], ◌∷◌, ◌++◌, length, map, filter_map, Option, Result, refl, ap, sym, ◌∙◌, arith}
 use Rattle.std.specs.List.{All, filter}
 use Rattle.std.proofs.lemmas.Bool.{and_parts}
 use Rattle.std.proofs.lemmas.List.{map-append}
@@ -10,12 +10,11 @@ use Rattle.link_bundle_types.specs.declared.info.BundleInfo.{BundleInfo}
 use Rattle.link_bundle_blocks.specs.Bundle.{verdict}
 use Rattle.link_transfer.specs.Announced.{announced_of}
 use Rattle.link_transfer.specs.declared.announcement.Announced.{Announced}
-use Rattle.link_transfer.specs.declared.announcement.Announced.TheVariants.{Absent, Total, Malformed}
-use Rattle.link_message_rules.specs.TransferData.{data_rule, may_be_bundle}
+use Rattle.link_message_rules.specs.TransferData.{data_rule}
 use Rattle.link_message_rules.specs.TransferRules.{broken_transfer_rules, if_malformed, if_different, length_item, length_differs, length_of_one_segment, transfer_level_of}
 use Rattle.link_message_rules.specs.declared.limits.PeerLimits.{PeerLimits}
 use Rattle.link_message_rules.specs.declared.rule.TransferRule.{TransferRule}
-use Rattle.link_message_rules.specs.declared.rule.TransferRule.TheVariants.{Unfinished, Bundle, NotRead}
+use Rattle.link_message_rules.specs.declared.rule.TransferRule.TheVariants.{Unfinished}
 use Rattle.link_report.specs.Judgement.{judged_length, judged_data}
 use Rattle.link_rule_report.specs.Names.{rule_level}
 use Rattle.link_rule_report.specs.declared.line.RuleText.{RuleText}

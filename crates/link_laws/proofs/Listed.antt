@@ -1,7 +1,5 @@
 -- A packed stream is listed as it was cut.
-use Rattle.std.proofs.Common.{◌≡◌, ℕ, zero, suc, ◌+◌, Bool, true, false, List, [], ◌∷◌, ◌++◌, length, Option, Some, None, refl, ap, ap₂, ◌∙◌, append-nil, append_assoc, length-append, arith}
-use Rattle.link_wire.specs.Codes.{is_start}
-use Rattle.link_wire.specs.Spelled.{be}
+use Rattle.std.proofs.Common.{◌≡◌, ℕ, zero, suc, ◌+◌, Bool, true, false, List, [], ◌∷◌, ◌++◌, length, Option, None, refl, ap, ap₂, ◌∙◌, append-nil, append_assoc, length-append, arith}
 use Rattle.link_wire.specs.Spelling.{announce_bytes, total_bytes, list_bytes, list_size, segment_head_bytes, segment_head_size, sess_init_bytes}
 use Rattle.link_transfer.specs.Cutting.{due}
 use Rattle.link_report.specs.Message.{message_text}

@@ -1,5 +1,5 @@
 -- `check` finds only rules of bundles broken in a packed stream.
-use Rattle.std.proofs.Common.{◌≡◌, ℕ, suc, ◌+◌, inl, inr, ◌⊎◌, Bool, true, false, ◌&&◌, ◌==◌, nat_lt, nat_le, is_some, List, [], ◌∷◌, ◌++◌, length, map, filter_map, Option, Some, None, Result, Ok, Err, if◌then◌else◌, refl, ap, ap₂, sym, ◌∙◌, subst, append-nil, arith}
+use Rattle.std.proofs.Common.{◌≡◌, ℕ, suc, ◌+◌, inl, inr, ◌⊎◌, Bool, true, false, ◌&&◌, nat_lt, nat_le, is_some, List, [], ◌∷◌, ◌++◌, length, map, filter_map, Option, Some, None, Result, Ok, Err, if◌then◌else◌, refl, ap, ap₂, sym, ◌∙◌, subst, append-nil, arith}
 use Rattle.std.specs.List.{All, filter}
 use Rattle.std.proofs.lemmas.Bool.{eq-eqb, ne_eqb, ltb-true}
 use Rattle.std.proofs.lemmas.List.{map-append}
@@ -21,12 +21,11 @@ use Rattle.link_transfer.specs.Order.{open_of, with_taken}
 use Rattle.link_transfer.specs.declared.announcement.Announced.{Announced}
 use Rattle.link_transfer.specs.declared.announcement.Announced.TheVariants.{Absent, Total}
 use Rattle.link_transfer.specs.declared.joiner.Turn.{Turn}
-use Rattle.link_transfer.specs.declared.joiner.Turn.TheVariants as turn
 use Rattle.link_transfer.proofs.Due.{chunk_left}
 use Rattle.link_message_rules.specs.Flags.{contact_flags}
 use Rattle.link_message_rules.specs.Heads.{JudgedHead}
 use Rattle.link_message_rules.specs.MessageRules.{broken_rules}
-use Rattle.link_message_rules.specs.TransferData.{data_rule, may_be_bundle}
+use Rattle.link_message_rules.specs.TransferData.{data_rule}
 use Rattle.link_message_rules.specs.TransferRules.{broken_transfer_rules, if_malformed, if_different, has_length_item, length_item, length_differs, length_of_one_segment}
 use Rattle.link_message_rules.specs.declared.limits.PeerLimits.{PeerLimits}
 use Rattle.link_message_rules.specs.declared.rule.TransferRule.{TransferRule}

@@ -4,7 +4,7 @@ use Rattle.std.specs.List.{fold}
 use Rattle.std.proofs.Math.Bool.{and-true, and-false, and_assoc}
 use Rattle.std.proofs.lemmas.List.Folds.{list_all-append}
 use Rattle.std.proofs.Math.Path.{fun_ext}
-use Rattle.link_wire.specs.Stream.{Entry, End, Clean, Cut, Fault, Reading, cut_heads, heads_of}
+use Rattle.link_wire.specs.Stream.{Entry, End, Reading, cut_heads, heads_of}
 use Rattle.link_wire.specs.declared.message.Contact.{Contact}
 use Rattle.link_wire.specs.declared.message.Message.{Message}
 use Rattle.link_transfer.specs.Event.{event_of}

@@ -27,7 +27,7 @@ use Rattle.link_bundle_walk.proofs.Outcomes.{told_as}
 use Rattle.link_blocks.specs.Bundles.{bundle_limit}
 use Rattle.link_check.specs.BundleRules.{bundle_rules}
 use Rattle.link_check.specs.Bundles.{broken_bundles, bundle_check_telling, bundle_check_tool}
-use Rattle.link_check.specs.Checking.{none_kept, check_tool}
+use Rattle.link_check.specs.Checking.{check_tool}
 use Rattle.link_check.specs.Lines.{at_offset}
 use Rattle.link_laws.specs.Ranges.{InputFits}
 use Rattle.link_laws.specs.RoundTrip.{all}
