@@ -1,10 +1,7 @@
 -- The order of heads, and what one more head does to the transfers.
 use Rattle.std.proofs.Common.{◌≡◌, List, [], ◌∷◌, ◌++◌, Option, None, refl, ap, sym, ◌∙◌, map, append-nil, append_assoc, arith}
-use Rattle.link_wire.specs.Stream.{Entry}
-use Rattle.link_wire.specs.declared.message.Message.{Message}
-use Rattle.link_transfer.specs.Event.{event_of}
-use Rattle.link_transfer.specs.Order.{refusal}
-use Rattle.link_transfer.specs.declared.fault.OrderFault.{OrderFault}
+use Rattle.link_wire.specs.{Stream.Entry, declared.message.Message.Message}
+use Rattle.link_transfer.specs.{Event.event_of, Order.refusal, declared.fault.OrderFault.OrderFault}
 use Rattle.link_laws.specs.Transfers.{Ordered, ordered_by, ordered_after, ordered}
 
 abbrev pub messages_of : List Entry → List Message
