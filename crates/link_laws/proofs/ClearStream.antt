@@ -303,8 +303,7 @@ module _ (options : PackOptions) (peer : PeerLimits) (allows : AllowsLimits opti
       → ClearAfter peer next (term_entries options asked offset)
   term_after false offset next taken before at = sym (ap is_some at.joins.transfer)
   term_after true offset next taken before at = (
-    ap (broken_rules peer before)
-        (judged_is (carrying None) taken offset (message.SessTerm 0 0) [] at.joins refl)
+    cc (judged_is (carrying None) taken offset (message.SessTerm 0 0) [] at.joins refl)
         ∙ term_clear peer before,
     sym (ap is_some (joins_then (carrying None) taken offset (message.SessTerm 0 0) [] at.joins refl
         event.SessTerm refl).transfer),

@@ -285,9 +285,7 @@ module _ (choice : Choice) (peer : PeerLimits) where
       (λ opened. now.opens (sym (has_open-append before (event ∷ [])) ∙ opened)) in
       record {
         after = rest.after;
-        are = rest.are
-            ∙ ap (λ transfers. after_events transfers (mattering more)) now.are
-            ∙ quiet_one (transfers_in placed) event more now.quiet;
+        are = cc (rest.are, now.are, quiet_one (transfers_in placed) event more now.quiet);
         rules = rw (rest.rules, now.rules, choice_both broken)
             (append_assoc (rules_of placed) (chosen_in broken) _);
       }

@@ -125,8 +125,7 @@ walk_matters (head ∷ more) taken =
     let content = content_events at.turn (data_length head.message) head.content in
     let next = with_taken taken head.message in
     ap₂ (λ (first second : List WalkEvent). first ++ second)
-    (ap (λ (events : List WalkEvent). head_events false at ++ events)
-    (sym (content_matters at.turn (data_length head.message) head.content))
+    (cc (content_matters at.turn (data_length head.message) head.content)
     ∙ sym (filter-append matters (head_events true at) content))
     (walk_matters more next)
     ∙ sym (filter-append matters (events_at true taken head) (walk_events true next more))

@@ -61,9 +61,7 @@ module _ (wanted : Wanted) where
             ∙ ap (λ b. b && (u.in_order && not (is_some refused)))
             (sym (ap all_good new.settles
             ∙ list_all-append _ (entries_of wanted (settled u.transfers)) new.entries)));
-        walked = ap (λ w. walk_from true w more)
-            (sym (judged_taken false refused (started u.taken so.events) head))
-            ∙ so.walked;
+        walked = cc (judged_taken false refused (started u.taken so.events) head, so.walked);
       }
 
   none_told : (contact : Option Contact)
