@@ -74,8 +74,7 @@ module _ (options : PackOptions) where
       (carrying None) (transfer_of number bundle ∷ earlier)
   unfolding due
   stands_bundle number bundle heads earlier offset some at =
-      whole_by number (chunk_count (segment_size options) (length bundle.bytes)) bundle heads earlier offset
-      (some_chunk (segment_size options) (length bundle.bytes) (some_size options) some) refl at
+      search (some_chunk, some_size, whole_by)
 
   stands_bundles : (number : ℕ) (bundles : List Packed) (heads : List Entry)
       (earlier : List Transfer) (offset : ℕ) → AreBundles options.peer_transfer bundles

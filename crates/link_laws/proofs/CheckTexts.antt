@@ -3,7 +3,7 @@ use Rattle.std.proofs.{Common.{ℕ, suc, ◌+◌, Bool, List, [], ◌∷◌, ◌
 use Rattle.link_rule_report.specs.declared.line.RuleText.{RuleText}
 use Rattle.link_walk.specs.{Saying.{Keeping, said_from}, Walk.WalkEvent}
 use Rattle.link_bundle_walk.specs.Bundles.{Packed}
-use Rattle.link_check.specs.{Bundles.{broken_in, broken_bundles, bundle_check_telling, bundle_check_tool}, Checking.{none_kept, checking, check_telling, check_tool}, Lines.{line_of, lines_of}}
+use Rattle.link_check.specs.{Bundles.{broken_in, broken_bundles, bundle_check_telling, bundle_check_tool}, Checking.{check_tool}, Lines.{line_of, lines_of}}
 use Rattle.link_check.specs.declared.options.CheckOptions.{CheckOptions}
 use Rattle.link_laws.specs.Prefix.{IsPrefixed}
 use Rattle.link_laws.proofs.{BundleWalks.{Grows, bundles_prefix}, Fronts.{IsFront, front_same, front_first, front_after, front_none, AreFronts, fronts_same, fronts_after}, Walks.told_prefix}
@@ -20,10 +20,7 @@ module _ {S : Type 0} (keeping : Keeping S) where
 
 pub check_prefix : (options : CheckOptions) (bytes more : List ℕ)
     → IsPrefixed (check_tool options) bytes more
-check_prefix options bytes more =
-    told_prefix (check_telling options)
-    (λ before event follows. said_front (checking options) none_kept before (event ∷ []))
-    bytes more
+check_prefix options bytes more = search (said_front, told_prefix)
 
 -- ---- bundles
 

@@ -4,7 +4,7 @@ use Rattle.std.proofs.{Common.{◌≡◌, ℕ, Bool, true, false, List, [], ◌�
 use Rattle.std.proofs.lemmas.{Grind.{flat_map-append, fold-append}, List.Elements.{All-nil, All-append, All-head, All-tail}}
 use Rattle.link_wire.specs.{Message.data_length, Stream.{Entry, End, Reading, reading_of, heads_of}, declared.message.Contact.Contact, declared.message.Message.Message}
 use Rattle.link_transfer.specs.{Event.event_of, Order.{refusal, with_taken}, declared.fault.OrderFault.OrderFault}
-use Rattle.link_message_rules.specs.{Flags.item_flags, Heads.JudgedHead, MessageRules.{broken_rules, judged_rules, level_of}, NodeIds.node_id, Session.order, declared.limits.PeerLimits.PeerLimits}
+use Rattle.link_message_rules.specs.{Heads.JudgedHead, MessageRules.{broken_rules, level_of}, Session.order, declared.limits.PeerLimits.PeerLimits}
 use Rattle.link_message_rules.specs.declared.rule.MessageRule.{MessageRule}
 use Rattle.link_report.specs.declared.fault.Fault.TheVariants.{Order}
 use Rattle.link_rule_report.specs.{Names.rule_level, declared.line.RuleText.RuleText}
@@ -113,24 +113,14 @@ module _ (offset : ℕ) where
       → none_counts true (lines_for (filter_map (λ judged. judged)
       (first ∷ second ∷ option_map message_rule.Order fault ∷ others))) ≡ true
       → All IsSecondInit (fault_at offset fault)
-  third_rule first second fault others none =
-      order_rule fault others
-      (later_rules second (option_map message_rule.Order fault ∷ others)
-      (later_rules first (second ∷ option_map message_rule.Order fault ∷ others) none))
-
--- the rules after the first three
-abbrev after_third : List (Option MessageRule) → List (Option MessageRule)
-after_third (first ∷ second ∷ third ∷ others) = others
-after_third rules = []
+  third_rule first second fault others none = search (later_rules, order_rule)
 
 module _ (peer : PeerLimits) where
   head_allowed : (heads : List JudgedHead) (offset : ℕ) (head : JudgedHead)
       → none_counts true (lines_for offset (broken_rules peer heads head)) ≡ true
       → All IsSecondInit (fault_at offset head.fault)
   unfolding broken_rules order
-  head_allowed heads offset head none =
-      third_rule offset (node_id head.message) (item_flags head.message) head.fault
-      (after_third (judged_rules peer heads head)) none
+  head_allowed heads offset head none = search (third_rule)
 
   event_allowed : (heads : List JudgedHead) (latest : Option Begun) (event : WalkEvent)
       → none_counts true (broken_with peer heads latest event) ≡ true

@@ -124,9 +124,7 @@ module _ (options : PackOptions) where
 
   module _ (fit : OptionsFit options) where
     init_stream : IsStream (init_entry options ∷ []) Clean 6 (init_bytes options)
-    init_stream =
-        stream_plain 6 _ (init_bytes options)
-        (sess_init_spelled options.keepalive options.segment_mru options.transfer_mru options.node.items fit.keepalive fit.segment_mru fit.transfer_mru fit.node fit.short) refl
+    init_stream = search (sess_init_spelled, stream_plain)
 
     module _ (input : Divided) (bundles : AreBundles options.peer_transfer input.bundles)
         (rest : IfSome input.rest (IsRest options.peer_transfer))

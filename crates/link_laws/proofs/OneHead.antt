@@ -208,9 +208,7 @@ module _ (wanted : Wanted) (u : Unpacked) (head : Entry) (whole : KnowsWhole u)
   pub added : Adds wanted head.offset (refusal u.taken happened) (effect_of u.taken happened)
       head.message head.content (is_stray u.taken happened) u.transfers
       (with_head wanted u head).transfers
-  added =
-      head_adds wanted (refusal u.taken happened) (effect_of u.taken happened)
-      (is_stray u.taken happened) head u.transfers fits (stray_is u.taken happened) does
+  added = search (does, head_adds, stray_is)
 
   pub whole_after : length head.content ≡ data_length head.message
       → KnowsWhole (with_head wanted u head)

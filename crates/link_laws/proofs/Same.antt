@@ -243,9 +243,7 @@ module _ (wanted : Wanted) where
         → stop_of reading.end ≡ None
         → (let was = walked_of (manner false) reading.contact heads in
         told_after wanted (was.events ++ end_events was.taken) ≡ at_end (unpacked_of wanted heads))
-    clean_told unrefused none =
-        rw (walked_on unrefused)
-        (end_told _ _ (heads_tell wanted reading.contact heads reads.heads) (whole_heads none))
+    clean_told unrefused none = search (end_told, heads_tell, unrefused, walked_on, whole_heads)
 
     abbrev made_at : Option (ℕ × OrderFault) → List Entry → Made
     made_at refused taken =

@@ -4,7 +4,7 @@ use Rattle.std.specs.List.{fold}
 use Rattle.std.proofs.Common.{◌≡◌, ℕ, ◌<◌, Bool, true, false, not, ◌&&◌, ◌==◌, List, [], ◌∷◌, ◌++◌, length, Option, Some, None, if◌then◌else◌, refl, ap, sym, subst, ◌∙◌, ⊎_elim, append-nil, append_assoc, arith}
 use Rattle.std.proofs.lemmas.{Bool.{and_right, ne_eqb}, Grind.fold-append, List.map-append}
 use Rattle.link_wire.specs.{Message.data_length, Stream.{Entry, Stream, Reading, reading_of, cut_heads, heads_of}}
-use Rattle.link_transfer.specs.{Event.event_of, Order.{refusal, effect_of}, declared.fault.OrderFault.OrderFault, declared.joiner.Turn.Turn}
+use Rattle.link_transfer.specs.{Event.event_of, Order.{refusal}, declared.fault.OrderFault.OrderFault, declared.joiner.Turn.Turn}
 use Rattle.link_run.specs.Made.{tool_of}
 use Rattle.link_run.proofs.Continued.{entry, LastGoesOn, ReadingGoesOn, reading_on}
 use Rattle.link_walk.specs.Walk.{WalkEvent, Data, Whole, data_events, Walked, content_events, taken_with, with_entry_unless, with_next, none_walked, walked_of, walked, end_events, Telling, told_of}
@@ -57,13 +57,7 @@ module _ (manner : Manner) where
         Grows was one × (length head.content < data_length head.message → Grows one other)
 
     taken_grows : BothGrow (taken_with manner was head) (taken_with manner was longer)
-    taken_grows = (
-      front_first _ _,
-      λ short.
-          front_after was.events _ _ (front_after _ _ _
-          (content_grows (effect_of was.taken (event_of head.message))
-          (data_length head.message) head.content piece short)),
-    )
+    taken_grows = search (content_grows, front_after, front_first)
 
     refused_grows : (goes : Bool) (refused : Option (ℕ × OrderFault))
         → BothGrow (if goes then taken_with manner was head else record was { refused = refused })
