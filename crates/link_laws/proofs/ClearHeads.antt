@@ -3,7 +3,7 @@ use Rattle.std.specs.{Prelude.IfSome, List.{All, list_any}}
 use Rattle.std.proofs.Common.{◌≡◌, ℕ, suc, ◌+◌, ◌<◌, ◌≤◌, Bool, true, false, ◌==◌, nat_le, is_some, List, [], ◌∷◌, ◌++◌, reverse, filter_map, Option, Some, None, if◌then◌else◌, refl, ap, sym, ◌∙◌, arith}
 use Rattle.std.proofs.{Math.Bool.and-false, lemmas.Bool.{ne_eqb, le-ltb}, lemmas.List.{map-append, reverse-append}, lemmas.List.Elements.{All-head, All-tail}}
 use Rattle.link_wire.specs.{Spelling.{segment_with, sess_init_with}, Stream.Entry, declared.message.Message.Message, declared.message.SegmentHead.SegmentHead}
-use Rattle.link_transfer.specs.{Event.event_of, Joiner.{IsJoinerAt, joiner_after}, Order.{refusal, refusal_by, is_stray, turn_by, effect_of, with_taken, has_sess_init, open_of}}
+use Rattle.link_transfer.specs.{Event.event_of, Joiner.{IsJoinerAt, joiner_after}, Order.{refusal, refusal_by, is_stray, turn_by, effect_of, with_taken, open_of}}
 use Rattle.link_transfer.specs.declared.{announcement.Announced.Announced, announcement.Announced.TheVariants.{Absent, Total, Malformed}, event.Event.Event, joiner.Joiner.Joiner, joiner.Turn.Turn}
 use Rattle.link_transfer.proofs.Joining.{refusal-at, stray-at, effect-at, IsJoinerAt-then}
 use Rattle.link_message_rules.specs.{Flags.{item_flags, segment_flags, term_flags}, Heads.{JudgedHead, messages_of, start_id}}
@@ -57,38 +57,16 @@ module _ (peer : PeerLimits) (before : List JudgedHead) where
     abbrev init_head : JudgedHead
     init_head = record { message = init; fault = None; turn = Some turn.Other }
 
-    init_short : (limit : Option ℕ) → peer_segment limit init ≡ None
-    unfolding peer_segment
-    init_short None = refl
-    init_short (Some limit) = refl
-
-    init_within : (limit : Option ℕ) → peer_transfer limit before init_head ≡ None
-    unfolding peer_transfer
-    init_within None = refl
-    init_within (Some limit) = refl
-
     pub init_clear : node_id init ≡ None → broken_rules peer before init_head ≡ []
-    unfolding broken_rules item_flags order before_session interleaved segment_flags transfer_id ack_length keepalive term_flags
-    init_clear keeps =
-        rw (keeps, none_if (has_sess_init (messages_of before)), init_short, init_within)
+    unfolding broken_rules item_flags order before_session interleaved segment_flags transfer_id peer_segment peer_transfer ack_length keepalive term_flags
+    init_clear keeps = grind (arith, none_if)
 
   abbrev term_head : JudgedHead
   term_head = record { message = message.SessTerm 0 0; fault = None; turn = Some turn.Other }
 
-  term_short : (limit : Option ℕ) → peer_segment limit (message.SessTerm 0 0) ≡ None
-  unfolding peer_segment
-  term_short None = refl
-  term_short (Some limit) = refl
-
-  term_within : (limit : Option ℕ) → peer_transfer limit before term_head ≡ None
-  unfolding peer_transfer
-  term_within None = refl
-  term_within (Some limit) = refl
-
   pub term_clear : broken_rules peer before term_head ≡ []
-  unfolding broken_rules node_id item_flags order before_session interleaved segment_flags transfer_id ack_length keepalive term_flags
-  term_clear =
-      rw (none_if (has_sess_init (messages_of before)), term_short, term_within)
+  unfolding broken_rules node_id item_flags order before_session interleaved segment_flags transfer_id peer_segment peer_transfer ack_length keepalive term_flags
+  term_clear = grind (arith, none_if)
 
 -- ---- transfer IDs
 
