@@ -1,13 +1,9 @@
 -- The heads before the first that is refused.
 use Rattle.std.proofs.Common.{◌≡◌, inl, inr, List, [], ◌∷◌, ◌++◌, Option, Some, None, refl, ap, ⊎_elim}
-use Rattle.link_wire.specs.Stream.{Entry}
-use Rattle.link_wire.specs.declared.message.Message.{Message}
-use Rattle.link_transfer.specs.Event.{event_of}
-use Rattle.link_transfer.specs.Order.{refusal}
-use Rattle.link_transfer.specs.declared.fault.OrderFault.{OrderFault}
+use Rattle.link_wire.specs.{Stream.Entry, declared.message.Message.Message}
+use Rattle.link_transfer.specs.{Event.event_of, Order.refusal, declared.fault.OrderFault.OrderFault}
 use Rattle.link_laws.specs.Transfers.{Ordered, ordered_by, ordered_after, ordered}
-use Rattle.link_laws.proofs.Orders.{AreInOrder, all}
-use Rattle.link_laws.proofs.Whole.{AreRead}
+use Rattle.link_laws.proofs.{Orders.{AreInOrder, all}, Whole.AreRead}
 
 -- These heads have this order: those of it come first, and are in order themselves. If none is
 -- refused, they are all heads.

@@ -1,20 +1,12 @@
 -- The rules that `check` finds broken in events, whether or not they have a line.
-use Rattle.std.proofs.Common.{◌≡◌, Bool, true, false, not, ◌&&◌, List, [], ◌∷◌, ◌++◌, Option, refl, ap, ap₂, sym, ◌∙◌}
-use Rattle.std.proofs.Math.Bool.{and-true, and_assoc}
-use Rattle.std.proofs.lemmas.Bool.{and_parts}
-use Rattle.std.proofs.lemmas.Grind.{flat_map-append}
-use Rattle.std.proofs.lemmas.List.Folds.{list_all-append}
-use Rattle.link_run.specs.Run.{Texts, ◌then◌}
+use Rattle.std.proofs.{Common.{◌≡◌, Bool, true, false, not, ◌&&◌, List, [], ◌∷◌, ◌++◌, Option, refl, ap, sym, ◌∙◌, arith}, Math.Bool.{and-true, and_assoc}, lemmas.Bool.and_parts}
+use Rattle.std.proofs.lemmas.{Grind.flat_map-append, List.Folds.list_all-append}
 use Rattle.link_run.specs.Writers.{on_output}
 use Rattle.link_run.proofs.Runs.{texts_as}
-use Rattle.link_walk.specs.Saying.{kept_after, said_from}
-use Rattle.link_walk.specs.Walk.{WalkEvent, ContactHeader, MessageHead, Data, Whole, LeftOpen}
-use Rattle.link_message_rules.specs.Heads.{JudgedHead}
-use Rattle.link_message_rules.specs.declared.limits.PeerLimits.{PeerLimits}
+use Rattle.link_walk.specs.{Saying.{kept_after, said_from}, Walk.{WalkEvent, MessageHead}}
+use Rattle.link_message_rules.specs.{Heads.JudgedHead, declared.limits.PeerLimits.PeerLimits}
 use Rattle.link_rule_report.specs.declared.line.RuleText.{RuleText}
-use Rattle.link_check.specs.Checking.{Begun, Kept, broken_by, heads_with, latest_with, kept_with, checking}
-use Rattle.link_check.specs.Lines.{counts, line_of, lines_of, none_counts}
-use Rattle.link_check.specs.declared.options.CheckOptions.{CheckOptions}
+use Rattle.link_check.specs.{Checking.{Begun, Kept, broken_by, heads_with, latest_with, checking}, Lines.{counts, line_of, lines_of, none_counts}, declared.options.CheckOptions.CheckOptions}
 use Rattle.link_laws.proofs.Fronts.{IsFront, front_after, front_none}
 
 -- ---- lines of rules that follow one another
@@ -28,14 +20,6 @@ pub counts_append : (must : Bool) (first second : List RuleText)
     → none_counts must (first ++ second) ≡ (none_counts must first && none_counts must second)
 unfolding none_counts
 counts_append must first second = list_all-append (λ line. not (counts must line)) first second
-
-no_lines : (must : Bool) → lines_of must [] ≡ []
-unfolding lines_of
-no_lines must = refl
-
-pub none_count : (must : Bool) → none_counts must [] ≡ true
-unfolding none_counts
-none_count must = refl
 
 -- ---- rules
 
@@ -79,31 +63,21 @@ module _ (peer : PeerLimits) where
 
     broken_same : (kept : Kept) (event : WalkEvent)
         → broken_by (options must) kept event ≡ broken_with kept.heads kept.latest event
-    broken_same kept (ContactHeader contact) = refl
     broken_same kept (MessageHead head) = refl
-    broken_same kept (Data byte) = refl
-    broken_same kept Whole = refl
-    broken_same kept LeftOpen = refl
+    broken_same kept event = refl
 
     pub lines_said : (events : List WalkEvent) (kept : Kept)
         → said_from (checking (options must)) kept events
         ≡ on_output (lines_of must (broken_from kept.heads kept.latest events))
-    lines_said [] kept = texts_as (sym (no_lines must)) refl
+    unfolding lines_of
+    lines_said [] kept = refl
     lines_said (event ∷ more) kept =
-        ap₂ (λ (now later : Texts). now then later)
-        (ap (λ broken. on_output (lines_of must broken)) (broken_same kept event))
-        (lines_said more (kept_with (options must) kept event))
-        ∙ texts_as (sym (lines_append must (broken_with kept.heads kept.latest event) _)) refl
+        grind (arith, broken_same, lines_append, texts_as, lines_said more)
 
     pub good_kept : (events : List WalkEvent) (kept : Kept)
         → (kept_after (checking (options must)) kept events).good
         ≡ (kept.good && none_counts must (broken_from kept.heads kept.latest events))
-    good_kept [] kept = sym (ap (λ b. kept.good && b) (none_count must) ∙ and-true kept.good)
+    unfolding none_counts
+    good_kept [] kept = sym (and-true kept.good)
     good_kept (event ∷ more) kept =
-        let now = broken_with kept.heads kept.latest event in
-        let later = broken_from (heads_with kept.heads event) (latest_with kept.latest event) more in
-        good_kept more (kept_with (options must) kept event)
-        ∙ ap (λ broken. (kept.good && none_counts must broken) && none_counts must later)
-        (broken_same kept event)
-        ∙ and_assoc kept.good (none_counts must now) (none_counts must later)
-        ∙ ap (λ b. kept.good && b) (sym (counts_append must now later))
+        grind (arith, and_assoc, broken_same, counts_append, good_kept more)

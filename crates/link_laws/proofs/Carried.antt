@@ -1,35 +1,22 @@
 -- The messages of a packed stream are in order, and its transfers are the bundles.
-use Rattle.std.proofs.Common.{◌≡◌, ℕ, zero, suc, ◌+◌, ◌-◌, ◌*◌, ◌<◌, ◌≤◌, Bool, true, false, ◌&&◌, List, [], ◌∷◌, ◌++◌, length, take, Option, Some, None, refl, ap, sym, ◌∙◌, subst, append-nil, append_assoc, ⊎_elim, arith}
 use Rattle.std.specs.Prelude.{◌==◌}
-use Rattle.std.proofs.lemmas.Bool.{eq-eqb, cases_lt}
-use Rattle.std.proofs.lemmas.List.{take_all}
+use Rattle.std.proofs.Common.{◌≡◌, ℕ, zero, suc, ◌+◌, ◌*◌, ◌<◌, ◌≤◌, Bool, true, false, ◌&&◌, List, [], ◌∷◌, ◌++◌, length, take, Option, Some, None, refl, ap, sym, ◌∙◌, subst, append-nil, append_assoc, arith}
+use Rattle.std.proofs.lemmas.{Bool.{eq-eqb, cases_lt}, List.take_all}
 use Rattle.link_wire.specs.Stream.{Entry}
-use Rattle.link_transfer.specs.Chunks.{chunk_count}
-use Rattle.link_transfer.specs.Cutting.{due, due_of}
-use Rattle.link_transfer.specs.declared.event.Event.TheVariants.{SessInit, SessTerm}
+use Rattle.link_transfer.specs.{Chunks.chunk_count, Cutting.{due, due_of}, declared.event.Event.TheVariants.{SessInit, SessTerm}}
 use Rattle.link_transfer.proofs.Due.{chunk_left, given_within, fits_back}
 use Rattle.link_unpack.specs.Transfers.{Transfer}
 use Rattle.link_laws.specs.Transfers.{transfers_of}
-use Rattle.link_laws.proofs.Orders.{AreInOrder}
+use Rattle.link_laws.proofs.{Orders.AreInOrder, Divided.AreBundles, Entries.{due_entries, init_bytes, init_entry, bundle_entries, rest_entries, term_entries, end_entries, packed_entries, some_size}}
+use Rattle.link_laws.proofs.{Segments.segment_entries, Sendings.sent_all, Sent.{sent, head_of, last_at}, Standing.{Stands, fresh, carrying, stands_none, stands_more}}
 use Rattle.link_bundle_walk.specs.Bundles.{Packed, Rest, Divided}
-use Rattle.link_pack.specs.Packing.{segment_size, sending}
-use Rattle.link_pack.specs.Segments.{Sending, cutting_of, segments_of}
-use Rattle.link_pack.specs.declared.options.PackOptions.{PackOptions}
-use Rattle.link_laws.proofs.Divided.{AreBundles}
-use Rattle.link_laws.proofs.Entries.{due_entries, init_bytes, init_entry, bundle_entries, rest_entries, term_entries, end_entries, packed_entries, some_size}
-use Rattle.link_laws.proofs.Segments.{segment_entries}
-use Rattle.link_laws.proofs.Sendings.{sent_all}
-use Rattle.link_laws.proofs.Sent.{open_by, sent, head_of, last_at}
-use Rattle.link_laws.proofs.Standing.{Stands, fresh, carrying, stands_none, stands_more}
+use Rattle.link_pack.specs.{Packing.{segment_size, sending}, Segments.{Sending, cutting_of, segments_of}, declared.options.PackOptions.PackOptions}
 
 -- ---- counts of chunks
 
 -- all chunks together have all bytes
 all_bytes : (segment size : ℕ) → 0 < segment → size ≤ chunk_count segment size * segment
-all_bytes segment size some = ⊎_elim
-    (λ (fewer : chunk_count segment size * segment < size). absurd (omega (arith, chunk_left segment (chunk_count segment size) size some fewer)))
-    (λ (enough : size ≤ chunk_count segment size * segment). enough)
-    (cases_lt (chunk_count segment size * segment) size)
+all_bytes segment size some = grind (arith, cases_lt, chunk_left)
 
 pub some_chunk : (segment size : ℕ) → 0 < segment → 0 < size → 0 < chunk_count segment size
 some_chunk segment size some byte = chunk_left segment 0 size some (omega arith)
@@ -37,9 +24,7 @@ some_chunk segment size some byte = chunk_left segment 0 size some (omega arith)
 -- the chunks that are due of a bundle that goes on are among its chunks
 pub due_within : (segment hold count size : ℕ) → 0 < segment
     → count ≤ due_of false segment hold size → count ≤ chunk_count segment size
-due_within segment hold count size some few =
-    let within = given_within segment hold count size some few in
-    fits_back segment count (size + (segment - 1)) some (omega arith)
+due_within segment hold count size some few = grind (arith, fits_back, given_within)
 
 -- ---- the transfers
 
@@ -66,9 +51,6 @@ module _ (options : PackOptions) where
 
   -- ---- in order
 
-  stands_init : Stands (init_entry options ∷ []) (carrying None) []
-  stands_init = stands_more [] fresh [] (init_entry options) SessInit refl refl stands_none
-
   whole_by : (number count : ℕ) (bundle : Packed) (heads : List Entry) (earlier : List Transfer)
       (offset : ℕ) → 0 < count → count ≡ chunk_count (segment_size options) (length bundle.bytes)
       → Stands heads (carrying None) earlier
@@ -83,8 +65,7 @@ module _ (options : PackOptions) where
       let taken : take (suc count * segment_size options) bundle.bytes ≡ bundle.bytes =
       take_all (suc count * segment_size options) bundle.bytes (rw all (all_bytes (segment_size options) (length bundle.bytes) (some_size options))) in
       subst (λ (content : List ℕ). Stands entries (carrying None) (record { first = first; content = content; closed = true } ∷ earlier)) taken
-      (subst (λ (closed : Bool). Stands entries (carrying (open_by number closed)) (sent number whole (suc count) closed ∷ earlier)) last
-      (sent_all number whole earlier count heads offset (omega (arith, all)) at))
+      (rw last at (sent_all number whole earlier count heads offset (omega (arith, all)) at))
 
   stands_bundle : (number : ℕ) (bundle : Packed) (heads : List Entry) (earlier : List Transfer)
       (offset : ℕ) → 0 < length bundle.bytes
@@ -93,8 +74,7 @@ module _ (options : PackOptions) where
       (carrying None) (transfer_of number bundle ∷ earlier)
   unfolding due
   stands_bundle number bundle heads earlier offset some at =
-      whole_by number (chunk_count (segment_size options) (length bundle.bytes)) bundle heads earlier offset
-      (some_chunk (segment_size options) (length bundle.bytes) (some_size options) some) refl at
+      search (some_chunk, some_size, whole_by)
 
   stands_bundles : (number : ℕ) (bundles : List Packed) (heads : List Entry)
       (earlier : List Transfer) (offset : ℕ) → AreBundles options.peer_transfer bundles
@@ -143,8 +123,7 @@ module _ (options : PackOptions) where
       let going : last_at number part count ≡ false = ap (λ whole. whole && (count + 1 == chunk_count part.segment (length part.bundle))) goes in
       let entries = heads ++ segment_entries number part 0 (suc count) offset in
       carried_as entries (entries ++ []) (sent number part (suc count) false ∷ earlier) (sym (append-nil entries))
-      (subst (λ (closed : Bool). Stands entries (carrying (open_by number closed)) (sent number part (suc count) closed ∷ earlier)) going
-      (sent_all number part earlier count heads offset few at))
+      (rw going at (sent_all number part earlier count heads offset few at))
 
   carried_rest : (number : ℕ) (rest : Option Rest) (heads : List Entry) (earlier : List Transfer)
       (offset after : ℕ) → Stands heads (carrying None) earlier
@@ -162,4 +141,6 @@ module _ (options : PackOptions) where
       → AreCarried (packed_entries options input) (packed_transfers input)
   packed_carried input are =
       carried_rest (length input.bundles) input.rest _ (onto 0 input.bundles []) _ _
-      (stands_bundles 0 input.bundles (init_entry options ∷ []) [] (6 + length (init_bytes options)) are stands_init)
+      (stands_bundles 0 input.bundles (init_entry options ∷ []) []
+      (6 + length (init_bytes options)) are
+      (stands_more [] fresh [] (init_entry options) SessInit refl refl stands_none))

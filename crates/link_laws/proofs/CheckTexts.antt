@@ -1,18 +1,12 @@
 -- The texts of `check` that some bytes determine are prefixes of its texts for longer inputs.
-use Rattle.std.proofs.Common.{ℕ, suc, ◌+◌, Bool, List, [], ◌∷◌, ◌++◌, length, refl}
-use Rattle.std.proofs.lemmas.Grind.{flat_map-append}
+use Rattle.std.proofs.{Common.{ℕ, suc, ◌+◌, Bool, List, [], ◌∷◌, ◌++◌, length, arith}, lemmas.Grind.flat_map-append}
 use Rattle.link_rule_report.specs.declared.line.RuleText.{RuleText}
-use Rattle.link_walk.specs.Saying.{Keeping, said_from}
-use Rattle.link_walk.specs.Walk.{WalkEvent}
+use Rattle.link_walk.specs.{Saying.{Keeping, said_from}, Walk.WalkEvent}
 use Rattle.link_bundle_walk.specs.Bundles.{Packed}
-use Rattle.link_check.specs.Bundles.{broken_in, broken_bundles, bundle_check_telling, bundle_check_tool}
-use Rattle.link_check.specs.Checking.{none_kept, checking, check_telling, check_tool}
-use Rattle.link_check.specs.Lines.{line_of, lines_of}
+use Rattle.link_check.specs.{Bundles.{broken_in, broken_bundles, bundle_check_telling, bundle_check_tool}, Checking.{check_tool}, Lines.{line_of, lines_of}}
 use Rattle.link_check.specs.declared.options.CheckOptions.{CheckOptions}
 use Rattle.link_laws.specs.Prefix.{IsPrefixed}
-use Rattle.link_laws.proofs.BundleWalks.{Grows, bundles_prefix}
-use Rattle.link_laws.proofs.Fronts.{IsFront, front_same, front_first, front_after, front_none, AreFronts, fronts_same, fronts_after}
-use Rattle.link_laws.proofs.Walks.{told_prefix}
+use Rattle.link_laws.proofs.{BundleWalks.{Grows, bundles_prefix}, Fronts.{IsFront, front_same, front_first, front_after, front_none, AreFronts, fronts_same, fronts_after}, Walks.told_prefix}
 
 -- ---- transfers
 
@@ -26,10 +20,7 @@ module _ {S : Type 0} (keeping : Keeping S) where
 
 pub check_prefix : (options : CheckOptions) (bytes more : List ℕ)
     → IsPrefixed (check_tool options) bytes more
-check_prefix options bytes more =
-    told_prefix (check_telling options)
-    (λ before event follows. said_front (checking options) none_kept before (event ∷ []))
-    bytes more
+check_prefix options bytes more = search (said_front, told_prefix)
 
 -- ---- bundles
 
@@ -48,15 +39,7 @@ lines_front must rules all front =
     rw (front.1, flat_map-append (line_of must) rules front.0) (front_first _ _)
 
 check_grows : (must : Bool) → Grows (bundle_check_telling must)
-check_grows must = record {
-  part = λ before run. fronts_same _ _ refl;
-  whole = λ before run info some. record {
-    output = lines_front must _ _ (broken_front 0 0 before.bundles
-        (record { bytes = before.begun ++ run; info = info } ∷ []));
-    report = front_same _ _ refl;
-  };
-  ended = λ bundles. fronts_same _ _ refl;
-}
+check_grows must = grind (arith, broken_front, front_same, fronts_same, lines_front)
 
 pub bundle_check_prefix : (must : Bool) (bytes more : List ℕ)
     → IsPrefixed (bundle_check_tool must) bytes more

@@ -1,54 +1,25 @@
 -- What `unpack` reports of a recording in which `check --must` finds no rule broken.
-use Rattle.std.proofs.Common.{◌≡◌, ℕ, Bool, true, false, List, [], ◌∷◌, ◌++◌, map, filter_map, option_map, Option, Some, None, if◌then◌else◌, refl, ap, sym, ◌∙◌, subst, append-nil, append_assoc}
-use Rattle.std.specs.List.{All, flat_map, fold}
-use Rattle.std.proofs.lemmas.Bool.{and_parts}
-use Rattle.std.proofs.lemmas.Grind.{flat_map-append, fold-append}
-use Rattle.std.proofs.lemmas.List.Elements.{All-nil, All-cons, All-append, All-head, All-tail}
-use Rattle.link_wire.specs.Message.{data_length}
-use Rattle.link_wire.specs.Stream.{Entry, End, Reading, reading_of, heads_of}
-use Rattle.link_wire.specs.declared.message.Contact.{Contact}
-use Rattle.link_wire.specs.declared.message.Message.{Message}
-use Rattle.link_transfer.specs.Event.{event_of}
-use Rattle.link_transfer.specs.Order.{refusal, with_taken}
-use Rattle.link_transfer.specs.declared.fault.OrderFault.{OrderFault}
-use Rattle.link_transfer.specs.declared.fault.OrderFault.TheVariants.{SecondSessInit, SegmentBeforeSessInit, NoSuchOpenTransfer, StartRepeatsOpenId, StartAfterSessTerm}
-use Rattle.link_transfer.specs.declared.joiner.Turn.{Turn}
-use Rattle.link_transfer.specs.declared.joiner.Turn.TheVariants as turn
-use Rattle.link_message_rules.specs.Flags.{item_flags}
-use Rattle.link_message_rules.specs.Heads.{JudgedHead}
-use Rattle.link_message_rules.specs.MessageRules.{broken_rules, judged_rules, level_of}
-use Rattle.link_message_rules.specs.NodeIds.{node_id}
-use Rattle.link_message_rules.specs.Session.{order}
-use Rattle.link_message_rules.specs.declared.limits.PeerLimits.{PeerLimits}
+use Rattle.std.specs.List.{All, flat_map}
+use Rattle.std.proofs.{Common.{◌≡◌, ℕ, Bool, true, false, List, [], ◌∷◌, ◌++◌, map, filter_map, option_map, Option, Some, None, if◌then◌else◌, refl, ap, sym, ◌∙◌, subst, arith}, lemmas.Bool.and_parts}
+use Rattle.std.proofs.lemmas.{Grind.{flat_map-append, fold-append}, List.Elements.{All-nil, All-append, All-head, All-tail}}
+use Rattle.link_wire.specs.{Message.data_length, Stream.{Entry, End, Reading, reading_of, heads_of}, declared.message.Contact.Contact, declared.message.Message.Message}
+use Rattle.link_transfer.specs.{Event.event_of, Order.{refusal, with_taken}, declared.fault.OrderFault.OrderFault}
+use Rattle.link_message_rules.specs.{Heads.JudgedHead, MessageRules.{broken_rules, level_of}, Session.order, declared.limits.PeerLimits.PeerLimits}
 use Rattle.link_message_rules.specs.declared.rule.MessageRule.{MessageRule}
-use Rattle.link_message_rules.specs.declared.rule.MessageRule.TheVariants as message_rule
 use Rattle.link_report.specs.declared.fault.Fault.TheVariants.{Order}
-use Rattle.link_rule_report.specs.Names.{rule_level}
-use Rattle.link_rule_report.specs.declared.line.RuleText.{RuleText}
-use Rattle.link_rule_report.specs.declared.rule.BrokenRule.TheVariants as rule
+use Rattle.link_rule_report.specs.{Names.rule_level, declared.line.RuleText.RuleText}
 use Rattle.link_run.specs.Made.{StreamStop, stop_of}
-use Rattle.link_walk.specs.Walk.{head_at, closes, WalkEvent, ContactHeader, MessageHead, Data, Whole, LeftOpen, data_events, content_events, Walked, none_walked, with_next, walked_of, end_events, has_open, stop_by, told_of}
-use Rattle.link_unpack.specs.Transfers.{Transfer}
-use Rattle.link_unpack.specs.Unpacking.{Told}
-use Rattle.link_unpack.specs.declared.wanted.Wanted.{Wanted}
-use Rattle.link_check.specs.Checking.{Begun, begun_by, closed_rules, heads_with, judged, latest_with, rules_at, none_kept, check_of, check_tool}
-use Rattle.link_check.specs.Lines.{none_counts, at_offset}
-use Rattle.link_laws.specs.Checked.{IsAllowed, IsSecondInit, MayStop, HasOnlyAllowed}
-use Rattle.link_laws.specs.Cuts.{fault_at, faults_after, lined}
-use Rattle.link_laws.specs.RoundTrip.{all}
+use Rattle.link_walk.specs.Walk.{head_at, closes, WalkEvent, MessageHead, content_events, Walked, none_walked, with_next, walked_of, end_events, stop_by, told_of}
+use Rattle.link_unpack.specs.{Transfers.Transfer, Unpacking.Told, declared.wanted.Wanted.Wanted}
+use Rattle.link_check.specs.{Checking.{Begun, begun_by, closed_rules, heads_with, judged, latest_with, rules_at, check_tool}, Lines.{none_counts, at_offset}}
+use Rattle.link_laws.specs.{Checked.{IsAllowed, IsSecondInit, MayStop, HasOnlyAllowed}, Cuts.{fault_at, faults_after, lined}, RoundTrip.all}
 use Rattle.link_laws.specs.Transfers.{ordered_by, ordered_after, ordered, transfers_of, unpacked_of}
-use Rattle.link_laws.proofs.Accepted.{accepted_first, accepted_in_order, accepted_read}
-use Rattle.link_laws.proofs.BrokenRules.{options, broken_with, broken_from, counts_append, good_kept, none_before}
-use Rattle.link_laws.proofs.DueRules.{is_due, never_message, never_unfinished, none_due, all_allowed}
-use Rattle.link_laws.proofs.Following.{walk_told}
-use Rattle.link_laws.proofs.Fronts.{front_first}
-use Rattle.link_laws.proofs.InOrder.{not_stray, taken_more, unpacked_in_order}
-use Rattle.link_laws.proofs.Placed.{after_events, transfers_in, told_transfers, AfterAll, all_after}
-use Rattle.link_laws.proofs.PlainHeads.{going, judged_taken, quieter}
-use Rattle.link_laws.proofs.Same.{heads_said}
-use Rattle.link_laws.proofs.SameLines.{status_clean}
-use Rattle.link_laws.proofs.Walks.{heads_grow}
-use Rattle.link_laws.proofs.Whole.{AreRead, reading_read}
+use Rattle.link_laws.proofs.{Accepted.{accepted_first, accepted_in_order, accepted_read}, BrokenRules.{options, broken_with, broken_from, counts_append, good_kept, none_before}}
+use Rattle.link_laws.proofs.{DueRules.{due_choice, none_due, all_allowed}, Following.walk_told, Fronts.front_first, InOrder.{not_stray, taken_more, unpacked_in_order}}
+use Rattle.link_laws.proofs.{Placed.{after_events, transfers_in, told_transfers, AfterAll, from_start}, PlainHeads.{going, content_none, walk_events, walk_is, quieter}, Same.heads_said}
+use Rattle.link_laws.proofs.{SameLines.status_clean, Walks.heads_grow, Whole.{AreRead, reading_read}}
+use Rattle.link_message_rules.specs.declared.rule.MessageRule.TheVariants as message_rule
+use Rattle.link_rule_report.specs.declared.rule.BrokenRule.TheVariants as rule
 
 -- ---- the transfers of heads
 
@@ -60,15 +31,9 @@ module _ (peer : PeerLimits) (contact : Option Contact) where
   abbrev KeepsMusts : List Entry → Type 0
   KeepsMusts heads = none_counts true (broken_from peer [] None (every heads).events) ≡ true
 
-  none_open : has_open [] ≡ true → ⊥
-  unfolding has_open
-  none_open opened = absurd (cc)
-
   module _ (heads : List Entry) (read : AreRead heads) where
-    placed : AfterAll is_due never_message never_unfinished peer [] [] None (every heads).events
-    placed =
-        all_after is_due never_message never_unfinished peer (every heads).events [] [] [] None
-        (walk_told (going true) contact heads read).follow (λ opened. absurd (none_open opened))
+    placed : AfterAll due_choice peer [] [] None (every heads).events
+    placed = grind (arith, due_choice, from_start, walk_told)
 
     same_transfers : (wanted : Wanted)
         → transfers_in placed.after ≡ (unpacked_of wanted heads).transfers
@@ -97,56 +62,29 @@ module _ (peer : PeerLimits) (contact : Option Contact) where
 -- ---- the faults of heads
 
 abbrev faults_of : WalkEvent → List (ℕ × OrderFault)
-faults_of (ContactHeader contact) = []
 faults_of (MessageHead head) = fault_at head.offset head.fault
-faults_of (Data byte) = []
-faults_of Whole = []
-faults_of LeftOpen = []
+faults_of event = []
 
 abbrev all_faults : List WalkEvent → List (ℕ × OrderFault)
 all_faults events = flat_map faults_of events
 
-bytes_none : (bytes : List ℕ) (test : Bool)
-    → all_faults (data_events bytes ++ (if test then Whole ∷ [] else [])) ≡ []
-bytes_none [] true = refl
-bytes_none [] false = refl
-bytes_none (byte ∷ bytes) test = bytes_none bytes test
-
-content_none : (effect : Option Turn) (size : ℕ) (content : List ℕ)
-    → all_faults (content_events effect size content) ≡ []
-content_none None size content = refl
-content_none (Some turn.Other) size content = refl
-content_none (Some (turn.Begin abandoned last)) size content = bytes_none content _
-content_none (Some (turn.Continue last)) size content = bytes_none content _
-
-faults_from : (heads : List Entry) (taken : List Message) (events : List WalkEvent)
-    → all_faults (fold (with_next (going true))
-    (record { taken = taken; events = events; refused = None }) heads).events
-    ≡ all_faults events ++ faults_after taken heads
+walk_faults : (heads : List Entry) (taken : List Message)
+    → all_faults (walk_events true taken heads) ≡ faults_after taken heads
 unfolding faults_after
-faults_from [] taken events = sym (append-nil (all_faults events))
-faults_from (head ∷ more) taken events =
+walk_faults [] taken = refl
+walk_faults (head ∷ more) taken =
     let at = head_at taken head.offset head.message in
     let content = content_events at.turn (data_length head.message) head.content in
-    let later = faults_after (with_taken taken head.message) more in
-    ap (λ (was : Walked). all_faults (fold (with_next (going true)) was more).events)
-    (judged_taken true (refusal taken (event_of head.message))
-    (record { taken = taken; events = events; refused = None }) head)
-    ∙ faults_from more (with_taken taken head.message) (events ++ (MessageHead at ∷ content))
-    ∙ ap (λ (faults : List (ℕ × OrderFault)). faults ++ later)
-    (flat_map-append faults_of events (MessageHead at ∷ content)
-    ∙ ap (λ (faults : List (ℕ × OrderFault)).
-    all_faults events ++ (fault_at at.offset at.fault ++ faults))
-    (content_none at.turn (data_length head.message) head.content)
-    ∙ ap (λ (faults : List (ℕ × OrderFault)). all_faults events ++ faults)
-    (append-nil (fault_at at.offset at.fault)))
-    ∙ append_assoc (all_faults events) (fault_at at.offset at.fault) later
+    rw (
+      flat_map-append faults_of content (walk_events true (with_taken taken head.message) more),
+      content_none faults_of (λ byte. refl) refl at.turn (data_length head.message) head.content,
+      walk_faults more (with_taken taken head.message),
+    )
 
 heads_faults : (contact : Option Contact) (heads : List Entry)
     → all_faults (walked_of (going true) contact heads).events ≡ faults_after [] heads
-unfolding walked_of
-heads_faults None heads = faults_from heads [] []
-heads_faults (Some contact) heads = faults_from heads [] (ContactHeader contact ∷ [])
+heads_faults None heads = rw (walk_is true None heads, walk_faults heads [])
+heads_faults (Some contact) heads = rw (walk_is true (Some contact) heads, walk_faults heads [])
 
 -- ---- rules of messages of level `must`
 
@@ -168,44 +106,25 @@ module _ (offset : ℕ) where
       (option_map message_rule.Order fault ∷ others))) ≡ true
       → All IsSecondInit (fault_at offset fault)
   unfolding none_counts rule_level level_of
-  order_rule None others none = All-nil IsSecondInit
-  order_rule (Some SecondSessInit) others none =
-      All-cons IsSecondInit (offset, SecondSessInit) [] refl (All-nil IsSecondInit)
-  order_rule (Some SegmentBeforeSessInit) others none = absurd (cc)
-  order_rule (Some NoSuchOpenTransfer) others none = absurd (cc)
-  order_rule (Some StartRepeatsOpenId) others none = absurd (cc)
-  order_rule (Some StartAfterSessTerm) others none = absurd (cc)
+  order_rule fault others none = grind arith
 
   third_rule : (first second : Option MessageRule) (fault : Option OrderFault)
       (others : List (Option MessageRule))
       → none_counts true (lines_for (filter_map (λ judged. judged)
       (first ∷ second ∷ option_map message_rule.Order fault ∷ others))) ≡ true
       → All IsSecondInit (fault_at offset fault)
-  third_rule first second fault others none =
-      order_rule fault others
-      (later_rules second (option_map message_rule.Order fault ∷ others)
-      (later_rules first (second ∷ option_map message_rule.Order fault ∷ others) none))
-
--- the rules after the first three
-abbrev after_third : List (Option MessageRule) → List (Option MessageRule)
-after_third [] = []
-after_third (first ∷ []) = []
-after_third (first ∷ second ∷ []) = []
-after_third (first ∷ second ∷ third ∷ others) = others
+  third_rule first second fault others none = search (later_rules, order_rule)
 
 module _ (peer : PeerLimits) where
   head_allowed : (heads : List JudgedHead) (offset : ℕ) (head : JudgedHead)
       → none_counts true (lines_for offset (broken_rules peer heads head)) ≡ true
       → All IsSecondInit (fault_at offset head.fault)
   unfolding broken_rules order
-  head_allowed heads offset head none =
-      third_rule offset (node_id head.message) (item_flags head.message) head.fault
-      (after_third (judged_rules peer heads head)) none
+  head_allowed heads offset head none = search (third_rule)
 
   event_allowed : (heads : List JudgedHead) (latest : Option Begun) (event : WalkEvent)
       → none_counts true (broken_with peer heads latest event) ≡ true
       → All IsSecondInit (faults_of event)
-  event_allowed heads latest (ContactHeader contact) none = All-nil IsSecondInit
   event_allowed heads latest (MessageHead head) none =
       let of_head = lines_for head.offset (broken_rules peer heads (judged head)) in
       let of_transfer : List RuleText =
@@ -213,9 +132,7 @@ module _ (peer : PeerLimits) where
       head_allowed heads head.offset (judged head)
       (and_parts (none_counts true of_head) (none_counts true of_transfer)
       (sym (counts_append true of_head of_transfer) ∙ none)).0
-  event_allowed heads latest (Data byte) none = All-nil IsSecondInit
-  event_allowed heads latest Whole none = All-nil IsSecondInit
-  event_allowed heads latest LeftOpen none = All-nil IsSecondInit
+  event_allowed heads latest event none = All-nil IsSecondInit
 
   events_allowed : (events : List WalkEvent) (heads : List JudgedHead) (latest : Option Begun)
       → none_counts true (broken_from peer heads latest events) ≡ true
@@ -296,26 +213,14 @@ module _ (peer : PeerLimits) (bytes : List ℕ)
 
   kept : IsKept
   unfolding told_of
-  kept =
-      let both = status_clean (stop_by walk.refused reading.end) (check_of (options peer true) bytes)
-      is in
-      record {
-        unstopped =
-            ap (λ refused. stop_by refused reading.end)
-            (sym (quieter reading.contact heads).unrefused)
-            ∙ both.0;
-        none = sym (good_kept peer true (walk.events ++ end_events walk.taken) none_kept) ∙ both.1;
-      }
+  kept = grind (arith, good_kept, quieter, status_clean)
 
   keeps : KeepsMusts peer reading.contact heads
-  keeps =
-      none_before peer true [] None walk.events (walk.events ++ end_events walk.taken)
-      (front_first walk.events (end_events walk.taken)) kept.none
+  keeps = grind (arith, front_first, kept, none_before)
 
   faults : All IsSecondInit (faults_after [] heads)
   faults =
-      subst (All IsSecondInit) (heads_faults reading.contact heads)
-      (events_allowed peer walk.events [] None keeps)
+      rw (← heads_faults reading.contact heads) (events_allowed peer walk.events [] None keeps)
 
   -- the heads before the first that is refused
   abbrev accepted : List Entry
@@ -331,13 +236,10 @@ module _ (peer : PeerLimits) (bytes : List ℕ)
       (first_keep peer reading.contact accepted first.0
       (subst (KeepsMusts peer reading.contact) first.1 keeps)) all)
 
-  refused_allowed : MayRefuse (ordered heads).refused
-  unfolding ordered
-  refused_allowed = may_refuse heads [] faults
-
   pub only_allowed : HasOnlyAllowed bytes
+  unfolding ordered
   only_allowed = record {
-    stop = may_stop (ordered heads).refused reading.end kept.unstopped refused_allowed;
+    stop = may_stop (ordered heads).refused reading.end kept.unstopped (may_refuse heads [] faults);
     transfers = lined_allowed (stop_by (ordered heads).refused reading.end) (transfers_of accepted)
         accepted_allowed;
     unstopped = kept.unstopped;

@@ -1,52 +1,24 @@
 -- The messages of a packed stream break no rule of messages.
-use Rattle.std.proofs.Common.{◌≡◌, ℕ, suc, ◌+◌, ◌<◌, ◌≤◌, Bool, true, false, ◌&&◌, ◌==◌, nat_lt, nat_le, is_some, List, [], ◌∷◌, ◌++◌, reverse, filter_map, Option, Some, None, if◌then◌else◌, refl, ap, sym, ◌∙◌, arith}
-use Rattle.std.specs.Prelude.{IfSome}
-use Rattle.std.specs.List.{All, list_any}
-use Rattle.std.proofs.lemmas.Bool.{ne_eqb, ltb-true}
-use Rattle.std.proofs.lemmas.List.{map-append, reverse-append}
-use Rattle.std.proofs.lemmas.List.Elements.{All-nil, All-cons, All-head, All-tail}
-use Rattle.link_wire.specs.Spelling.{segment_with, sess_init_with}
-use Rattle.link_wire.specs.Stream.{Entry}
-use Rattle.link_wire.specs.declared.message.Message.{Message}
-use Rattle.link_wire.specs.declared.message.Message.TheVariants as message
-use Rattle.link_wire.specs.declared.message.SegmentHead.{SegmentHead}
-use Rattle.link_transfer.specs.Event.{event_of}
-use Rattle.link_transfer.specs.Joiner.{IsJoinerAt, joiner_after}
-use Rattle.link_transfer.specs.Order.{refusal, refusal_by, is_stray, turn_by, effect_of, with_taken, has_sess_init, open_of}
-use Rattle.link_transfer.specs.declared.announcement.Announced.{Announced}
-use Rattle.link_transfer.specs.declared.announcement.Announced.TheVariants.{Absent, Total, Malformed}
-use Rattle.link_transfer.specs.declared.event.Event.{Event}
-use Rattle.link_transfer.specs.declared.joiner.Joiner.{Joiner}
-use Rattle.link_transfer.specs.declared.joiner.Turn.{Turn}
-use Rattle.link_transfer.specs.declared.joiner.Turn.TheVariants as turn
+use Rattle.std.specs.{Prelude.IfSome, List.{All, list_any}}
+use Rattle.std.proofs.Common.{◌≡◌, ℕ, suc, ◌+◌, ◌<◌, ◌≤◌, Bool, true, false, ◌==◌, nat_le, is_some, List, [], ◌∷◌, ◌++◌, reverse, filter_map, Option, Some, None, if◌then◌else◌, refl, ap, sym, ◌∙◌, arith}
+use Rattle.std.proofs.{Math.Bool.and-false, lemmas.Bool.{ne_eqb, le-ltb}, lemmas.List.{map-append, reverse-append}, lemmas.List.Elements.{All-head, All-tail}}
+use Rattle.link_wire.specs.{Spelling.{segment_with, sess_init_with}, Stream.Entry, declared.message.Message.Message, declared.message.SegmentHead.SegmentHead}
+use Rattle.link_transfer.specs.{Event.event_of, Joiner.{IsJoinerAt, joiner_after}, Order.{refusal, refusal_by, is_stray, turn_by, effect_of, with_taken, open_of}}
+use Rattle.link_transfer.specs.declared.{announcement.Announced.Announced, announcement.Announced.TheVariants.{Absent, Total, Malformed}, event.Event.Event, joiner.Joiner.Joiner, joiner.Turn.Turn}
 use Rattle.link_transfer.proofs.Joining.{refusal-at, stray-at, effect-at, IsJoinerAt-then}
-use Rattle.link_message_rules.specs.Flags.{item_flags, segment_flags, term_flags}
-use Rattle.link_message_rules.specs.Heads.{JudgedHead, messages_of, start_id}
-use Rattle.link_message_rules.specs.Lengths.{peer_segment, size_of, if_passed, if_exceeded, peer_transfer, ack_length}
-use Rattle.link_message_rules.specs.MessageRules.{judged_rules, broken_rules}
-use Rattle.link_message_rules.specs.NodeIds.{node_id}
-use Rattle.link_message_rules.specs.Session.{order, before_session, keepalive}
-use Rattle.link_message_rules.specs.TransferIds.{abandoned_by, interleaved, descending, transfer_id}
-use Rattle.link_message_rules.specs.declared.limits.PeerLimits.{PeerLimits}
+use Rattle.link_message_rules.specs.{Flags.{item_flags, segment_flags, term_flags}, Heads.{JudgedHead, messages_of, start_id}}
+use Rattle.link_message_rules.specs.{Lengths.{peer_segment, size_of, if_passed, if_exceeded, peer_transfer, ack_length}, MessageRules.broken_rules, NodeIds.node_id}
+use Rattle.link_message_rules.specs.{Session.{order, before_session, keepalive}, TransferIds.{abandoned_by, interleaved, descending, transfer_id}, declared.limits.PeerLimits.PeerLimits}
 use Rattle.link_message_rules.specs.declared.rule.MessageRule.{MessageRule}
-use Rattle.link_message_rules.specs.declared.rule.MessageRule.TheVariants.{PeerTransferLength}
 use Rattle.link_run.proofs.Continued.{entry}
 use Rattle.link_walk.specs.Walk.{head_at}
 use Rattle.link_check.specs.Checking.{judged}
 use Rattle.link_pack.specs.Segments.{flags_of}
-use Rattle.link_laws.proofs.InOrder.{not_stray, taken_more}
-use Rattle.link_laws.proofs.Sent.{starts_as}
+use Rattle.link_laws.proofs.{InOrder.{not_stray, taken_more}, Sent.starts_as}
+use Rattle.link_wire.specs.declared.message.Message.TheVariants as message
+use Rattle.link_transfer.specs.declared.joiner.Turn.TheVariants as turn
 
 -- ---- rules, one by one
-
-abbrev AllNone : List (Option MessageRule) → Type 0
-AllNone [] = Unit {0}
-AllNone (first ∷ others) = (first ≡ None) × AllNone others
-
-none_left : (rules : List (Option MessageRule)) → AllNone rules
-    → filter_map (λ judged. judged) rules ≡ []
-none_left [] none = refl
-none_left (first ∷ others) none = rw none.0 (none_left others none.1)
 
 none_if : (test : Bool) → ◌≡◌ {A = Option MessageRule} (if test then None else None) None
 none_if true = refl
@@ -62,23 +34,11 @@ module _ (peer : PeerLimits) (before : List JudgedHead) where
 
     items_none : item_flags segment ≡ None
     unfolding item_flags
-    items_none = by_announce announce
-      where
-        by_announce : (total : Option ℕ)
-            → item_flags (segment_with (flags_of first last) id size total) ≡ None
-        by_announce None = refl
-        by_announce (Some total) = refl
+    items_none = grind arith
 
     flags_none : segment_flags segment ≡ None
     unfolding segment_flags
-    flags_none = by_flags first last
-      where
-        by_flags : (first last : Bool)
-            → segment_flags (segment_with (flags_of first last) id size announce) ≡ None
-        by_flags true true = refl
-        by_flags true false = refl
-        by_flags false true = refl
-        by_flags false false = refl
+    flags_none = grind arith
 
     -- in order, and it abandons no transfer
     pub segment_clear : abandoned_by (Some turn) ≡ None → transfer_id before segment ≡ None
@@ -86,20 +46,7 @@ module _ (peer : PeerLimits) (before : List JudgedHead) where
         → peer_transfer peer.transfer before segment_head ≡ None
         → broken_rules peer before segment_head ≡ []
     unfolding broken_rules node_id order before_session interleaved ack_length keepalive term_flags
-    segment_clear none new short within =
-        none_left (judged_rules peer before segment_head) (
-          refl,
-          (
-            items_none,
-            (
-              refl,
-              (
-                none_if (has_sess_init (messages_of before)),
-                (rw none refl, (flags_none, (new, (short, (within, (refl, (refl, (refl, tt)))))))),
-              ),
-            ),
-          ),
-        )
+    segment_clear none new short within = grind (arith, flags_none, items_none, none_if)
 
   -- ---- messages that are no segments
 
@@ -110,92 +57,16 @@ module _ (peer : PeerLimits) (before : List JudgedHead) where
     abbrev init_head : JudgedHead
     init_head = record { message = init; fault = None; turn = Some turn.Other }
 
-    init_short : (limit : Option ℕ) → peer_segment limit init ≡ None
-    unfolding peer_segment
-    init_short None = refl
-    init_short (Some limit) = refl
-
-    init_within : (limit : Option ℕ) → peer_transfer limit before init_head ≡ None
-    unfolding peer_transfer
-    init_within None = refl
-    init_within (Some limit) = refl
-
     pub init_clear : node_id init ≡ None → broken_rules peer before init_head ≡ []
-    unfolding broken_rules item_flags order before_session interleaved segment_flags transfer_id ack_length keepalive term_flags
-    init_clear keeps =
-        none_left (judged_rules peer before init_head) (
-          keeps,
-          (
-            refl,
-            (
-              refl,
-              (
-                none_if (has_sess_init (messages_of before)),
-                (
-                  refl,
-                  (
-                    refl,
-                    (
-                      refl,
-                      (
-                        init_short peer.segment,
-                        (
-                          init_within peer.transfer,
-                          (refl, (refl, (refl, tt))),
-                        ),
-                      ),
-                    ),
-                  ),
-                ),
-              ),
-            ),
-          ),
-        )
+    unfolding broken_rules item_flags order before_session interleaved segment_flags transfer_id peer_segment peer_transfer ack_length keepalive term_flags
+    init_clear keeps = grind (arith, none_if)
 
   abbrev term_head : JudgedHead
   term_head = record { message = message.SessTerm 0 0; fault = None; turn = Some turn.Other }
 
-  term_short : (limit : Option ℕ) → peer_segment limit (message.SessTerm 0 0) ≡ None
-  unfolding peer_segment
-  term_short None = refl
-  term_short (Some limit) = refl
-
-  term_within : (limit : Option ℕ) → peer_transfer limit before term_head ≡ None
-  unfolding peer_transfer
-  term_within None = refl
-  term_within (Some limit) = refl
-
   pub term_clear : broken_rules peer before term_head ≡ []
-  unfolding broken_rules node_id item_flags order before_session interleaved segment_flags transfer_id ack_length keepalive term_flags
-  term_clear =
-      none_left (judged_rules peer before term_head) (
-        refl,
-        (
-          refl,
-          (
-            refl,
-            (
-              none_if (has_sess_init (messages_of before)),
-              (
-                refl,
-                (
-                  refl,
-                  (
-                    refl,
-                    (
-                      term_short peer.segment,
-                      (
-                        term_within peer.transfer,
-                        (refl, (refl, (refl, tt))),
-                      ),
-                    ),
-                  ),
-                ),
-              ),
-            ),
-          ),
-        ),
-      )
+  unfolding broken_rules node_id item_flags order before_session interleaved segment_flags transfer_id peer_segment peer_transfer ack_length keepalive term_flags
+  term_clear = grind (arith, none_if)
 
 -- ---- transfer IDs
 
@@ -206,20 +77,13 @@ ids_of before = filter_map start_id (reverse (messages_of before))
 pub ids_then : (before : List JudgedHead) (head : JudgedHead)
     → ids_of (before ++ head ∷ [])
     ≡ filter_map start_id (head.message ∷ reverse (messages_of before))
-ids_then before head =
-    ap (filter_map start_id)
-    (ap reverse (map-append (λ (one : JudgedHead). one.message) before (head ∷ []))
-    ∙ reverse-append (messages_of before) (head.message ∷ []))
+ids_then before head = grind (arith, map-append, reverse-append)
 
 abbrev pub AreBelow : (next : ℕ) → List ℕ → Type 0
 AreBelow next ids = All (λ id. id < next) ids
 
 pub below_more : (next : ℕ) (ids : List ℕ) → AreBelow next ids → AreBelow (suc next) ids
-below_more next [] below = All-nil (λ id. id < suc next)
-below_more next (id ∷ ids) below =
-    let first = All-head (λ id. id < next) id ids below in
-    All-cons (λ id. id < suc next) id ids (omega arith)
-    (below_more next ids (All-tail (λ id. id < next) id ids below))
+below_more next ids below = grind arith
 
 not_among : (next : ℕ) (ids : List ℕ) → AreBelow next ids
     → list_any (λ earlier. earlier == next) (descending ids) ≡ false
@@ -258,38 +122,20 @@ IsAtMost limit Absent = Unit {0}
 IsAtMost limit (Total total) = total ≤ limit
 IsAtMost limit Malformed = Unit {0}
 
-no_more : (limit size : ℕ) → size ≤ limit → nat_lt limit size ≡ false
-no_more limit size within = by_test (nat_lt limit size) refl
-  where
-    by_test : (test : Bool) → nat_lt limit size ≡ test → test ≡ false
-    by_test false is = refl
-    by_test true is = absurd (let more = ltb-true limit size is in omega arith)
-
 passes_none : (limit before size : ℕ) → before + size ≤ limit → if_passed limit before size ≡ None
 passes_none limit before size within =
-    rw (no_more limit (before + size) within)
-    (by_test (nat_le before limit) (PeerTransferLength (before + size) limit))
-  where
-    by_test : (test : Bool) (broken : MessageRule)
-        → ◌≡◌ {A = Option MessageRule} (if test && false then Some broken else None) None
-    by_test true broken = refl
-    by_test false broken = refl
+    rw (le-ltb limit (before + size) within, and-false (nat_le before limit))
 
 pub exceeds_none : (limit : ℕ) (said : Announced) (head : SegmentHead) (earlier : List SegmentHead)
     → IsAtMost limit said → size_of earlier + head.length ≤ limit
     → if_exceeded limit said head earlier ≡ None
-exceeds_none limit Absent head earlier most within =
-    passes_none limit (size_of earlier) head.length within
-exceeds_none limit (Total total) head earlier most within =
-    rw (no_more limit total most) (passes_none limit (size_of earlier) head.length within)
-exceeds_none limit Malformed head earlier most within =
-    passes_none limit (size_of earlier) head.length within
+exceeds_none limit said head earlier most within = grind (arith, le-ltb, passes_none)
 
 pub short_none : (limit : Option ℕ) (head : SegmentHead) → IfSome limit (λ most. head.length ≤ most)
     → peer_segment limit (message.Segment head) ≡ None
 unfolding peer_segment
 short_none None head short = refl
-short_none (Some limit) head short = rw (no_more limit head.length short) refl
+short_none (Some limit) head short = rw (le-ltb limit head.length short) refl
 
 -- ---- one head of a walk
 

@@ -1,46 +1,24 @@
 -- The heads of a packed stream break no rule of messages, one after another.
-use Rattle.std.proofs.Common.{◌≡◌, ℕ, zero, suc, ◌+◌, ◌*◌, ◌<◌, ◌≤◌, inl, inr, ◌⊎◌, Bool, true, false, ◌==◌, is_some, List, [], ◌∷◌, ◌++◌, length, take, drop, reverse, Option, Some, None, if◌then◌else◌, refl, ap, sym, ◌∙◌, subst, append-nil, append_assoc, length-append, length-take, arith}
 use Rattle.std.specs.Prelude.{IfSome}
-use Rattle.std.proofs.lemmas.Bool.{eq-eqb, ne_eqb}
-use Rattle.std.proofs.lemmas.List.{reverse-append}
-use Rattle.std.proofs.lemmas.List.Elements.{All-nil, All-cons}
-use Rattle.std.proofs.lemmas.List.Sums.{sum_by-cons}
-use Rattle.link_wire.specs.Codes.{is_end}
-use Rattle.link_wire.specs.Spelling.{announced, segment_with}
-use Rattle.link_wire.specs.Stream.{Entry}
-use Rattle.link_wire.specs.declared.message.Message.{Message}
-use Rattle.link_wire.specs.declared.message.Message.TheVariants as message
-use Rattle.link_wire.specs.declared.message.SegmentHead.{SegmentHead}
-use Rattle.link_transfer.specs.Announced.{announced_of}
-use Rattle.link_transfer.specs.Chunks.{chunk_count}
-use Rattle.link_transfer.specs.Cutting.{announcement, due}
-use Rattle.link_transfer.specs.Joiner.{IsJoinerAt}
-use Rattle.link_transfer.specs.Order.{with_taken, effect_of}
-use Rattle.link_transfer.specs.Event.{event_of}
-use Rattle.link_transfer.specs.declared.announcement.Announced.{Announced}
-use Rattle.link_transfer.specs.declared.announcement.Announced.TheVariants.{Absent, Total}
-use Rattle.link_transfer.specs.declared.event.Event.TheVariants as event
+use Rattle.std.proofs.Common.{◌≡◌, ℕ, zero, suc, ◌+◌, ◌*◌, ◌<◌, ◌≤◌, Bool, true, false, ◌==◌, is_some, List, [], ◌∷◌, ◌++◌, length, take, reverse, Option, Some, None, if◌then◌else◌, refl, ap, sym, ◌∙◌, subst, append-nil, append_assoc, length-append, length-take, arith}
+use Rattle.std.proofs.lemmas.{Bool.{eq-eqb, ne_eqb}, List.reverse-append, List.Elements.{All-nil, All-cons}, List.Sums.sum_by-cons}
+use Rattle.link_wire.specs.{Codes.is_end, Spelling.{announced, segment_with}, Stream.Entry, declared.message.Message.Message, declared.message.SegmentHead.SegmentHead}
+use Rattle.link_transfer.specs.{Announced.announced_of, Chunks.chunk_count, Cutting.{announcement, due}, Joiner.IsJoinerAt, Order.{with_taken, refusal_by, turn_by}, Event.event_of}
 use Rattle.link_transfer.specs.declared.joiner.Turn.{Turn}
-use Rattle.link_transfer.specs.declared.joiner.Turn.TheVariants as turn
 use Rattle.link_transfer.proofs.Joining.{IsJoinerAt-none}
-use Rattle.link_message_rules.specs.Heads.{JudgedHead}
-use Rattle.link_message_rules.specs.Lengths.{earlier_of, joined, segments_back, segments_of, first_segment, size_of, if_exceeded, announced_first, peer_transfer}
-use Rattle.link_message_rules.specs.MessageRules.{broken_rules}
-use Rattle.link_message_rules.specs.declared.limits.PeerLimits.{PeerLimits}
+use Rattle.link_message_rules.specs.{Heads.JudgedHead, Lengths.{segments_back, segments_of, first_segment, size_of, peer_transfer}, MessageRules.broken_rules, declared.limits.PeerLimits.PeerLimits}
 use Rattle.link_run.proofs.Continued.{entry}
 use Rattle.link_bundle_walk.specs.Bundles.{Packed, Divided}
-use Rattle.link_pack.specs.Packing.{sending}
-use Rattle.link_pack.specs.Segments.{Sending, cutting_of, cut_at, flags_of, segment_bytes, segments_of as bytes_of_segments}
-use Rattle.link_pack.specs.declared.options.PackOptions.{PackOptions}
+use Rattle.link_pack.specs.{Packing.sending, Segments.{Sending, cutting_of, flags_of, segments_of as bytes_of_segments}, declared.options.PackOptions.PackOptions}
 use Rattle.link_laws.specs.PackedRules.{AllowsLimits, KeepsNodeId}
 use Rattle.link_laws.proofs.Carried.{some_chunk}
-use Rattle.link_laws.proofs.ClearHeads.{segment_clear, init_clear, term_clear, ids_of, ids_then, AreBelow, below_more, new_id, no_id, IsAtMost, exceeds_none, short_none, judged_at, AreClear, turn_at, judged_is, joins_then}
-use Rattle.link_laws.proofs.Divided.{AreBundles}
-use Rattle.link_laws.proofs.Entries.{bundle_entries, due_entries, first_entries, init_bytes, init_entry, last_entries, packed_entries, term_entries, some_size}
-use Rattle.link_laws.proofs.Limits.{announces}
-use Rattle.link_laws.proofs.Segments.{chunk_of, message_of, segment_entries}
-use Rattle.link_laws.proofs.Sent.{starts_as, first_may, next_may, open_by, opens_by, taken_more, taken_first, head_of, last_at}
+use Rattle.link_laws.proofs.ClearHeads.{segment_clear, init_clear, term_clear, ids_of, ids_then, AreBelow, below_more, new_id, no_id, IsAtMost, exceeds_none, short_none, judged_at, AreClear, judged_is, joins_then}
+use Rattle.link_laws.proofs.{Divided.AreBundles, Entries.{bundle_entries, due_entries, first_entries, init_bytes, init_entry, last_entries, packed_entries, term_entries, some_size}, Limits.announces}
+use Rattle.link_laws.proofs.{Segments.{chunk_of, message_of, segment_entries}, Sent.{starts_as, first_may, next_may, open_by, opens_by, taken_more, taken_first, head_of, last_at}}
 use Rattle.link_laws.proofs.Standing.{fresh, carrying}
+use Rattle.link_wire.specs.declared.message.Message.TheVariants as message
+use Rattle.link_transfer.specs.declared.event.Event.TheVariants as event
+use Rattle.link_transfer.specs.declared.joiner.Turn.TheVariants as turn
 
 if_some : {P Q : ℕ → Type 0} (limit : Option ℕ) → ((most : ℕ) → P most → Q most)
     → IfSome limit P → IfSome limit Q
@@ -78,100 +56,104 @@ module _ (id : ℕ) (begun : SegmentHead) where
     pub goes : last ≡ false
         → Within size (with_taken taken head.message) (before ++ judged_at peer taken head ∷ [])
 
--- ---- the first segment of a transfer
+-- ---- one segment of a transfer
+
+-- the transfer that is open before a segment, if the segment is the first of it or not
+abbrev before_by : (id : ℕ) (first : Bool) → Option ℕ
+before_by id first = if first then None else Some id
 
 module _ (peer : PeerLimits) (id : ℕ) (last : Bool) (offset : ℕ) (chunk : List ℕ)
     (announce : Option ℕ) (taken : List Message) (before : List JudgedHead)
-    (at : Between id taken before)
-    (short : IfSome peer.segment (λ most. length chunk ≤ most))
-    (most : IfSome peer.transfer (λ limit. IsAtMost limit (announced_of (announced announce))
-    × (length chunk ≤ limit))) where
-  abbrev begins : SegmentHead
-  begins = record {
-    flags = flags_of true last;
+    (short : IfSome peer.segment (λ most. length chunk ≤ most)) where
+  abbrev segment : (first : Bool) → SegmentHead
+  segment first = record {
+    flags = flags_of first last;
     id = id;
     items = record { items = announced announce };
     length = length chunk;
   }
 
-  abbrev first_entry : Entry
-  first_entry = entry offset (message.Segment begins) chunk
+  abbrev here : (first : Bool) → Entry
+  here first = entry offset (message.Segment (segment first)) chunk
 
-  abbrev begin_turn : Turn
-  begin_turn = turn.Begin None (is_end begins.flags)
+  abbrev turn_for : (first : Bool) → Turn
+  turn_for true = turn.Begin None (is_end (flags_of true last))
+  turn_for false = turn.Continue (is_end (flags_of false last))
 
-  begin_within : (limit : Option ℕ)
-      → IfSome limit (λ limit. IsAtMost limit (announced_of (announced announce))
-      × (length chunk ≤ limit))
-      → peer_transfer limit before (record {
-        message = message.Segment begins;
-        fault = None;
-        turn = Some begin_turn;
-      }) ≡ None
-  unfolding peer_transfer
-  begin_within None most = refl
-  begin_within (Some limit) most =
-      exceeds_none limit (announced_of (announced announce)) begins [] most.0 (omega arith)
+  abbrev judged_for : (first : Bool) → JudgedHead
+  judged_for first =
+      record { message = (here first).message; fault = None; turn = Some (turn_for first) }
 
-  first_turn : effect_of taken (event_of (message.Segment begins)) ≡ Some begin_turn
-  first_turn =
-      turn_at (carrying None) taken offset (message.Segment begins) chunk at.joins (first_may last id)
-      ∙ ap (λ starts. Some (if starts then begin_turn else turn.Continue (is_end begins.flags)))
-      (starts_as true last)
+  may : (first : Bool)
+      → refusal_by true false (before_by id first) (event_of (here first).message) ≡ None
+  may true = first_may last id
+  may false = next_may last id
 
-  first_judged : judged_at peer taken first_entry ≡ record {
-    message = message.Segment begins;
-    fault = None;
-    turn = Some begin_turn;
-  }
-  first_judged =
-      judged_is (carrying None) taken offset (message.Segment begins) chunk at.joins
-      (first_may last id)
-      ∙ ap (λ starts. record {
-        message = message.Segment begins;
-        fault = None;
-        turn = Some (if starts then begin_turn else turn.Continue (is_end begins.flags));
-      }) (starts_as true last)
+  turns : (first : Bool)
+      → turn_by (before_by id first) (event_of (here first).message) ≡ turn_for first
+  turns true = rw (starts_as true last) refl
+  turns false = rw (starts_as false last) refl
 
-  first_ids : AreBelow (suc id) (ids_of (before ++ judged_at peer taken first_entry ∷ []))
-  first_ids =
-      rw (ids_then before (judged_at peer taken first_entry), starts_as true last)
-      (All-cons (λ earlier. earlier < suc id) id (ids_of before) (omega arith)
-      (below_more id (ids_of before) at.ids))
+  module _ (first : Bool) (joins : IsJoinerAt (carrying (before_by id first)) taken) where
+    is_judged : judged_at peer taken (here first) ≡ judged_for first
+    is_judged =
+        judged_is (carrying (before_by id first)) taken offset (here first).message chunk joins
+        (may first)
+        ∙ ap (λ turn. record (judged_for first) { turn = Some turn }) (turns first)
 
-  first_joins : IsJoinerAt (carrying (open_by id last)) (with_taken taken (message.Segment begins))
-  first_joins =
-      subst (λ transfer. IsJoinerAt (carrying transfer) (with_taken taken (message.Segment begins)))
-      (opens_by true last id)
-      (joins_then (carrying None) taken offset (message.Segment begins) chunk at.joins
-      (first_may last id) (event.Segment begins.flags id) refl)
+    still_joins : IsJoinerAt (carrying (open_by id last)) (with_taken taken (here first).message)
+    still_joins =
+        rw (opens_by first last id) at (joins_then (carrying (before_by id first)) taken offset
+        (here first).message chunk joins (may first) (event.Segment (flags_of first last) id) refl)
 
-  first_after : AfterSegment id begins peer last (length chunk) taken before first_entry
-  first_after = record {
-    clear =
-        ap (broken_rules peer before) first_judged
-        ∙ segment_clear peer before true last id (length chunk) announce begin_turn refl
+    -- with the segments before it
+    segment_after : (begun : SegmentHead) (size : ℕ) (earlier : List SegmentHead)
+        → broken_rules peer before (judged_for first) ≡ []
+        → AreBelow (suc id) (ids_of (before ++ judged_for first ∷ []))
+        → segments_back (judged_for first ∷ reverse before) ≡ segment first ∷ earlier
+        → size_of (segment first ∷ earlier) ≡ size
+        → first_segment (segment first) earlier ≡ begun
+        → AfterSegment id begun peer last size taken before (here first)
+    segment_after begun size earlier clear ids segments sized begins = record {
+      clear = rw is_judged clear;
+      ended = λ is. rw is_judged (record {
+        joins = rw (ap (open_by id) is) at still_joins;
+        ids = ids;
+      });
+      goes = λ is. rw is_judged (record {
+        joins = rw (ap (open_by id) is) at still_joins;
+        ids = ids;
+        last = segment first;
+        earlier = earlier;
+        segments = segments_then before (judged_for first) ∙ segments;
+        sized = sized;
+        first = begins;
+      });
+    }
+
+  -- ---- the first segment
+
+  module _ (at : Between id taken before) (most : IfSome peer.transfer (λ limit.
+      IsAtMost limit (announced_of (announced announce)) × (length chunk ≤ limit))) where
+    begin_within : (limit : Option ℕ)
+        → IfSome limit (λ limit. IsAtMost limit (announced_of (announced announce))
+        × (length chunk ≤ limit))
+        → peer_transfer limit before (judged_for true) ≡ None
+    unfolding peer_transfer
+    begin_within limit most = grind (arith, exceeds_none)
+
+    first_after : AfterSegment id (segment true) peer last (length chunk) taken before (here true)
+    first_after =
+        segment_after true at.joins (segment true) (length chunk) []
+        (segment_clear peer before true last id (length chunk) announce (turn_for true) refl
         (new_id before last id (length chunk) announce at.ids)
-        (short_none peer.segment begins short)
-        (begin_within peer.transfer most);
-    ended = λ is. record {
-      joins = subst (λ over. IsJoinerAt (carrying (open_by id over))
-          (with_taken taken (message.Segment begins))) is first_joins;
-      ids = first_ids;
-    };
-    goes = λ is. record {
-      joins = subst (λ over. IsJoinerAt (carrying (open_by id over))
-          (with_taken taken (message.Segment begins))) is first_joins;
-      ids = first_ids;
-      last = begins;
-      earlier = [];
-      segments = segments_then before (judged_at peer taken first_entry)
-          ∙ ap (λ effect. joined (Some begins) (earlier_of effect (segments_of before))
-          (segments_of before)) first_turn;
-      sized = omega (arith, sum_by-cons (λ (segment : SegmentHead). segment.length) begins []);
-      first = refl;
-    };
-  }
+        (short_none peer.segment (segment true) short) (begin_within peer.transfer most))
+        (rw (ids_then before (judged_for true), starts_as true last)
+        (All-cons (λ earlier. earlier < suc id) id (ids_of before) (omega arith)
+        (below_more id (ids_of before) at.ids)))
+        refl
+        (omega (arith, sum_by-cons (λ (segment : SegmentHead). segment.length) (segment true) []))
+        refl
 
 -- ---- another segment of it
 
@@ -182,99 +164,31 @@ module _ (peer : PeerLimits) (id : ℕ) (begun : SegmentHead) (last : Bool) (off
     (most : IfSome peer.transfer (λ limit. IsAtMost limit (announced_of begun.items.items)
     × (size ≤ limit))) where
   abbrev continues : SegmentHead
-  continues = record {
-    flags = flags_of false last;
-    id = id;
-    items = record { items = announced None };
-    length = length chunk;
-  }
+  continues = segment peer id last offset chunk None taken before short false
 
-  abbrev next_entry : Entry
-  next_entry = entry offset (message.Segment continues) chunk
-
-  abbrev next_turn : Turn
-  next_turn = turn.Continue (is_end continues.flags)
+  abbrev continues_judged : JudgedHead
+  continues_judged = judged_for peer id last offset chunk None taken before short false
 
   next_within : (limit : Option ℕ)
       → IfSome limit (λ limit. IsAtMost limit (announced_of begun.items.items) × (size ≤ limit))
-      → peer_transfer limit before (record {
-        message = message.Segment continues;
-        fault = None;
-        turn = Some next_turn;
-      }) ≡ None
+      → peer_transfer limit before continues_judged ≡ None
   unfolding peer_transfer
-  next_within None most = refl
-  next_within (Some limit) most =
-      ap (λ (segments : List SegmentHead).
-      if_exceeded limit (announced_first continues segments) continues segments) at.segments
-      ∙ ap (λ (first : SegmentHead).
-      if_exceeded limit (announced_of first.items.items) continues (at.last ∷ at.earlier)) at.first
-      ∙ exceeds_none limit (announced_of begun.items.items) continues (at.last ∷ at.earlier) most.0
+  next_within limit most = grind (arith, exceeds_none)
+
+  next_after : AfterSegment id begun peer last size taken before
+      (here peer id last offset chunk None taken before short false)
+  next_after =
+      let sizes = sum_by-cons (λ (segment : SegmentHead). segment.length) continues
+      (at.last ∷ at.earlier) in
+      segment_after peer id last offset chunk None taken before short false at.joins begun size
+      (at.last ∷ at.earlier)
+      (segment_clear peer before false last id (length chunk) None (turn.Continue _) refl
+      (no_id before last id (length chunk) None) (short_none peer.segment continues short)
+      (next_within peer.transfer most))
+      (rw (ids_then before continues_judged, starts_as false last) at.ids)
+      (ap (λ (segments : List SegmentHead). continues ∷ segments) at.segments)
       (omega (arith, at.sized))
-
-  later_turn : effect_of taken (event_of (message.Segment continues)) ≡ Some next_turn
-  later_turn =
-      turn_at (carrying (Some id)) taken offset (message.Segment continues) chunk at.joins
-      (next_may last id)
-      ∙ ap (λ starts. Some (if starts then turn.Begin (Some id) (is_end continues.flags)
-      else next_turn)) (starts_as false last)
-
-  next_judged : judged_at peer taken next_entry ≡ record {
-    message = message.Segment continues;
-    fault = None;
-    turn = Some next_turn;
-  }
-  next_judged =
-      judged_is (carrying (Some id)) taken offset (message.Segment continues) chunk at.joins
-      (next_may last id)
-      ∙ ap (λ starts. record {
-        message = message.Segment continues;
-        fault = None;
-        turn = Some (if starts then turn.Begin (Some id) (is_end continues.flags) else next_turn);
-      }) (starts_as false last)
-
-  next_ids : AreBelow (suc id) (ids_of (before ++ judged_at peer taken next_entry ∷ []))
-  next_ids =
-      rw (ids_then before (judged_at peer taken next_entry), starts_as false last) at.ids
-
-  next_joins : IsJoinerAt (carrying (open_by id last)) (with_taken taken (message.Segment continues))
-  next_joins =
-      subst (λ transfer. IsJoinerAt (carrying transfer)
-      (with_taken taken (message.Segment continues))) (opens_by false last id)
-      (joins_then (carrying (Some id)) taken offset (message.Segment continues) chunk at.joins
-      (next_may last id) (event.Segment continues.flags id) refl)
-
-  next_after : AfterSegment id begun peer last size taken before next_entry
-  next_after = record {
-    clear =
-        ap (broken_rules peer before) next_judged
-        ∙ segment_clear peer before false last id (length chunk) None next_turn refl
-        (no_id before last id (length chunk) None)
-        (short_none peer.segment continues short)
-        (next_within peer.transfer most);
-    ended = λ is. record {
-      joins = subst (λ over. IsJoinerAt (carrying (open_by id over))
-          (with_taken taken (message.Segment continues))) is next_joins;
-      ids = next_ids;
-    };
-    goes = λ is. record {
-      joins = subst (λ over. IsJoinerAt (carrying (open_by id over))
-          (with_taken taken (message.Segment continues))) is next_joins;
-      ids = next_ids;
-      last = continues;
-      earlier = at.last ∷ at.earlier;
-      segments = segments_then before (judged_at peer taken next_entry)
-          ∙ ap (λ effect. joined (Some continues) (earlier_of effect (segments_of before))
-          (segments_of before)) later_turn
-          ∙ ap (λ (segments : List SegmentHead). continues ∷ segments) at.segments;
-      sized = omega (
-        arith,
-        sum_by-cons (λ (segment : SegmentHead). segment.length) continues (at.last ∷ at.earlier),
-        at.sized,
-      );
-      first = at.first;
-    };
-  }
+      at.first
 
 -- ---- all segments of a bundle
 
@@ -301,20 +215,11 @@ module _ (options : PackOptions) (peer : PeerLimits) (allows : AllowsLimits opti
   size_at count = length (take (count * whole.segment) bundle)
 
   short_chunk : (k : ℕ) → IfSome peer.segment (λ most. length (chunk_of whole k) ≤ most)
-  short_chunk k =
-      if_some peer.segment
-      (λ most allowed. omega (arith, length-take whole.segment (drop (k * whole.segment) bundle)))
-      allows.segment
+  short_chunk k = grind (arith, if_some, length-take)
 
   announced_most : (limit : ℕ) → length bundle ≤ limit
       → IsAtMost limit (announced_of begun.items.items)
-  announced_most limit fits = by_case (announced_of begun.items.items) (announces (cutting_of whole))
-    where
-      by_case : (said : Announced)
-          → (said ≡ Absent) ⊎ ((true ≡ true) × (said ≡ Total (length bundle)))
-          → IsAtMost limit said
-      by_case said (inl absent) = rw absent tt
-      by_case said (inr total) = rw total.1 fits
+  announced_most limit fits = grind (arith, announces)
 
   most_at : (count : ℕ) → IfSome peer.transfer (λ limit.
       IsAtMost limit (announced_of begun.items.items) × (size_at count ≤ limit))
@@ -329,8 +234,7 @@ module _ (options : PackOptions) (peer : PeerLimits) (allows : AllowsLimits opti
       → message_of id whole k
       ≡ segment_with (flags_of false (last_at id whole k)) id (length (chunk_of whole k)) None
   later_message k later =
-      ap (λ first. segment_with (flags_of first (last_at id whole k)) id (length (chunk_of whole k))
-      (if first then announcement (cutting_of whole) else None)) later
+      cc later
 
   sizes : (k : ℕ) → size_at k + length (chunk_of whole k) ≡ size_at (suc k)
   sizes k =
@@ -343,72 +247,54 @@ module _ (options : PackOptions) (peer : PeerLimits) (allows : AllowsLimits opti
   not_last_at : (k : ℕ) → k + 1 < chunks → last_at id whole k ≡ false
   not_last_at k fewer = ne_eqb (k + 1) chunks (λ same. absurd (omega arith))
 
-  -- chunk number `suc j`
-  next_step : (j offset : ℕ) (taken : List Message) (before : List JudgedHead)
-      → Within id begun (size_at (suc j)) taken before
-      → AfterSegment id begun peer (last_at id whole (suc j)) (size_at (suc (suc j))) taken before
-      (entry offset (message_of id whole (suc j)) (chunk_of whole (suc j)))
-  next_step j offset taken before at =
-      let k = suc j in
-      let chunk = chunk_of whole k in
-      subst (λ (sent : Message). AfterSegment id begun peer (last_at id whole k) (size_at (suc k))
-      taken before (entry offset sent chunk))
-      (sym (later_message k (ne_eqb (suc j) 0 (λ same. absurd (omega arith)))))
-      (next_after peer id begun (last_at id whole k) offset chunk (size_at k) (size_at (suc k)) taken
-      before at (sizes k) (short_chunk k) (most_at (suc k)))
+  -- before chunk number `k`
+  abbrev At : (k : ℕ) → List Message → List JudgedHead → Type 0
+  At zero taken before = Between id taken before
+  At (suc j) taken before = Within id begun (size_at (suc j)) taken before
 
-  -- chunk number `suc j` and the `count` chunks after it
-  next_clear : (count j offset : ℕ) → suc j + suc count ≡ chunks
-      → (taken : List Message) (before : List JudgedHead)
-      → Within id begun (size_at (suc j)) taken before
-      → AreClear peer taken before (segment_entries id whole (suc j) (suc count) offset ++ more)
-  unfolding segment_entries
-  next_clear zero j offset all taken before at =
-      let step = next_step j offset taken before at in
-      (step.clear, then_clear _ _ (step.ended (is_last_at (suc j) (omega arith))))
-  next_clear (suc count) j offset all taken before at =
-      let step = next_step j offset taken before at in
-      let after = offset + length (segment_bytes id (cut_at whole (suc j)) (chunk_of whole (suc j))) in (
-        step.clear,
-        next_clear count (suc j) after (omega arith) _ _
-            (step.goes (not_last_at (suc j) (omega arith))),
-      )
-
-  first_step : (offset : ℕ) (taken : List Message) (before : List JudgedHead)
-      → Between id taken before
-      → AfterSegment id begun peer (last_at id whole 0) (size_at 1) taken before
-      (entry offset (message_of id whole 0) (chunk_of whole 0))
-  first_step offset taken before at =
-      let chunk = chunk_of whole 0 in
-      let same : length chunk ≡ size_at 1 = ap length (taken_first whole.segment bundle) in
+  step : (k offset : ℕ) (taken : List Message) (before : List JudgedHead) → At k taken before
+      → AfterSegment id begun peer (last_at id whole k) (size_at (suc k)) taken before
+      (entry offset (message_of id whole k) (chunk_of whole k))
+  step zero offset taken before at =
+      let same : length (chunk_of whole 0) ≡ size_at 1 =
+      ap length (taken_first whole.segment bundle) in
       subst (λ size. AfterSegment id begun peer (last_at id whole 0) size taken before
-      (entry offset (message_of id whole 0) chunk)) same
-      (first_after peer id (last_at id whole 0) offset chunk (announcement (cutting_of whole)) taken
-      before at (short_chunk 0)
+      (entry offset (message_of id whole 0) (chunk_of whole 0))) same
+      (first_after peer id (last_at id whole 0) offset (chunk_of whole 0)
+      (announcement (cutting_of whole)) taken before (short_chunk 0) at
       (if_some peer.transfer (λ limit most. (most.0, omega (arith, same, most.1))) (most_at 1)))
+  step (suc j) offset taken before at =
+      let k = suc j in
+      rw (later_message k (ne_eqb (suc j) 0 (λ same. absurd (omega arith))))
+      (next_after peer id begun (last_at id whole k) offset (chunk_of whole k) (size_at k)
+      (size_at (suc k)) taken before at (sizes k) (short_chunk k) (most_at (suc k)))
 
-  chunks_clear : (count offset : ℕ) → 0 < count → count ≡ chunks
-      → (taken : List Message) (before : List JudgedHead) → Between id taken before
-      → AreClear peer taken before (segment_entries id whole 0 count offset ++ more)
+  -- chunk number `k` and the `count` chunks after it
+  chunks_clear : (count k offset : ℕ) → k + suc count ≡ chunks
+      → (taken : List Message) (before : List JudgedHead) → At k taken before
+      → AreClear peer taken before (segment_entries id whole k (suc count) offset ++ more)
   unfolding segment_entries
-  chunks_clear zero offset some all taken before at = absurd (omega arith)
-  chunks_clear (suc zero) offset some all taken before at =
-      let step = first_step offset taken before at in
-      (step.clear, then_clear _ _ (step.ended (is_last_at 0 (omega arith))))
-  chunks_clear (suc (suc count)) offset some all taken before at =
-      let step = first_step offset taken before at in
-      let after = offset + length (segment_bytes id (cut_at whole 0) (chunk_of whole 0)) in (
-        step.clear,
-        next_clear count 0 after (omega arith) _ _
-            (step.goes (not_last_at 0 (omega arith))),
+  chunks_clear zero k offset all taken before at =
+      let now = step k offset taken before at in
+      (now.clear, then_clear _ _ (now.ended (is_last_at k (omega arith))))
+  chunks_clear (suc count) k offset all taken before at =
+      let now = step k offset taken before at in (
+        now.clear,
+        chunks_clear count (suc k) _ (omega arith) _ _
+            (now.goes (not_last_at k (omega arith))),
       )
 
   bundle_clear : (offset : ℕ) → 0 < length bundle
       → ClearAfter peer id (due_entries id whole offset ++ more)
   unfolding due
-  bundle_clear offset some taken before at =
-      chunks_clear chunks offset (some_chunk whole.segment (length bundle) (some_size options) some)
-      refl taken before at
+  bundle_clear offset some =
+      by_count chunks refl (some_chunk whole.segment (length bundle) (some_size options) some)
+    where
+      by_count : (count : ℕ) → count ≡ chunks → 0 < count
+          → ClearAfter peer id (segment_entries id whole 0 count offset ++ more)
+      by_count zero all some taken before at = absurd (omega arith)
+      by_count (suc count) all some taken before at =
+          chunks_clear count 0 offset (omega arith) taken before at
 
 -- ---- a stream
 
@@ -417,8 +303,7 @@ module _ (options : PackOptions) (peer : PeerLimits) (allows : AllowsLimits opti
       → ClearAfter peer next (term_entries options asked offset)
   term_after false offset next taken before at = sym (ap is_some at.joins.transfer)
   term_after true offset next taken before at = (
-    ap (broken_rules peer before)
-        (judged_is (carrying None) taken offset (message.SessTerm 0 0) [] at.joins refl)
+    cc (judged_is (carrying None) taken offset (message.SessTerm 0 0) [] at.joins refl)
         ∙ term_clear peer before,
     sym (ap is_some (joins_then (carrying None) taken offset (message.SessTerm 0 0) [] at.joins refl
         event.SessTerm refl).transfer),

@@ -2,16 +2,11 @@
 use Rattle.std.proofs.Common.{◌≡◌, ℕ, ◌+◌, ◌≤◌, Bool, true, false, List, [], ◌∷◌, ◌++◌, length, Option, Some, None, if◌then◌else◌, refl, ap, sym, subst, ◌∙◌, append-nil, length-append, arith}
 use Rattle.link_wire.specs.Stream.{End, reading_of}
 use Rattle.link_report.specs.declared.transfer.TransferEntry.{TransferEntry}
-use Rattle.link_run.specs.Made.{StreamStop, Made, whole_by}
-use Rattle.link_run.specs.Run.{Outcome}
+use Rattle.link_run.specs.{Made.{StreamStop, Made, whole_by}, Run.Outcome}
 use Rattle.link_laws.specs.Transfers.{Ordered, transfers_of, settled, lines_of, unpacking_by, by_transfers}
-use Rattle.link_unpack.specs.Transfers.{Transfer}
-use Rattle.link_unpack.specs.Unpacking.{part_of, parts_of, entry_of}
-use Rattle.link_unpack.specs.declared.wanted.Wanted.{Wanted}
 use Rattle.link_laws.specs.Cuts.{order_of, entries_of, Follow, total_written, stream_stop, lined, reported, stop_line, Divides, CutsOutput, stopping}
-use Rattle.link_laws.proofs.Prefixes.{whole_output}
-use Rattle.link_laws.proofs.Due.{lines_are}
-use Rattle.link_laws.proofs.Same.{whole_is}
+use Rattle.link_laws.proofs.{Prefixes.whole_output, Due.lines_are, Same.whole_is}
+use Rattle.link_unpack.specs.{Transfers.Transfer, Unpacking.{part_of, parts_of, entry_of}, declared.wanted.Wanted.Wanted}
 
 -- ---- one more entry
 

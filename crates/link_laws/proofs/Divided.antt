@@ -1,14 +1,10 @@
 -- The parts of an input: bundles that the peer takes, and the rest after them.
-use Rattle.std.proofs.Common.{◌≡◌, ℕ, zero, suc, ◌-◌, ◌<◌, ◌≤◌, Bool, true, false, nat_lt, List, [], ◌∷◌, ◌++◌, length, take, drop, None, Result, Ok, Err, if◌then◌else◌, refl, ap, sym, ◌∙◌, subst, length-take, length-drop, arith}
 use Rattle.std.specs.Prelude.{IfSome}
-use Rattle.std.proofs.lemmas.Bool.{false≢true, ltb-false}
-use Rattle.std.proofs.lemmas.List.{take-append-drop}
-use Rattle.std.proofs.lemmas.List.Elements.{All-take, All-drop}
+use Rattle.std.proofs.Common.{◌≡◌, ℕ, zero, suc, ◌-◌, ◌<◌, ◌≤◌, Bool, true, false, nat_lt, List, [], ◌∷◌, ◌++◌, length, take, drop, None, Result, Ok, Err, if◌then◌else◌, refl, ap, sym, ◌∙◌, subst, length-take, length-drop, arith}
+use Rattle.std.proofs.lemmas.{Bool.{false≢true, ltb-false}, List.take-append-drop, List.Elements.{All-take, All-drop}}
 use Rattle.link_cbor.specs.PieceLaws.{takes_shortest}
 use Rattle.link_wire.specs.Bytes.{IsByte, AreBytes}
-use Rattle.link_bundle_types.specs.Faults.{lasts}
-use Rattle.link_bundle_types.specs.declared.fault.BundleFault.{BundleFault}
-use Rattle.link_bundle_types.specs.declared.info.BundleInfo.{BundleInfo}
+use Rattle.link_bundle_types.specs.{Faults.lasts, declared.fault.BundleFault.BundleFault, declared.info.BundleInfo.BundleInfo}
 use Rattle.link_bundle_blocks.specs.Bundle.{verdict, bundle_goes}
 use Rattle.link_bundle_walk.specs.Bundles.{Packed, Refusal, Longer, Faulty, Rest, Divided, bundle_prefix, refused_by, judged_front, accepted_by, divided_by, divided_in, divided}
 use Rattle.link_bundle_walk.proofs.Dividing.{whole_stops, none_goes}
@@ -50,9 +46,7 @@ taken_by : (beyond : Bool) (limit : ℕ) (front : List ℕ) (said : Result Bundl
     (info : BundleInfo) → nat_lt limit (length front) ≡ beyond
     → (if beyond then Err (Longer limit) else refused_by said) ≡ Ok info
     → (length front ≤ limit) × (said ≡ Ok info)
-taken_by true limit front said info test is = absurd (cc)
-taken_by false limit front (Ok other) info test is = (ltb-false limit (length front) test, cc)
-taken_by false limit front (Err (fault, place)) info test is = absurd (cc)
+taken_by beyond limit front said info test is = grind (arith, ltb-false)
 
 taken_whole : (limit : ℕ) (front : List ℕ) (info : BundleInfo) → judged_front limit front ≡ Ok info
     → (length front ≤ limit) × (verdict front ≡ Ok info)
@@ -68,13 +62,8 @@ accepted_within : (beyond : Bool) (limit : ℕ) (front : List ℕ)
     → nat_lt limit (length front) ≡ beyond
     → (if beyond then Err (Longer limit) else refused_by said) ≡ Err refusal
     → length (accepted_by refusal front) ≤ limit
-accepted_within true limit front said refusal test is =
-    let same : Longer limit ≡ refusal = cc in
-    subst (λ why. length (accepted_by why front) ≤ limit) same (omega (arith, length-take limit front))
-accepted_within false limit front (Ok info) refusal test is = absurd (cc)
-accepted_within false limit front (Err (fault, place)) refusal test is =
-    let same : Faulty fault place ≡ refusal = cc in
-    subst (λ why. length (accepted_by why front) ≤ limit) same (accepted_faulty (lasts fault) limit front (ltb-false limit (length front) test))
+accepted_within beyond limit front said refusal test is =
+    grind (arith, accepted_faulty, length-take, ltb-false)
 
 faulty_bytes : (stays : Bool) (front : List ℕ) → AreBytes front
     → AreBytes (if stays then take (length front - 1) front else front)
@@ -115,15 +104,7 @@ module _ (limit : ℕ) (next : List ℕ → Divided) (bytes : List ℕ) (are : A
         rest = after.rest;
         whole = λ none. ap (λ rest. front ++ rest) (after.whole none) ∙ ap (λ first. first ++ left) (front_first bytes) ∙ take-append-drop (length front) bytes;
       }
-  divides (Err refusal) is later there = record {
-    bundles = tt;
-    few = omega arith;
-    rest = record {
-      within = accepted_within (nat_lt limit (length front)) limit front (verdict front) refusal refl is;
-      are = accepted_bytes refusal front (front_bytes bytes are);
-    };
-    whole = λ none. absurd (cc);
-  }
+  divides (Err refusal) is later there = grind (arith, accepted_bytes, accepted_within, front_bytes)
 
 divided_so : (count limit : ℕ) (bytes : List ℕ) → AreBytes bytes → length bytes ≤ count
     → IsDivided limit bytes (divided_in count limit bytes)

@@ -1,16 +1,10 @@
 -- The lines that become due: of the transfer that a head abandons, and of the one that it closes.
-use Rattle.std.proofs.Common.{◌≡◌, ℕ, Bool, true, false, not, ◌&&◌, List, [], ◌∷◌, ◌++◌, length, if◌then◌else◌, refl, ap, ap₂, sym, ◌∙◌, append-nil}
 use Rattle.std.specs.List.{flat_map, list_all}
-use Rattle.std.proofs.Math.Bool.{and-true, and_comm}
-use Rattle.std.proofs.lemmas.List.{flat_map_more}
-use Rattle.std.proofs.lemmas.List.Folds.{list_all-append}
-use Rattle.link_report.specs.Transfer.{transfer_text}
-use Rattle.link_report.specs.declared.transfer.TransferEntry.{TransferEntry}
-use Rattle.link_unpack.specs.Transfers.{Transfer}
-use Rattle.link_unpack.specs.Unpacking.{parts_of, entry_of, line_of, is_good, judgement_of, line_due, good_due}
-use Rattle.link_unpack.specs.declared.wanted.Wanted.{Wanted}
-use Rattle.link_laws.specs.Cuts.{entries_of}
-use Rattle.link_laws.specs.Transfers.{settled, lines_of, are_good, abandoned_line}
+use Rattle.std.proofs.{Common.{◌≡◌, ℕ, Bool, true, false, not, List, [], ◌∷◌, ◌++◌, length, if◌then◌else◌, refl, ap, sym, ◌∙◌, append-nil, arith}, Math.Bool.{and-true, and_comm}}
+use Rattle.std.proofs.lemmas.{List.flat_map_more, List.Folds.list_all-append}
+use Rattle.link_report.specs.{Transfer.transfer_text, declared.transfer.TransferEntry.TransferEntry}
+use Rattle.link_unpack.specs.{Transfers.Transfer, Unpacking.{parts_of, entry_of, line_of, is_good, line_due, good_due}, declared.wanted.Wanted.Wanted}
+use Rattle.link_laws.specs.{Cuts.entries_of, Transfers.{settled, lines_of, are_good, abandoned_line}}
 
 abbrev pub latest_open : List Transfer → Bool
 latest_open [] = false
@@ -32,25 +26,15 @@ module _ (wanted : Wanted) where
 
   pub lines_due : (due : Bool) (transfers : List Transfer)
       → line_due wanted due transfers ≡ flat_map transfer_text (entries_due due transfers)
-  lines_due false transfers = refl
-  lines_due true [] = refl
-  lines_due true (latest ∷ earlier) = sym (append-nil _)
+  lines_due due transfers = grind (arith, append-nil)
 
   pub goods_due : (due : Bool) (transfers : List Transfer)
       → good_due due transfers ≡ all_good (entries_due due transfers)
-  goods_due false transfers = refl
-  goods_due true [] = refl
-  goods_due true (latest ∷ earlier) = sym (and-true _)
+  goods_due due transfers = grind (arith, and-true)
 
   pub abandoned_due : (transfers : List Transfer)
       → abandoned_line wanted transfers ≡ line_due wanted (latest_open transfers) transfers
-  abandoned_due [] = refl
-  abandoned_due (latest ∷ earlier) = by_closed latest.closed
-    where
-      by_closed : (closed : Bool) → (if closed then [] else line_of wanted latest earlier)
-          ≡ line_due wanted (not closed) (latest ∷ earlier)
-      by_closed true = refl
-      by_closed false = refl
+  abandoned_due transfers = grind arith
 
   pub closed_due : (closed : Bool) (latest : Transfer) (earlier : List Transfer)
       → (if closed then line_of wanted latest earlier else [])
@@ -70,13 +54,7 @@ module _ (wanted : Wanted) where
   pub settled_all : (transfers : List Transfer)
       → entries_of wanted (settled transfers) ++ entries_due (latest_open transfers) transfers
       ≡ entries_of wanted transfers
-  settled_all [] = append-nil _
-  settled_all (latest ∷ earlier) = by_closed latest.closed
-    where
-      by_closed : (closed : Bool) → entries_of wanted (if closed then latest ∷ earlier else earlier)
-          ++ entries_due (not closed) (latest ∷ earlier) ≡ entries_of wanted (latest ∷ earlier)
-      by_closed true = append-nil _
-      by_closed false = sym (entries_more latest earlier)
+  settled_all transfers = grind (arith, append-nil, entries_more)
 
   pub closed_last : (closed : Bool) (latest : Transfer) (earlier : List Transfer)
       → entries_of wanted earlier ++ entries_due closed (latest ∷ earlier)
@@ -97,6 +75,4 @@ module _ (wanted : Wanted) where
   unfolding are_good entries_of
   goods_are [] = refl
   goods_are (latest ∷ earlier) =
-      and_comm (is_good (judgement_of latest)) (are_good earlier)
-      ∙ ap₂ (λ (a b : Bool). a && b) (goods_are earlier) (sym (and-true _))
-      ∙ sym (list_all-append _ (entries_of wanted earlier) (entry_for latest earlier ∷ []))
+      grind (arith, and-true, and_comm, list_all-append, goods_are earlier)

@@ -1,32 +1,19 @@
 -- A closed transfer that breaks no rule of transfers of level `must` is good, or its data may be a
 -- bundle.
-use Rattle.std.proofs.Common.{◌≡◌, ℕ, Bool, true, false, not, ◌==◌, List, [], ◌∷◌, ◌++◌, length, map, filter_map, Option, Result, Ok, Err, if◌then◌else◌, refl, ap, sym, ◌∙◌}
 use Rattle.std.specs.List.{All, filter}
-use Rattle.std.proofs.lemmas.Bool.{and_parts}
-use Rattle.std.proofs.lemmas.List.{map-append}
+use Rattle.std.proofs.{Common.{◌≡◌, ℕ, Bool, true, false, not, List, [], ◌∷◌, ◌++◌, length, map, filter_map, Option, Result, refl, ap, sym, ◌∙◌, arith}, lemmas.Bool.and_parts, lemmas.List.map-append}
 use Rattle.std.proofs.lemmas.List.Elements.{All-nil, All-cons, filter-append}
-use Rattle.link_bundle_types.specs.declared.fault.BundleFault.{BundleFault}
-use Rattle.link_bundle_types.specs.declared.info.BundleInfo.{BundleInfo}
+use Rattle.link_bundle_types.specs.declared.{fault.BundleFault.BundleFault, info.BundleInfo.BundleInfo}
 use Rattle.link_bundle_blocks.specs.Bundle.{verdict}
-use Rattle.link_transfer.specs.Announced.{announced_of}
-use Rattle.link_transfer.specs.declared.announcement.Announced.{Announced}
-use Rattle.link_transfer.specs.declared.announcement.Announced.TheVariants.{Absent, Total, Malformed}
-use Rattle.link_message_rules.specs.TransferData.{data_rule, may_be_bundle}
-use Rattle.link_message_rules.specs.TransferRules.{broken_transfer_rules, if_malformed, if_different, length_item, length_differs, length_of_one_segment, transfer_level_of}
-use Rattle.link_message_rules.specs.declared.limits.PeerLimits.{PeerLimits}
-use Rattle.link_message_rules.specs.declared.rule.MessageRule.{MessageRule}
-use Rattle.link_message_rules.specs.declared.rule.TransferRule.{TransferRule}
-use Rattle.link_message_rules.specs.declared.rule.TransferRule.TheVariants.{Unfinished, Bundle, NotRead}
+use Rattle.link_transfer.specs.{Announced.announced_of, declared.announcement.Announced.Announced}
+use Rattle.link_message_rules.specs.{TransferData.data_rule, TransferRules.{broken_transfer_rules, if_malformed, if_different, length_item, length_differs, length_of_one_segment, transfer_level_of}}
+use Rattle.link_message_rules.specs.declared.{limits.PeerLimits.PeerLimits, rule.TransferRule.TransferRule, rule.TransferRule.TheVariants.Unfinished}
 use Rattle.link_report.specs.Judgement.{judged_length, judged_data}
-use Rattle.link_rule_report.specs.Names.{rule_level}
-use Rattle.link_rule_report.specs.declared.line.RuleText.{RuleText}
-use Rattle.link_rule_report.specs.declared.rule.BrokenRule.{BrokenRule}
-use Rattle.link_rule_report.specs.declared.rule.BrokenRule.TheVariants as rule
-use Rattle.link_check.specs.Checking.{closed_rules, data_rules}
-use Rattle.link_check.specs.Lines.{is_must, counts, none_counts, at_offset}
+use Rattle.link_rule_report.specs.{Names.rule_level, declared.line.RuleText.RuleText, declared.rule.BrokenRule.BrokenRule}
+use Rattle.link_check.specs.{Checking.{closed_rules, data_rules}, Lines.{is_must, counts, none_counts, at_offset}}
 use Rattle.link_laws.specs.Checked.{MayBeJudged, IsAllowed}
-use Rattle.link_laws.proofs.Placed.{Placed, transfers_in, begun_of, due_of, rules_of}
-use Rattle.link_laws.proofs.Telling.{closed_not}
+use Rattle.link_laws.proofs.{Placed.{Placed, Choice, transfers_in, begun_of, due_of, rules_of}, Telling.closed_not}
+use Rattle.link_rule_report.specs.declared.rule.BrokenRule.TheVariants as rule
 
 -- whether it is a rule of transfers of level `must`
 abbrev pub is_due : BrokenRule → Bool
@@ -34,12 +21,13 @@ is_due (rule.Message broken) = false
 is_due (rule.Transfer id broken) = is_must (transfer_level_of broken)
 is_due (rule.Bundle where_it_is broken) = false
 
-pub never_message : (broken : MessageRule) → is_due (rule.Message broken) ≡ false
-never_message broken = refl
-
 pub never_unfinished : (id size : ℕ) → is_due (rule.Transfer id (Unfinished size)) ≡ false
 unfolding transfer_level_of
 never_unfinished id size = refl
+
+abbrev pub due_choice : Choice
+due_choice =
+    record { chosen = is_due; no_message = λ broken. refl; no_unfinished = never_unfinished }
 
 abbrev pub due_rules : List RuleText → List RuleText
 due_rules lines = filter (λ (line : RuleText). is_due line.rule) lines
@@ -49,9 +37,7 @@ due_rules lines = filter (λ (line : RuleText). is_due line.rule) lines
 allowed_rule : (broken : BrokenRule) → not (is_must (rule_level broken)) ≡ true
     → is_due broken ≡ false
 unfolding rule_level
-allowed_rule (rule.Message broken) is = refl
-allowed_rule (rule.Transfer id broken) is = closed_not (is_must (transfer_level_of broken)) is
-allowed_rule (rule.Bundle where_it_is broken) is = refl
+allowed_rule broken is = grind (arith, closed_not)
 
 pub none_due : (lines : List RuleText) → none_counts true lines ≡ true → due_rules lines ≡ []
 unfolding none_counts
@@ -76,14 +62,7 @@ module _ (offset id : ℕ) where
         → due_rules (at_offset offset (data_rules id content said)) ≡ []
         → MayBeJudged content (judged_data said)
     unfolding data_rule transfer_level_of
-    data_allowed (Ok info) none = tt
-    data_allowed (Err (fault, byte)) none = by_kind (may_be_bundle content fault byte) refl none
-      where
-        by_kind : (may : Bool) → may_be_bundle content fault byte ≡ may
-            → lines_for ((if may then NotRead fault byte else Bundle fault byte) ∷ []) ≡ []
-            → may_be_bundle content fault byte ≡ true
-        by_kind true is none = is
-        by_kind false is none = absurd (cc)
+    data_allowed said none = grind arith
 
     length_allowed : (announced : Announced) (size : ℕ) (single : Option TransferRule)
         (said : Result BundleInfo (BundleFault × ℕ))
@@ -92,21 +71,14 @@ module _ (offset id : ℕ) where
         → MayBeJudged content (judged_data said)
         → MayBeJudged content (judged_length announced size said)
     unfolding transfer_level_of
-    length_allowed Absent size single said none may = may
-    length_allowed Malformed size single said none may = absurd (cc)
-    length_allowed (Total total) size single said none may = by_total (total == size) refl
-      where
-        by_total : (same : Bool) → (total == size) ≡ same
-            → MayBeJudged content (judged_length (Total total) size said)
-        by_total true is = rw is may
-        by_total false is = absurd (let never = rw is at none in cc)
+    length_allowed announced size single said none may = grind arith
 
 module _ (peer : PeerLimits) where
   abbrev pub due : Placed → List RuleText
-  due placed = due_of is_due never_message never_unfinished peer placed
+  due placed = due_of due_choice peer placed
 
   abbrev pub rules : List Placed → List RuleText
-  rules placed = rules_of is_due never_message never_unfinished peer placed
+  rules placed = rules_of due_choice peer placed
 
   closed_allowed : (placed : Placed)
       → due_rules (at_offset placed.offset (closed_rules (begun_of placed))) ≡ []
@@ -132,13 +104,7 @@ module _ (peer : PeerLimits) where
       (data_allowed placed.offset id transfer.content (verdict transfer.content) both.1)
 
   transfer_allowed : (placed : Placed) → due placed ≡ [] → IsAllowed placed.transfer
-  transfer_allowed placed none = by_closed placed.transfer.closed refl
-    where
-      by_closed : (closed : Bool) → placed.transfer.closed ≡ closed → IsAllowed placed.transfer
-      by_closed false is = rw is tt
-      by_closed true is =
-          let rules_none = rw is at none in
-          rw is (closed_allowed placed rules_none)
+  transfer_allowed placed none = grind (arith, closed_allowed)
 
   -- transfers that break no rule of transfers of level `must` once they are closed
   pub all_allowed : (placed : List Placed) → rules placed ≡ []

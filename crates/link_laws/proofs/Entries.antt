@@ -1,23 +1,17 @@
 -- The messages of a packed stream.
-use Rattle.std.proofs.Common.{◌≡◌, ℕ, suc, ◌+◌, ◌^◌, ◌<◌, ◌≤◌, min, Bool, true, false, List, [], ◌∷◌, ◌++◌, length, Option, Some, None, if◌then◌else◌, refl, sym, ◌∙◌, append-nil, append_assoc, arith}
 use Rattle.std.specs.Prelude.{IfSome}
-use Rattle.link_wire.specs.Bytes.{AreBytes}
-use Rattle.link_wire.specs.SpelledStream.{IsStream, IsReading}
-use Rattle.link_wire.specs.Spelling.{contact_bytes, sess_init_bytes, sess_term_bytes, sess_init_with}
-use Rattle.link_wire.specs.Stream.{Entry, Clean, Reading}
+use Rattle.std.proofs.Common.{◌≡◌, ℕ, suc, ◌+◌, ◌^◌, ◌<◌, ◌≤◌, min, Bool, true, false, List, [], ◌∷◌, ◌++◌, length, Option, Some, None, if◌then◌else◌, refl, sym, append-nil, append_assoc, arith}
+use Rattle.link_wire.specs.{Bytes.AreBytes, SpelledStream.{IsStream, IsReading}, Spelling.{sess_init_bytes, sess_term_bytes, sess_init_with}, Stream.{Entry, Clean, Reading}}
 use Rattle.link_wire.specs.declared.message.Message.TheVariants.{SessTerm}
 use Rattle.link_wire.proofs.Spellings.{contact_spelled, sess_init_spelled, sess_term_spelled}
 use Rattle.link_transfer.specs.Cutting.{due}
 use Rattle.link_run.proofs.Continued.{entry}
 use Rattle.link_bundle_walk.specs.Bundles.{Packed, Rest, Divided}
-use Rattle.link_pack.specs.Packing.{prelude_bytes, sending, transfer_bytes, rest_segments, end_bytes, bundles_output, packing_by}
-use Rattle.link_pack.specs.Segments.{Sending, cutting_of, segments_of}
-use Rattle.link_pack.specs.declared.options.PackOptions.{PackOptions}
 use Rattle.link_bundle_walk.proofs.Outcomes.{whole_of}
+use Rattle.link_pack.specs.{Packing.{prelude_bytes, sending, transfer_bytes, rest_segments, end_bytes, bundles_output, packing_by}, Segments.{Sending, cutting_of, segments_of}}
+use Rattle.link_pack.specs.declared.options.PackOptions.{PackOptions}
 use Rattle.link_laws.specs.Ranges.{OptionsFit}
-use Rattle.link_laws.proofs.Divided.{AreBundles, IsRest}
-use Rattle.link_laws.proofs.Segments.{SendingFits, segment_entries, segments_stream}
-use Rattle.link_laws.proofs.Streams.{stream_then, stream_plain}
+use Rattle.link_laws.proofs.{Divided.{AreBundles, IsRest}, Segments.{SendingFits, segment_entries, segments_stream}, Streams.{stream_then, stream_plain}}
 
 -- ---- the messages
 
@@ -103,10 +97,7 @@ module _ (options : PackOptions) where
       → IfSome rest (IsRest options.peer_transfer) → number < 2 ^ 64
       → IsStream (rest_entries options number rest offset) Clean offset
       (rest_segments options number rest)
-  rest_stream number None offset is few = refl
-  rest_stream number (Some rest) offset is few =
-      let part = sending options false rest.accepted in
-      segments_stream number part (sending_fits false rest.accepted is.are) few 0 (due (cutting_of part)) offset
+  rest_stream number rest offset is few = grind (arith, segments_stream, sending_fits)
 
   term_stream : (asked : Bool) (offset : ℕ)
       → IsStream (term_entries options asked offset) Clean offset (if asked
@@ -133,9 +124,7 @@ module _ (options : PackOptions) where
 
   module _ (fit : OptionsFit options) where
     init_stream : IsStream (init_entry options ∷ []) Clean 6 (init_bytes options)
-    init_stream =
-        stream_plain 6 _ (init_bytes options)
-        (sess_init_spelled options.keepalive options.segment_mru options.transfer_mru options.node.items fit.keepalive fit.segment_mru fit.transfer_mru fit.node fit.short) refl
+    init_stream = search (sess_init_spelled, stream_plain)
 
     module _ (input : Divided) (bundles : AreBundles options.peer_transfer input.bundles)
         (rest : IfSome input.rest (IsRest options.peer_transfer))
@@ -158,14 +147,4 @@ module _ (options : PackOptions) where
       pub packed_is : IsReading (whole_of (packing_by options input)).texts.output
           (packed_reading options input)
       unfolding prelude_bytes
-      packed_is =
-          let segments = rest_segments options (length input.bundles) input.rest in
-          record {
-            before = contact_bytes 0;
-            after = rest_bytes options input ++ last_bytes input.rest;
-            is_first = contact_spelled 0 (omega arith);
-            is_second = packed_stream;
-            parts = output_is input.bundles input.rest
-                ∙ joined (contact_bytes 0) (init_bytes options)
-                (transfer_bytes options 0 input.bundles) segments (last_bytes input.rest);
-          }
+      packed_is = grind (arith, contact_spelled, joined, output_is, packed_stream)

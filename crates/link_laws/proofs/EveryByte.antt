@@ -1,33 +1,18 @@
 -- The output of `unpack` for all data is the data of the heads that are in order or, if a fault of
 -- the order does not end the run, of those that are not stray.
-use Rattle.std.proofs.Common.{◌≡◌, ℕ, Bool, true, false, not, is_some, List, [], ◌∷◌, ◌++◌, Option, Some, None, refl, ap, sym, ◌∙◌, append-nil, append_assoc}
 use Rattle.std.specs.List.{flat_map}
-use Rattle.link_wire.specs.Stream.{Entry, reading_of, heads_of}
-use Rattle.link_wire.specs.declared.message.Message.{Message}
-use Rattle.link_transfer.specs.Event.{event_of}
-use Rattle.link_transfer.specs.Order.{is_stray, effect_of, with_taken}
-use Rattle.link_transfer.specs.declared.joiner.Turn.{Turn}
-use Rattle.link_transfer.specs.declared.joiner.Turn.TheVariants as turn
+use Rattle.std.proofs.Common.{◌≡◌, ℕ, Bool, false, not, is_some, List, [], ◌∷◌, ◌++◌, Option, Some, None, refl, ap, sym, ◌∙◌, append-nil, append_assoc, arith}
+use Rattle.link_wire.specs.{Stream.{Entry, reading_of, heads_of}, declared.message.Message.Message}
+use Rattle.link_transfer.specs.{Event.event_of, Order.{is_stray, effect_of, with_taken}, declared.joiner.Turn.Turn}
 use Rattle.link_run.specs.Run.{Outcome}
 use Rattle.link_walk.proofs.Heads.{other_has_none}
-use Rattle.link_unpack.specs.Transfers.{Transfer, closes}
-use Rattle.link_unpack.specs.TransferJudge.{grown}
-use Rattle.link_unpack.specs.Unpacking.{parts_of}
-use Rattle.link_unpack.specs.declared.wanted.Wanted.{Wanted}
-use Rattle.link_unpack.proofs.Effects.{Does, Strays, Passes, Begins, Continues}
-use Rattle.link_unpack.proofs.Heads.{transfers_same, transfer_begins, transfer_continues}
-use Rattle.link_unpack.proofs.Texts.{parts_more}
-use Rattle.link_laws.specs.Cuts.{data_of, going_on, prepended_unless, taken_after, HasEveryByte, HasEveryTakenByte}
-use Rattle.link_laws.specs.RoundTrip.{all}
+use Rattle.link_unpack.specs.{Transfers.Transfer, Unpacking.parts_of, declared.wanted.Wanted.Wanted}
+use Rattle.link_unpack.proofs.{Effects.Does, Heads.{transfers_same, transfer_begins, transfer_continues}, Texts.parts_more}
+use Rattle.link_laws.specs.{Cuts.{data_of, prepended_unless, taken_after, HasEveryByte, HasEveryTakenByte}, RoundTrip.all}
 use Rattle.link_laws.specs.Transfers.{ordered_after, ordered, transfers_of, Unpacked, transfers_with, with_head, unpacked_of, by_transfers}
-use Rattle.link_laws.proofs.Accepted.{accepted_read, accepted_in_order}
-use Rattle.link_laws.proofs.Due.{latest_open}
-use Rattle.link_laws.proofs.InOrder.{not_stray, taken_more, unpacked_in_order}
-use Rattle.link_laws.proofs.OneHead.{KnowsWhole, stray_is, does, through}
-use Rattle.link_laws.proofs.Orders.{AreInOrder, all as in_order, first_may}
-use Rattle.link_laws.proofs.Prefixes.{whole_output}
-use Rattle.link_laws.proofs.Same.{whole_is}
-use Rattle.link_laws.proofs.Whole.{FitsData, AreRead, reading_read}
+use Rattle.link_laws.proofs.{Accepted.{accepted_read, accepted_in_order}, Due.latest_open, InOrder.{not_stray, taken_more, unpacked_in_order}, OneHead.{KnowsWhole, stray_is, does, through}}
+use Rattle.link_laws.proofs.{Orders.{AreInOrder, all as in_order, first_may}, Prefixes.whole_output, Same.whole_is, Whole.{FitsData, AreRead, reading_read}}
+use Rattle.link_transfer.specs.declared.joiner.Turn.TheVariants as turn
 
 -- the data is added at the end of the output
 module _ (keep_going : Bool) where
@@ -44,30 +29,16 @@ module _ (keep_going : Bool) where
       → Does effect head.message (latest_open transfers)
       → parts (transfers_with stray transfers head) ++ flat_map data_of rest
       ≡ parts transfers ++ flat_map data_of (prepended_unless stray head rest)
-  head_added effect stray head rest transfers none same (Strays is) = rw (same, is) refl
-  head_added effect stray head rest transfers none same (Passes is other) =
-      rw (same, is, transfers_same transfers head.message head.content other)
-      (ap (λ (xs : List ℕ). parts transfers ++ (xs ++ flat_map data_of rest))
-      (sym (none is)))
-  head_added effect stray head rest transfers none same
-      (Begins first abandoned is starts does also) =
-      rw (same, does, is, transfer_begins transfers first head.content starts, parts_more)
-      (append_assoc (parts transfers) head.content (flat_map data_of rest))
-  head_added effect stray head rest [] none same (Continues first is starts does also) = absurd (cc)
-  head_added effect stray head rest (latest ∷ earlier) none same
-      (Continues first is starts does also) =
-      let new : Transfer = grown latest head.content (closes first head.content) in
-      rw (
-        same,
+  head_added effect stray head rest transfers none same does =
+      grind (
+        arith,
+        append_assoc,
         does,
-        is,
-        transfer_continues (latest ∷ earlier) first head.content starts,
-        parts_more everything new earlier,
-        parts_more everything latest earlier,
+        parts_more,
+        transfer_begins,
+        transfer_continues,
+        transfers_same,
       )
-      (ap (λ (xs : List ℕ). xs ++ flat_map data_of rest)
-      (sym (append_assoc (parts earlier) latest.content head.content))
-      ∙ append_assoc (parts earlier ++ latest.content) head.content (flat_map data_of rest))
 
   -- the bytes so far, and then those of the heads to come
   abbrev HasBytes : List ℕ → Unpacked → List Entry → Type 0
@@ -127,8 +98,4 @@ every_byte bytes =
 
 pub every_taken_byte : (bytes : List ℕ) → HasEveryTakenByte bytes
 unfolding by_transfers
-every_taken_byte bytes =
-    let made = by_transfers (going_on all) bytes in
-    ap (λ (o : Outcome). o.texts.output) (whole_is (going_on all) bytes)
-    ∙ whole_output made.stop made refl
-    ∙ unpacked_bytes true (heads_of (reading_of bytes)) (reading_read bytes).heads
+every_taken_byte bytes = grind (arith, reading_read, unpacked_bytes, whole_is, whole_output)

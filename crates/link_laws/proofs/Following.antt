@@ -1,32 +1,21 @@
 -- The events of a stream come one after another: a head is judged after the messages that were
 -- taken, and data comes while a transfer is open.
-use Rattle.std.proofs.Common.{◌≡◌, ℕ, Bool, true, false, not, ◌&&◌, ◌||◌, ◌==◌, is_some, List, [], ◌∷◌, ◌++◌, length, Option, Some, None, if◌then◌else◌, refl, ap, sym, ◌∙◌, ⊎_elim, append-nil, append_assoc}
 use Rattle.std.specs.List.{fold}
-use Rattle.std.proofs.Math.Bool.{and-true, and-false}
-use Rattle.std.proofs.lemmas.Bool.{cases_Bool, eq-eqb, eqb-true}
-use Rattle.std.proofs.lemmas.Grind.{fold-append}
-use Rattle.link_wire.specs.Message.{data_length}
-use Rattle.link_wire.specs.Stream.{Entry, Reading, heads_of}
-use Rattle.link_wire.specs.declared.message.Contact.{Contact}
-use Rattle.link_transfer.specs.Event.{event_of}
-use Rattle.link_transfer.specs.Order.{refusal, open_of}
-use Rattle.link_transfer.specs.declared.fault.OrderFault.{OrderFault}
-use Rattle.link_transfer.specs.declared.joiner.Turn.{Turn}
-use Rattle.link_transfer.specs.declared.joiner.Turn.TheVariants as turn
+use Rattle.std.proofs.Common.{◌≡◌, ℕ, Bool, true, false, not, ◌&&◌, ◌==◌, is_some, List, [], ◌∷◌, ◌++◌, length, Option, Some, None, if◌then◌else◌, refl, ap, sym, ◌∙◌, ⊎_elim, append-nil, append_assoc, arith}
+use Rattle.std.proofs.{Math.Bool.{and-true, and-false}, lemmas.Bool.{cases_Bool, eq-eqb, eqb-true}, lemmas.Grind.fold-append}
+use Rattle.link_wire.specs.{Message.data_length, Stream.{Entry, Reading, heads_of}, declared.message.Contact.Contact}
+use Rattle.link_transfer.specs.{Event.event_of, Order.{refusal, open_of}, declared.fault.OrderFault.OrderFault, declared.joiner.Turn.Turn}
 use Rattle.link_walk.specs.Telling.{ComesAfter}
-use Rattle.link_walk.specs.Walk.{Head, head_at, is_last, closes, is_plain, WalkEvent, ContactHeader, MessageHead, Data, Whole, LeftOpen, data_events, open_with, open_after_event, has_open, Walked, head_events, content_events, taken_with, with_judged, with_entry_unless, with_next, none_walked, walked_of, walked, end_events}
+use Rattle.link_walk.specs.Walk.{Head, head_at, is_last, closes, WalkEvent, ContactHeader, MessageHead, Data, Whole, LeftOpen, data_events, open_with, open_after_event, has_open, Walked, head_events, content_events, taken_with, with_judged, with_entry_unless, with_next, none_walked, walked_of, walked, end_events}
 use Rattle.link_walk.specs.declared.consumer.Manner.{Manner}
-use Rattle.link_walk.proofs.Comes.{plain_open, open_if}
-use Rattle.link_walk.proofs.Heads.{continues_some, open_then, has_open-append, data_keeps}
+use Rattle.link_walk.proofs.{Comes.{plain_open, open_if}, Heads.{continues_some, open_then, has_open-append, data_keeps}}
 use Rattle.link_laws.proofs.Whole.{IsWhole, FitsData, AreWhole, AreRead, ReadingReads, no_content}
 
 -- a walk may tell this event after these
 abbrev pub Follows : (before : List WalkEvent) → WalkEvent → Type 0
 Follows before (ContactHeader contact) = before ≡ []
 Follows before (MessageHead head) = ComesAfter before head
-Follows before (Data byte) = has_open before ≡ true
-Follows before Whole = has_open before ≡ true
-Follows before LeftOpen = has_open before ≡ true
+Follows before event = has_open before ≡ true
 
 -- a walk may tell these events after the first ones, one by one
 abbrev pub AllFollow : (before more : List WalkEvent) → Type 0
@@ -54,11 +43,8 @@ follow_rest before (event ∷ first) second all =
 data_follow : (before : List WalkEvent) (bytes : List ℕ) → has_open before ≡ true
     → AllFollow before (data_events bytes)
 data_follow before [] opened = tt
-data_follow before (byte ∷ bytes) opened = (
-  opened,
-  data_follow (before ++ Data byte ∷ []) bytes
-      (has_open-append before (Data byte ∷ []) ∙ opened),
-)
+data_follow before (byte ∷ bytes) opened =
+    grind (arith, has_open-append, data_follow (before ++ Data byte ∷ []) bytes)
 
 abbrev whole_events : Bool → List WalkEvent
 whole_events test = if test then Whole ∷ [] else []
@@ -76,66 +62,41 @@ none_follows false before = tt
 bytes_follow : (before : List WalkEvent) (bytes : List ℕ) (test : Bool) → has_open before ≡ true
     → AllFollow before (data_events bytes ++ whole_events test)
 bytes_follow before bytes test opened =
-    follow_both before (data_events bytes) (whole_events test) (data_follow before bytes opened)
-    (whole_follows test (before ++ data_events bytes)
-    (has_open-append before (data_events bytes) ∙ data_keeps (has_open before) bytes ∙ opened))
+    grind (arith, data_follow, data_keeps, follow_both, has_open-append, whole_follows)
 
 -- whether a transfer is open after the data of a head, by the effect of the head
 open_bytes : (last none all : Bool) → (none ≡ true → all ≡ true)
     → fold open_after_event (not (last && none)) (whole_events (last && (not none && all)))
     ≡ not (last && all)
-open_bytes false none all known = refl
-open_bytes true true all known = ap not (sym (known refl))
-open_bytes true false true known = refl
-open_bytes true false false known = refl
+open_bytes last none all known = grind arith
 
 module _ (was : Bool) (size : ℕ) (content : List ℕ) (fits : size ≡ 0 → content ≡ []) where
   none_all : (size == 0) ≡ true → (length content == size) ≡ true
-  none_all none =
-      let zero : size ≡ 0 = eqb-true size 0 none in
-      eq-eqb (length content) size (ap length (fits zero) ∙ sym zero)
+  none_all none = grind (arith, eq-eqb, eqb-true)
 
   turn_open : (last : Bool)
       → fold open_after_event (not (last && (size == 0))) (data_events content
       ++ whole_events (last && (not (size == 0) && (length content == size))))
       ≡ not (last && (length content == size))
-  turn_open last =
-      let ends = whole_events (last && (not (size == 0) && (length content == size))) in
-      fold-append open_after_event (not (last && (size == 0))) (data_events content) ends
-      ∙ ap (λ b. fold open_after_event b ends) (data_keeps (not (last && (size == 0))) content)
-      ∙ open_bytes last (size == 0) (length content == size) none_all
+  turn_open last = grind (arith, data_keeps, fold-append, none_all, open_bytes)
 
   content_open : (effect : Option Turn)
       → fold open_after_event (open_with effect (is_last effect && (size == 0)) was)
       (content_events effect size content)
       ≡ open_with effect (is_last effect && (length content == size)) was
-  content_open None = refl
-  content_open (Some turn.Other) = refl
-  content_open (Some (turn.Begin abandoned last)) = turn_open last
-  content_open (Some (turn.Continue last)) = turn_open last
+  content_open effect = grind (arith, turn_open)
 
   -- data comes only of an open transfer
   bytes_if : (last : Bool) (before : List WalkEvent)
       → has_open before ≡ not (last && (size == 0))
       → AllFollow before (data_events content
       ++ whole_events (last && (not (size == 0) && (length content == size))))
-  bytes_if last before opened = by_size (size == 0) refl
-    where
-      by_size : (none : Bool) → (size == 0) ≡ none
-          → AllFollow before (data_events content
-          ++ whole_events (last && (not (size == 0) && (length content == size))))
-      by_size true is = rw (fits (eqb-true size 0 is), is) (none_follows last before)
-      by_size false is =
-          bytes_follow before content (last && (not (size == 0) && (length content == size)))
-          (opened ∙ ap (λ b. not (last && b)) is ∙ ap not (and-false last))
+  bytes_if last before opened = grind (arith, and-false, bytes_follow, eqb-true, none_follows)
 
   content_follow : (effect : Option Turn) (before : List WalkEvent)
       → has_open before ≡ open_with effect (is_last effect && (size == 0)) was
       → AllFollow before (content_events effect size content)
-  content_follow None before opened = tt
-  content_follow (Some turn.Other) before opened = tt
-  content_follow (Some (turn.Begin abandoned last)) before opened = bytes_if last before opened
-  content_follow (Some (turn.Continue last)) before opened = bytes_if last before opened
+  content_follow effect before opened = grind (arith, bytes_if)
 
 -- ---- the events of heads
 
@@ -148,10 +109,6 @@ record Stands (walked : Walked) : Type 0 where
 pub record Told (walked : Walked) : Type 0 where
   pub follow : AllFollow [] walked.events
   pub opened : is_some (open_of walked.taken) ≡ true → has_open walked.events ≡ true
-
-told_of_stands : (walked : Walked) → Stands walked → Told walked
-told_of_stands walked stands =
-    record { follow = stands.follow; opened = λ some. stands.opened ∙ some }
 
 module _ (manner : Manner) (was : Walked) (stands : Stands was) (head : Entry)
     (fits : FitsData head) where
@@ -173,19 +130,10 @@ module _ (manner : Manner) (was : Walked) (stands : Stands was) (head : Entry)
 
   head_opened : has_open (was.events ++ told)
       ≡ open_with here.turn (closes here) (has_open was.events)
-  head_opened =
-      has_open-append was.events told
-      ∙ open_if (manner.all_heads || not (is_plain here)) here (has_open was.events)
-      (plain_open manner.all_heads (not (is_some here.fault)) here.turn (closes here)
-      (has_open was.events)
-      (λ last is. stands.opened ∙ continues_some was.taken (event_of head.message) last is))
+  head_opened = grind (arith, continues_some, has_open-append, open_if, plain_open)
 
   all_follow : AllFollow [] (was.events ++ (told ++ content))
-  all_follow =
-      follow_both [] was.events (told ++ content) stands.follow
-      (follow_both was.events told content (head_follows (manner.all_heads || not (is_plain here)))
-      (content_follow (has_open was.events) size head.content fits here.turn (was.events ++ told)
-      head_opened))
+  all_follow = grind (arith, content_follow, follow_both, head_follows, head_opened)
 
   all_opened : has_open (was.events ++ (told ++ content))
       ≡ open_with here.turn (is_last here.turn && (length head.content == size))
@@ -199,45 +147,17 @@ module _ (manner : Manner) (was : Walked) (stands : Stands was) (head : Entry)
 
   -- all of its data has come
   taken_stands : IsWhole head → Stands (taken_with manner was head)
-  taken_stands all = record {
-    follow = all_follow;
-    opened = all_opened
-        ∙ ap (λ b. open_with here.turn (is_last here.turn && b) (is_some (open_of was.taken)))
-        (eq-eqb (length head.content) size all)
-        ∙ ap (λ b. open_with here.turn b (is_some (open_of was.taken)))
-        (and-true (is_last here.turn))
-        ∙ sym (open_then was.taken head.message);
-  }
+  taken_stands all = grind (arith, all_follow, all_opened, and-true, eq-eqb, open_then)
 
   taken_told : Told (taken_with manner was head)
-  taken_told = record {
-    follow = all_follow;
-    opened = λ some.
-        all_opened
-        ∙ still_open here.turn (length head.content == size) (is_some (open_of was.taken))
-        (sym (open_then was.taken head.message) ∙ some);
-  }
-    where
-      -- a transfer that is open after all data of a head is open before that
-      still_open : (effect : Option Turn) (all before : Bool)
-          → open_with effect (is_last effect) before ≡ true
-          → open_with effect (is_last effect && all) before ≡ true
-      still_open None all before opened = opened
-      still_open (Some turn.Other) all before opened = opened
-      still_open (Some (turn.Begin abandoned false)) all before opened = refl
-      still_open (Some (turn.Begin abandoned true)) all before opened = absurd (cc)
-      still_open (Some (turn.Continue false)) all before opened = refl
-      still_open (Some (turn.Continue true)) all before opened = absurd (cc)
+  taken_told = grind (arith, all_follow, all_opened, open_then)
 
 -- the walk takes the head, or ends before it
 module _ (manner : Manner) (was : Walked) (head : Entry) (P : Walked → Type 0)
     (taken : P (taken_with manner was head)) (kept : (refused : Option (ℕ × OrderFault))
     → P (record was { refused = refused })) where
   next_judged : (refused : Option OrderFault) → P (with_judged refused manner was head)
-  next_judged None = taken
-  next_judged (Some fault) =
-      ⊎_elim (λ goes. rw goes taken) (λ stops. rw stops (kept (Some (head.offset, fault))))
-      (cases_Bool manner.goes_on)
+  next_judged refused = grind (arith, cases_Bool)
 
   next_is : (refused : Option (ℕ × OrderFault))
       → P (with_entry_unless refused manner was head)
@@ -260,7 +180,8 @@ module _ (manner : Manner) where
 
   heads_told : (heads : List Entry) (was : Walked) → AreRead heads → Stands was
       → Told (fold (with_next manner) was heads)
-  heads_told [] was read stands = told_of_stands was stands
+  heads_told [] was read stands =
+      record { follow = stands.follow; opened = λ some. stands.opened ∙ some }
   heads_told (head ∷ more) was read stands =
       ⊎_elim
       (λ all. heads_told more (with_next manner was head) read.2
@@ -310,9 +231,4 @@ module _ (manner : Manner) where
 
 pub end_follows : (walked : Walked) → Told walked
     → AllFollow walked.events (end_events walked.taken)
-end_follows walked told = by_open (is_some (open_of walked.taken)) refl
-  where
-    by_open : (opened : Bool) → is_some (open_of walked.taken) ≡ opened
-        → AllFollow walked.events (if opened then LeftOpen ∷ [] else [])
-    by_open true is = (told.opened is, tt)
-    by_open false is = tt
+end_follows walked told = grind arith

@@ -1,5 +1,5 @@
 -- Texts that are prefixes of others.
-use Rattle.std.proofs.Common.{◌≡◌, List, [], ◌++◌, refl, ap, sym, ◌∙◌, append-nil, append_assoc}
+use Rattle.std.proofs.Common.{◌≡◌, List, [], ◌++◌, refl, ap, sym, ◌∙◌, append-nil, append_assoc, arith}
 use Rattle.link_run.specs.Run.{Texts, ◌then◌}
 use Rattle.link_laws.specs.Prefix.{IsFrontOf}
 
@@ -37,10 +37,7 @@ pub record AreFronts (texts whole : Texts) : Type 0 where
   pub report : IsFrontOf texts.report whole.report
 
 pub fronts_same : (texts whole : Texts) → texts ≡ whole → AreFronts texts whole
-fronts_same texts whole same = record {
-  output = front_same _ _ (ap (λ (t : Texts). t.output) same);
-  report = front_same _ _ (ap (λ (t : Texts). t.report) same);
-}
+fronts_same texts whole same = grind (arith, front_same)
 
 pub fronts_trans : (texts mid whole : Texts) → AreFronts texts mid → AreFronts mid whole
     → AreFronts texts whole
@@ -51,15 +48,9 @@ fronts_trans texts mid whole first second = record {
 
 -- texts are a prefix of these texts and more
 pub fronts_then : (texts more whole : Texts) → texts then more ≡ whole → AreFronts texts whole
-fronts_then texts more whole is = record {
-  output = (more.output, ap (λ (t : Texts). t.output) (sym is));
-  report = (more.report, ap (λ (t : Texts). t.report) (sym is));
-}
+fronts_then texts more whole is = grind arith
 
 -- the same texts are put before both
 pub fronts_after : (before texts whole : Texts) → AreFronts texts whole
     → AreFronts (before then texts) (before then whole)
-fronts_after before texts whole fronts = record {
-  output = front_after before.output texts.output whole.output fronts.output;
-  report = front_after before.report texts.report whole.report fronts.report;
-}
+fronts_after before texts whole fronts = grind (arith, front_after)

@@ -1,34 +1,17 @@
 -- Unpacking a packed stream returns the bundles.
-use Rattle.std.proofs.Common.{◌≡◌, ℕ, suc, ◌+◌, inl, inr, ◌⊎◌, true, false, ◌&&◌, List, [], ◌∷◌, ◌++◌, length, Result, Ok, if◌then◌else◌, refl, ap, ap₂, sym, ◌∙◌, append-nil, append_assoc, length-append}
+use Rattle.std.proofs.Common.{◌≡◌, ℕ, suc, ◌+◌, inl, inr, ◌⊎◌, true, false, ◌&&◌, List, [], ◌∷◌, ◌++◌, length, Result, Ok, if◌then◌else◌, refl, ap, ap₂, sym, ◌∙◌, append-nil, append_assoc, length-append, arith}
 use Rattle.std.proofs.lemmas.Bool.{eq-eqb}
 use Rattle.link_bundle_blocks.specs.Bundle.{verdict}
-use Rattle.link_bundle_types.specs.declared.fault.BundleFault.{BundleFault}
-use Rattle.link_bundle_types.specs.declared.info.BundleInfo.{BundleInfo}
-use Rattle.link_wire.specs.Spelling.{announced}
-use Rattle.link_wire.specs.Stream.{End, Reading}
-use Rattle.link_report.specs.Judgement.{judged_transfer}
-use Rattle.link_report.specs.Transfer.{transfer_text}
-use Rattle.link_report.specs.declared.judgement.Judgement.TheVariants.{Good}
+use Rattle.link_bundle_types.specs.declared.{fault.BundleFault.BundleFault, info.BundleInfo.BundleInfo}
+use Rattle.link_report.specs.{Judgement.judged_transfer, Transfer.transfer_text, declared.judgement.Judgement.TheVariants.Good}
 use Rattle.link_run.specs.Run.{Outcome}
-use Rattle.link_transfer.specs.Announced.{announced_of}
-use Rattle.link_transfer.specs.Cutting.{announcement}
-use Rattle.link_transfer.specs.declared.announcement.Announced.{Announced}
-use Rattle.link_transfer.specs.declared.announcement.Announced.TheVariants.{Absent, Total}
-use Rattle.link_laws.specs.Transfers.{Ordered, lines_of, are_good, unpacking_by, by_transfers}
-use Rattle.link_unpack.specs.Transfers.{Transfer}
-use Rattle.link_unpack.specs.Unpacking.{parts_of, line_of, judgement_of, is_good, unpack_tool}
+use Rattle.link_transfer.specs.declared.announcement.{Announced.Announced, Announced.TheVariants.{Absent, Total}}
+use Rattle.link_laws.specs.{Transfers.{lines_of, are_good, by_transfers}, RoundTrip.{all, good_lines, GivesBack}}
+use Rattle.link_laws.proofs.{Carried.{onto, transfer_of}, Divided.{AreBundles, contents}, Limits.announces, Same.whole_is, Readings.{packed, nothing_left, IsPacked}}
+use Rattle.link_unpack.specs.{Transfers.Transfer, Unpacking.{parts_of, line_of, judgement_of, is_good, unpack_tool}}
 use Rattle.link_unpack.proofs.Texts.{parts_more}
 use Rattle.link_bundle_walk.specs.Bundles.{Packed, divided}
-use Rattle.link_pack.specs.Packing.{sending}
-use Rattle.link_pack.specs.Segments.{cutting_of}
 use Rattle.link_pack.specs.declared.options.PackOptions.{PackOptions}
-use Rattle.link_bundle_walk.proofs.Outcomes.{whole_of}
-use Rattle.link_laws.specs.RoundTrip.{all, good_lines, GivesBack}
-use Rattle.link_laws.proofs.Carried.{onto, rest_onto, transfer_of}
-use Rattle.link_laws.proofs.Divided.{AreBundles, contents}
-use Rattle.link_laws.proofs.Limits.{announces}
-use Rattle.link_laws.proofs.Same.{whole_is}
-use Rattle.link_laws.proofs.Readings.{packed, nothing_left, IsPacked}
 
 -- ---- a bundle
 
@@ -41,9 +24,7 @@ good_by outcome size said info is (inr total) = rw (total.1, is, eq-eqb size siz
 module _ (options : PackOptions) where
   judged_good : (number : ℕ) (bundle : Packed) → verdict bundle.bytes ≡ Ok bundle.info
       → judgement_of (transfer_of options number bundle) ≡ Good bundle.info
-  judged_good number bundle is =
-      let whole = cutting_of (sending options true bundle.bytes) in
-      good_by (announced_of (announced (announcement whole))) (length bundle.bytes) (verdict bundle.bytes) bundle.info is (announces whole)
+  judged_good number bundle is = grind (arith, announces, good_by)
 
   -- ---- all bundles
 
@@ -76,8 +57,7 @@ module _ (options : PackOptions) where
       let good = judged_good number bundle are.0.is in
       let rest = good_lines (suc number) (start + size) more in
       lines_onto (suc number) more (latest ∷ earlier) are.1
-      ∙ ap (λ (n : ℕ). (lines_of all earlier ++ line_of all latest earlier)
-      ++ good_lines (suc number) n more) (parts_length number bundle earlier)
+      ∙ cc (parts_length number bundle earlier)
       ∙ append_assoc (lines_of all earlier) (line_of all latest earlier) rest
       ∙ ap (λ j. lines_of all earlier ++ (transfer_text (record { id = number; start = start; written = size; length = size; judgement = j }) ++ rest)) good
 
@@ -109,23 +89,8 @@ module _ (options : PackOptions) (bytes : List ℕ) (is_packed : IsPacked option
 
   unpacked : (unpack_tool all).whole stream ≡ over_clean (onto options 0 bundles [])
   unfolding by_transfers
-  unpacked =
-      whole_is all stream
-      ∙ ap₂ (λ (end : End) (order : Ordered). whole_of (unpacking_by all end order))
-      (ap (λ (r : Reading). r.end) is_packed.reads) is_packed.carries.in_order
-      ∙ ap over_clean is_packed.carries.makes
-      ∙ ap (λ r. over_clean (rest_onto options (length bundles) r (onto options 0 bundles [])))
-      (nothing_left options bytes clean)
+  unpacked = grind (arith, nothing_left, whole_is)
 
   pub gives_back : GivesBack options bytes stream
   unfolding parts_of lines_of are_good
-  gives_back =
-      let so = is_packed.divides in
-      record {
-        output = ap (λ (o : Outcome). o.texts.output) unpacked
-            ∙ parts_onto options 0 bundles [] ∙ so.whole (nothing_left options bytes clean);
-        report = ap (λ (o : Outcome). o.texts.report) unpacked
-            ∙ lines_onto options 0 bundles [] so.bundles;
-        status = ap (λ (o : Outcome). o.status) unpacked
-            ∙ ap (λ good. if good then 0 else 1) (good_onto options 0 bundles [] so.bundles refl);
-      }
+  gives_back = grind (arith, good_onto, lines_onto, nothing_left, parts_onto, unpacked)

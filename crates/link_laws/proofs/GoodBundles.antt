@@ -1,36 +1,19 @@
 -- Good bundles, one after another: how they are divided, and the lines of their blocks.
-use Rattle.std.proofs.Common.{◌≡◌, ℕ, suc, ◌≤◌, Bool, true, false, not, ◌==◌, List, [], ◌∷◌, ◌++◌, length, drop, map, None, Result, Ok, Err, refl, ap, sym, ◌∙◌, ⊎_elim, append-nil, length-append, arith}
 use Rattle.std.specs.List.{All, flat_map}
-use Rattle.std.proofs.lemmas.Bool.{cases_Bool, and_parts}
-use Rattle.std.proofs.lemmas.Grind.{flat_map-append}
-use Rattle.std.proofs.lemmas.List.{take-append-drop}
-use Rattle.std.proofs.lemmas.List.Elements.{All-nil, All-cons, All-append, All-head, All-tail}
+use Rattle.std.proofs.Common.{◌≡◌, ℕ, suc, ◌≤◌, Bool, true, false, List, [], ◌∷◌, ◌++◌, length, drop, map, None, Result, Ok, Err, refl, ap, sym, ◌∙◌, ⊎_elim, append-nil, length-append, arith}
+use Rattle.std.proofs.lemmas.{Bool.{cases_Bool, and_parts}, Grind.flat_map-append, List.take-append-drop, List.Elements.{All-nil, All-cons, All-append, All-head, All-tail}}
 use Rattle.link_cbor.specs.PieceLaws.{takes_shortest}
-use Rattle.link_bundle_types.specs.Faults.{lasts}
-use Rattle.link_bundle_types.specs.declared.fault.BundleFault.{BundleFault}
-use Rattle.link_bundle_types.specs.declared.info.BundleInfo.{BundleInfo}
+use Rattle.link_bundle_types.specs.{Faults.lasts, declared.fault.BundleFault.BundleFault, declared.info.BundleInfo.BundleInfo}
 use Rattle.link_bundle_blocks.specs.Bundle.{verdict, state_of, is_going, bundle_goes}
 use Rattle.link_bundle_blocks.proofs.Lengths.{FaultLasts-holds, TrailingLasts-holds}
-use Rattle.link_transfer.specs.Announced.{announced_of}
 use Rattle.link_transfer.specs.declared.announcement.Announced.{Announced}
-use Rattle.link_transfer.specs.declared.announcement.Announced.TheVariants.{Absent, Total, Malformed}
-use Rattle.link_report.specs.Judgement.{judged_transfer, judged_length, judged_data}
-use Rattle.link_report.specs.declared.judgement.Judgement.TheVariants.{Good}
-use Rattle.link_run.specs.Made.{Made, whole_by}
+use Rattle.link_report.specs.{Judgement.{judged_transfer, judged_length, judged_data}, declared.judgement.Judgement.TheVariants.Good}
 use Rattle.link_run.specs.Writers.{on_output}
-use Rattle.link_unpack.specs.Transfers.{Transfer}
-use Rattle.link_unpack.specs.Unpacking.{parts_of, judgement_of, is_good}
-use Rattle.link_bundle_walk.specs.Bundles.{Packed, bundle_prefix, with_bundle, divided}
-use Rattle.link_bundle_walk.proofs.Dividing.{divided_none, divided_whole}
-use Rattle.link_bundle_walk.proofs.Divisions.{stopped_lasts}
-use Rattle.link_bundle_walk.proofs.Outcomes.{told_as}
-use Rattle.link_blocks.specs.BlockLines.{block_lines}
-use Rattle.link_blocks.specs.Bundles.{whole_lines, bundle_lines, bundle_limit, bundle_blocks_telling, bundle_blocks_tool}
-use Rattle.link_blocks.specs.Showing.{end_line, lines_of}
-use Rattle.link_block_report.specs.Blocks.{end_text}
-use Rattle.link_laws.specs.RoundTrip.{all}
-use Rattle.link_laws.specs.SameLines.{lines_under, renumbered}
-use Rattle.link_laws.specs.Transfers.{are_good}
+use Rattle.link_unpack.specs.{Transfers.Transfer, Unpacking.{parts_of, judgement_of, is_good}}
+use Rattle.link_bundle_walk.specs.Bundles.{Packed, bundle_prefix, divided}
+use Rattle.link_bundle_walk.proofs.{Dividing.{divided_none, divided_whole}, Divisions.stopped_lasts, Outcomes.told_as}
+use Rattle.link_blocks.specs.{Bundles.{whole_lines, bundle_lines, bundle_limit, bundle_blocks_telling, bundle_blocks_tool}, Showing.lines_of}
+use Rattle.link_laws.specs.{RoundTrip.all, SameLines.{lines_under, renumbered}, Transfers.are_good}
 
 -- a bundle under a number
 abbrev pub Numbered : Type 0
@@ -92,8 +75,7 @@ module _ {A : Type 0} (bundle_of : A → Packed) where
       let size = length-append bundle.bytes rest in
       divided_whole limit bundle.bytes rest bundle.info (good_prefix bundle.bytes bundle.info first)
       first (omega arith)
-      ∙ ap (with_bundle bundle)
-      (divided_all limit more (All-tail HasGood item more good) (omega arith))
+      ∙ cc (divided_all limit more (All-tail HasGood item more good) (omega arith))
 
 lines_renumbered : (from : ℕ) (bundles : List Numbered)
     → bundle_lines from (map (λ numbered. numbered.1) bundles)
@@ -114,9 +96,7 @@ joined_lines bytes bundles good is few =
     } =
     ap (divided bundle_limit) is
     ∙ divided_all (λ (numbered : Numbered). numbered.1) bundle_limit bundles good (rw (← is) few) in
-    ap (λ (made : Made). whole_by made.stop made) (told_as bundle_blocks_telling bytes _ divides)
-    ∙ ap (λ (lines : List ℕ). record { texts = on_output lines; status = 0 })
-    (lines_renumbered 0 bundles)
+    cc (told_as bundle_blocks_telling bytes _ divides, lines_renumbered 0 bundles)
 
 -- ---- good transfers
 
@@ -129,12 +109,7 @@ data_good (Err (fault, place)) good = absurd (cc)
 length_good : (announced : Announced) (size : ℕ) (said : Result BundleInfo (BundleFault × ℕ))
     → is_good (judged_length announced size said) ≡ true
     → (info : BundleInfo) × (said ≡ Ok info) × (judged_length announced size said ≡ Good info)
-length_good Absent size said good = data_good said good
-length_good Malformed size said good = absurd (cc)
-length_good (Total total) size said good =
-    ⊎_elim (λ same. let holds = rw same at good in rw same (data_good said holds))
-    (λ differs. absurd (let never = rw differs at good in cc))
-    (cases_Bool (total == size))
+length_good announced size said good = grind (arith, cases_Bool, data_good)
 
 transfer_good : (abandoned : Bool) (announced : Announced) (size : ℕ)
     (said : Result BundleInfo (BundleFault × ℕ))
@@ -153,23 +128,7 @@ pub record IsGoodTransfer (transfer : Transfer) : Type 0 where
 
 pub good_transfer : (transfer : Transfer) → is_good (judgement_of transfer) ≡ true
     → IsGoodTransfer transfer
-good_transfer transfer good =
-    let judged = transfer_good (not transfer.closed) (announced_of transfer.first.items.items)
-    (length transfer.content) (verdict transfer.content) good in
-    record {
-      info = judged.0;
-      is = judged.1;
-      judged = judged.2;
-      closed = by_closed transfer.closed
-          (announced_of transfer.first.items.items) (length transfer.content)
-          (verdict transfer.content) good;
-    }
-  where
-    by_closed : (closed : Bool) (announced : Announced) (size : ℕ)
-        (said : Result BundleInfo (BundleFault × ℕ))
-        → is_good (judged_transfer (not closed) announced size said) ≡ true → closed ≡ true
-    by_closed true announced size said good = refl
-    by_closed false announced size said good = absurd (cc)
+good_transfer transfer good = grind (arith, transfer_good)
 
 -- These transfers are these bundles, each under its ID. The latest transfer comes first in its list
 -- and last in the other.
@@ -192,19 +151,14 @@ one_more latest earlier info is judged before =
       good = All-append IsGood before.bundles one before.good
           (All-cons IsGood (id, bundle) [] is (All-nil IsGood));
       lines =
-          ap (λ (lines : List ℕ). lines ++ (block_lines id latest.content ++ end_line latest))
-          before.lines
-          ∙ ap (λ judgement. lines_under before.bundles
-          ++ (block_lines id latest.content ++ end_text id (length latest.content) judgement))
-          judged
-          ∙ ap (λ (lines : List ℕ). lines_under before.bundles ++ lines)
-          (sym (append-nil (whole_lines id bundle)))
-          ∙ sym (flat_map-append (λ (n : Numbered). whole_lines n.0 n.1) before.bundles one);
+          cc (
+            before.lines,
+            judged,
+            append-nil (whole_lines id bundle),
+            flat_map-append (λ (n : Numbered). whole_lines n.0 n.1) before.bundles one,
+          );
       parts =
-          ap (λ (bytes : List ℕ). bytes ++ latest.content) before.parts
-          ∙ ap (λ (bytes : List ℕ). flat_map bytes_in before.bundles ++ bytes)
-          (sym (append-nil latest.content))
-          ∙ sym (flat_map-append bytes_in before.bundles one);
+          cc (before.parts, append-nil latest.content, flat_map-append bytes_in before.bundles one);
     }
 
 pub carries : (transfers : List Transfer) → are_good transfers ≡ true → Carries transfers

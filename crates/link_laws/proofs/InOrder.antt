@@ -1,24 +1,14 @@
 -- Heads that are all in order: it makes no difference whether a fault of the order ends the run.
-use Rattle.std.proofs.Common.{◌≡◌, ℕ, true, false, List, [], ◌∷◌, ◌++◌, None, refl, ap, ap₂, sym, ◌∙◌, append-nil}
 use Rattle.std.specs.List.{flat_map, fold}
-use Rattle.std.proofs.Math.Bool.{and-true}
-use Rattle.std.proofs.lemmas.List.Concat.{flat_map-append}
-use Rattle.link_wire.specs.Stream.{Entry, End}
-use Rattle.link_wire.specs.declared.message.Message.{Message}
-use Rattle.link_transfer.specs.Event.{event_of}
-use Rattle.link_transfer.specs.Order.{is_stray, has_sess_init, has_sess_term, open_of, refusal, appended_unless, with_taken}
-use Rattle.link_transfer.specs.declared.event.Event.{Event}
+use Rattle.std.proofs.{Common.{◌≡◌, ℕ, true, false, List, [], ◌∷◌, ◌++◌, None, refl, ap, ap₂, sym, ◌∙◌, append-nil, arith}, Math.Bool.and-true, lemmas.List.Concat.flat_map-append}
+use Rattle.link_wire.specs.{Stream.{Entry, End}, declared.message.Message.Message}
+use Rattle.link_transfer.specs.{Event.event_of, Order.{is_stray, has_sess_init, has_sess_term, open_of, refusal, appended_unless, with_taken}, declared.event.Event.Event}
 use Rattle.link_transfer.proofs.Joining.{not_stray as never_stray}
 use Rattle.link_report.specs.Transfer.{transfer_text}
-use Rattle.link_unpack.specs.Transfers.{Transfer, after_message}
-use Rattle.link_unpack.specs.Unpacking.{order_line}
-use Rattle.link_unpack.specs.declared.wanted.Wanted.{Wanted}
+use Rattle.link_unpack.specs.{Transfers.{Transfer, after_message}, Unpacking.order_line, declared.wanted.Wanted.Wanted}
 use Rattle.link_laws.specs.Cuts.{entries_of}
 use Rattle.link_laws.specs.Transfers.{ordered_after, ordered, transfers_of, settled, lines_of, abandoned_line, unpacking_by, Unpacked, transfers_with, with_head, unpacked_of, going_on_by}
-use Rattle.link_laws.proofs.Due.{latest_open, lines_due, abandoned_due, settled_all, lines_are}
-use Rattle.link_laws.proofs.OneHead.{KnowsWhole, added, through}
-use Rattle.link_laws.proofs.Orders.{AreInOrder, all, first_may}
-use Rattle.link_laws.proofs.Whole.{FitsData, AreRead}
+use Rattle.link_laws.proofs.{Due.{latest_open, lines_due, abandoned_due, settled_all, lines_are}, OneHead.{KnowsWhole, added, through}, Orders.{AreInOrder, all, first_may}, Whole.{FitsData, AreRead}}
 
 -- a stray segment has a fault
 pub not_stray : (before : List Message) (happened : Event) → refusal before happened ≡ None
@@ -58,8 +48,7 @@ module _ (wanted : Wanted) where
         in_order = rw (first.0, so.in_order) refl;
         report = ap (λ (xs : List ℕ). (u.report ++ order_line head.offset refused) ++ xs) new.lines
             ∙ ap (λ r. (u.report ++ order_line head.offset r) ++ lines) first.0
-            ∙ ap (λ (xs : List ℕ). xs ++ lines)
-            (append-nil u.report ∙ so.report ∙ lines_are wanted (settled u.transfers))
+            ∙ cc (append-nil u.report, so.report, lines_are wanted (settled u.transfers))
             ∙ sym (flat_map-append transfer_text (entries_of wanted (settled u.transfers)) _)
             ∙ ap (flat_map transfer_text) (sym new.settles)
             ∙ sym (lines_are wanted (settled after));
@@ -89,6 +78,4 @@ module _ (wanted : Wanted) where
   pub made_in_order : (end : End) (heads : List Entry) → AreRead heads → AreInOrder heads
       → unpacking_by wanted end (ordered heads)
       ≡ going_on_by wanted end (unpacked_of wanted heads)
-  made_in_order end heads read are =
-      let so = unpacked_in_order heads read are in
-      rw (are, so.report, so.in_order, so.made, lines_abandoned (transfers_of heads), and-true) refl
+  made_in_order end heads read are = grind (arith, and-true, lines_abandoned, unpacked_in_order)

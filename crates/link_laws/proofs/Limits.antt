@@ -1,28 +1,17 @@
 -- A packed stream keeps the limits of the peer.
-use Rattle.std.proofs.Common.{◌≡◌, ℕ, zero, suc, ◌+◌, ◌*◌, ◌≤◌, inl, inr, ◌⊎◌, Bool, true, false, ◌&&◌, nat_lt, nat_le, List, [], ◌∷◌, ◌++◌, length, Option, Some, None, if◌then◌else◌, refl, ap, sym, subst, length-take, arith}
-use Rattle.std.specs.Prelude.{IfSome}
-use Rattle.std.specs.List.{All}
+use Rattle.std.specs.{Prelude.IfSome, List.All}
+use Rattle.std.proofs.Common.{◌≡◌, ℕ, suc, ◌+◌, ◌≤◌, inl, inr, ◌⊎◌, Bool, true, false, ◌&&◌, nat_lt, nat_le, List, [], ◌∷◌, ◌++◌, length, Option, Some, None, if◌then◌else◌, refl, length-take, arith}
 use Rattle.std.proofs.lemmas.List.Elements.{All-nil, All-cons, All-append}
-use Rattle.link_wire.specs.Spelling.{announced}
-use Rattle.link_wire.specs.Stream.{Entry, Reading}
-use Rattle.link_list.specs.Listing.{listing_by, listing_of}
-use Rattle.link_transfer.specs.Announced.{announced_of}
-use Rattle.link_transfer.specs.Chunks.{chunk_count}
-use Rattle.link_transfer.specs.Cutting.{Cutting, announcement, due, due_of}
-use Rattle.link_transfer.specs.declared.announcement.Announced.TheVariants.{Absent, Total}
+use Rattle.link_wire.specs.{Spelling.announced, Stream.Entry}
+use Rattle.link_list.specs.Listing.{listing_of}
+use Rattle.link_transfer.specs.{Announced.announced_of, Chunks.chunk_count, Cutting.{Cutting, announcement, due}, declared.announcement.Announced.TheVariants.{Absent, Total}}
 use Rattle.link_unpack.specs.Transfers.{Transfer}
 use Rattle.link_bundle_walk.specs.Bundles.{Packed, Rest, Divided}
-use Rattle.link_pack.specs.Packing.{segment_size, sending}
-use Rattle.link_pack.specs.Segments.{cutting_of, segments_of}
-use Rattle.link_pack.specs.declared.options.PackOptions.{PackOptions}
-use Rattle.link_bundle_walk.proofs.Outcomes.{whole_of}
+use Rattle.link_pack.specs.{Packing.{segment_size, sending}, Segments.{cutting_of, segments_of}, declared.options.PackOptions.PackOptions}
 use Rattle.link_laws.specs.PackedStream.{SegmentFits, TransferFits, KeepsLimits}
-use Rattle.link_laws.proofs.Carried.{onto, rest_onto, partly, transfer_of, due_within}
-use Rattle.link_laws.proofs.Divided.{AreBundles, IsRest}
+use Rattle.link_laws.proofs.{Carried.{onto, rest_onto, partly, transfer_of, due_within}, Divided.{AreBundles, IsRest}}
 use Rattle.link_laws.proofs.Entries.{bundle_entries, due_entries, rest_entries, term_entries, end_entries, init_bytes, bundles_bytes, rest_bytes, first_entries, more_entries, last_entries, packed_entries, init_entry, some_size}
-use Rattle.link_laws.proofs.Readings.{input, packed, IsPacked}
-use Rattle.link_laws.proofs.Segments.{segment_entries}
-use Rattle.link_laws.proofs.Sendings.{segments_fit}
+use Rattle.link_laws.proofs.{Readings.{packed, IsPacked}, Segments.segment_entries, Sendings.segments_fit}
 
 -- ---- segments
 
@@ -50,11 +39,7 @@ module _ (options : PackOptions) where
   rest_fit : (number : ℕ) (rest : Option Rest) (offset : ℕ)
       → All Fits (rest_entries options number rest offset)
   unfolding due
-  rest_fit number None offset = All-nil Fits
-  rest_fit number (Some rest) offset =
-      let count = due_of false (segment_size options) options.announce (length rest.accepted) in
-      due_fit number count false rest.accepted offset
-      (due_within (segment_size options) options.announce count (length rest.accepted) (some_size options) (omega arith))
+  rest_fit number rest offset = grind (arith, due_fit, due_within, some_size)
 
   term_fits : (asked : Bool) (offset : ℕ) → All Fits (term_entries options asked offset)
   term_fits true offset = All-cons Fits _ [] tt (All-nil Fits)
@@ -88,9 +73,7 @@ total_announced total = refl
 
 announces_by : (whole test : Bool) (size : ℕ)
     → Announces whole size (if whole && test then Some size else None)
-announces_by true true size = inr (refl, total_announced size)
-announces_by true false size = inl none_announced
-announces_by false test size = inl none_announced
+announces_by whole test size = grind (arith, none_announced, total_announced)
 
 pub announces : (so_far : Cutting)
     → Announces so_far.whole (length so_far.bundle) (announcement so_far)
@@ -119,11 +102,8 @@ module _ (options : PackOptions) where
   part_kept : (number count : ℕ) (part : List ℕ) (earlier : List Transfer)
       → length part ≤ options.peer_transfer → All (TransferFits options) earlier
       → All (TransferFits options) (partly number (sending options false part) count earlier)
-  part_kept number zero part earlier within kept = kept
-  part_kept number (suc count) part earlier within kept =
-      let size = length-take (suc count * segment_size options) part in
-      let open_part = cutting_of (sending options false part) in
-      All-cons (TransferFits options) _ earlier (omega arith, inl (unannounced (length part) (announcement open_part) (announces open_part))) kept
+  part_kept number count part earlier within kept =
+      grind (arith, announces, length-take, unannounced)
 
   rest_kept : (number : ℕ) (rest : Option Rest) (earlier : List Transfer)
       → IfSome rest (IsRest options.peer_transfer) → All (TransferFits options) earlier
@@ -136,17 +116,4 @@ module _ (options : PackOptions) where
 pub keeps : (options : PackOptions) (bytes : List ℕ) → IsPacked options bytes
     → KeepsLimits options (packed options bytes).texts.output
 unfolding listing_of
-keeps options bytes is =
-    let parts = is.divides in
-    let whole = input options bytes in
-    record {
-      clean = ap (λ (r : Reading). (whole_of (listing_by r)).status) is.reads;
-      in_order = is.carries.in_order;
-      segments =
-          subst (λ (r : Reading). All (Fits options) r.entries) (sym is.reads)
-          (packed_fits options whole);
-      transfers =
-          subst (All (TransferFits options)) (sym is.carries.makes)
-          (rest_kept options (length whole.bundles) whole.rest _ parts.rest
-          (bundles_kept options 0 whole.bundles [] parts.bundles (All-nil (TransferFits options))));
-    }
+keeps options bytes is = grind (arith, bundles_kept, packed_fits, rest_kept)

@@ -1,22 +1,15 @@
 -- A packed stream is listed as it was cut.
-use Rattle.std.proofs.Common.{◌≡◌, ℕ, zero, suc, ◌+◌, Bool, true, false, List, [], ◌∷◌, ◌++◌, length, Option, Some, None, refl, ap, ap₂, sym, ◌∙◌, append-nil, append_assoc, length-append, arith}
-use Rattle.link_wire.specs.Codes.{is_start}
-use Rattle.link_wire.specs.Spelled.{be}
+use Rattle.std.proofs.Common.{◌≡◌, ℕ, zero, suc, ◌+◌, Bool, true, false, List, [], ◌∷◌, ◌++◌, length, Option, None, refl, ap, ap₂, ◌∙◌, append-nil, append_assoc, length-append, arith}
 use Rattle.link_wire.specs.Spelling.{announce_bytes, total_bytes, list_bytes, list_size, segment_head_bytes, segment_head_size, sess_init_bytes}
-use Rattle.link_wire.specs.Stream.{Reading}
 use Rattle.link_transfer.specs.Cutting.{due}
-use Rattle.link_report.specs.Message.{contact_text, message_text}
+use Rattle.link_report.specs.Message.{message_text}
 use Rattle.link_run.specs.Run.{Outcome}
 use Rattle.link_list.specs.Listing.{listing_of, listing_by, message_lines, list_tool}
 use Rattle.link_bundle_walk.specs.Bundles.{Packed, Rest, divided}
-use Rattle.link_pack.specs.Packing.{sending, transfer_bytes}
-use Rattle.link_pack.specs.Segments.{Sending, cut_at, segment_bytes, segments_from}
-use Rattle.link_pack.specs.declared.options.PackOptions.{PackOptions}
 use Rattle.link_bundle_walk.proofs.Outcomes.{whole_of}
-use Rattle.link_laws.specs.Listed.{flags_at, length_at, segment_line, size_of_segment, segment_lines, size_of_segments, chunks_of, term_line, bundle_lines, IsListed}
-use Rattle.link_laws.proofs.Entries.{init_bytes, init_entry, bundle_entries, term_entries, packed_entries, packed_reading}
-use Rattle.link_laws.proofs.Listings.{message_lines-append}
-use Rattle.link_laws.proofs.Readings.{packed, nothing_left, IsPacked}
+use Rattle.link_pack.specs.{Packing.{sending, transfer_bytes}, Segments.{Sending, cut_at, segment_bytes, segments_from}, declared.options.PackOptions.PackOptions}
+use Rattle.link_laws.specs.Listed.{size_of_segment, segment_lines, size_of_segments, chunks_of, term_line, bundle_lines, IsListed}
+use Rattle.link_laws.proofs.{Entries.{init_bytes, init_entry, bundle_entries, term_entries, packed_entries, packed_reading}, Listings.message_lines-append, Readings.{packed, nothing_left, IsPacked}}
 use Rattle.link_laws.proofs.Segments.{chunk_of, segment_entries}
 
 -- ---- sizes
@@ -24,40 +17,29 @@ use Rattle.link_laws.proofs.Segments.{chunk_of, segment_entries}
 length-list : (start : Bool) (announce : Option ℕ)
     → length (list_bytes start announce) ≡ list_size start announce
 unfolding announce_bytes total_bytes
-length-list true None = refl
-length-list true (Some total) = refl
-length-list false announce = refl
+length-list start announce = grind arith
 
 length-head : (flags id size : ℕ) (announce : Option ℕ)
     → length (segment_head_bytes flags id size announce) ≡ segment_head_size flags announce
 unfolding segment_head_bytes
-length-head flags id size announce =
-    let list = list_bytes (is_start flags) announce in
-    omega (arith, length-append (be 1 1 ++ be 1 flags ++ be 8 id ++ list) (be 8 size), length-append (be 1 1 ++ be 1 flags ++ be 8 id) list, length-list (is_start flags) announce)
+length-head flags id size announce = grind (arith, length-append, length-list)
 
 length-init : (interval segment_mru transfer_mru : ℕ) (node : List ℕ)
     → length (sess_init_bytes interval segment_mru transfer_mru node) ≡ 25 + length node
 unfolding sess_init_bytes
-length-init interval segment_mru transfer_mru node =
-    let front = be 1 7 ++ be 2 interval ++ be 8 segment_mru ++ be 8 transfer_mru in
-    let text = be 2 (length node) ++ node in
-    omega (arith, length-append (front ++ text) (be 4 0), length-append front text, length-append (be 2 (length node)) node)
+length-init interval segment_mru transfer_mru node = grind (arith, length-append)
 
 module _ (id : ℕ) (sending : Sending) where
   length-segment : (k : ℕ)
       → length (segment_bytes id (cut_at sending k) (chunk_of sending k)) ≡ size_of_segment sending k
-  length-segment k =
-      let head = segment_head_bytes (flags_at sending k) id (length_at sending k) (cut_at sending k).announce in
-      length-append head (chunk_of sending k)
-      ∙ ap (λ n. n + length_at sending k) (length-head (flags_at sending k) id (length_at sending k) (cut_at sending k).announce)
+  length-segment k = grind (arith, length-append, length-head)
 
   length-segments : (k count : ℕ)
       → length (segments_from id sending k count) ≡ size_of_segments sending k count
   unfolding segments_from size_of_segments
   length-segments k zero = refl
   length-segments k (suc count) =
-      length-append (segment_bytes id (cut_at sending k) (chunk_of sending k)) (segments_from id sending (suc k) count)
-      ∙ ap₂ (λ a b. a + b) (length-segment k) (length-segments (suc k) count)
+      grind (arith, length-append, length-segment, length-segments (suc k) count)
 
   -- ---- lines
 
@@ -67,9 +49,7 @@ module _ (id : ℕ) (sending : Sending) where
   unfolding message_lines segment_entries segment_lines
   segments_listed k zero offset = refl
   segments_listed k (suc count) offset =
-      ap (λ lines. segment_line id sending k offset ++ lines)
-      (segments_listed (suc k) count (offset + length (segment_bytes id (cut_at sending k) (chunk_of sending k)))
-      ∙ ap (λ n. segment_lines id sending (suc k) count (offset + n)) (length-segment k))
+      grind (arith, length-segment, segments_listed (suc k) count)
 
 module _ (options : PackOptions) where
   term_listed : (asked : Bool) (offset : ℕ)
@@ -126,16 +106,7 @@ module _ (options : PackOptions) (bytes : List ℕ) (is_packed : IsPacked option
   listing_is : list_tool.whole (packed options bytes).texts.output ≡ listing_with None
   unfolding listing_of
   listing_is =
-      ap (λ (r : Reading). whole_of (listing_by r)) is_packed.reads
-      ∙ ap listing_with (nothing_left options bytes clean)
+      cc (is_packed.reads, nothing_left options bytes clean)
 
   pub listed : IsListed options bytes (packed options bytes).texts.output
-  listed =
-      let contact = contact_text (record { flags = 0 }) in
-      record {
-        output = ap (λ (o : Outcome). o.texts.output) listing_is
-            ∙ ap (λ lines. contact ++ lines) (messages_listed options bundles)
-            ∙ sym (append_assoc contact (message_text 6 (init_entry options).message) _);
-        report = ap (λ (o : Outcome). o.texts.report) listing_is;
-        status = ap (λ (o : Outcome). o.status) listing_is;
-      }
+  listed = grind (arith, append_assoc, listing_is, messages_listed)

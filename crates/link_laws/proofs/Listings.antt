@@ -1,13 +1,11 @@
 -- The texts of `list` that some bytes determine are prefixes of its texts for longer inputs.
-use Rattle.std.proofs.Common.{◌≡◌, ℕ, List, [], ◌++◌, None, refl, ap, ◌∙◌, ⊎_elim}
-use Rattle.std.proofs.lemmas.Grind.{flat_map-append}
+use Rattle.std.proofs.{Common.{◌≡◌, ℕ, List, ◌++◌, refl, ap, ◌∙◌, ⊎_elim}, lemmas.Grind.flat_map-append}
 use Rattle.link_wire.specs.Stream.{Entry, Stream, Reading, reading_of}
 use Rattle.link_report.specs.Message.{message_text}
 use Rattle.link_list.specs.Listing.{contact_lines, message_lines, listed_lines, listing_of, listing_by, list_tool}
 use Rattle.link_laws.specs.Prefix.{IsFrontOf, IsPrefixed}
-use Rattle.link_laws.proofs.Fronts.{front_same, front_after, front_none, fronts_same}
+use Rattle.link_laws.proofs.{Fronts.{front_same, front_after, front_none, fronts_same}, Prefixes.prefixed}
 use Rattle.link_run.proofs.Continued.{GoesOn, stream_of, ReadingGoesOn, reading_on}
-use Rattle.link_laws.proofs.Prefixes.{prefixed}
 
 pub message_lines-append : (entries more : List Entry)
     → message_lines (entries ++ more) ≡ message_lines entries ++ message_lines more
@@ -22,18 +20,13 @@ entries_on before after on =
     (_, same ∙ message_lines-append before.entries on.rest.entries)
 
 module _ (before after : Reading) (on : ReadingGoesOn before after) where
-  same_contact : after.contact ≡ before.contact → IsFrontOf (listed_lines before) (listed_lines after)
-  same_contact same =
-      rw same (front_after (contact_lines before.contact) _ _
-      (entries_on (stream_of before) (stream_of after) on.messages))
-
-  no_contact : (before.contact ≡ None) × (before.entries ≡ [])
-      → IsFrontOf (listed_lines before) (listed_lines after)
-  unfolding message_lines
-  no_contact none = rw (none.0, none.1) (front_none _)
-
   lines_on : IsFrontOf (listed_lines before) (listed_lines after)
-  lines_on = ⊎_elim same_contact no_contact on.contact
+  unfolding message_lines
+  lines_on =
+      ⊎_elim
+      (λ same. rw same (front_after (contact_lines before.contact) _ _
+      (entries_on (stream_of before) (stream_of after) on.messages)))
+      (λ none. rw (none.0, none.1) (front_none _)) on.contact
 
 pub list_prefix : (bytes more : List ℕ) → IsPrefixed list_tool bytes more
 unfolding listing_of

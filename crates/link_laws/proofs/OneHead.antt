@@ -1,53 +1,30 @@
 -- What one head does: to the transfers, to what is said of its events, and to the lines.
-use Rattle.std.proofs.Common.{◌≡◌, ℕ, Bool, true, false, not, ◌&&◌, ◌==◌, is_some, List, [], ◌∷◌, ◌++◌, length, Option, Some, None, refl, ap, ap₂, sym, ◌∙◌, subst, ⊎_elim, append-nil, append_assoc}
 use Rattle.std.specs.List.{flat_map, fold}
-use Rattle.std.proofs.Math.Bool.{and-true, and_assoc}
-use Rattle.std.proofs.lemmas.Bool.{eq-eqb}
-use Rattle.std.proofs.lemmas.List.Concat.{flat_map-append}
-use Rattle.std.proofs.lemmas.List.Folds.{list_all-append}
-use Rattle.link_wire.specs.Codes.{is_start, is_end}
-use Rattle.link_wire.specs.Message.{data_length}
-use Rattle.link_wire.specs.Stream.{Entry}
-use Rattle.link_wire.specs.declared.message.Message.{Message}
-use Rattle.link_wire.specs.declared.message.Message.TheVariants as message
-use Rattle.link_wire.specs.declared.message.SegmentHead.{SegmentHead}
-use Rattle.link_transfer.specs.Event.{event_of}
-use Rattle.link_transfer.specs.Order.{begins, is_segment, is_stray, refusal, effect_of, effect_by, turn_of, open_of}
-use Rattle.link_transfer.specs.declared.event.Event.{Event}
-use Rattle.link_transfer.specs.declared.event.Event.TheVariants as event
-use Rattle.link_transfer.specs.declared.fault.OrderFault.{OrderFault}
+use Rattle.std.proofs.Common.{◌≡◌, ℕ, Bool, true, false, not, ◌&&◌, ◌==◌, is_some, List, [], ◌∷◌, ◌++◌, length, Option, Some, None, refl, ap, sym, ◌∙◌, subst, ⊎_elim, append-nil, append_assoc, arith}
+use Rattle.std.proofs.{Math.Bool.{and-true, and_assoc}, lemmas.Bool.eq-eqb, lemmas.List.Concat.flat_map-append, lemmas.List.Folds.list_all-append}
+use Rattle.link_wire.specs.{Codes.{is_start, is_end}, Message.data_length, Stream.Entry, declared.message.Message.Message, declared.message.SegmentHead.SegmentHead}
+use Rattle.link_transfer.specs.{Event.event_of, Order.{begins, is_segment, is_stray, refusal, effect_of, open_of}, declared.event.Event.Event, declared.fault.OrderFault.OrderFault}
 use Rattle.link_transfer.specs.declared.joiner.Turn.{Turn}
-use Rattle.link_transfer.specs.declared.joiner.Turn.TheVariants as turn
-use Rattle.link_report.specs.Transfer.{transfer_text}
-use Rattle.link_report.specs.declared.transfer.TransferEntry.{TransferEntry}
+use Rattle.link_report.specs.{Transfer.transfer_text, declared.transfer.TransferEntry.TransferEntry}
 use Rattle.link_walk.specs.Walk.{is_last, is_plain, open_with}
 use Rattle.link_walk.proofs.Heads.{open_then}
-use Rattle.link_unpack.specs.Transfers.{Transfer, closes, after_segment}
-use Rattle.link_unpack.specs.TransferJudge.{grown}
-use Rattle.link_unpack.specs.Unpacking.{order_line, line_due, good_due}
-use Rattle.link_unpack.specs.declared.wanted.Wanted.{Wanted}
-use Rattle.link_unpack.proofs.Effects.{zero_eq, Does, Strays, Passes, Begins, Continues, what_does}
-use Rattle.link_unpack.proofs.Heads.{transfers_same, transfer_begins, transfer_continues}
-use Rattle.link_laws.specs.Cuts.{entries_of}
-use Rattle.link_laws.specs.Transfers.{settled, Unpacked, none_unpacked, transfers_with, transfer_lines, with_head, unpacked_of}
-use Rattle.link_laws.proofs.Due.{latest_open, all_good, entries_due, lines_due, goods_due, abandoned_due, closed_due, settled_all, closed_last}
-use Rattle.link_laws.proofs.Whole.{FitsData, AreWhole, AreRead, no_content}
+use Rattle.link_unpack.specs.{Transfers.{Transfer, closes, after_segment}, TransferJudge.grown, Unpacking.{order_line, line_due, good_due}, declared.wanted.Wanted.Wanted}
+use Rattle.link_unpack.proofs.{Effects.{zero_eq, Does, Strays, Passes, Begins, Continues, what_does}, Heads.{transfers_same, transfer_begins, transfer_continues}}
+use Rattle.link_laws.specs.{Cuts.entries_of, Transfers.{settled, Unpacked, none_unpacked, transfers_with, transfer_lines, with_head, unpacked_of}}
+use Rattle.link_laws.proofs.{Due.{latest_open, all_good, entries_due, lines_due, goods_due, abandoned_due, closed_due, settled_all, closed_last}, Whole.{FitsData, AreWhole, AreRead, no_content}}
 use Rattle.link_laws.proofs.Telling.{closed_not, told_as, content_told, head_of, said_of, head_told}
+use Rattle.link_wire.specs.declared.message.Message.TheVariants as message
+use Rattle.link_transfer.specs.declared.event.Event.TheVariants as event
+use Rattle.link_transfer.specs.declared.joiner.Turn.TheVariants as turn
 
 begins_none : (happened : Event) → is_segment happened ≡ false → begins happened ≡ false
-begins_none event.SessInit other = refl
-begins_none event.SessTerm other = refl
 begins_none (event.Segment flags id) other = absurd (cc)
-begins_none event.Other other = refl
+begins_none happened other = refl
 
 pub stray_is : (taken : List Message) (happened : Event)
     → is_stray taken happened ≡ not (is_some (effect_of taken happened))
 unfolding effect_of
-stray_is taken happened = by_stray (is_stray taken happened)
-  where
-    by_stray : (stray : Bool) → stray ≡ not (is_some (effect_by stray (turn_of taken happened)))
-    by_stray true = refl
-    by_stray false = refl
+stray_is taken happened = grind arith
 
 -- The head of this message, with the data `content`, changes the transfers. These entries are those
 -- of the transfers that are over now, and were not before.
@@ -80,16 +57,10 @@ module _ (wanted : Wanted) (offset : ℕ) (fault : Option OrderFault) (content :
 
     texts_due : line_due wanted abandoning transfers ++ line_due wanted closing after
         ≡ flat_map transfer_text due
-    texts_due =
-        ap₂ (λ (xs ys : List ℕ). xs ++ ys) (lines_due wanted abandoning transfers)
-        (lines_due wanted closing after)
-        ∙ sym (flat_map-append transfer_text (entries_due wanted abandoning transfers) _)
+    texts_due = grind (arith, entries_due, flat_map-append, lines_due)
 
     all_due : (good_due abandoning transfers && good_due closing after) ≡ all_good due
-    all_due =
-        ap₂ (λ (a b : Bool). a && b) (goods_due wanted abandoning transfers)
-        (goods_due wanted closing after)
-        ∙ sym (list_all-append _ (entries_due wanted abandoning transfers) _)
+    all_due = grind (arith, entries_due, goods_due, list_all-append)
 
     adds : ((report : List ℕ) (good : Bool)
         → said_of wanted offset fault effect sent content
@@ -107,39 +78,19 @@ module _ (wanted : Wanted) (offset : ℕ) (fault : Option OrderFault) (content :
         → (length content ≡ data_length sent
         → latest_open after ≡ open_with effect (is_last effect) (latest_open transfers))
         → Adds wanted offset fault effect sent content stray transfers after
-    adds told lines settles opened = record {
-      entries = due;
-      told = λ report good.
-          told report good
-          ∙ told_as after _ _ _ _
-          (append_assoc (report ++ order_line offset fault) (line_due wanted abandoning transfers) _
-          ∙ ap (λ (xs : List ℕ). (report ++ order_line offset fault) ++ xs) texts_due)
-          (and_assoc (good && not (is_some fault)) (good_due abandoning transfers) _
-          ∙ ap (λ (b : Bool). (good && not (is_some fault)) && b) all_due);
-      lines = lines ∙ texts_due;
-      settles = settles;
-      opened = opened;
-    }
+    adds told lines settles opened =
+        grind (arith, all_due, and_assoc, append_assoc, texts_due, told_as)
 
   -- ---- the kinds of heads
 
   strays : (sent : Message) (transfers : List Transfer)
       → Adds wanted offset fault None sent content true transfers transfers
-  strays sent transfers =
-      adds None sent true transfers transfers false false
-      (λ report good.
-      head_told wanted offset sent transfers report good fault None content (λ plain. refl))
-      refl (sym (append-nil _)) (λ all. refl)
+  strays sent transfers = grind (arith, adds, append-nil, head_told)
 
   passes : (sent : Message) (transfers : List Transfer) → is_segment (event_of sent) ≡ false
       → Adds wanted offset fault (Some turn.Other) sent content false transfers transfers
   passes sent transfers other =
-      adds (Some turn.Other) sent false transfers transfers false false
-      (λ report good.
-      head_told wanted offset sent transfers report good fault (Some turn.Other) content
-      (λ plain. transfers_same transfers sent [] other)
-      ∙ rw (transfers_same transfers sent [] other) refl)
-      (rw (begins_none (event_of sent) other, other) refl) (sym (append-nil _)) (λ all. refl)
+      grind (arith, adds, append-nil, begins_none, head_told, transfers_same)
 
   module _ (head : SegmentHead) (fits : head.length ≡ 0 → content ≡ []) where
     abbrev last : Bool
@@ -176,9 +127,7 @@ module _ (wanted : Wanted) (offset : ℕ) (fault : Option OrderFault) (content :
           closed_due wanted (closes head content) new transfers,
         ) refl)
         (rw is (sym (closed_last wanted (closes head content) new transfers)
-        ∙ ap (λ (es : List TransferEntry).
-        es ++ entries_due wanted (closes head content) (new ∷ transfers))
-        (sym (settled_all wanted transfers))
+        ∙ cc (settled_all wanted transfers)
         ∙ append_assoc (entries_of wanted (settled transfers))
         (entries_due wanted (latest_open transfers) transfers) _))
         not_closed
@@ -228,8 +177,7 @@ head_adds : (wanted : Wanted) (fault : Option OrderFault) (effect : Option Turn)
 head_adds wanted fault effect stray head transfers fits same (Strays is) =
     rw (same, is) (strays wanted head.offset fault head.content head.message transfers)
 head_adds wanted fault effect stray head transfers fits same (Passes is other) =
-    rw (same, is, transfers_same transfers head.message head.content other)
-    (passes wanted head.offset fault head.content head.message transfers other)
+    grind (arith, passes, transfers_same)
 head_adds wanted fault effect stray head transfers fits same
     (Begins first abandoned is starts does also) =
     let own = rw is at fits in
@@ -260,16 +208,12 @@ module _ (wanted : Wanted) (u : Unpacked) (head : Entry) (whole : KnowsWhole u)
   pub added : Adds wanted head.offset (refusal u.taken happened) (effect_of u.taken happened)
       head.message head.content (is_stray u.taken happened) u.transfers
       (with_head wanted u head).transfers
-  added =
-      head_adds wanted (refusal u.taken happened) (effect_of u.taken happened)
-      (is_stray u.taken happened) head u.transfers fits (stray_is u.taken happened) does
+  added = search (does, head_adds, stray_is)
 
   pub whole_after : length head.content ≡ data_length head.message
       → KnowsWhole (with_head wanted u head)
   whole_after all =
-      added.opened all
-      ∙ ap (open_with (effect_of u.taken happened) (is_last (effect_of u.taken happened))) whole
-      ∙ sym (open_then u.taken head.message)
+      cc (added.opened all, whole, open_then u.taken head.message)
 
 -- ---- heads, one by one
 
@@ -290,8 +234,7 @@ module _ (wanted : Wanted) (P : Unpacked → List Entry → Type 0)
       ⊎_elim
       (λ all. through_from more next read.2 (whole_after wanted u head whole read.0 all) then_so)
       (λ none.
-      subst (λ es. P (fold (with_head wanted) next es) []) (sym none)
-      (subst (P next) none then_so))
+      rw none (subst (P next) none then_so))
       read.1
 
   pub through : (heads : List Entry) → AreRead heads → P none_unpacked heads

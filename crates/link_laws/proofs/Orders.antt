@@ -1,10 +1,7 @@
 -- The order of heads, and what one more head does to the transfers.
-use Rattle.std.proofs.Common.{◌≡◌, ℕ, List, [], ◌∷◌, ◌++◌, Option, Some, None, refl, ap, sym, ◌∙◌, subst, map, append-nil, append_assoc}
-use Rattle.link_wire.specs.Stream.{Entry}
-use Rattle.link_wire.specs.declared.message.Message.{Message}
-use Rattle.link_transfer.specs.Event.{event_of}
-use Rattle.link_transfer.specs.Order.{refusal}
-use Rattle.link_transfer.specs.declared.fault.OrderFault.{OrderFault}
+use Rattle.std.proofs.Common.{◌≡◌, List, [], ◌∷◌, ◌++◌, Option, None, refl, ap, sym, ◌∙◌, map, append-nil, append_assoc, arith}
+use Rattle.link_wire.specs.{Stream.Entry, declared.message.Message.Message}
+use Rattle.link_transfer.specs.{Event.event_of, Order.refusal, declared.fault.OrderFault.OrderFault}
 use Rattle.link_laws.specs.Transfers.{Ordered, ordered_by, ordered_after, ordered}
 
 abbrev pub messages_of : List Entry → List Message
@@ -22,30 +19,16 @@ all heads = record { heads = heads; refused = None }
 -- if a list is in order, its first head is not refused, and the others are in order after it
 by_first : (refused : Option OrderFault) (head : Entry) (rest : Ordered) (more : List Entry)
     → ordered_by refused head rest ≡ all (head ∷ more) → (refused ≡ None) × (rest ≡ all more)
-by_first (Some fault) head rest more is =
-    let refused = ap (λ (o : Ordered). o.refused) is in
-    absurd (cc)
-by_first None head rest more is =
-    let joined = ap (λ (o : Ordered). o.heads) is in
-    let heads : rest.heads ≡ more = cc in
-    let refused : rest.refused ≡ None = ap (λ (o : Ordered). o.refused) is in
-    let P : Option (ℕ × OrderFault) → Type 0 = λ r. rest ≡ record { heads = rest.heads; refused = r } in
-    (refl, subst P refused refl ∙ ap all heads)
+by_first refused head rest more is = grind arith
 
 pub first_may : (before : List Message) (head : Entry) (more : List Entry)
     → ordered_after before (head ∷ more) ≡ all (head ∷ more)
     → (refusal before (event_of head.message) ≡ None)
     × (ordered_after (before ++ head.message ∷ []) more ≡ all more)
 unfolding ordered_after
-first_may before head more is =
-    by_first (refusal before (event_of head.message)) head
-    (ordered_after (before ++ head.message ∷ []) more) more is
+first_may before head more is = grind (arith, by_first)
 
 -- ---- a list of heads from its beginning
-
-pub in_order_none : AreInOrder []
-unfolding ordered ordered_after
-in_order_none = refl
 
 more_ordered : (before : List Message) (heads : List Entry) (last : Entry)
     → ordered_after before heads ≡ all heads
@@ -59,8 +42,7 @@ more_ordered before (head ∷ heads) last are may =
     let seen = before ++ head.message ∷ [] in
     rw first.0
     (ap (ordered_by None head) (more_ordered seen heads last first.1
-    (ap (λ ms. refusal ms (event_of last.message))
-    (append_assoc before (head.message ∷ []) (messages_of heads)) ∙ may)))
+    (cc (append_assoc before (head.message ∷ []) (messages_of heads), may))))
 
 pub in_order_more : (heads : List Entry) (head : Entry) → AreInOrder heads
     → refusal (messages_of heads) (event_of head.message) ≡ None → AreInOrder (heads ++ head ∷ [])

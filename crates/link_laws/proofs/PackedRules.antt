@@ -1,71 +1,34 @@
 -- `check` finds only rules of bundles broken in a packed stream.
-use Rattle.std.proofs.Common.{◌≡◌, ℕ, suc, ◌+◌, inl, inr, ◌⊎◌, Bool, true, false, ◌&&◌, ◌==◌, nat_lt, nat_le, is_some, List, [], ◌∷◌, ◌++◌, length, map, filter_map, Option, Some, None, Result, Ok, Err, if◌then◌else◌, refl, ap, ap₂, sym, ◌∙◌, subst, append-nil, append_assoc, arith}
-use Rattle.std.specs.List.{All, filter, fold}
-use Rattle.std.proofs.lemmas.Bool.{eq-eqb, ne_eqb, ltb-true}
-use Rattle.std.proofs.lemmas.List.{map-append}
-use Rattle.std.proofs.lemmas.List.Elements.{All-nil, All-cons, All-head, All-tail, filter-append}
-use Rattle.link_wire.specs.Codes.{is_start, is_end}
-use Rattle.link_wire.specs.Message.{data_length}
-use Rattle.link_wire.specs.Spelling.{announced}
-use Rattle.link_wire.specs.Stream.{Entry, Reading, reading_of, heads_of}
-use Rattle.link_wire.specs.declared.message.Contact.{Contact}
-use Rattle.link_wire.specs.declared.message.Message.{Message}
+use Rattle.std.specs.List.{All, filter}
+use Rattle.std.proofs.Common.{◌≡◌, ℕ, suc, ◌+◌, inl, inr, ◌⊎◌, Bool, true, false, ◌&&◌, nat_lt, nat_le, is_some, List, [], ◌∷◌, ◌++◌, length, map, filter_map, Option, Some, None, Result, Ok, Err, if◌then◌else◌, refl, ap, ap₂, sym, ◌∙◌, subst, append-nil, arith}
+use Rattle.std.proofs.lemmas.{Bool.{eq-eqb, ne_eqb, ltb-true}, List.map-append, List.Elements.{All-nil, All-cons, All-head, All-tail, filter-append}}
+use Rattle.link_wire.specs.{Codes.{is_start, is_end}, Message.data_length, Spelling.announced, Stream.{Entry, reading_of, heads_of}, declared.message.Contact.Contact, declared.message.Message.Message}
 use Rattle.link_wire.specs.declared.message.SegmentHead.{SegmentHead}
-use Rattle.link_bundle_types.specs.declared.fault.BundleFault.{BundleFault}
-use Rattle.link_bundle_types.specs.declared.info.BundleInfo.{BundleInfo}
+use Rattle.link_bundle_types.specs.declared.{fault.BundleFault.BundleFault, info.BundleInfo.BundleInfo}
 use Rattle.link_bundle_blocks.specs.Bundle.{verdict}
 use Rattle.link_bundle_rules.specs.declared.rule.BundleRule.{BundleRule}
-use Rattle.link_transfer.specs.Announced.{announced_of}
-use Rattle.link_transfer.specs.Cutting.{announcement}
-use Rattle.link_transfer.specs.Event.{event_of}
-use Rattle.link_transfer.specs.Order.{refusal, open_of, with_taken}
-use Rattle.link_transfer.specs.declared.announcement.Announced.{Announced}
-use Rattle.link_transfer.specs.declared.announcement.Announced.TheVariants.{Absent, Total, Malformed}
-use Rattle.link_transfer.specs.declared.joiner.Turn.{Turn}
-use Rattle.link_transfer.specs.declared.joiner.Turn.TheVariants as turn
+use Rattle.link_transfer.specs.{Announced.announced_of, Cutting.announcement, Order.{open_of, with_taken}, declared.announcement.Announced.Announced}
+use Rattle.link_transfer.specs.declared.{announcement.Announced.TheVariants.{Absent, Total}, joiner.Turn.Turn}
 use Rattle.link_transfer.proofs.Due.{chunk_left}
-use Rattle.link_message_rules.specs.Flags.{contact_flags}
-use Rattle.link_message_rules.specs.Heads.{JudgedHead}
-use Rattle.link_message_rules.specs.MessageRules.{broken_rules}
-use Rattle.link_message_rules.specs.TransferData.{data_rule, may_be_bundle}
+use Rattle.link_message_rules.specs.{Flags.contact_flags, Heads.JudgedHead, MessageRules.broken_rules, TransferData.data_rule}
 use Rattle.link_message_rules.specs.TransferRules.{broken_transfer_rules, if_malformed, if_different, has_length_item, length_item, length_differs, length_of_one_segment}
-use Rattle.link_message_rules.specs.declared.limits.PeerLimits.{PeerLimits}
-use Rattle.link_message_rules.specs.declared.rule.MessageRule.{MessageRule}
-use Rattle.link_message_rules.specs.declared.rule.TransferRule.{TransferRule}
-use Rattle.link_message_rules.specs.declared.rule.TransferRule.TheVariants as transfer_rule
-use Rattle.link_rule_report.specs.declared.line.RuleText.{RuleText}
-use Rattle.link_rule_report.specs.declared.rule.BrokenRule.{BrokenRule}
-use Rattle.link_rule_report.specs.declared.rule.BrokenRule.TheVariants as rule
-use Rattle.link_rule_report.specs.declared.rule.BundlePlace.{BundlePlace}
-use Rattle.link_rule_report.specs.declared.rule.BundlePlace.TheVariants as place
-use Rattle.link_walk.specs.Walk.{head_at, closes, WalkEvent, ContactHeader, MessageHead, Data, Whole, LeftOpen, data_events, content_events, Walked, with_next, walked_of, end_events}
+use Rattle.link_message_rules.specs.declared.{limits.PeerLimits.PeerLimits, rule.TransferRule.TransferRule}
+use Rattle.link_rule_report.specs.declared.{line.RuleText.RuleText, rule.BrokenRule.BrokenRule, rule.BundlePlace.BundlePlace}
+use Rattle.link_walk.specs.Walk.{head_at, closes, WalkEvent, MessageHead, Data, Whole, data_events, content_events, walked_of, end_events}
 use Rattle.link_unpack.specs.Transfers.{Transfer}
-use Rattle.link_check.specs.BundleRules.{bundle_rules}
-use Rattle.link_check.specs.Checking.{Begun, begun_by, closed_rules, data_rules, optional, latest_with, rules_at}
-use Rattle.link_check.specs.Lines.{at_offset}
+use Rattle.link_check.specs.{BundleRules.bundle_rules, Checking.{Begun, begun_by, closed_rules, data_rules, latest_with, rules_at}, Lines.at_offset}
 use Rattle.link_bundle_walk.specs.Bundles.{Packed, Divided, divided}
-use Rattle.link_pack.specs.Packing.{sending}
-use Rattle.link_pack.specs.Segments.{Sending}
-use Rattle.link_pack.specs.declared.options.PackOptions.{PackOptions}
-use Rattle.link_laws.specs.PackedRules.{AllowsLimits, KeepsNodeId, BreaksNoMore}
-use Rattle.link_laws.specs.RoundTrip.{all}
-use Rattle.link_laws.specs.SameRules.{reports}
-use Rattle.link_laws.proofs.BrokenRules.{broken_with, broken_from}
-use Rattle.link_laws.proofs.Carried.{onto, packed_transfers, transfer_of}
-use Rattle.link_laws.proofs.ClearHeads.{judged_at, AreClear}
-use Rattle.link_laws.proofs.ClearStream.{packed_clear}
-use Rattle.link_laws.proofs.Divided.{AreBundles}
-use Rattle.link_laws.proofs.Entries.{packed_entries, packed_reading, some_size}
-use Rattle.link_laws.proofs.GivenBack.{gives_back}
-use Rattle.link_laws.proofs.InOrder.{unpacked_in_order}
-use Rattle.link_laws.proofs.Limits.{none_announced, total_announced}
-use Rattle.link_laws.proofs.Placed.{Placed, transfers_in, begun_of, AfterAll, due_of, rules_of}
-use Rattle.link_laws.proofs.PlainHeads.{going, judged_taken}
-use Rattle.link_laws.proofs.Readings.{input, packed, nothing_left, IsPacked}
+use Rattle.link_pack.specs.{Packing.sending, Segments.Sending, declared.options.PackOptions.PackOptions}
+use Rattle.link_laws.specs.{PackedRules.{AllowsLimits, KeepsNodeId, BreaksNoMore}, RoundTrip.all, SameRules.reports}
+use Rattle.link_laws.proofs.{BrokenRules.{broken_with, broken_from}, Carried.{onto, packed_transfers, transfer_of}, ClearHeads.{judged_at, AreClear}, ClearStream.packed_clear, Divided.AreBundles}
+use Rattle.link_laws.proofs.{Entries.{packed_entries, packed_reading, some_size}, GivenBack.gives_back, InOrder.unpacked_in_order, Limits.{none_announced, total_announced}}
+use Rattle.link_laws.proofs.{Placed.{Placed, Choice, transfers_in, begun_of, AfterAll, due_of, rules_of}, PlainHeads.{going, walk_events, taken_by, walk_is}}
+use Rattle.link_laws.proofs.{Readings.{input, packed, nothing_left, IsPacked}, Sent.{head_of, last_at, ends_as}, Whole.reading_read}
+use Rattle.link_message_rules.specs.declared.rule.TransferRule.TheVariants as transfer_rule
+use Rattle.link_rule_report.specs.declared.rule.BrokenRule.TheVariants as rule
+use Rattle.link_rule_report.specs.declared.rule.BundlePlace.TheVariants as place
 use Rattle.link_laws.proofs.SameLines as recording
 use Rattle.link_laws.proofs.SameRules as same
-use Rattle.link_laws.proofs.Sent.{head_of, last_at, ends_as}
-use Rattle.link_laws.proofs.Whole.{reading_read}
 
 -- ---- rules of messages, and that of an open transfer
 
@@ -81,8 +44,7 @@ of_messages lines = filter (λ (line : RuleText). is_of_message line.rule) lines
 messages_both : (first second : List RuleText) → of_messages first ≡ [] → of_messages second ≡ []
     → of_messages (first ++ second) ≡ []
 messages_both first second one two =
-    filter-append (λ (line : RuleText). is_of_message line.rule) first second
-    ∙ ap₂ (λ (a b : List RuleText). a ++ b) one two
+    cc (filter-append (λ (line : RuleText). is_of_message line.rule) first second, one, two)
 
 module _ (offset : ℕ) where
   abbrev NoneOf : List BrokenRule → Type 0
@@ -90,9 +52,7 @@ module _ (offset : ℕ) where
 
   of_both : (first second : List BrokenRule) → NoneOf first → NoneOf second
       → NoneOf (first ++ second)
-  of_both first second one two =
-      ap of_messages (map-append (λ broken. record { offset = offset; rule = broken }) first second)
-      ∙ messages_both (at_offset offset first) (at_offset offset second) one two
+  of_both first second one two = grind (arith, map-append, messages_both)
 
   of_bundle_rules : (where_it_is : BundlePlace) (broken : List BundleRule)
       → NoneOf (map (λ one. rule.Bundle where_it_is one) broken)
@@ -104,32 +64,13 @@ module _ (offset : ℕ) where
         → NoneOf (map (λ one. rule.Transfer id one) (filter_map (λ judged. judged)
         (if_malformed announced ∷ if_different announced size
         ∷ (if single then Some transfer_rule.LengthOfOneSegment else None) ∷ [])))
-    of_lengths Absent size true = refl
-    of_lengths Absent size false = refl
-    of_lengths Malformed size true = refl
-    of_lengths Malformed size false = refl
-    of_lengths (Total total) size single = by_total (total == size) single
-      where
-        by_total : (same single : Bool)
-            → NoneOf (map (λ one. rule.Transfer id one) (filter_map (λ judged. judged)
-            (None ∷ (if same then None else Some (transfer_rule.LengthDiffers total size))
-            ∷ (if single then Some transfer_rule.LengthOfOneSegment else None) ∷ [])))
-        by_total true true = refl
-        by_total true false = refl
-        by_total false true = refl
-        by_total false false = refl
+    of_lengths announced size single = grind arith
 
     of_data : (content : List ℕ) (said : Result BundleInfo (BundleFault × ℕ))
         → NoneOf (data_rules id content said)
     unfolding data_rule
     of_data content (Ok info) = of_bundle_rules (place.Transfer id) (bundle_rules content info)
-    of_data content (Err (fault, byte)) = by_kind (may_be_bundle content fault byte)
-      where
-        by_kind : (may : Bool) → NoneOf (map (λ one. rule.Transfer id one)
-            ((if may then transfer_rule.NotRead fault byte else transfer_rule.Bundle fault byte)
-            ∷ []))
-        by_kind true = refl
-        by_kind false = refl
+    of_data content (Err (fault, byte)) = grind arith
 
   of_transfer : (first : SegmentHead) (size : ℕ)
       → NoneOf (map (λ one. rule.Transfer first.id one) (broken_transfer_rules first size))
@@ -148,42 +89,6 @@ of_latest (Some begun) =
 
 -- ---- the walk over heads
 
-abbrev events_at : (taken : List Message) → Entry → List WalkEvent
-events_at taken head =
-    let at = head_at taken head.offset head.message in
-    MessageHead at ∷ content_events at.turn (data_length head.message) head.content
-
-abbrev walk_events : (taken : List Message) → List Entry → List WalkEvent
-walk_events taken [] = []
-walk_events taken (head ∷ more) =
-    events_at taken head ++ walk_events (with_taken taken head.message) more
-
-abbrev taken_by : (taken : List Message) → List Entry → List Message
-taken_by taken [] = taken
-taken_by taken (head ∷ more) = taken_by (with_taken taken head.message) more
-
-walk_is : (heads : List Entry) (taken : List Message) (events : List WalkEvent)
-    → fold (with_next (going true)) (record { taken = taken; events = events; refused = None }) heads
-    ≡ record {
-      taken = taken_by taken heads;
-      events = events ++ walk_events taken heads;
-      refused = None;
-    }
-walk_is [] taken events =
-    ap (λ (events : List WalkEvent). record { taken = taken; events = events; refused = None })
-    (sym (append-nil events))
-walk_is (head ∷ more) taken events =
-    let next = with_taken taken head.message in
-    ap (λ (was : Walked). fold (with_next (going true)) was more)
-    (judged_taken true (refusal taken (event_of head.message))
-    (record { taken = taken; events = events; refused = None }) head)
-    ∙ walk_is more next (events ++ events_at taken head)
-    ∙ ap (λ (events : List WalkEvent). record {
-      taken = taken_by next more;
-      events = events;
-      refused = None;
-    }) (append_assoc events (events_at taken head) (walk_events next more))
-
 module _ (peer : PeerLimits) where
   -- no rule of messages is broken by these events, whichever transfer began last
   abbrev BreakNone : (before : List JudgedHead) → List WalkEvent → Type 0
@@ -193,9 +98,7 @@ module _ (peer : PeerLimits) where
   bytes_none : (bytes : List ℕ) (whole : Bool) (before : List JudgedHead) (rest : List WalkEvent)
       → BreakNone before rest
       → BreakNone before ((data_events bytes ++ (if whole then Whole ∷ [] else [])) ++ rest)
-  bytes_none [] true before rest none latest =
-      messages_both (rules_at closed_rules latest) (broken_from peer before latest rest)
-      (of_latest latest) (none latest)
+  bytes_none [] true before rest none latest = grind (arith, broken_from, messages_both, of_latest)
   bytes_none [] false before rest none latest = none latest
   bytes_none (byte ∷ bytes) whole before rest none latest =
       bytes_none bytes whole before rest none (latest_with latest (Data byte))
@@ -203,12 +106,7 @@ module _ (peer : PeerLimits) where
   content_none : (effect : Option Turn) (size : ℕ) (content : List ℕ) (before : List JudgedHead)
       (rest : List WalkEvent) → BreakNone before rest
       → BreakNone before (content_events effect size content ++ rest)
-  content_none None size content before rest none = none
-  content_none (Some turn.Other) size content before rest none = none
-  content_none (Some (turn.Begin abandoned last)) size content before rest none =
-      bytes_none content _ before rest none
-  content_none (Some (turn.Continue last)) size content before rest none =
-      bytes_none content _ before rest none
+  content_none effect size content before rest none = grind (arith, bytes_none)
 
   closing_none : (closing : Bool) (latest : Option Begun)
       → of_messages (if closing then rules_at closed_rules latest else []) ≡ []
@@ -216,7 +114,7 @@ module _ (peer : PeerLimits) where
   closing_none false latest = refl
 
   heads_none : (heads : List Entry) (taken : List Message) (before : List JudgedHead)
-      → AreClear peer taken before heads → BreakNone before (walk_events taken heads)
+      → AreClear peer taken before heads → BreakNone before (walk_events true taken heads)
   heads_none [] taken before clear latest = refl
   heads_none (head ∷ more) taken before clear latest =
       let at = head_at taken head.offset head.message in
@@ -224,16 +122,15 @@ module _ (peer : PeerLimits) where
       messages_both (broken_with peer before latest (MessageHead at)) _
       (messages_both
       (at_offset head.offset (map (λ one. rule.Message one) (broken_rules peer before now))) _
-      (ap (λ (broken : List MessageRule).
-      of_messages (at_offset head.offset (map (λ one. rule.Message one) broken))) clear.0)
+      (cc clear.0)
       (closing_none (closes at) (begun_by at latest)))
       (content_none at.turn (data_length head.message) head.content (before ++ now ∷ [])
-      (walk_events (with_taken taken head.message) more)
+      (walk_events true (with_taken taken head.message) more)
       (heads_none more (with_taken taken head.message) (before ++ now ∷ []) clear.1)
       (begun_by at latest))
 
   none_open : (heads : List Entry) (taken : List Message) (before : List JudgedHead)
-      → AreClear peer taken before heads → is_some (open_of (taken_by taken heads)) ≡ false
+      → AreClear peer taken before heads → is_some (open_of (taken_by true taken heads)) ≡ false
   none_open [] taken before clear = clear
   none_open (head ∷ more) taken before clear =
       none_open more (with_taken taken head.message) (before ++ judged_at peer taken head ∷ [])
@@ -243,27 +140,11 @@ module _ (peer : PeerLimits) where
   abbrev contact : Contact
   contact = record { flags = 0 }
 
-  contact_none : contact_flags contact ≡ None
-  unfolding contact_flags
-  contact_none = refl
-
   stream_none : (heads : List Entry) → AreClear peer [] [] heads
       → (let was = walked_of (going true) (Some contact) heads in
       of_messages (broken_from peer [] None (was.events ++ end_events was.taken)) ≡ [])
-  unfolding walked_of
-  stream_none heads clear =
-      ap (λ (was : Walked).
-      of_messages (broken_from peer [] None (was.events ++ end_events was.taken)))
-      (walk_is heads [] (ContactHeader contact ∷ []))
-      ∙ ap (λ opened. of_messages (broken_from peer [] None
-      ((ContactHeader contact ∷ walk_events [] heads) ++ (if opened then LeftOpen ∷ [] else []))))
-      (none_open heads [] [] clear)
-      ∙ ap (λ (events : List WalkEvent). of_messages (broken_from peer [] None events))
-      (append-nil (ContactHeader contact ∷ walk_events [] heads))
-      ∙ messages_both (broken_with peer [] None (ContactHeader contact)) _
-      (ap (λ found. of_messages (at_offset 0 (map (λ one. rule.Message one) (optional found))))
-      contact_none)
-      (heads_none heads [] [] clear None)
+  unfolding contact_flags
+  stream_none heads clear = grind (arith, append-nil, heads_none, none_open, walk_events, walk_is)
 
 -- ---- rules of closed transfers
 
@@ -272,6 +153,10 @@ is_of_transfer (rule.Message broken) = false
 is_of_transfer (rule.Transfer id (transfer_rule.Unfinished size)) = false
 is_of_transfer (rule.Transfer id broken) = true
 is_of_transfer (rule.Bundle where_it_is broken) = false
+
+abbrev transfer_choice : Choice
+transfer_choice =
+    record { chosen = is_of_transfer; no_message = λ broken. refl; no_unfinished = λ id size. refl }
 
 abbrev of_transfers : List RuleText → List RuleText
 of_transfers lines = filter (λ (line : RuleText). is_of_transfer line.rule) lines
@@ -289,10 +174,10 @@ of_good_bundle offset where_it_is (one ∷ more) = of_good_bundle offset where_i
 
 module _ (peer : PeerLimits) where
   abbrev rules : List Placed → List RuleText
-  rules placed = rules_of is_of_transfer (λ broken. refl) (λ id size. refl) peer placed
+  rules placed = rules_of transfer_choice peer placed
 
   due_none : (placed : Placed) → BreaksNone placed.transfer
-      → due_of is_of_transfer (λ broken. refl) (λ id size. refl) peer placed ≡ []
+      → due_of transfer_choice peer placed ≡ []
   due_none placed none = by_closed placed.transfer.closed
     where
       by_closed : (closed : Bool)
@@ -320,32 +205,7 @@ module _ (peer : PeerLimits) where
 only_bundles : (lines : List RuleText) → of_messages lines ≡ [] → of_transfers lines ≡ []
     → same.of_bundles lines ≡ lines
 only_bundles [] messages transfers = refl
-only_bundles (line ∷ more) messages transfers =
-    by_rule line.rule refl (only_bundles more) messages transfers
-  where
-    by_rule : (broken : BrokenRule) → line.rule ≡ broken
-        → (of_messages more ≡ [] → of_transfers more ≡ [] → same.of_bundles more ≡ more)
-        → of_messages (record { offset = line.offset; rule = broken } ∷ more) ≡ []
-        → of_transfers (record { offset = line.offset; rule = broken } ∷ more) ≡ []
-        → same.of_bundles (record { offset = line.offset; rule = broken } ∷ more)
-        ≡ record { offset = line.offset; rule = broken } ∷ more
-    by_rule (rule.Message broken) is rest messages transfers = absurd (cc)
-    by_rule (rule.Transfer id (transfer_rule.Unfinished size)) is rest messages transfers =
-        absurd (cc)
-    by_rule (rule.Transfer id transfer_rule.LengthItem) is rest messages transfers = absurd (cc)
-    by_rule (rule.Transfer id (transfer_rule.LengthDiffers total size)) is rest messages transfers =
-        absurd (cc)
-    by_rule (rule.Transfer id transfer_rule.LengthOfOneSegment) is rest messages transfers =
-        absurd (cc)
-    by_rule (rule.Transfer id (transfer_rule.Bundle fault byte)) is rest messages transfers =
-        absurd (cc)
-    by_rule (rule.Transfer id (transfer_rule.NotRead fault byte)) is rest messages transfers =
-        absurd (cc)
-    by_rule (rule.Bundle where_it_is broken) is rest messages transfers =
-        ap (λ (lines : List RuleText). record {
-          offset = line.offset;
-          rule = rule.Bundle where_it_is broken;
-        } ∷ lines) (rest messages transfers)
+only_bundles (line ∷ more) messages transfers = grind (arith, only_bundles more)
 
 -- ---- the transfers of a packed stream
 
@@ -355,15 +215,7 @@ lengths_none : (said : Announced) (size : ℕ) (single : Bool)
     (if_malformed said ∷ if_different said size
     ∷ (if single && has_length_item said then Some transfer_rule.LengthOfOneSegment else None) ∷ [])
     ≡ []
-lengths_none said size single (inl absent) = rw absent (by_single single)
-  where
-    by_single : (single : Bool)
-        → filter_map (λ (judged : Option TransferRule). judged)
-        (None ∷ None
-        ∷ (if single && false then Some transfer_rule.LengthOfOneSegment else None) ∷ []) ≡ []
-    by_single true = refl
-    by_single false = refl
-lengths_none said size single (inr total) = rw (total.0, total.1, eq-eqb size size refl) refl
+lengths_none said size single is = grind (arith, eq-eqb)
 
 module _ (options : PackOptions) (id : ℕ) (bundle : List ℕ) where
   abbrev whole : Sending
@@ -399,12 +251,7 @@ module _ (options : PackOptions) (id : ℕ) (bundle : List ℕ) where
   transfer_none : (info : BundleInfo) → verdict bundle ≡ Ok info
       → BreaksNone (record { first = first; content = bundle; closed = true })
   unfolding broken_transfer_rules length_item length_differs length_of_one_segment
-  transfer_none info is = record {
-    lengths = lengths_none (announced_of first.items.items) (length bundle)
-        (is_start first.flags && is_end first.flags) announced_only;
-    info = info;
-    is = is;
-  }
+  transfer_none info is = grind (arith, announced_only, lengths_none)
 
 transfers_none : (options : PackOptions) (number : ℕ) (bundles : List Packed)
     (earlier : List Transfer) → AreBundles options.peer_transfer bundles → All BreaksNone earlier
@@ -446,21 +293,16 @@ module _ (options : PackOptions) (bytes : List ℕ) (is_packed : IsPacked option
 
   messages : of_messages broken ≡ []
   messages =
-      ap (λ (reading : Reading).
-      let was = walked_of (going true) reading.contact (heads_of reading) in
-      of_messages (broken_from peer [] None (was.events ++ end_events was.taken))) reads
-      ∙ stream_none peer (heads_of (packed_reading options all_bundles))
-      (subst (AreClear peer [] []) (sym (append-nil (packed_entries options all_bundles)))
-      (packed_clear options peer allows keeps bundles is_packed.divides.bundles))
+      grind (arith, append-nil, packed_clear, packed_entries, packed_reading, reads, stream_none)
 
-  placed : AfterAll is_of_transfer (λ broken. refl) (λ id size. refl) peer [] [] None
+  placed : AfterAll transfer_choice peer [] [] None
       (same.events peer stream clean)
-  placed = same.placed_by peer stream clean is_of_transfer (λ broken. refl) (λ id size. refl)
+  placed = same.placed_by peer stream clean transfer_choice
 
   transfers : transfers_in placed.after ≡ onto options 0 bundles []
   unfolding placed
   transfers =
-      same.transfers_by peer stream clean is_of_transfer (λ broken. refl) (λ id size. refl)
+      same.transfers_by peer stream clean transfer_choice
       ∙ (unpacked_in_order all (heads_of (reading_of stream)) (reading_read stream).heads
       is_packed.carries.in_order).made
       ∙ is_packed.carries.makes

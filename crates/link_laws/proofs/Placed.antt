@@ -1,34 +1,20 @@
 -- The transfers of a stream with their offsets, and the rules that they break once they are closed.
-use Rattle.std.proofs.Common.{◌≡◌, ℕ, Bool, true, false, not, ◌&&◌, ◌==◌, is_some, List, [], ◌∷◌, ◌++◌, map, length, Option, Some, None, option_map, if◌then◌else◌, refl, ap, sym, ◌∙◌, append-nil, append_assoc}
 use Rattle.std.specs.List.{filter, fold}
+use Rattle.std.proofs.Common.{◌≡◌, ℕ, Bool, true, false, not, ◌&&◌, ◌==◌, is_some, List, [], ◌∷◌, ◌++◌, map, Option, Some, None, option_map, if◌then◌else◌, refl, ap, sym, ◌∙◌, append-nil, append_assoc, arith}
 use Rattle.std.proofs.lemmas.List.Elements.{filter-append}
-use Rattle.link_wire.specs.Codes.{is_start, is_end}
-use Rattle.link_wire.specs.declared.message.Message.{Message}
-use Rattle.link_wire.specs.declared.message.Message.TheVariants as message
-use Rattle.link_wire.specs.declared.message.SegmentHead.{SegmentHead}
-use Rattle.link_transfer.specs.declared.fault.OrderFault.{OrderFault}
-use Rattle.link_transfer.specs.declared.joiner.Turn.{Turn}
-use Rattle.link_transfer.specs.declared.joiner.Turn.TheVariants as turn
+use Rattle.link_wire.specs.{Codes.{is_start, is_end}, declared.message.Message.Message, declared.message.SegmentHead.SegmentHead}
+use Rattle.link_transfer.specs.declared.{fault.OrderFault.OrderFault, joiner.Turn.Turn}
 use Rattle.link_walk.specs.Walk.{Head, open_after_event, has_open, WalkEvent, ContactHeader, MessageHead, Data, Whole, LeftOpen}
 use Rattle.link_walk.proofs.Heads.{has_open-append}
-use Rattle.link_unpack.specs.Transfers.{Transfer, continued}
-use Rattle.link_unpack.specs.Unpacking.{Told, transfers_at, told_event, told_after, none_told}
-use Rattle.link_unpack.specs.declared.wanted.Wanted.{Wanted}
-use Rattle.link_unpack.proofs.Effects.{zero_eq, Does, Strays, Passes, Begins, Continues, comes_does}
-use Rattle.link_unpack.proofs.Heads.{transfers_same, transfer_begins, transfer_continues}
-use Rattle.link_message_rules.specs.Heads.{JudgedHead}
-use Rattle.link_message_rules.specs.declared.limits.PeerLimits.{PeerLimits}
-use Rattle.link_message_rules.specs.declared.rule.MessageRule.{MessageRule}
-use Rattle.link_message_rules.specs.declared.rule.TransferRule.TheVariants.{Unfinished}
-use Rattle.link_rule_report.specs.declared.line.RuleText.{RuleText}
-use Rattle.link_rule_report.specs.declared.rule.BrokenRule.{BrokenRule}
+use Rattle.link_unpack.specs.{Transfers.{Transfer, continued}, Unpacking.{Told, transfers_at, told_event, told_after, none_told}, declared.wanted.Wanted.Wanted}
+use Rattle.link_unpack.proofs.{Effects.{zero_eq, Does, Strays, Passes, Begins, Continues, comes_does}, Heads.{transfers_same, transfer_begins, transfer_continues}}
+use Rattle.link_message_rules.specs.{Heads.JudgedHead, declared.limits.PeerLimits.PeerLimits, declared.rule.MessageRule.MessageRule, declared.rule.TransferRule.TheVariants.Unfinished}
+use Rattle.link_rule_report.specs.declared.{line.RuleText.RuleText, rule.BrokenRule.BrokenRule}
+use Rattle.link_check.specs.{Checking.{Begun, closed_rules, heads_with, latest_with, with_bytes}, Lines.at_offset}
+use Rattle.link_laws.proofs.{BrokenRules.{broken_with, broken_from}, Following.{Follows, AllFollow}, PlainHeads.{matters, mattering}, Telling.closed_not}
+use Rattle.link_wire.specs.declared.message.Message.TheVariants as message
+use Rattle.link_transfer.specs.declared.joiner.Turn.TheVariants as turn
 use Rattle.link_rule_report.specs.declared.rule.BrokenRule.TheVariants as rule
-use Rattle.link_check.specs.Checking.{Begun, closed_rules, open_rules as open_rules_of, heads_with, latest_with, rules_at, with_bytes}
-use Rattle.link_check.specs.Lines.{at_offset}
-use Rattle.link_laws.proofs.BrokenRules.{broken_with, broken_from}
-use Rattle.link_laws.proofs.Following.{Follows, AllFollow}
-use Rattle.link_laws.proofs.PlainHeads.{matters, mattering}
-use Rattle.link_laws.proofs.Telling.{closed_not}
 
 -- ---- the transfers after an event
 
@@ -45,18 +31,14 @@ after_events transfers events = fold after_event transfers events
 module _ (wanted : Wanted) where
   told_one : (told : Told) (event : WalkEvent)
       → (told_event wanted told event).transfers ≡ after_event told.transfers event
-  told_one told (ContactHeader contact) = refl
   told_one told (MessageHead head) = refl
-  told_one told (Data byte) = refl
-  told_one told Whole = refl
-  told_one told LeftOpen = refl
+  told_one told event = refl
 
   told_all : (events : List WalkEvent) (told : Told)
       → (fold (told_event wanted) told events).transfers ≡ after_events told.transfers events
   told_all [] told = refl
   told_all (event ∷ more) told =
-      told_all more (told_event wanted told event)
-      ∙ ap (λ transfers. after_events transfers more) (told_one told event)
+      cc (told_all more (told_event wanted told event), told_one told event)
 
   -- the transfers of which `unpack` has told
   pub told_transfers : (events : List WalkEvent)
@@ -87,24 +69,27 @@ IsOpenAt latest [] = ⊥
 IsOpenAt latest (placed ∷ earlier) =
     (placed.transfer.closed ≡ false) × (latest ≡ Some (begun_of placed))
 
--- Some rules of transfers and bundles are chosen. None of messages is, and not that of a transfer
+-- Some rules of transfers and bundles. None of messages is among them, and not that of a transfer
 -- which is open at the end.
-module _ (chosen : BrokenRule → Bool)
-    (no_message : (broken : MessageRule) → chosen (rule.Message broken) ≡ false)
-    (no_unfinished : (id size : ℕ) → chosen (rule.Transfer id (Unfinished size)) ≡ false)
-    (peer : PeerLimits) where
-  abbrev pub choice : List RuleText → List RuleText
-  choice lines = filter (λ (line : RuleText). chosen line.rule) lines
+pub record Choice : Type 0 where
+  pub chosen : BrokenRule → Bool
+  pub no_message : (broken : MessageRule) → chosen (rule.Message broken) ≡ false
+  pub no_unfinished : (id size : ℕ) → chosen (rule.Transfer id (Unfinished size)) ≡ false
+
+module _ (choice : Choice) (peer : PeerLimits) where
+  abbrev pub chosen_in : List RuleText → List RuleText
+  chosen_in lines = filter (λ (line : RuleText). choice.chosen line.rule) lines
 
   choice_both : (first second : List RuleText)
-      → choice (first ++ second) ≡ choice first ++ choice second
-  choice_both first second = filter-append (λ (line : RuleText). chosen line.rule) first second
+      → chosen_in (first ++ second) ≡ chosen_in first ++ chosen_in second
+  choice_both first second =
+      filter-append (λ (line : RuleText). choice.chosen line.rule) first second
 
   -- the chosen rules that a transfer breaks, if it is closed
   abbrev pub due_of : Placed → List RuleText
   due_of placed =
       if placed.transfer.closed
-      then choice (at_offset placed.offset (closed_rules (begun_of placed)))
+      then chosen_in (at_offset placed.offset (closed_rules (begun_of placed)))
       else []
 
   -- those of some transfers; the latest transfer comes first
@@ -119,53 +104,36 @@ module _ (chosen : BrokenRule → Bool)
       (latest : Option Begun) (event : WalkEvent) : Type 0 where
     pub after : List Placed
     pub are : transfers_in after ≡ after_event (transfers_in placed) event
-    pub rules : rules_of after ≡ rules_of placed ++ choice (broken_with peer heads latest event)
+    pub rules : rules_of after ≡ rules_of placed ++ chosen_in (broken_with peer heads latest event)
     pub opens : open_after_event opened event ≡ true → IsOpenAt (latest_with latest event) after
     pub quiet : matters event ≡ false
         → after_event (transfers_in placed) event ≡ transfers_in placed
 
   none_of_messages : (offset : ℕ) (broken : List MessageRule)
-      → choice (at_offset offset (map (λ one. rule.Message one) broken)) ≡ []
+      → chosen_in (at_offset offset (map (λ one. rule.Message one) broken)) ≡ []
   none_of_messages offset [] = refl
   none_of_messages offset (one ∷ more) =
-      rw (no_message one) (none_of_messages offset more)
+      rw (choice.no_message one) (none_of_messages offset more)
 
   -- the rules of a head, and of the transfer that it closes
   head_choice : (offset : ℕ) (broken : List MessageRule) (closing : Bool) (others : List RuleText)
-      → choice (at_offset offset (map (λ one. rule.Message one) broken)
-      ++ (if closing then others else [])) ≡ (if closing then choice others else [])
-  head_choice offset broken true others =
-      choice_both (at_offset offset (map (λ one. rule.Message one) broken)) others
-      ∙ ap (λ (lines : List RuleText). lines ++ choice others) (none_of_messages offset broken)
-  head_choice offset broken false others =
-      choice_both (at_offset offset (map (λ one. rule.Message one) broken)) []
-      ∙ ap (λ (lines : List RuleText). lines ++ []) (none_of_messages offset broken)
-
-  none_due : (placed : Placed) → placed.transfer.closed ≡ false → due_of placed ≡ []
-  none_due placed is = rw is refl
+      → chosen_in (at_offset offset (map (λ one. rule.Message one) broken)
+      ++ (if closing then others else [])) ≡ (if closing then chosen_in others else [])
+  head_choice offset broken closing others = grind (arith, choice_both, none_of_messages)
 
   -- a transfer that is not closed adds nothing
   open_rules : (placed : Placed) (earlier : List Placed) → placed.transfer.closed ≡ false
       → rules_of (placed ∷ earlier) ≡ rules_of earlier
-  open_rules placed earlier is =
-      ap (λ (lines : List RuleText). rules_of earlier ++ lines) (none_due placed is)
-      ∙ append-nil (rules_of earlier)
+  open_rules placed earlier is = rw (is, append-nil (rules_of earlier))
 
   module _ (heads : List JudgedHead) (latest : Option Begun) where
     -- an event that changes nothing
     passes : (opened : Bool) (placed : List Placed) (event : WalkEvent)
         → after_event (transfers_in placed) event ≡ transfers_in placed
-        → choice (broken_with peer heads latest event) ≡ []
+        → chosen_in (broken_with peer heads latest event) ≡ []
         → (open_after_event opened event ≡ true → IsOpenAt (latest_with latest event) placed)
         → AfterOne opened placed heads latest event
-    passes opened placed event same none opens = record {
-      after = placed;
-      are = sym same;
-      rules = sym (ap (λ (lines : List RuleText). rules_of placed ++ lines) none
-          ∙ append-nil (rules_of placed));
-      opens = opens;
-      quiet = λ plain. same;
-    }
+    passes opened placed event same none opens = grind (arith, append-nil)
 
     -- ---- heads
 
@@ -180,21 +148,11 @@ module _ (chosen : BrokenRule → Bool)
           (Some (turn.Begin abandoned (is_end first.flags)))))
       begins_after placed first abandoned starts =
           let closing = is_end first.flags && (first.length == 0) in
+          let transfer : Transfer = record { first = first; content = []; closed = closing } in
           record {
-            after =
-                record {
-                  offset = offset;
-                  transfer = record { first = first; content = []; closed = closing };
-                }
-                ∷ placed;
-            are = sym (transfer_begins (transfers_in placed) first [] starts
-                ∙ ap (λ zero. record {
-                  first = first;
-                  content = [];
-                  closed = is_end first.flags && zero;
-                } ∷ transfers_in placed) (zero_eq first.length));
-            rules = ap (λ (lines : List RuleText). rules_of placed ++ lines)
-                (sym (head_choice offset _ closing _));
+            after = record { offset = offset; transfer = transfer } ∷ placed;
+            are = rw (transfer_begins (transfers_in placed) first [] starts, zero_eq first.length);
+            rules = rw (head_choice offset _ closing _);
             opens = λ open_now. (closed_not closing open_now, refl);
             quiet = λ plain. absurd (never_plain fault plain);
           }
@@ -211,52 +169,23 @@ module _ (chosen : BrokenRule → Bool)
           (Some (turn.Continue (is_end first.flags)))))
       continues_after one earlier first starts at =
           let closing = is_end first.flags && (first.length == 0) in
-          let are : record {
-            first = one.transfer.first;
-            content = one.transfer.content;
-            closed = closing;
-          } ∷ transfers_in earlier
+          let are : record one.transfer { closed = closing } ∷ transfers_in earlier
           ≡ transfers_at (Some (turn.Continue (is_end first.flags)))
           (transfers_in (one ∷ earlier)) (message.Segment first) =
-          sym (transfer_continues (transfers_in (one ∷ earlier)) first [] starts
-          ∙ ap (λ (content : List ℕ). record {
-            first = one.transfer.first;
-            content = content;
-            closed = is_end first.flags && (0 == first.length);
-          } ∷ transfers_in earlier) (append-nil one.transfer.content)
-          ∙ ap (λ zero. record {
-            first = one.transfer.first;
-            content = one.transfer.content;
-            closed = is_end first.flags && zero;
-          } ∷ transfers_in earlier) (zero_eq first.length)) in
+          rw (
+            transfer_continues (transfers_in (one ∷ earlier)) first [] starts,
+            append-nil one.transfer.content,
+            zero_eq first.length,
+          ) in
           record {
-            after =
-                record {
-                  offset = one.offset;
-                  transfer = record {
-                    first = one.transfer.first;
-                    content = one.transfer.content;
-                    closed = closing;
-                  };
-                }
-                ∷ earlier;
+            after = record one { transfer = record one.transfer { closed = closing } } ∷ earlier;
             are = are;
-            rules = ap (λ (lines : List RuleText). rules_of earlier ++ lines)
-                (sym (head_choice offset _ closing (rules_at closed_rules latest)
-                ∙ ap (λ (at_latest : Option Begun).
-                if closing then choice (rules_at closed_rules at_latest) else []) at.1))
-                ∙ ap (λ (lines : List RuleText). lines ++ choice (broken_with peer heads latest
-                (MessageHead (head_as (message.Segment first)
-                (Some (turn.Continue (is_end first.flags)))))))
-                (sym (open_rules one earlier at.0));
+            rules = rw (open_rules one earlier at.0, head_choice offset _ closing _, at.1);
             opens = λ open_now. (closed_not closing open_now, at.1);
             quiet = λ plain.
                 sym are
-                ∙ ap (λ closed. record {
-                  first = one.transfer.first;
-                  content = one.transfer.content;
-                  closed = closed;
-                } ∷ transfers_in earlier) (plain_open fault closing plain ∙ sym at.0);
+                ∙ ap (λ closed. record one.transfer { closed = closed } ∷ transfers_in earlier)
+                (plain_open fault closing plain ∙ sym at.0);
           }
         where
           plain_open : (refused : Option OrderFault) (closing : Bool)
@@ -268,15 +197,9 @@ module _ (chosen : BrokenRule → Bool)
       head_after : (placed : List Placed) (sent : Message) (effect : Option Turn)
           → (opened ≡ true → IsOpenAt latest placed) → Does effect sent opened
           → AfterOne opened placed heads latest (MessageHead (head_as sent effect))
-      head_after placed sent effect at (Strays is) =
-          rw is
-          (passes opened placed (MessageHead (head_as sent None)) refl
-          (head_choice offset _ false []) at)
+      head_after placed sent effect at (Strays is) = grind (arith, head_choice, passes)
       head_after placed sent effect at (Passes is other) =
-          rw is
-          (passes opened placed (MessageHead (head_as sent (Some turn.Other)))
-          (transfers_same (transfers_in placed) sent [] other)
-          (head_choice offset _ false []) at)
+          grind (arith, head_choice, passes, transfers_same)
       head_after placed sent effect at (Begins first abandoned is starts does same) =
           rw (does, is) (begins_after placed first abandoned starts)
       head_after [] sent effect at (Continues first is starts does also) = absurd (at also)
@@ -287,57 +210,30 @@ module _ (chosen : BrokenRule → Bool)
 
     data_after : (one : Placed) (earlier : List Placed) (byte : ℕ) → IsOpenAt latest (one ∷ earlier)
         → AfterOne true (one ∷ earlier) heads latest (Data byte)
-    data_after one earlier byte at = record {
-      after =
-          record {
-            offset = one.offset;
-            transfer = record {
-              first = one.transfer.first;
-              content = one.transfer.content ++ byte ∷ [];
-              closed = false;
-            };
-          }
-          ∷ earlier;
-      are = refl;
-      rules = append-nil (rules_of earlier) ∙ sym (open_rules one earlier at.0)
-          ∙ sym (append-nil (rules_of (one ∷ earlier)));
-      opens = λ open_now. (refl, ap (option_map (with_bytes (byte ∷ []))) at.1);
-      quiet = λ plain. absurd (cc);
-    }
+    data_after one earlier byte at =
+        let content = one.transfer.content ++ byte ∷ [] in
+        let grown = record one.transfer { content = content; closed = false } in
+        record {
+          after = record one { transfer = grown } ∷ earlier;
+          are = refl;
+          rules = rw (open_rules one earlier at.0, append-nil);
+          opens = λ open_now. (refl, ap (option_map (with_bytes (byte ∷ []))) at.1);
+          quiet = λ plain. absurd (cc);
+        }
 
     whole_after : (one : Placed) (earlier : List Placed) → IsOpenAt latest (one ∷ earlier)
         → AfterOne true (one ∷ earlier) heads latest Whole
     whole_after one earlier at = record {
-      after =
-          record {
-            offset = one.offset;
-            transfer = record {
-              first = one.transfer.first;
-              content = one.transfer.content;
-              closed = true;
-            };
-          }
-          ∷ earlier;
-      are = ap (λ (content : List ℕ). record {
-        first = one.transfer.first;
-        content = content;
-        closed = true;
-      } ∷ transfers_in earlier) (sym (append-nil one.transfer.content));
-      rules = ap (λ (at_latest : Option Begun).
-          rules_of earlier ++ choice (rules_at closed_rules at_latest)) (sym at.1)
-          ∙ ap (λ (lines : List RuleText). lines ++ choice (rules_at closed_rules latest))
-          (sym (open_rules one earlier at.0));
+      after = record one { transfer = record one.transfer { closed = true } } ∷ earlier;
+      are = rw (append-nil one.transfer.content);
+      rules = rw (open_rules one earlier at.0, at.1);
       opens = λ open_now. absurd (cc);
       quiet = λ plain. absurd (cc);
     }
 
     left_after : (one : Placed) (earlier : List Placed) → IsOpenAt latest (one ∷ earlier)
         → AfterOne true (one ∷ earlier) heads latest LeftOpen
-    left_after one earlier at =
-        passes true (one ∷ earlier) LeftOpen refl
-        (ap (λ (at_latest : Option Begun). choice (rules_at open_rules_of at_latest)) at.1
-        ∙ rw (no_unfinished one.transfer.first.id (length one.transfer.content)) refl)
-        (λ open_now. absurd (cc))
+    left_after one earlier at = grind (arith, passes)
 
   -- ---- events
 
@@ -346,20 +242,17 @@ module _ (chosen : BrokenRule → Bool)
       → (has_open before ≡ true → IsOpenAt latest placed)
       → AfterOne (has_open before) placed heads latest event
   event_after before (ContactHeader contact) placed heads latest follows at =
-      passes heads latest (has_open before) placed (ContactHeader contact) refl
-      (none_of_messages 0 _) at
+      grind (arith, none_of_messages, passes)
   event_after before (MessageHead head) placed heads latest follows at =
       head_after heads latest (has_open before) head.offset head.fault placed head.message head.turn
       at (comes_does before head follows)
-  event_after before (Data byte) [] heads latest opened at = absurd (at opened)
   event_after before (Data byte) (one ∷ earlier) heads latest opened at =
       rw opened (data_after heads latest one earlier byte (at opened))
-  event_after before Whole [] heads latest opened at = absurd (at opened)
   event_after before Whole (one ∷ earlier) heads latest opened at =
       rw opened (whole_after heads latest one earlier (at opened))
-  event_after before LeftOpen [] heads latest opened at = absurd (at opened)
   event_after before LeftOpen (one ∷ earlier) heads latest opened at =
       rw opened (left_after heads latest one earlier (at opened))
+  event_after before event [] heads latest opened at = absurd (at opened)
 
   -- what more events do, which follow the first ones
   pub record AfterAll (placed : List Placed) (heads : List JudgedHead) (latest : Option Begun)
@@ -367,20 +260,14 @@ module _ (chosen : BrokenRule → Bool)
     pub after : List Placed
     -- the transfers are those of the events that matter
     pub are : transfers_in after ≡ after_events (transfers_in placed) (mattering more)
-    pub rules : rules_of after ≡ rules_of placed ++ choice (broken_from peer heads latest more)
+    pub rules : rules_of after ≡ rules_of placed ++ chosen_in (broken_from peer heads latest more)
 
   -- an event that does not matter changes no transfer
   quiet_one : (transfers : List Transfer) (event : WalkEvent) (more : List WalkEvent)
       → (matters event ≡ false → after_event transfers event ≡ transfers)
       → after_events (after_event transfers event) (mattering more)
       ≡ after_events transfers (mattering (event ∷ more))
-  quiet_one transfers event more quiet = by_matter (matters event) refl
-    where
-      by_matter : (test : Bool) → matters event ≡ test
-          → after_events (after_event transfers event) (mattering more)
-          ≡ after_events transfers (mattering (event ∷ more))
-      by_matter true is = rw is refl
-      by_matter false is = rw (is, quiet is) refl
+  quiet_one transfers event more quiet = grind arith
 
   pub all_after : (more before : List WalkEvent) (placed : List Placed) (heads : List JudgedHead)
       (latest : Option Begun) → AllFollow before more
@@ -398,13 +285,12 @@ module _ (chosen : BrokenRule → Bool)
       (λ opened. now.opens (sym (has_open-append before (event ∷ [])) ∙ opened)) in
       record {
         after = rest.after;
-        are = rest.are
-            ∙ ap (λ transfers. after_events transfers (mattering more)) now.are
-            ∙ quiet_one (transfers_in placed) event more now.quiet;
-        rules = rest.rules
-            ∙ ap (λ (lines : List RuleText). lines ++ choice (broken_from peer (heads_with heads event)
-            (latest_with latest event) more)) now.rules
-            ∙ append_assoc (rules_of placed) (choice broken) _
-            ∙ ap (λ (lines : List RuleText). rules_of placed ++ lines)
-            (sym (choice_both broken _));
+        are = cc (rest.are, now.are, quiet_one (transfers_in placed) event more now.quiet);
+        rules = rw (rest.rules, now.rules, choice_both broken)
+            (append_assoc (rules_of placed) (chosen_in broken) _);
       }
+
+  -- all events of a stream
+  pub from_start : (events : List WalkEvent) → AllFollow [] events → AfterAll [] [] None events
+  unfolding has_open
+  from_start events follow = all_after events [] [] [] None follow (λ opened. absurd (cc))

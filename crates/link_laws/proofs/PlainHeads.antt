@@ -1,26 +1,16 @@
 -- The events of a walk that tells of every head, and those of one that tells of no plain head.
-use Rattle.std.proofs.Common.{◌≡◌, ℕ, Bool, true, false, not, List, [], ◌∷◌, ◌++◌, Option, Some, None, if◌then◌else◌, refl, ap, ap₂, sym, ◌∙◌}
-use Rattle.std.specs.List.{filter, fold}
+use Rattle.std.specs.List.{filter, flat_map, fold}
+use Rattle.std.proofs.Common.{◌≡◌, ℕ, Bool, true, false, not, List, [], ◌∷◌, ◌++◌, Option, Some, None, if◌then◌else◌, refl, ap, ap₂, sym, ◌∙◌, append-nil, append_assoc, arith}
 use Rattle.std.proofs.lemmas.List.Elements.{filter-append}
-use Rattle.link_wire.specs.Message.{data_length}
-use Rattle.link_wire.specs.Stream.{Entry}
-use Rattle.link_wire.specs.declared.message.Contact.{Contact}
-use Rattle.link_wire.specs.declared.message.Message.{Message}
-use Rattle.link_transfer.specs.Event.{event_of}
-use Rattle.link_transfer.specs.Order.{refusal, with_taken}
-use Rattle.link_transfer.specs.declared.fault.OrderFault.{OrderFault}
-use Rattle.link_transfer.specs.declared.joiner.Turn.{Turn}
-use Rattle.link_transfer.specs.declared.joiner.Turn.TheVariants as turn
-use Rattle.link_walk.specs.Walk.{Head, head_at, is_plain, WalkEvent, ContactHeader, MessageHead, Data, Whole, LeftOpen, data_events, head_events, content_events, Walked, taken_with, with_judged, with_next, contact_events, walked_of, end_events}
+use Rattle.link_wire.specs.{Message.data_length, Stream.Entry, declared.message.Contact.Contact, declared.message.Message.Message}
+use Rattle.link_transfer.specs.{Event.event_of, Order.{refusal, with_taken}, declared.fault.OrderFault.OrderFault, declared.joiner.Turn.Turn}
+use Rattle.link_walk.specs.Walk.{head_at, is_plain, WalkEvent, MessageHead, Data, Whole, LeftOpen, data_events, head_events, content_events, Walked, taken_with, with_judged, with_next, contact_events, walked_of, end_events}
 use Rattle.link_walk.specs.declared.consumer.Manner.{Manner}
 
 -- whether a tool that is not told of plain heads is told of this
 abbrev pub matters : WalkEvent → Bool
-matters (ContactHeader contact) = true
 matters (MessageHead head) = not (is_plain head)
-matters (Data byte) = true
-matters Whole = true
-matters LeftOpen = true
+matters event = true
 
 abbrev pub mattering : List WalkEvent → List WalkEvent
 mattering events = filter matters events
@@ -39,20 +29,24 @@ whole_matters false = refl
 bytes_matter : (bytes : List ℕ) (test : Bool)
     → mattering (data_events bytes ++ (if test then Whole ∷ [] else []))
     ≡ data_events bytes ++ (if test then Whole ∷ [] else [])
-bytes_matter bytes test =
-    filter-append matters (data_events bytes) (if test then Whole ∷ [] else [])
-    ∙ ap₂ (λ (first second : List WalkEvent). first ++ second) (data_matter bytes)
-    (whole_matters test)
+bytes_matter bytes test = grind (arith, data_matter, filter-append, whole_matters)
 
 content_matters : (effect : Option Turn) (size : ℕ) (content : List ℕ)
     → mattering (content_events effect size content) ≡ content_events effect size content
-content_matters None size content = refl
-content_matters (Some turn.Other) size content = refl
-content_matters (Some (turn.Begin abandoned last)) size content = bytes_matter content _
-content_matters (Some (turn.Continue last)) size content = bytes_matter content _
+content_matters effect size content = grind (arith, bytes_matter)
 
-head_matters : (head : Head) → mattering (head_events true head) ≡ head_events false head
-head_matters head = refl
+-- a tool that says nothing of data says nothing of the data of a head
+module _ {A : Type 0} (of : WalkEvent → List A) (no_data : (byte : ℕ) → of (Data byte) ≡ [])
+    (no_whole : of Whole ≡ []) where
+  bytes_none : (bytes : List ℕ) (test : Bool)
+      → flat_map of (data_events bytes ++ (if test then Whole ∷ [] else [])) ≡ []
+  bytes_none [] true = rw no_whole refl
+  bytes_none [] false = refl
+  bytes_none (byte ∷ bytes) test = rw (no_data byte) (bytes_none bytes test)
+
+  pub content_none : (effect : Option Turn) (size : ℕ) (content : List ℕ)
+      → flat_map of (content_events effect size content) ≡ []
+  content_none effect size content = grind (arith, bytes_none)
 
 pub end_matters : (opened : Bool)
     → mattering (if opened then LeftOpen ∷ [] else []) ≡ (if opened then LeftOpen ∷ [] else [])
@@ -70,15 +64,52 @@ contact_matters (Some contact) = refl
 abbrev pub going : (all_heads : Bool) → Manner
 going all_heads = record { goes_on = true; all_heads = all_heads }
 
-abbrev walk_from : (all_heads : Bool) → List Message → List WalkEvent → List Entry → Walked
-walk_from all_heads taken events heads =
-    fold (with_next (going all_heads))
-    (record { taken = taken; events = events; refused = None }) heads
-
 pub judged_taken : (all_heads : Bool) (refused : Option OrderFault) (was : Walked) (head : Entry)
     → with_judged refused (going all_heads) was head ≡ taken_with (going all_heads) was head
 judged_taken all_heads None was head = refl
 judged_taken all_heads (Some fault) was head = refl
+
+module _ (all_heads : Bool) where
+  -- the events of a head after these messages, and of its data
+  abbrev pub events_at : (taken : List Message) → Entry → List WalkEvent
+  events_at taken head =
+      let at = head_at taken head.offset head.message in
+      head_events all_heads at ++ content_events at.turn (data_length head.message) head.content
+
+  abbrev pub walk_events : (taken : List Message) → List Entry → List WalkEvent
+  walk_events taken [] = []
+  walk_events taken (head ∷ more) =
+      events_at taken head ++ walk_events (with_taken taken head.message) more
+
+  abbrev pub taken_by : (taken : List Message) → List Entry → List Message
+  taken_by taken [] = taken
+  taken_by taken (head ∷ more) = taken_by (with_taken taken head.message) more
+
+  walk_from : (heads : List Entry) (taken : List Message) (events : List WalkEvent)
+      → fold (with_next (going all_heads))
+      (record { taken = taken; events = events; refused = None }) heads
+      ≡ record {
+        taken = taken_by taken heads;
+        events = events ++ walk_events taken heads;
+        refused = None;
+      }
+  walk_from [] taken events = rw append-nil refl
+  walk_from (head ∷ more) taken events =
+      let next = with_taken taken head.message in
+      rw (
+        judged_taken all_heads (refusal taken (event_of head.message)) _ head,
+        walk_from more next (events ++ events_at taken head),
+        append_assoc events (events_at taken head) (walk_events next more),
+      )
+
+  pub walk_is : (contact : Option Contact) (heads : List Entry)
+      → walked_of (going all_heads) contact heads ≡ record {
+        taken = taken_by [] heads;
+        events = contact_events contact ++ walk_events [] heads;
+        refused = None;
+      }
+  unfolding walked_of
+  walk_is contact heads = walk_from heads [] (contact_events contact)
 
 -- the same messages were taken, and the same events matter
 pub record IsQuieter (few every : Walked) : Type 0 where
@@ -86,36 +117,24 @@ pub record IsQuieter (few every : Walked) : Type 0 where
   pub events : few.events ≡ mattering every.events
   pub unrefused : every.refused ≡ None
 
-quieter_from : (heads : List Entry) (taken : List Message) (some all : List WalkEvent)
-    → some ≡ mattering all
-    → IsQuieter (walk_from false taken some heads) (walk_from true taken all heads)
-quieter_from [] taken some all is = record { taken = refl; events = is; unrefused = refl }
-quieter_from (head ∷ more) taken some all is =
+walk_matters : (heads : List Entry) (taken : List Message)
+    → walk_events false taken heads ≡ mattering (walk_events true taken heads)
+walk_matters [] taken = refl
+walk_matters (head ∷ more) taken =
     let at = head_at taken head.offset head.message in
     let content = content_events at.turn (data_length head.message) head.content in
-    rw (
-      judged_taken false (refusal taken (event_of head.message)) (record { taken = taken; events = some; refused = None }) head,
-      judged_taken true (refusal taken (event_of head.message)) (record { taken = taken; events = all; refused = None }) head,
-    )
-    (quieter_from more (with_taken taken head.message) (some ++ (head_events false at ++ content))
-    (all ++ (head_events true at ++ content))
-    (ap₂ (λ (first second : List WalkEvent). first ++ second) is
-    (ap₂ (λ (first second : List WalkEvent). first ++ second) (sym (head_matters at))
-    (sym (content_matters at.turn (data_length head.message) head.content))
+    let next = with_taken taken head.message in
+    ap₂ (λ (first second : List WalkEvent). first ++ second)
+    (cc (content_matters at.turn (data_length head.message) head.content)
     ∙ sym (filter-append matters (head_events true at) content))
-    ∙ sym (filter-append matters all (head_events true at ++ content))))
+    (walk_matters more next)
+    ∙ sym (filter-append matters (events_at true taken head) (walk_events true next more))
 
 pub quieter : (contact : Option Contact) (heads : List Entry)
     → IsQuieter (walked_of (going false) contact heads) (walked_of (going true) contact heads)
-unfolding walked_of
-quieter contact heads =
-    quieter_from heads [] (contact_events contact) (contact_events contact)
-    (sym (contact_matters contact))
+quieter contact heads = grind (arith, contact_matters, filter-append, walk_is, walk_matters)
 
 -- the events of a whole stream
 pub all_matter : (few every : Walked) → IsQuieter few every
     → few.events ++ end_events few.taken ≡ mattering (every.events ++ end_events every.taken)
-all_matter few every so =
-    ap₂ (λ (first second : List WalkEvent). first ++ second) so.events
-    (ap end_events so.taken ∙ sym (end_matters _))
-    ∙ sym (filter-append matters every.events (end_events every.taken))
+all_matter few every so = grind (arith, end_matters, filter-append)

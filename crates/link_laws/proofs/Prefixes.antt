@@ -1,6 +1,5 @@
 -- The texts that a tool determines by some bytes are prefixes of its texts for longer inputs.
-use Rattle.std.proofs.Common.{◌≡◌, ℕ, true, List, ◌++◌, Option, Some, None, refl, ap, sym, ◌∙◌, ⊎_elim}
-use Rattle.std.proofs.lemmas.Bool.{cases_Bool}
+use Rattle.std.proofs.{Common.{◌≡◌, ℕ, true, List, ◌++◌, Option, Some, None, refl, ⊎_elim}, lemmas.Bool.cases_Bool}
 use Rattle.link_run.specs.Made.{StreamStop, Made, whole_by, so_far_by, shows_fault, tool_of}
 use Rattle.link_run.proofs.Ends.{unshown_sofar, shown_sofar}
 use Rattle.link_laws.specs.Prefix.{IsPrefixed}
@@ -26,8 +25,7 @@ module _ (before after : Made) (on : MadeOn before after) where
       → AreFronts (so_far_by before.stop before.texts) (whole_by after.stop after).texts
   shown_first shown =
       fronts_same _ _
-      (shown_sofar before.stop before shown
-      ∙ sym (ap (λ (m : Made). (whole_by m.stop m).texts) (on.stays shown)))
+      (cc (shown_sofar before.stop before shown, on.stays shown))
 
   sofar_first : AreFronts (so_far_by before.stop before.texts) (whole_by after.stop after).texts
   sofar_first =

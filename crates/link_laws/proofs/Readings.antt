@@ -1,18 +1,12 @@
 -- The reading of a packed stream.
-use Rattle.std.proofs.Common.{◌≡◌, ℕ, List, length, Option, Some, None, refl, ap, sym, ◌∙◌, subst, arith}
-use Rattle.link_wire.specs.SpelledStream.{IsReading}
-use Rattle.link_wire.specs.Stream.{Entry, Reading, reading_of, heads_of}
-use Rattle.link_run.specs.Made.{Made, whole_by}
-use Rattle.link_run.specs.Run.{Outcome}
+use Rattle.std.proofs.Common.{◌≡◌, ℕ, List, length, Option, Some, None, refl, ap, sym, ◌∙◌, arith}
+use Rattle.link_wire.specs.{SpelledStream.IsReading, Stream.{Reading, reading_of, heads_of}}
+use Rattle.link_run.specs.{Made.{Made, whole_by}, Run.Outcome}
 use Rattle.link_walk.proofs.Heads.{heads_clean}
-use Rattle.link_bundle_walk.specs.Bundles.{Rest, Divided, divided}
-use Rattle.link_pack.specs.Packing.{packing_by, packing_of, pack_tool}
-use Rattle.link_bundle_walk.specs.Telling.{stop_by}
-use Rattle.link_pack.specs.declared.options.PackOptions.{PackOptions}
+use Rattle.link_bundle_walk.specs.{Bundles.{Rest, Divided, divided}, Telling.stop_by}
+use Rattle.link_pack.specs.{Packing.{packing_by, packing_of, pack_tool}, declared.options.PackOptions.PackOptions}
 use Rattle.link_laws.specs.Ranges.{OptionsFit, InputFits}
-use Rattle.link_laws.proofs.Carried.{AreCarried, packed_carried, packed_transfers}
-use Rattle.link_laws.proofs.Divided.{IsDivided, is_divided}
-use Rattle.link_laws.proofs.Entries.{packed_reading, packed_is}
+use Rattle.link_laws.proofs.{Carried.{AreCarried, packed_carried, packed_transfers}, Divided.{IsDivided, is_divided}, Entries.{packed_reading, packed_is}}
 
 -- if no bundle is refused, nothing follows the bundles
 no_rest : (number : ℕ) (made : Made) (rest : Option Rest)
@@ -54,6 +48,5 @@ module _ (options : PackOptions) (bytes : List ℕ) where
         divides = divides;
         reads = reads;
         carries =
-            subst (λ (all : List Entry). AreCarried options all (packed_transfers options input))
-            (sym heads) (packed_carried options input divides.bundles);
+            rw heads (packed_carried options input divides.bundles);
       }

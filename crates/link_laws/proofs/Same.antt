@@ -1,32 +1,18 @@
 -- What `unpack` says of the events of a stream is what the transfers of the stream make.
-use Rattle.std.proofs.Common.{◌≡◌, ℕ, Bool, true, false, not, ◌&&◌, is_some, List, [], ◌∷◌, ◌++◌, Option, Some, None, if◌then◌else◌, refl, ap, sym, ◌∙◌, append-nil}
 use Rattle.std.specs.List.{fold}
-use Rattle.std.proofs.Math.Bool.{and-true, and-false, and_assoc}
-use Rattle.std.proofs.lemmas.List.Folds.{list_all-append}
-use Rattle.std.proofs.Math.Path.{fun_ext}
-use Rattle.link_wire.specs.Message.{data_length}
-use Rattle.link_wire.specs.Stream.{Entry, End, Clean, Cut, Fault, Reading, reading_of, cut_heads, heads_of}
-use Rattle.link_wire.specs.declared.message.Contact.{Contact}
-use Rattle.link_wire.specs.declared.message.Message.{Message}
-use Rattle.link_transfer.specs.Event.{event_of}
-use Rattle.link_transfer.specs.Order.{refusal, with_taken}
-use Rattle.link_transfer.specs.declared.fault.OrderFault.{OrderFault}
-use Rattle.link_run.specs.Made.{StreamStop, Made, whole_by, so_far_by, shows_fault, stop_of, tool_of}
-use Rattle.link_run.specs.Run.{Texts, Outcome, Tool}
-use Rattle.link_walk.specs.Walk.{head_at, WalkEvent, LeftOpen, head_events, content_events, Walked, taken_with, with_judged, with_next, contact_events, walked_of, end_events, told_by, told_of, stop_by}
-use Rattle.link_walk.specs.declared.consumer.Manner.{Manner}
-use Rattle.link_laws.specs.Transfers.{Ordered, ordered_by, ordered_after, ordered, settled, are_good, abandoned_line, unpacking_by, Unpacked, none_unpacked, with_head, unpacked_of, going_on_by, made_of, by_transfers}
-use Rattle.link_unpack.specs.Transfers.{Transfer}
-use Rattle.link_unpack.specs.Unpacking.{parts_of, unpacking_of, unpack_tool, Told, told_after, unpack_telling, with_line, order_line, good_due}
-use Rattle.link_unpack.proofs.Events.{told_then, told_push}
-use Rattle.link_unpack.specs.declared.wanted.Wanted.{Wanted}
+use Rattle.std.proofs.Common.{◌≡◌, ℕ, Bool, true, false, not, ◌&&◌, is_some, List, [], ◌∷◌, ◌++◌, Option, Some, None, if◌then◌else◌, refl, ap, sym, ◌∙◌, append-nil, arith}
+use Rattle.std.proofs.{Math.Bool.{and-true, and-false, and_assoc}, lemmas.List.Folds.list_all-append, Math.Path.fun_ext}
+use Rattle.link_wire.specs.{Stream.{Entry, End, Reading, cut_heads, heads_of}, declared.message.Contact.Contact, declared.message.Message.Message}
+use Rattle.link_transfer.specs.{Event.event_of, Order.{refusal, with_taken}, declared.fault.OrderFault.OrderFault}
+use Rattle.link_run.specs.{Made.{StreamStop, Made, whole_by, so_far_by, shows_fault, stop_of, tool_of}, Run.{Texts, Outcome, Tool}}
+use Rattle.link_walk.specs.{Walk.{WalkEvent, LeftOpen, Walked, with_next, contact_events, walked_of, end_events, told_by, told_of, stop_by}, declared.consumer.Manner.Manner}
+use Rattle.link_laws.specs.Transfers.{Ordered, ordered_after, ordered, settled, are_good, abandoned_line, unpacking_by, Unpacked, none_unpacked, with_head, unpacked_of, going_on_by, made_of, by_transfers}
 use Rattle.link_laws.specs.Cuts.{entries_of}
-use Rattle.link_laws.proofs.Accepted.{accepted_read, accepted_in_order, all_in_order}
-use Rattle.link_laws.proofs.Due.{latest_open, all_good, goods_due, abandoned_due, settled_all, goods_are}
-use Rattle.link_laws.proofs.InOrder.{not_stray, taken_more, unpacked_in_order, made_in_order}
-use Rattle.link_laws.proofs.OneHead.{KnowsWhole, added, through, heads_whole}
-use Rattle.link_laws.proofs.Telling.{told_as}
-use Rattle.link_laws.proofs.Whole.{FitsData, AreRead, ReadingReads, reading_read}
+use Rattle.link_laws.proofs.{Accepted.{accepted_read, accepted_in_order, all_in_order}, Due.{latest_open, all_good, goods_due, abandoned_due, settled_all, goods_are}}
+use Rattle.link_laws.proofs.{InOrder.{not_stray, taken_more, unpacked_in_order, made_in_order}, OneHead.{KnowsWhole, added, through, heads_whole}, PlainHeads.{judged_taken, events_at}}
+use Rattle.link_laws.proofs.{Telling.told_as, Whole.{FitsData, AreRead, ReadingReads, reading_read}}
+use Rattle.link_unpack.specs.{Transfers.Transfer, Unpacking.{parts_of, unpack_tool, Told, told_after, unpack_telling, with_line, order_line, good_due}, declared.wanted.Wanted.Wanted}
+use Rattle.link_unpack.proofs.Events.{told_then, told_push}
 
 -- ---- heads that are taken, whether or not they are in order
 
@@ -36,19 +22,8 @@ manner goes_on = record { goes_on = goes_on; all_heads = false }
 abbrev started : List Message → List WalkEvent → Walked
 started taken events = record { taken = taken; events = events; refused = None }
 
-abbrev events_at : List Message → Entry → List WalkEvent
-events_at taken head =
-    let at = head_at taken head.offset head.message in
-    head_events false at ++ content_events at.turn (data_length head.message) head.content
-
 abbrev walk_from : Bool → Walked → List Entry → Walked
 walk_from goes_on from heads = fold (with_next (manner goes_on)) from heads
-
--- a run that goes on takes any head
-judged_taken : (refused : Option OrderFault) (from : Walked) (head : Entry)
-    → with_judged refused (manner true) from head ≡ taken_with (manner true) from head
-judged_taken None from head = refl
-judged_taken (Some fault) from head = refl
 
 good_parts : (before in_order ordered more : Bool)
     → (((before && in_order) && ordered) && more) ≡ ((before && more) && (in_order && ordered))
@@ -77,18 +52,16 @@ module _ (wanted : Wanted) where
       let refused = refusal u.taken (event_of head.message) in
       let before = u.report ++ order_line head.offset refused in
       record {
-        events = so.events ++ events_at u.taken head;
-        told = told_push wanted so.events (events_at u.taken head)
-            ∙ ap (λ t. told_then wanted t (events_at u.taken head)) so.told
+        events = so.events ++ events_at false u.taken head;
+        told = told_push wanted so.events (events_at false u.taken head)
+            ∙ ap (λ t. told_then wanted t (events_at false u.taken head)) so.told
             ∙ new.told u.report (settled_good u && u.in_order)
             ∙ told_as _ _ _ _ _ (ap (λ (xs : List ℕ). before ++ xs) (sym new.lines))
             (good_parts (settled_good u) u.in_order (not (is_some refused)) (all_good new.entries)
             ∙ ap (λ b. b && (u.in_order && not (is_some refused)))
             (sym (ap all_good new.settles
             ∙ list_all-append _ (entries_of wanted (settled u.transfers)) new.entries)));
-        walked = ap (λ w. walk_from true w more)
-            (sym (judged_taken refused (started u.taken so.events) head))
-            ∙ so.walked;
+        walked = cc (judged_taken false refused (started u.taken so.events) head, so.walked);
       }
 
   none_told : (contact : Option Contact)
@@ -134,29 +107,14 @@ ordered_walk : (heads : List Entry) (taken : List Message) (events : List WalkEv
 unfolding ordered_after
 ordered_walk [] taken events = refl
 ordered_walk (head ∷ more) taken events =
-    by_refusal (refusal taken (event_of head.message)) refl
-    (ordered_walk more (with_taken taken head.message) (events ++ events_at taken head))
-  where
-    from : Walked
-    from = started taken events
-
-    next : Walked
-    next = started (with_taken taken head.message) (events ++ events_at taken head)
-
-    by_refusal : (refused : Option OrderFault) → refusal taken (event_of head.message) ≡ refused
-        → walk_from false next more ≡ walk_order (ordered_after next.taken more) next
-        → walk_from false
-        (with_judged (refusal taken (event_of head.message)) (manner false) from head) more
-        ≡ walk_order (ordered_by (refusal taken (event_of head.message)) head
-        (ordered_after (taken ++ head.message ∷ []) more)) from
-    by_refusal (Some fault) is later = rw is (ended_stays more from (head.offset, fault))
-    by_refusal None is later =
-        let order = ordered_after (taken ++ head.message ∷ []) more in
-        rw is (later
-        ∙ ap (λ ms. walk_order (ordered_after ms more) next)
-        (taken_more taken head.message (not_stray taken (event_of head.message) is))
-        ∙ ap (λ w. ended_at order.refused (walk_from true w order.heads))
-        (sym (judged_taken (refusal taken (event_of head.message)) from head)))
+    grind (
+      arith,
+      ended_stays,
+      judged_taken,
+      not_stray,
+      taken_more,
+      ordered_walk more (with_taken taken head.message) (events ++ events_at false taken head),
+    )
 
 -- ---- what is made of a stream
 
@@ -173,15 +131,10 @@ tool_parts made =
 
 same_parts : (one other : Made) → SameMade one other → (stop : Option StreamStop) → one.stop ≡ stop
     → tool_parts one ≡ tool_parts other
-same_parts one other same None is =
-    let clean = same.clean is in
-    rw (← same.stop, is, same.texts, clean.0, clean.1) refl
-same_parts one other same (Some stop) is = rw (← same.stop, is, same.texts) refl
+same_parts one other same stop is = grind arith
 
 pub clean_end : (end : End) → stop_of end ≡ None → cut_heads end ≡ []
-clean_end Clean none = refl
-clean_end (Cut offset sent content) none = absurd (cc)
-clean_end (Fault offset fault) none = refl
+clean_end end none = grind arith
 
 module _ (wanted : Wanted) where
   abbrev walk_made : Bool → Reading → Made
@@ -204,9 +157,7 @@ module _ (wanted : Wanted) where
   end_by : (opened : Bool) (transfers : List Transfer) (report : List ℕ) (good : Bool)
       → (let told : Told = record { transfers = transfers; report = report; good = good } in
       told_then wanted told (if opened then LeftOpen ∷ [] else []) ≡ with_line wanted opened told)
-  end_by true transfers report good = refl
-  end_by false transfers report good =
-      told_as transfers _ _ _ _ (sym (append-nil report)) (sym (and-true good))
+  end_by opened transfers report good = grind (arith, and-true, append-nil, told_as)
 
   good_end : (before in_order due : Bool)
       → ((before && in_order) && due) ≡ ((before && due) && in_order)
@@ -236,12 +187,7 @@ module _ (wanted : Wanted) where
 
     end_told : KnowsWhole u
         → told_after wanted (walked.events ++ end_events walked.taken) ≡ at_end u
-    end_told whole =
-        told_push wanted walked.events (end_events walked.taken)
-        ∙ ap (λ told. told_then wanted told (end_events walked.taken)) walked_told
-        ∙ ap (λ (w : Walked). told_then wanted (said wanted u) (end_events w.taken))
-        (sym tells.walked)
-        ∙ end_said u whole
+    end_told whole = grind (arith, end_said, told_push, walked_told)
 
   -- ---- both kinds of runs
 
@@ -283,11 +229,7 @@ module _ (wanted : Wanted) where
         ≡ walked_of (manner true) reading.contact heads
     walked_same none =
         let tells = heads_tell wanted reading.contact heads reads.heads in
-        walked_ordered
-        ∙ ap (λ (o : Ordered). ended_at o.refused (walked_of (manner true) reading.contact o.heads))
-        (all_in_order heads none)
-        ∙ ap (λ r. ended_at r (walked_of (manner true) reading.contact heads))
-        (sym (unrefused _ _ tells))
+        cc (walked_ordered, all_in_order heads none, unrefused _ _ tells)
 
     -- the same, if no head ended the walk
     pub walked_on : (walked_of (manner false) reading.contact heads).refused ≡ None
@@ -301,9 +243,7 @@ module _ (wanted : Wanted) where
         → stop_of reading.end ≡ None
         → (let was = walked_of (manner false) reading.contact heads in
         told_after wanted (was.events ++ end_events was.taken) ≡ at_end (unpacked_of wanted heads))
-    clean_told unrefused none =
-        rw (walked_on unrefused)
-        (end_told _ _ (heads_tell wanted reading.contact heads reads.heads) (whole_heads none))
+    clean_told unrefused none = search (end_told, heads_tell, unrefused, walked_on, whole_heads)
 
     abbrev made_at : Option (ℕ × OrderFault) → List Entry → Made
     made_at refused taken =
@@ -313,10 +253,7 @@ module _ (wanted : Wanted) where
     ending_same : (refused : Option (ℕ × OrderFault)) → order.refused ≡ refused
         → SameMade (walk_made false reading) (unpacking_by wanted reading.end order)
     ending_same None is =
-        let one : walk_made false reading ≡ walk_made true reading =
-        ap (told_by (unpack_telling wanted) reading.end) (walked_same is) in
-        rw (one, made_in_order wanted reading.end heads reads.heads (all_in_order heads is))
-        going_same
+        grind (arith, all_in_order, going_same, made_in_order, walked_same)
     ending_same (Some fault) is =
         let made : walk_made false reading ≡ made_at order.refused order.heads =
         ap (told_by (unpack_telling wanted) reading.end) walked_ordered in
@@ -337,22 +274,10 @@ module _ (wanted : Wanted) where
     same_by true = going_same
     same_by false = ending_same order.refused refl
 
-  same_made : (bytes : List ℕ)
-      → SameMade (unpacking_of wanted bytes) (by_transfers wanted bytes)
-  unfolding told_of by_transfers
-  same_made bytes = same_by (reading_of bytes) (reading_read bytes) wanted.keep_going
-
   -- what `unpack` says of the events of a stream is what the transfers of the stream make
   pub same_tool : unpack_tool wanted ≡ tool_of (by_transfers wanted)
-  same_tool =
-      let tool : (List ℕ → Outcome × Texts × Bool) → Tool = λ parts. record {
-        whole = λ bytes. (parts bytes).0;
-        so_far = λ bytes. (parts bytes).1;
-        shows = λ bytes. (parts bytes).2;
-      } in
-      ap tool (fun_ext (λ bytes.
-      same_parts (unpacking_of wanted bytes) (by_transfers wanted bytes) (same_made bytes)
-      (unpacking_of wanted bytes).stop refl))
+  unfolding told_of by_transfers
+  same_tool = grind (arith, fun_ext, reading_read, same_by, same_parts)
 
   pub whole_is : (bytes : List ℕ) → (unpack_tool wanted).whole bytes
       ≡ whole_by (by_transfers wanted bytes).stop (by_transfers wanted bytes)

@@ -1,32 +1,20 @@
 -- If no head is refused, `unpack` makes the same, whether or not a fault of the order ends the run.
-use Rattle.std.proofs.Common.{◌≡◌, ℕ, Bool, true, false, List, [], ◌∷◌, ◌++◌, length, refl, ap, sym, ◌∙◌}
-use Rattle.std.proofs.Math.Path.{fun_ext}
-use Rattle.std.specs.List.{fold}
-use Rattle.link_wire.specs.Stream.{End, reading_of}
-use Rattle.link_report.specs.Transfer.{transfer_text}
+use Rattle.std.proofs.{Common.{◌≡◌, ℕ, Bool, List, refl, arith}, Math.Path.fun_ext}
+use Rattle.link_wire.specs.Stream.{End}
 use Rattle.link_walk.specs.Walk.{WalkEvent, ContactHeader, MessageHead, Data, Whole, LeftOpen, Walked, told_by, told_of}
-use Rattle.link_unpack.specs.Transfers.{Transfer}
-use Rattle.link_unpack.specs.Unpacking.{part_of, parts_of, entry_of, line_due, Told, none_told, told_event, told_after, unpack_telling}
-use Rattle.link_unpack.specs.declared.wanted.Wanted.{Wanted}
+use Rattle.link_unpack.specs.{Transfers.Transfer, Unpacking.{parts_of, line_due, Told, told_event, told_after, unpack_telling}, declared.wanted.Wanted.Wanted}
 use Rattle.link_laws.specs.Cuts.{going_on, stopping, IsSameInOrder}
-use Rattle.link_laws.proofs.Same.{walked_same}
-use Rattle.link_laws.proofs.Whole.{reading_read}
+use Rattle.link_laws.proofs.{Same.walked_same, Whole.reading_read}
 
 module _ (wanted : Wanted) where
   parts_same : (transfers : List Transfer)
       → parts_of (going_on wanted) transfers ≡ parts_of (stopping wanted) transfers
   unfolding parts_of
-  parts_same [] = refl
-  parts_same (latest ∷ earlier) =
-      ap (λ (parts : List ℕ). parts ++ part_of wanted latest) (parts_same earlier)
+  parts_same transfers = grind arith
 
   line_same : (due : Bool) (transfers : List Transfer)
       → line_due (going_on wanted) due transfers ≡ line_due (stopping wanted) due transfers
-  line_same false transfers = refl
-  line_same true [] = refl
-  line_same true (latest ∷ earlier) =
-      ap (λ (parts : List ℕ). transfer_text (entry_of wanted latest (length parts)))
-      (parts_same earlier)
+  line_same due transfers = grind (arith, parts_same)
 
   event_same : (told : Told) (event : WalkEvent)
       → told_event (going_on wanted) told event ≡ told_event (stopping wanted) told event
@@ -40,8 +28,7 @@ module _ (wanted : Wanted) where
       → told_after (going_on wanted) events ≡ told_after (stopping wanted) events
   unfolding told_after
   told_same events =
-      ap (λ (next : Told → WalkEvent → Told). fold next none_told events)
-      (fun_ext (λ told. fun_ext (event_same told)))
+      cc (fun_ext (λ told. fun_ext (event_same told)))
 
   made_same : (end : End) (walked : Walked) → told_by (unpack_telling (going_on wanted)) end walked
       ≡ told_by (unpack_telling (stopping wanted)) end walked
@@ -49,8 +36,4 @@ module _ (wanted : Wanted) where
 
   pub same : (bytes : List ℕ) → IsSameInOrder wanted bytes
   unfolding told_of
-  same bytes none =
-      let reading = reading_of bytes in
-      ap (told_by (unpack_telling (going_on wanted)) reading.end)
-      (sym (walked_same wanted reading (reading_read bytes) none))
-      ∙ made_same reading.end _
+  same bytes none = grind (arith, made_same, reading_read, walked_same)

@@ -1,38 +1,19 @@
 -- If every transfer of a recording is over and good, `blocks` writes the lines of the bundles that
 -- `unpack` joins.
-use Rattle.std.proofs.Common.{◌≡◌, ℕ, ◌≤◌, Bool, true, false, List, [], ◌∷◌, ◌++◌, length, Option, Some, None, if◌then◌else◌, refl, ap, sym, ◌∙◌, append-nil, arith}
 use Rattle.std.specs.List.{flat_map, fold}
-use Rattle.std.proofs.lemmas.Bool.{and_parts}
+use Rattle.std.proofs.{Common.{◌≡◌, ℕ, ◌≤◌, Bool, true, false, List, [], ◌∷◌, ◌++◌, length, Option, Some, None, if◌then◌else◌, refl, ◌∙◌, append-nil, arith}, lemmas.Bool.and_parts}
 use Rattle.std.proofs.lemmas.Grind.{flat_map-append}
-use Rattle.link_wire.specs.Bytes.{AreBytes}
-use Rattle.link_wire.specs.Message.{data_length}
-use Rattle.link_wire.specs.SpelledStream.{IsReading}
-use Rattle.link_wire.specs.Stream.{Entry, End, Reading, reading_of, heads_of}
-use Rattle.link_wire.specs.declared.message.Contact.{Contact}
+use Rattle.link_wire.specs.{Bytes.AreBytes, SpelledStream.IsReading, Stream.{Entry, End, Reading, reading_of, heads_of}, declared.message.Contact.Contact}
 use Rattle.link_transfer.specs.declared.fault.OrderFault.{OrderFault}
-use Rattle.link_transfer.specs.declared.joiner.Turn.{Turn}
-use Rattle.link_transfer.specs.declared.joiner.Turn.TheVariants as turn
-use Rattle.link_run.specs.Made.{StreamStop, Made, whole_by, stop_of}
-use Rattle.link_run.specs.Run.{Texts}
-use Rattle.link_run.specs.Writers.{on_output}
+use Rattle.link_run.specs.{Made.{StreamStop, Made, whole_by, stop_of}, Writers.on_output}
 use Rattle.link_run.proofs.Runs.{texts_as}
-use Rattle.link_walk.specs.Walk.{WalkEvent, MessageHead, LeftOpen, Whole, data_events, Head, head_at, head_events, content_events, contact_events, Walked, taken_with, with_judged, with_entry_unless, with_next, none_walked, walked_of, walked, end_events, has_open, stop_by, told_of}
+use Rattle.link_walk.specs.Walk.{WalkEvent, MessageHead, LeftOpen, Head, head_at, contact_events, Walked, taken_with, with_judged, with_entry_unless, with_next, none_walked, walked_of, walked, end_events, has_open, stop_by, told_of}
 use Rattle.link_walk.specs.declared.consumer.Manner.{Manner}
-use Rattle.link_unpack.specs.Transfers.{Transfer}
-use Rattle.link_unpack.specs.Unpacking.{Told, told_after, unpacking_of, unpack_tool, parts_of}
-use Rattle.link_blocks.specs.Bundles.{bundle_limit}
-use Rattle.link_blocks.specs.Showing.{order_line_of, lines_of, blocks_of, blocks_tool}
-use Rattle.link_laws.specs.Cuts.{data_of}
-use Rattle.link_laws.specs.Ranges.{InputFits}
-use Rattle.link_laws.specs.RoundTrip.{all}
-use Rattle.link_laws.specs.SameLines.{shown, unpacked, HasSameLines}
-use Rattle.link_laws.specs.Transfers.{are_good, unpacked_of}
-use Rattle.link_laws.proofs.DataSize.{reading_size, order_size}
-use Rattle.link_laws.proofs.EveryByte.{every_byte}
-use Rattle.link_laws.proofs.Following.{closed_at_end}
-use Rattle.link_laws.proofs.GoodBundles.{carries, joined_lines}
-use Rattle.link_laws.proofs.Same.{clean_end, clean_told}
-use Rattle.link_laws.proofs.Whole.{AreWhole, reading_read}
+use Rattle.link_unpack.specs.{Transfers.Transfer, Unpacking.{Told, told_after, unpack_tool, parts_of}}
+use Rattle.link_blocks.specs.{Bundles.bundle_limit, Showing.{order_line_of, lines_of, blocks_tool}}
+use Rattle.link_laws.specs.{Ranges.InputFits, RoundTrip.all, SameLines.{shown, unpacked, HasSameLines}, Transfers.{are_good, unpacked_of}}
+use Rattle.link_laws.proofs.{DataSize.{reading_size, order_size}, EveryByte.every_byte, Following.closed_at_end, GoodBundles.{carries, joined_lines}, PlainHeads.content_none}
+use Rattle.link_laws.proofs.{Same.{clean_end, clean_told}, Whole.{AreWhole, reading_read}}
 
 -- ---- heads that are in order have no line
 
@@ -45,19 +26,6 @@ module _ (manner : Manner) (stops : manner.goes_on ≡ false) where
   no_lines_both first second one two =
       rw (flat_map-append order_line_of first second, one, two) refl
 
-  data_none : (bytes : List ℕ) (test : Bool)
-      → NoLines (data_events bytes ++ (if test then Whole ∷ [] else []))
-  data_none [] true = refl
-  data_none [] false = refl
-  data_none (byte ∷ bytes) test = data_none bytes test
-
-  content_none : (effect : Option Turn) (size : ℕ) (content : List ℕ)
-      → NoLines (content_events effect size content)
-  content_none None size content = refl
-  content_none (Some turn.Other) size content = refl
-  content_none (Some (turn.Begin abandoned last)) size content = data_none content _
-  content_none (Some (turn.Continue last)) size content = data_none content _
-
   head_none : (head : Head) (test : Bool) → head.fault ≡ None
       → NoLines (if test then MessageHead head ∷ [] else [])
   head_none head true may = rw may refl
@@ -68,10 +36,7 @@ module _ (manner : Manner) (stops : manner.goes_on ≡ false) where
     here = head_at was.taken head.offset head.message
 
     taken_none : here.fault ≡ None → NoLines (taken_with manner was head).events
-    taken_none may =
-        no_lines_both was.events _ none
-        (no_lines_both (head_events manner.all_heads here) _ (head_none here _ may)
-        (content_none here.turn (data_length head.message) head.content))
+    taken_none may = grind (arith, content_none, head_none, no_lines_both)
 
     judged_none : (fault : Option OrderFault) → here.fault ≡ fault
         → NoLines (with_judged fault manner was head).events
@@ -97,12 +62,7 @@ module _ (manner : Manner) (stops : manner.goes_on ≡ false) where
 
 pub status_clean : (stop : Option StreamStop) (made : Made) → (whole_by stop made).status ≡ 0
     → (stop ≡ None) × (made.good ≡ true)
-status_clean (Some stop) made is = absurd (omega arith)
-status_clean None made is = (refl, by_good made.good is)
-  where
-    by_good : (good : Bool) → ◌≡◌ {A = ℕ} (if good then 0 else 1) 0 → good ≡ true
-    by_good true is = refl
-    by_good false is = absurd (omega arith)
+status_clean stop made is = grind arith
 
 stop_clean : (refused : Option (ℕ × OrderFault)) (end : End) → stop_by refused end ≡ None
     → (refused ≡ None) × (stop_of end ≡ None)
@@ -139,25 +99,13 @@ module _ (bytes : List ℕ) where
 
   pub clean : ((unpack_tool all).whole bytes).status ≡ 0 → IsClean
   unfolding told_of
-  clean is =
-      let both = status_clean (stop_by was.refused reading.end) (unpacking_of all bytes) is in
-      let stops = stop_clean was.refused reading.end both.0 in
-      let said = clean_told all reading (reading_read bytes) stops.0 stops.1 in
-      record {
-        stop = both.0;
-        unrefused = stops.0;
-        end = stops.1;
-        told_good = both.1;
-        are = ap (λ (t : Told). t.transfers) said;
-        good = (and_parts (are_good transfers) _ (ap (λ (t : Told). t.good) (sym said) ∙ both.1)).0;
-      }
+  clean is = grind (arith, and_parts, clean_told, reading_read, status_clean, stop_clean)
 
   module _ (is : IsClean) where
     pub unpacks : unpacked bytes ≡ parts_of all transfers
     unfolding told_of
     unpacks =
-        ap (λ stop. (whole_by stop (unpacking_of all bytes)).texts.output) is.stop
-        ∙ ap (parts_of all) is.are
+        cc (is.stop, is.are)
 
     pub whole_heads : AreWhole (heads_of reading)
     whole_heads = rw (clean_end reading.end is.end, append-nil) (reading_read bytes).whole
@@ -177,33 +125,16 @@ module _ (bytes : List ℕ) where
 
     said : lines_of None (has_open events) told.transfers ≡ lines_of None false transfers
     said =
-        ap (λ opened. lines_of None opened told.transfers)
-        (closed_at_end stopping reading.contact (heads_of reading) whole_heads)
-        ∙ ap (lines_of None false) is.are
+        cc (closed_at_end stopping reading.contact (heads_of reading) whole_heads, is.are)
 
     shows : (blocks_tool shown).whole bytes
         ≡ record { texts = on_output (lines_of None false transfers); status = 0 }
     unfolding told_of
     shows =
-        ap (λ stop. whole_by stop (blocks_of shown bytes)) is.stop
-        ∙ ap (λ good. record {
-          texts = (blocks_of shown bytes).ended;
-          status = if good then 0 else 1;
-        }) is.told_good
-        ∙ ap (λ (texts : Texts). record { texts = texts; status = 0 }) (texts_as said no_report)
+        cc (is.stop, is.told_good, texts_as said no_report)
 
     pub fits : IsReading bytes reading → InputFits bytes → length (unpacked bytes) ≤ bundle_limit
-    fits spelled input =
-        let heads = ap (λ hs. reading.entries ++ hs) (clean_end reading.end is.end)
-        ∙ append-nil reading.entries in
-        omega (
-          arith,
-          ap length (every_byte bytes),
-          order_size (heads_of reading),
-          ap (λ hs. length (flat_map data_of hs)) heads,
-          reading_size bytes reading spelled,
-          input.few,
-        )
+    fits spelled input = grind (arith, append-nil, clean_end, every_byte, order_size, reading_size)
 
   pub same_lines : ((bytes : List ℕ) → AreBytes bytes → IsReading bytes (reading_of bytes))
       → InputFits bytes → ((unpack_tool all).whole bytes).status ≡ 0 → HasSameLines bytes
@@ -215,8 +146,7 @@ module _ (bytes : List ℕ) where
         bundles = carried.bundles;
         good = carried.good;
         unpacks = joins;
-        recorded = shows so
-            ∙ ap (λ (lines : List ℕ). record { texts = on_output lines; status = 0 }) carried.lines;
+        recorded = cc (shows so, carried.lines);
         joined =
             joined_lines (unpacked bytes) carried.bundles carried.good joins
             (fits so (spelled bytes input.are) input);

@@ -1,53 +1,33 @@
 -- If every transfer of a recording is over and good, `check --bundles` finds the same rules broken
 -- in the bundles that `unpack` joins as `check` does in the recording.
-use Rattle.std.proofs.Common.{◌≡◌, ℕ, ◌≤◌, Bool, true, false, List, [], ◌∷◌, ◌++◌, length, map, None, Ok, if◌then◌else◌, refl, ap, ap₂, sym, ◌∙◌, append-nil}
 use Rattle.std.specs.List.{All, filter, flat_map}
-use Rattle.std.proofs.lemmas.Bool.{and_parts}
-use Rattle.std.proofs.lemmas.Grind.{flat_map-append}
-use Rattle.std.proofs.lemmas.List.Elements.{All-nil, All-cons, All-append, filter-append}
-use Rattle.std.proofs.lemmas.List.{map-append}
+use Rattle.std.proofs.{Common.{◌≡◌, ℕ, ◌≤◌, Bool, true, false, List, [], ◌∷◌, ◌++◌, length, map, None, Ok, refl, ap, ap₂, sym, ◌∙◌, append-nil, arith}, lemmas.Bool.and_parts}
+use Rattle.std.proofs.lemmas.{Grind.flat_map-append, List.Elements.{All-nil, All-cons, All-append, filter-append}, List.map-append}
 use Rattle.link_bundle_blocks.specs.Bundle.{verdict}
 use Rattle.link_bundle_types.specs.declared.info.BundleInfo.{BundleInfo}
 use Rattle.link_bundle_rules.specs.declared.rule.BundleRule.{BundleRule}
-use Rattle.link_message_rules.specs.TransferRules.{broken_transfer_rules}
-use Rattle.link_message_rules.specs.declared.limits.PeerLimits.{PeerLimits}
-use Rattle.link_message_rules.specs.declared.rule.MessageRule.{MessageRule}
-use Rattle.link_message_rules.specs.declared.rule.TransferRule.{TransferRule}
-use Rattle.link_message_rules.specs.declared.rule.TransferRule.TheVariants.{Unfinished}
-use Rattle.link_rule_report.specs.declared.rule.BrokenRule.{BrokenRule}
-use Rattle.link_rule_report.specs.declared.line.RuleText.{RuleText}
-use Rattle.link_rule_report.specs.declared.rule.BrokenRule.TheVariants as rule
-use Rattle.link_rule_report.specs.declared.rule.BundlePlace.{BundlePlace}
-use Rattle.link_rule_report.specs.declared.rule.BundlePlace.TheVariants as place
-use Rattle.link_wire.specs.Bytes.{AreBytes}
-use Rattle.link_wire.specs.SpelledStream.{IsReading}
-use Rattle.link_wire.specs.Stream.{Reading, reading_of, heads_of}
+use Rattle.link_message_rules.specs.{TransferRules.broken_transfer_rules, declared.limits.PeerLimits.PeerLimits, declared.rule.TransferRule.TransferRule}
+use Rattle.link_rule_report.specs.declared.{line.RuleText.RuleText, rule.BundlePlace.BundlePlace}
+use Rattle.link_wire.specs.{Bytes.AreBytes, SpelledStream.IsReading, Stream.{Reading, reading_of, heads_of}}
 use Rattle.link_run.specs.Made.{Made, whole_by}
-use Rattle.link_run.specs.Run.{Texts}
-use Rattle.link_walk.specs.Walk.{Walked, WalkEvent, walked, end_events, has_open, stop_by, told_of}
+use Rattle.link_walk.specs.Walk.{Walked, WalkEvent, walked, end_events, told_of}
 use Rattle.link_unpack.specs.Unpacking.{unpack_tool, parts_of}
 use Rattle.link_bundle_walk.specs.Bundles.{divided}
 use Rattle.link_bundle_walk.proofs.Outcomes.{told_as}
 use Rattle.link_blocks.specs.Bundles.{bundle_limit}
-use Rattle.link_check.specs.BundleRules.{bundle_rules}
-use Rattle.link_check.specs.Bundles.{broken_bundles, bundle_check_telling, bundle_check_tool}
-use Rattle.link_check.specs.Checking.{closed_rules, data_rules, none_kept, check_of, check_tool}
-use Rattle.link_check.specs.Lines.{at_offset}
-use Rattle.link_laws.specs.Ranges.{InputFits}
-use Rattle.link_laws.specs.RoundTrip.{all}
-use Rattle.link_laws.specs.SameLines.{unpacked}
-use Rattle.link_laws.specs.SameRules.{Carried, broken_in_transfer, is_of_bundle, reports, HasSameRules}
-use Rattle.link_laws.specs.Transfers.{are_good}
-use Rattle.link_laws.proofs.BrokenRules.{options, broken_from, lines_said, good_kept}
-use Rattle.link_laws.proofs.Following.{follow_both, reading_told, end_follows}
-use Rattle.link_laws.proofs.GoodBundles.{divided_all, good_transfer}
-use Rattle.link_laws.proofs.Placed.{after_events, Placed, transfers_in, begun_of, told_transfers, rules_of, due_of, AfterAll, all_after}
-use Rattle.link_laws.proofs.PlainHeads.{going, quieter, all_matter}
-use Rattle.link_laws.proofs.Same.{walked_on}
+use Rattle.link_check.specs.{BundleRules.bundle_rules, Bundles.{broken_bundles, bundle_check_telling, bundle_check_tool}, Checking.check_tool, Lines.at_offset}
+use Rattle.link_laws.specs.{Ranges.InputFits, RoundTrip.all, SameLines.unpacked, SameRules.{Carried, broken_in_transfer, is_of_bundle, reports, HasSameRules}, Transfers.are_good}
+use Rattle.link_laws.proofs.{BrokenRules.{options, broken_from, lines_said, good_kept}, Following.{follow_both, reading_told, end_follows}, GoodBundles.{divided_all, good_transfer}}
+use Rattle.link_laws.proofs.{Placed.{Placed, Choice, transfers_in, told_transfers, rules_of, due_of, AfterAll, from_start}, PlainHeads.{going, quieter, all_matter}, Same.walked_on, Whole.reading_read}
+use Rattle.link_rule_report.specs.declared.rule.BrokenRule.TheVariants as rule
+use Rattle.link_rule_report.specs.declared.rule.BundlePlace.TheVariants as place
 use Rattle.link_laws.proofs.SameLines as recording
-use Rattle.link_laws.proofs.Whole.{reading_read}
 
 -- ---- the rules of bundles among others
+
+abbrev bundle_choice : Choice
+bundle_choice =
+    record { chosen = is_of_bundle; no_message = λ broken. refl; no_unfinished = λ id size. refl }
 
 abbrev pub of_bundles : List RuleText → List RuleText
 of_bundles lines = filter (λ (line : RuleText). is_of_bundle line.rule) lines
@@ -62,18 +42,16 @@ of_bundle : (offset : ℕ) (where_it_is : BundlePlace) (rules : List BundleRule)
     ≡ at_offset offset (map (λ one. rule.Bundle where_it_is one) rules)
 of_bundle offset where_it_is [] = refl
 of_bundle offset where_it_is (one ∷ more) =
-    ap (λ (lines : List RuleText).
-    record { offset = offset; rule = rule.Bundle where_it_is one } ∷ lines)
-    (of_bundle offset where_it_is more)
+    cc (of_bundle offset where_it_is more)
 
 -- ---- good transfers
 
 module _ (peer : PeerLimits) where
   abbrev due : Placed → List RuleText
-  due placed = due_of is_of_bundle (λ broken. refl) (λ id size. refl) peer placed
+  due placed = due_of bundle_choice peer placed
 
   abbrev pub rules : List Placed → List RuleText
-  rules placed = rules_of is_of_bundle (λ broken. refl) (λ id size. refl) peer placed
+  rules placed = rules_of bundle_choice peer placed
 
   module _ (placed : Placed) (info : BundleInfo)
       (good : verdict placed.transfer.content ≡ Ok info)
@@ -92,10 +70,7 @@ module _ (peer : PeerLimits) where
         (broken_transfer_rules placed.transfer.first (length placed.transfer.content)) in
         let broken = map (λ one. rule.Bundle (place.Transfer id) one)
         (bundle_rules placed.transfer.content info) in
-        ap (λ test. if test then of_bundles (at_offset placed.offset
-        (closed_rules (begun_of placed))) else []) closed
-        ∙ ap (λ said. of_bundles (at_offset placed.offset
-        (of_length ++ data_rules id placed.transfer.content said))) good
+        cc (closed, good)
         ∙ ap of_bundles (map-append (λ one. record { offset = placed.offset; rule = one }) of_length
         broken)
         ∙ filter-append (λ (line : RuleText). is_of_bundle line.rule)
@@ -132,8 +107,7 @@ module _ (peer : PeerLimits) where
             (All-cons IsGood one [] first.is (All-nil IsGood));
         parts =
             ap (λ (bytes : List ℕ). bytes ++ latest.transfer.content) before.parts
-            ∙ ap (λ (bytes : List ℕ). flat_map bytes_in before.transfers ++ bytes)
-            (sym (append-nil latest.transfer.content))
+            ∙ cc (append-nil latest.transfer.content)
             ∙ sym (flat_map-append bytes_in before.transfers (one ∷ []));
         broken =
             ap₂ (λ (first second : List RuleText). first ++ second) before.broken
@@ -181,46 +155,31 @@ module _ (peer : PeerLimits) where
 
     pub recorded : (must : Bool) → (check_tool (options peer must)).whole bytes ≡ reports must broken
     unfolding told_of
-    recorded must =
-        ap (λ stop. whole_by stop (check_of (options peer must) bytes))
-        (ap (λ refused. stop_by refused reading.end) unrefused ∙ clean.end)
-        ∙ ap₂ (λ (texts : Texts) (good : Bool). record {
-          texts = texts;
-          status = if good then 0 else 1;
-        }) (lines_said peer must events none_kept) (good_kept peer must events none_kept)
-
-    none_open : has_open [] ≡ true → ⊥
-    unfolding has_open
-    none_open opened = absurd (cc)
+    recorded must = grind (arith, good_kept, lines_said, unrefused)
 
     -- the transfers of the recording, and the rules of a choice that they break
-    module _ (chosen : BrokenRule → Bool)
-        (no_message : (broken : MessageRule) → chosen (rule.Message broken) ≡ false)
-        (no_unfinished : (id size : ℕ) → chosen (rule.Transfer id (Unfinished size)) ≡ false) where
-      pub placed_by : AfterAll chosen no_message no_unfinished peer [] [] None events
+    module _ (choice : Choice) where
+      pub placed_by : AfterAll choice peer [] [] None events
       placed_by =
           let told = reading_told (going true) reading (reading_read bytes) in
-          all_after chosen no_message no_unfinished peer events [] [] [] None
+          from_start choice peer events
           (follow_both [] every.events (end_events every.taken) told.follow
           (end_follows every told))
-          (λ opened. absurd (none_open opened))
 
       pub transfers_by : transfers_in placed_by.after ≡ recording.transfers bytes
       transfers_by =
-          placed_by.are
-          ∙ ap (after_events [])
-          (sym (all_matter few every (quieter reading.contact (heads_of reading))))
-          ∙ ap (λ (was : Walked). after_events [] (was.events ++ end_events was.taken))
-          (sym (walked_on all reading (reading_read bytes) clean.unrefused))
+          let matter = all_matter few every (quieter reading.contact (heads_of reading)) in
+          let same = walked_on all reading (reading_read bytes) clean.unrefused in
+          placed_by.are ∙ cc (matter, same)
           ∙ sym (told_transfers all (recording.events bytes))
           ∙ clean.are
 
-    pub placed : AfterAll is_of_bundle (λ broken. refl) (λ id size. refl) peer [] [] None events
-    placed = placed_by is_of_bundle (λ broken. refl) (λ id size. refl)
+    pub placed : AfterAll bundle_choice peer [] [] None events
+    placed = placed_by bundle_choice
 
     pub same_transfers : transfers_in placed.after ≡ recording.transfers bytes
     unfolding placed
-    same_transfers = transfers_by is_of_bundle (λ broken. refl) (λ id size. refl)
+    same_transfers = transfers_by bundle_choice
 
     pub carries : CarryAll placed.after
     carries = carry_all placed.after (ap are_good same_transfers ∙ clean.good)
@@ -229,21 +188,21 @@ module _ (peer : PeerLimits) where
     unpacks =
         recording.unpacks bytes clean ∙ ap (parts_of all) (sym same_transfers) ∙ carries.parts
 
-    same_by : IsReading bytes reading → InputFits bytes → HasSameRules peer bytes
-    same_by spelled input = record {
-      transfers = carries.transfers;
-      good = carries.good;
-      unpacks = unpacks;
-      broken = broken;
-      recorded = recorded;
-      of_bundles = sym placed.rules ∙ carries.broken;
-      joined = λ must.
-          joined_rules must (unpacked bytes) carries.transfers carries.good unpacks
-          (recording.fits bytes clean spelled input);
-    }
-
   pub same_rules : (bytes : List ℕ)
       → ((bytes : List ℕ) → AreBytes bytes → IsReading bytes (reading_of bytes))
       → InputFits bytes → ((unpack_tool all).whole bytes).status ≡ 0 → HasSameRules peer bytes
   same_rules bytes spelled input is =
-      same_by bytes (recording.clean bytes is) (spelled bytes input.are) input
+      let clean = recording.clean bytes is in
+      let carried_all = carries bytes clean in
+      let joins = unpacks bytes clean in
+      record {
+        transfers = carried_all.transfers;
+        good = carried_all.good;
+        unpacks = joins;
+        broken = broken bytes clean;
+        recorded = recorded bytes clean;
+        of_bundles = sym (placed bytes clean).rules ∙ carried_all.broken;
+        joined = λ must.
+            joined_rules must (unpacked bytes) carried_all.transfers carried_all.good joins
+            (recording.fits bytes clean (spelled bytes input.are) input);
+      }

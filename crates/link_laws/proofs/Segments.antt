@@ -1,17 +1,10 @@
 -- The segments of a transfer, as messages of a stream.
-use Rattle.std.proofs.Common.{◌≡◌, ℕ, zero, suc, ◌+◌, ◌*◌, ◌^◌, ◌<◌, ◌≤◌, Bool, true, false, ◌&&◌, nat_lt, nat_le, List, [], ◌∷◌, length, drop, Option, Some, None, if◌then◌else◌, refl, length-take, arith}
 use Rattle.std.specs.Prelude.{IfSome}
-use Rattle.std.proofs.lemmas.Bool.Decides.{nat_tests}
-use Rattle.std.proofs.lemmas.List.Elements.{All-take, All-drop}
-use Rattle.link_wire.specs.Bytes.{IsByte, AreBytes}
-use Rattle.link_wire.specs.Spelled.{HeadSpelled}
-use Rattle.link_wire.specs.SpelledStream.{IsStream}
-use Rattle.link_wire.specs.Spelling.{segment_head_bytes, segment_with}
-use Rattle.link_wire.specs.Stream.{Entry, Clean}
-use Rattle.link_wire.specs.declared.message.Message.{Message}
+use Rattle.std.proofs.Common.{◌≡◌, ℕ, zero, suc, ◌+◌, ◌*◌, ◌^◌, ◌<◌, ◌≤◌, Bool, true, false, ◌&&◌, nat_lt, nat_le, List, [], ◌∷◌, length, drop, Option, Some, None, if◌then◌else◌, refl, length-take, arith}
+use Rattle.std.proofs.lemmas.{Bool.Decides.nat_tests, List.Elements.{All-take, All-drop}}
+use Rattle.link_wire.specs.{Bytes.{IsByte, AreBytes}, Spelled.HeadSpelled, SpelledStream.IsStream, Spelling.{segment_head_bytes, segment_with}, Stream.{Entry, Clean}, declared.message.Message.Message}
 use Rattle.link_wire.proofs.Spellings.{segment_spelled}
-use Rattle.link_transfer.specs.Chunks.{chunk_at}
-use Rattle.link_transfer.specs.Cutting.{Cutting, announcement}
+use Rattle.link_transfer.specs.{Chunks.chunk_at, Cutting.{Cutting, announcement}}
 use Rattle.link_pack.specs.Segments.{Sending, cutting_of, cut_at, flags_of, segment_bytes, segments_from}
 use Rattle.link_run.proofs.Continued.{entry}
 use Rattle.link_laws.proofs.Streams.{stream_then, stream_one}
@@ -62,9 +55,7 @@ head_spelled false false id size announce id_fits size_fits fits = segment_spell
 
 module _ (id : ℕ) (sending : Sending) (fits : SendingFits sending) (id_fits : id < 2 ^ 64) where
   small_chunk : (k : ℕ) → length (chunk_of sending k) < 2 ^ 64
-  small_chunk k =
-      let small = fits.small in
-      omega (arith, length-take sending.segment (drop (k * sending.segment) sending.bundle))
+  small_chunk k = grind (arith, length-take)
 
   -- the segments are these messages
   pub segments_stream : (k count offset : ℕ)

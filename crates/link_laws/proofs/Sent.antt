@@ -1,35 +1,22 @@
 -- The segments of a transfer are in order, and their chunks are its data.
-use Rattle.std.proofs.Common.{◌≡◌, ℕ, suc, ◌*◌, Bool, true, false, ◌&&◌, List, [], ◌∷◌, ◌++◌, length, take, Option, Some, None, if◌then◌else◌, refl, ap, sym, ◌∙◌, subst, arith}
 use Rattle.std.specs.Prelude.{◌==◌}
-use Rattle.std.proofs.lemmas.Bool.{eq-eqb}
-use Rattle.std.proofs.Math.Seq.{take-add}
-use Rattle.link_wire.specs.Codes.{is_start, is_end}
-use Rattle.link_wire.specs.Stream.{Entry}
-use Rattle.link_wire.specs.Spelling.{announced}
-use Rattle.link_wire.specs.declared.message.SegmentHead.{SegmentHead}
-use Rattle.link_transfer.specs.Chunks.{chunk_at}
-use Rattle.link_transfer.specs.Order.{refusal_by, open_after}
-use Rattle.link_transfer.specs.declared.event.Event.TheVariants.{Segment}
+use Rattle.std.proofs.{Common.{◌≡◌, ℕ, suc, ◌*◌, Bool, true, false, List, [], ◌∷◌, ◌++◌, length, take, Option, Some, None, if◌then◌else◌, refl, ap, sym, ◌∙◌, subst, arith}, Math.Bool.and-true}
+use Rattle.std.proofs.{lemmas.Bool.eq-eqb, Math.Seq.take-add}
+use Rattle.link_wire.specs.{Codes.{is_start, is_end}, Stream.Entry, Spelling.announced, declared.message.SegmentHead.SegmentHead}
+use Rattle.link_transfer.specs.{Chunks.chunk_at, Order.{refusal_by, open_after}, declared.event.Event.TheVariants.Segment}
 use Rattle.link_unpack.specs.Transfers.{Transfer, closes, after_message}
-use Rattle.link_run.proofs.Continued.{entry}
 use Rattle.link_unpack.proofs.Heads.{transfer_begins, transfer_continues}
+use Rattle.link_run.proofs.Continued.{entry}
 use Rattle.link_pack.specs.Segments.{Sending, cut_at, flags_of}
-use Rattle.link_laws.proofs.Segments.{chunk_of, message_of}
-use Rattle.link_laws.proofs.Standing.{Stands, carrying, stands_more}
+use Rattle.link_laws.proofs.{Segments.{chunk_of, message_of}, Standing.{Stands, carrying, stands_more}}
 
 -- ---- flags
 
 pub starts_as : (first last : Bool) → is_start (flags_of first last) ≡ first
-starts_as true true = refl
-starts_as true false = refl
-starts_as false true = refl
-starts_as false false = refl
+starts_as first last = grind arith
 
 pub ends_as : (first last : Bool) → is_end (flags_of first last) ≡ last
-ends_as true true = refl
-ends_as true false = refl
-ends_as false true = refl
-ends_as false false = refl
+ends_as first last = grind arith
 
 -- a first segment may come if no transfer is open, and another one if its own transfer is open
 pub first_may : (last : Bool) (id : ℕ)
@@ -52,10 +39,6 @@ opens_by first last id = ap (λ test. if test then None else Some id) (ends_as f
 
 -- ---- the transfers after a segment
 
-and_true : (test : Bool) → (test && true) ≡ test
-and_true true = refl
-and_true false = refl
-
 abbrev pub head_of : (id : ℕ) → Sending → (k : ℕ) → SegmentHead
 head_of id sending k = record {
   flags = flags_of (cut_at sending k).first (cut_at sending k).last;
@@ -66,7 +49,8 @@ head_of id sending k = record {
 
 closes_as : (head : SegmentHead) (content : List ℕ) (last : Bool) → is_end head.flags ≡ last
     → length content ≡ head.length → closes head content ≡ last
-closes_as head content last ends size = rw (ends, eq-eqb (length content) head.length size) (and_true last)
+closes_as head content last ends size =
+    rw (ends, eq-eqb (length content) head.length size) (and-true last)
 
 -- a transfer after `count` of its chunks were sent
 abbrev pub sent : (id : ℕ) → Sending → (count : ℕ) → (closed : Bool) → Transfer
@@ -105,9 +89,7 @@ module _ (id : ℕ) (sending : Sending) where
       → after_message earlier (message_of id sending 0) (chunk_of sending 0)
       ≡ sent id sending 1 (last_at 0) ∷ earlier
   first_sent earlier =
-      transfer_begins earlier (head_of id sending 0) (chunk_of sending 0) (starts_as true (last_at 0))
-      ∙ transfer_as (head_of id sending 0) (chunk_of sending 0) (take (1 * sending.segment) sending.bundle) (closes (head_of id sending 0) (chunk_of sending 0)) (last_at 0) earlier
-      (taken_first sending.segment sending.bundle) (closes_at 0)
+      grind (arith, closes_at, starts_as, taken_first, transfer_as, transfer_begins)
 
   next_sent : (k : ℕ) (closed : Bool) (earlier : List Transfer) → (k == 0) ≡ false
       → after_message (sent id sending k closed ∷ earlier) (message_of id sending k)

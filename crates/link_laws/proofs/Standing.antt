@@ -1,17 +1,11 @@
 -- Heads that are in order and their transfers, with one more head.
-use Rattle.std.proofs.Common.{◌≡◌, ℕ, true, false, List, [], ◌∷◌, ◌++◌, Option, None, refl, ap, sym, ◌∙◌, subst}
-use Rattle.std.proofs.lemmas.Grind.{fold-append}
-use Rattle.std.proofs.lemmas.List.{map_push}
+use Rattle.std.proofs.{Common.{◌≡◌, ℕ, true, false, List, [], ◌∷◌, ◌++◌, Option, None, refl, ap, sym, ◌∙◌, subst}, lemmas.Grind.fold-append, lemmas.List.map_push}
 use Rattle.link_wire.specs.Stream.{Entry}
-use Rattle.link_transfer.specs.Event.{event_of}
-use Rattle.link_transfer.specs.Joiner.{IsJoinerAt, joiner_after}
-use Rattle.link_transfer.specs.Order.{refusal, refusal_by}
-use Rattle.link_transfer.specs.declared.event.Event.{Event}
-use Rattle.link_transfer.specs.declared.joiner.Joiner.{Joiner}
+use Rattle.link_transfer.specs.{Event.event_of, Joiner.{IsJoinerAt, joiner_after}, Order.refusal_by, declared.event.Event.Event, declared.joiner.Joiner.Joiner}
 use Rattle.link_transfer.proofs.Joining.{refusal-at, IsJoinerAt-none, IsJoinerAt-then}
 use Rattle.link_unpack.specs.Transfers.{Transfer, after_message}
-use Rattle.link_laws.specs.Transfers.{transfers_of}
-use Rattle.link_laws.proofs.Orders.{messages_of, AreInOrder, in_order_none, in_order_more}
+use Rattle.link_laws.specs.Transfers.{ordered, ordered_after, transfers_of}
+use Rattle.link_laws.proofs.Orders.{messages_of, AreInOrder, in_order_more}
 
 -- These heads are in order, and these are their transfers. A joiner that accepted their messages
 -- has this value.
@@ -29,8 +23,8 @@ abbrev pub carrying : Option ℕ → Joiner
 carrying transfer = record { initiated = true; terminated = false; transfer = transfer }
 
 pub stands_none : Stands [] fresh []
-unfolding transfers_of
-stands_none = record { in_order = in_order_none; joins = IsJoinerAt-none; makes = refl }
+unfolding ordered ordered_after transfers_of
+stands_none = record { in_order = refl; joins = IsJoinerAt-none; makes = refl }
 
 -- one more head, which may come here
 pub stands_more : (heads : List Entry) (joiner : Joiner) (transfers : List Transfer) (head : Entry)
@@ -44,8 +38,7 @@ stands_more heads joiner transfers head event is may at =
     let after = λ (ts : List Transfer) (h : Entry). after_message ts h.message h.content in
     record {
       in_order = in_order_more heads head at.in_order
-          (ap (refusal (messages_of heads)) is
-          ∙ sym (refusal-at joiner (messages_of heads) event at.joins) ∙ may);
+          (cc (is, refusal-at joiner (messages_of heads) event at.joins, may));
       joins = subst (IsJoinerAt (joiner_after joiner event))
           (sym (map_push (λ (h : Entry). h.message) heads head))
           (IsJoinerAt-then joiner (messages_of heads) head.message event is at.joins);

@@ -1,22 +1,13 @@
 -- Messages, one after another, are a stream.
-use Rattle.std.proofs.Common.{◌≡◌, ℕ, ◌+◌, List, [], ◌∷◌, ◌++◌, length, refl, ap, sym, ◌∙◌, subst, append-nil, append_assoc, length-append, arith}
-use Rattle.std.proofs.lemmas.List.Elements.{All-nil}
-use Rattle.link_wire.specs.Bytes.{IsByte, AreBytes}
-use Rattle.link_wire.specs.Message.{data_length}
-use Rattle.link_wire.specs.Spelled.{HeadSpelled}
-use Rattle.link_wire.specs.SpelledStream.{IsStream}
-use Rattle.link_wire.specs.Stream.{Entry, End, Clean}
-use Rattle.link_wire.specs.declared.message.Message.{Message}
+use Rattle.std.proofs.{Common.{◌≡◌, ℕ, ◌+◌, List, [], ◌∷◌, ◌++◌, length, refl, ap, sym, ◌∙◌, subst, append-nil, append_assoc, length-append, arith}, lemmas.List.Elements.All-nil}
+use Rattle.link_wire.specs.{Bytes.{IsByte, AreBytes}, Message.data_length, Spelled.HeadSpelled, SpelledStream.IsStream, Stream.{Entry, End, Clean}, declared.message.Message.Message}
 use Rattle.link_run.proofs.Continued.{entry}
 
 -- messages, and then the rest of the stream
 pub stream_then : (entries more : List Entry) (end : End) (offset : ℕ) (front back : List ℕ)
     → IsStream entries Clean offset front → IsStream more end (offset + length front) back
     → IsStream (entries ++ more) end offset (front ++ back)
-stream_then [] more end offset front back none is =
-    let P : List ℕ → Type 0 = λ before. IsStream more end (offset + length before) back → IsStream more end offset (before ++ back) in
-    let Q : ℕ → Type 0 = λ at. IsStream more end at back in
-    subst P (sym none) (λ later. subst Q (omega arith) later) is
+stream_then [] more end offset front back none is = grind arith
 stream_then (first ∷ entries) more end offset front back stands is =
     let Q : ℕ → Type 0 = λ at. IsStream more end at back in
     let place : offset + length front ≡ offset + length stands.before + length stands.after = omega (arith, ap length stands.parts, length-append stands.before stands.after) in

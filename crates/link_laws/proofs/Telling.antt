@@ -1,17 +1,10 @@
 -- What `unpack` says of the events of a head and of its data.
-use Rattle.std.proofs.Common.{◌≡◌, ℕ, zero, suc, Bool, true, false, not, ◌&&◌, ◌==◌, List, [], ◌∷◌, ◌++◌, length, Option, Some, None, if◌then◌else◌, refl, ap, sym, ◌∙◌, append-nil, arith}
-use Rattle.std.proofs.Math.Bool.{and-true, and-false}
-use Rattle.std.proofs.lemmas.Bool.{ne_eqb}
-use Rattle.link_wire.specs.Message.{data_length}
-use Rattle.link_wire.specs.declared.message.Message.{Message}
-use Rattle.link_wire.specs.declared.message.SegmentHead.{SegmentHead}
-use Rattle.link_transfer.specs.declared.fault.OrderFault.{OrderFault}
-use Rattle.link_transfer.specs.declared.joiner.Turn.{Turn}
-use Rattle.link_transfer.specs.declared.joiner.Turn.TheVariants as turn
+use Rattle.std.proofs.Common.{◌≡◌, ℕ, zero, suc, Bool, true, false, not, ◌&&◌, ◌==◌, List, [], ◌∷◌, ◌++◌, length, Option, if◌then◌else◌, refl, ap, sym, ◌∙◌, append-nil, arith}
+use Rattle.std.proofs.{Math.Bool.{and-true, and-false}, lemmas.Bool.ne_eqb}
+use Rattle.link_wire.specs.{Message.data_length, declared.message.Message.Message, declared.message.SegmentHead.SegmentHead}
+use Rattle.link_transfer.specs.declared.{fault.OrderFault.OrderFault, joiner.Turn.Turn}
 use Rattle.link_walk.specs.Walk.{Head, WalkEvent, MessageHead, Whole, is_plain, content_events, data_events, head_events}
-use Rattle.link_unpack.specs.Transfers.{Transfer}
-use Rattle.link_unpack.specs.Unpacking.{Told, transfers_at, with_line, told_head}
-use Rattle.link_unpack.specs.declared.wanted.Wanted.{Wanted}
+use Rattle.link_unpack.specs.{Transfers.Transfer, Unpacking.{Told, transfers_at, with_line, told_head}, declared.wanted.Wanted.Wanted}
 use Rattle.link_unpack.proofs.Events.{told_then, told_both, data_told}
 
 pub closed_not : (closed : Bool) → not closed ≡ true → closed ≡ false
@@ -44,9 +37,7 @@ module _ (wanted : Wanted) where
           good = good;
         }) (if whole then Whole ∷ [] else [])
         ≡ segment_told content whole
-    whole_told content true =
-        ap (λ xs. segment_told xs true) (append-nil content)
-    whole_told content false = told_as _ _ _ _ _ (sym (append-nil lines)) (sym (and-true good))
+    whole_told content whole = grind (arith, and-true, append-nil, told_as)
 
     no_line : (content : List ℕ) → segment_told content false ≡ record {
       transfers = record { first = first; content = content; closed = false } ∷ earlier;
@@ -104,20 +95,13 @@ module _ (wanted : Wanted) where
           report = (report ++ []) ++ [];
           good = (good && true) && true;
         }) ≡ told
-    plain_none after closing same is =
-        rw is (simp (append-nil, and-true)
-        (ap (λ ts. record { transfers = ts; report = report; good = good }) same))
+    plain_none after closing same is = grind (arith, and-true, append-nil)
 
     plain_told : (fault : Option OrderFault) (effect : Option Turn)
         → is_plain (head_of offset sent fault effect) ≡ true
         → transfers_at effect transfers sent ≡ transfers
         → told_head wanted told (head_of offset sent fault effect) ≡ told
-    plain_told (Some fault) effect is same = absurd (cc)
-    plain_told None None is same = plain_none transfers false refl refl
-    plain_told None (Some turn.Other) is same = plain_none _ false same refl
-    plain_told None (Some (turn.Begin abandoned last)) is same = absurd (cc)
-    plain_told None (Some (turn.Continue last)) is same =
-        plain_none _ _ same (closed_not (last && (data_length sent == 0)) is)
+    plain_told fault effect is same = grind (arith, closed_not, plain_none)
 
     head_by : (head : Head) (plain : Bool) → is_plain head ≡ plain
         → (is_plain head ≡ true → told_head wanted told head ≡ told)
@@ -133,9 +117,4 @@ module _ (wanted : Wanted) where
         → said_of offset fault effect sent content told
         ≡ told_then wanted (told_head wanted told (head_of offset sent fault effect))
         (content_events effect (data_length sent) content)
-    head_told fault effect content same =
-        let head = head_of offset sent fault effect in
-        let later = content_events effect (data_length sent) content in
-        told_both wanted told (head_events false head) later
-        ∙ ap (λ t. told_then wanted t later)
-        (head_by head (is_plain head) refl (λ plain. plain_told fault effect plain (same plain)))
+    head_told fault effect content same = grind (arith, head_by, plain_told, told_both)

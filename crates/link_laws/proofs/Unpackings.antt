@@ -1,23 +1,15 @@
 -- The texts of `unpack` that some bytes determine are prefixes of its texts for longer inputs.
-use Rattle.std.proofs.Common.{ℕ, Bool, true, false, List, [], ◌∷◌, ◌++◌, Option, Some, None, if◌then◌else◌, refl, ⊎_elim}
-use Rattle.std.proofs.lemmas.Bool.{cases_Bool}
-use Rattle.link_wire.specs.Codes.{is_start}
-use Rattle.link_wire.specs.declared.message.Message.{Message}
+use Rattle.std.proofs.{Common.{ℕ, Bool, true, false, List, [], ◌∷◌, ◌++◌, Option, Some, None, if◌then◌else◌, refl, ⊎_elim, arith}, lemmas.Bool.cases_Bool}
+use Rattle.link_wire.specs.{Codes.is_start, declared.message.Message.Message}
 use Rattle.link_bundle_blocks.specs.Bundle.{payload_in}
 use Rattle.link_transfer.specs.declared.joiner.Turn.{Turn}
 use Rattle.link_run.specs.Run.{Texts}
 use Rattle.link_walk.specs.Walk.{WalkEvent, ContactHeader, MessageHead, Data, Whole, LeftOpen}
-use Rattle.link_unpack.specs.TransferJudge.{grown}
-use Rattle.link_unpack.specs.Transfers.{Transfer, continued, after_message}
-use Rattle.link_unpack.specs.Unpacking.{is_selected, parts_of, Told, transfers_at, told_event, told_after, unpack_telling, unpack_tool}
-use Rattle.link_unpack.specs.declared.wanted.Wanted.{Wanted}
-use Rattle.link_unpack.proofs.Events.{told_push}
-use Rattle.link_unpack.proofs.Heads.{kind_of, transfers_same, transfer_begins, transfer_continues}
-use Rattle.link_unpack.proofs.Texts.{parts_more}
+use Rattle.link_unpack.specs.{TransferJudge.grown, Transfers.{Transfer, continued, after_message}}
+use Rattle.link_unpack.specs.{Unpacking.{is_selected, parts_of, Told, transfers_at, told_event, told_after, unpack_telling, unpack_tool}, declared.wanted.Wanted.Wanted}
+use Rattle.link_unpack.proofs.{Events.told_push, Heads.{kind_of, transfers_same, transfer_begins, transfer_continues}, Texts.parts_more}
 use Rattle.link_laws.specs.Prefix.{IsFrontOf, IsPrefixed}
-use Rattle.link_laws.proofs.Fronts.{front_same, front_first, front_then, front_after, front_none, AreFronts, fronts_same}
-use Rattle.link_laws.proofs.Payloads.{payload_front}
-use Rattle.link_laws.proofs.Walks.{Adds, told_prefix}
+use Rattle.link_laws.proofs.{Fronts.{front_same, front_first, front_then, front_after, front_none, AreFronts, fronts_same}, Payloads.payload_front, Walks.{Adds, told_prefix}}
 
 chosen_front : (selected payload : Bool) (content piece : List ℕ)
     → IsFrontOf (if selected then (if payload then payload_in content else content) else [])
@@ -67,18 +59,9 @@ module _ (wanted : Wanted) where
   event_front : (told : Told) (event : WalkEvent)
       → AreFronts (text_of told) (text_of (told_event wanted told event))
   event_front told (ContactHeader contact) = fronts_same _ _ refl
-  event_front told (MessageHead head) = record {
-    output = turn_front told.transfers head.turn head.message;
-    report = front_then _ _ _ (front_then _ _ _ (front_first told.report _));
-  }
-  event_front told (Data byte) = record {
-    output = continued_front told.transfers (byte ∷ []) false;
-    report = front_same _ _ refl;
-  }
-  event_front told Whole = record {
-    output = continued_front told.transfers [] true;
-    report = front_first _ _;
-  }
+  event_front told (MessageHead head) = grind (arith, front_first, front_then, turn_front)
+  event_front told (Data byte) = grind (arith, continued_front, front_same)
+  event_front told Whole = grind (arith, continued_front, front_first)
   event_front told LeftOpen = record { output = front_same _ _ refl; report = front_first _ _ }
 
   said_front : Adds (unpack_telling wanted)

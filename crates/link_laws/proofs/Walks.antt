@@ -1,27 +1,19 @@
 -- The events that a stream tells, and what a tool over transfers says of them, when more bytes
 -- follow.
-use Rattle.std.proofs.Common.{◌≡◌, ℕ, ◌<◌, Bool, true, false, not, ◌&&◌, ◌==◌, List, [], ◌∷◌, ◌++◌, length, Option, Some, None, if◌then◌else◌, refl, ap, sym, subst, ◌∙◌, ⊎_elim, append-nil, append_assoc, arith}
 use Rattle.std.specs.List.{fold}
-use Rattle.std.proofs.lemmas.Bool.{and_right, ne_eqb}
-use Rattle.std.proofs.lemmas.Grind.{fold-append}
-use Rattle.std.proofs.lemmas.List.{map-append}
-use Rattle.link_wire.specs.Message.{data_length}
-use Rattle.link_wire.specs.Stream.{Entry, Stream, Reading, reading_of, cut_heads, heads_of}
-use Rattle.link_transfer.specs.Event.{event_of}
-use Rattle.link_transfer.specs.Order.{refusal, effect_of}
-use Rattle.link_transfer.specs.declared.fault.OrderFault.{OrderFault}
-use Rattle.link_transfer.specs.declared.joiner.Turn.{Turn}
-use Rattle.link_transfer.specs.declared.joiner.Turn.TheVariants as turn
-use Rattle.link_run.proofs.Continued.{entry, LastGoesOn, ReadingGoesOn, reading_on}
+use Rattle.std.proofs.Common.{◌≡◌, ℕ, ◌<◌, Bool, true, false, not, ◌&&◌, ◌==◌, List, [], ◌∷◌, ◌++◌, length, Option, Some, None, if◌then◌else◌, refl, ap, sym, subst, ◌∙◌, ⊎_elim, append-nil, append_assoc, arith}
+use Rattle.std.proofs.lemmas.{Bool.{and_right, ne_eqb}, Grind.fold-append, List.map-append}
+use Rattle.link_wire.specs.{Message.data_length, Stream.{Entry, Stream, Reading, reading_of, cut_heads, heads_of}}
+use Rattle.link_transfer.specs.{Event.event_of, Order.{refusal}, declared.fault.OrderFault.OrderFault, declared.joiner.Turn.Turn}
 use Rattle.link_run.specs.Made.{tool_of}
+use Rattle.link_run.proofs.Continued.{entry, LastGoesOn, ReadingGoesOn, reading_on}
 use Rattle.link_walk.specs.Walk.{WalkEvent, Data, Whole, data_events, Walked, content_events, taken_with, with_entry_unless, with_next, none_walked, walked_of, walked, end_events, Telling, told_of}
 use Rattle.link_walk.specs.declared.consumer.Manner.{Manner}
 use Rattle.link_walk.proofs.Texts.{made_stays, unread}
 use Rattle.link_laws.specs.Prefix.{IsPrefixed}
 use Rattle.link_laws.proofs.Following.{Follows, AllFollow, follow_rest, Told, reading_told, end_follows}
-use Rattle.link_laws.proofs.Fronts.{IsFront, AreFronts, front_same, front_first, front_after, front_none, front_trans, fronts_same, fronts_trans}
-use Rattle.link_laws.proofs.Prefixes.{prefixed}
-use Rattle.link_laws.proofs.Whole.{reading_read}
+use Rattle.link_laws.proofs.{Fronts.{IsFront, AreFronts, front_same, front_first, front_after, front_none, front_trans, fronts_same, fronts_trans}, Prefixes.prefixed, Whole.reading_read}
+use Rattle.link_transfer.specs.declared.joiner.Turn.TheVariants as turn
 
 -- ---- more data of a segment
 
@@ -65,13 +57,7 @@ module _ (manner : Manner) where
         Grows was one × (length head.content < data_length head.message → Grows one other)
 
     taken_grows : BothGrow (taken_with manner was head) (taken_with manner was longer)
-    taken_grows = (
-      front_first _ _,
-      λ short.
-          front_after was.events _ _ (front_after _ _ _
-          (content_grows (effect_of was.taken (event_of head.message))
-          (data_length head.message) head.content piece short)),
-    )
+    taken_grows = search (content_grows, front_after, front_first)
 
     refused_grows : (goes : Bool) (refused : Option (ℕ × OrderFault))
         → BothGrow (if goes then taken_with manner was head else record was { refused = refused })
@@ -129,9 +115,7 @@ module _ (manner : Manner) where
   -- what a stream tells begins what any longer stream tells
   pub events_grow : (bytes more : List ℕ)
       → Grows (walked manner (reading_of bytes)) (walked manner (reading_of (bytes ++ more)))
-  events_grow bytes more =
-      reading_grows (reading_of bytes) (reading_of (bytes ++ more)) (reading_on bytes more)
-      (unread bytes)
+  events_grow bytes more = grind (arith, reading_grows, reading_on, unread)
 
 -- ---- what a tool says of them
 
@@ -152,9 +136,7 @@ module _ (telling : Telling) (adds : Adds telling) where
 
   reading_added : (before after : Walked) → IsFront before.events after.events → Told after
       → AreFronts (telling.texts before.events) (telling.texts after.events)
-  reading_added before after front told =
-      rw front.1 (added before.events front.0
-      (follow_rest [] before.events front.0 (rw front.1 at told.follow)))
+  reading_added before after front told = grind (arith, added, follow_rest)
 
   -- So its texts for some bytes begin those for more.
   pub told_prefix : (bytes more : List ℕ) → IsPrefixed (tool_of (told_of telling)) bytes more

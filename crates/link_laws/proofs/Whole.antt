@@ -1,11 +1,8 @@
 -- The heads of a stream have all of their data, but for the last.
-use Rattle.std.proofs.Common.{◌≡◌, ℕ, zero, suc, ◌⊎◌, inl, inr, Bool, true, false, List, [], ◌∷◌, ◌++◌, length, take, nat_lt, Result, Ok, Err, if◌then◌else◌, refl, arith, length-take}
-use Rattle.std.proofs.lemmas.Bool.{ltb-true, ltb-false}
+use Rattle.std.proofs.{Common.{◌≡◌, ℕ, zero, suc, ◌⊎◌, Bool, List, [], ◌∷◌, ◌++◌, length, take, nat_lt, Result, Ok, Err, if◌then◌else◌, refl, arith, length-take}, lemmas.Bool.{ltb-true, ltb-false}}
 use Rattle.link_wire.specs.Message.{data_length, contact_at, message_at}
-use Rattle.link_wire.specs.Stream.{Entry, Cut, Stream, ended, with_entry, stream_by, messages_at, stream_at, Reading, reading_by, reading_of, cut_heads}
-use Rattle.link_wire.specs.declared.fault.WireFault.{WireFault}
-use Rattle.link_wire.specs.declared.message.Contact.{Contact}
-use Rattle.link_wire.specs.declared.message.Message.{Message}
+use Rattle.link_wire.specs.{Stream.{Entry, Cut, Stream, ended, with_entry, stream_by, messages_at, stream_at, Reading, reading_by, reading_of, cut_heads}, declared.fault.WireFault.WireFault}
+use Rattle.link_wire.specs.declared.message.{Contact.Contact, Message.Message}
 use Rattle.link_run.proofs.Continued.{entry}
 
 -- All data of the head has come.
@@ -37,17 +34,8 @@ reads_by : (test : Bool) (offset : ℕ) (sent : Message) (bytes : List ℕ) (res
     → nat_lt (length bytes) (data_length sent) ≡ test → StreamReads rest
     → StreamReads (if test then ended (Cut offset sent bytes)
     else with_entry (entry offset sent (take (data_length sent) bytes)) rest)
-reads_by true offset sent bytes rest is reads =
-    let short = ltb-true (length bytes) (data_length sent) is in
-    record { heads = ((λ none. absurd (omega arith)), inr refl, tt); whole = tt }
-reads_by false offset sent bytes rest is reads =
-    let long = ltb-false (length bytes) (data_length sent) is in
-    let all : length (take (data_length sent) bytes) ≡ data_length sent =
-    omega (arith, length-take (data_length sent) bytes) in
-    record {
-      heads = (no_content _ _ all, inl all, reads.heads);
-      whole = (all, reads.whole);
-    }
+reads_by test offset sent bytes rest is reads =
+    grind (arith, length-take, ltb-false, ltb-true, no_content)
 
 read_by : (next : ℕ → List ℕ → Stream) (offset size : ℕ)
     (read : Result (Message × List ℕ) WireFault)

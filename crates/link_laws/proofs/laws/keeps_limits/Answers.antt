@@ -4,6 +4,5 @@ use Rattle.link_laws.proofs.laws.keeps_limits.Goals as goal
 
 pub returns : goal.returns
 returns c =
-    keeps c.args.options.now c.args.bytes.now
-    (is_packed c.args.options.now c.args.bytes.now c.options_fit.ensures c.input_fits.ensures
-    c.exactly_one_reading.ensures.only)
+    keeps _ _
+    (is_packed _ _ c.options_fit.ensures c.input_fits.ensures c.exactly_one_reading.ensures.only)

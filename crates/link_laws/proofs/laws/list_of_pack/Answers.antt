@@ -4,6 +4,5 @@ use Rattle.link_laws.proofs.laws.list_of_pack.Goals as goal
 
 pub returns : goal.returns
 returns c =
-    listed c.args.options.now c.args.bytes.now
-    (is_packed c.args.options.now c.args.bytes.now c.options_fit.ensures c.input_fits.ensures
-    c.exactly_one_reading.ensures.only)
+    listed _ _
+    (is_packed _ _ c.options_fit.ensures c.input_fits.ensures c.exactly_one_reading.ensures.only)
