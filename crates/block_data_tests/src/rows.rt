@@ -16,7 +16,7 @@ pub(crate) struct Row {
     pub data: DataView<'static>,
 }
 
-pub(crate) const GOOD: [Row; 23] = [
+pub(crate) static GOOD: [Row; 23] = [
     // an ipn endpoint ID of two numbers
     Row {
         kind: DataKind::PreviousNode,
@@ -313,7 +313,7 @@ pub(crate) const GOOD: [Row; 23] = [
 ];
 
 /// Malformed data, and the offset at which it is malformed.
-pub(crate) const MALFORMED: [(DataKind, &[u8], u64); 87] = [
+pub(crate) static MALFORMED: [(DataKind, &[u8], u64); 87] = [
     // no data
     (DataKind::PreviousNode, b"", 0),
     (DataKind::BundleAge, b"", 0),

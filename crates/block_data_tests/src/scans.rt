@@ -89,7 +89,7 @@ fn expect_longer(
 
 /// Heads that are due nowhere: ill-formed heads, byte strings, a tag, a map, heads of indefinite
 /// length, a break, and a simple value that is no Boolean.
-const DUE_NOWHERE: [&[u8]; 12] = [
+static DUE_NOWHERE: [&[u8]; 12] = [
     b"\x1c",
     b"\x3f",
     b"\xf8\x1f",

@@ -11,7 +11,7 @@ use std::process::Abort;
 /// the offset of its first head of indefinite length.
 type Row = (&'static [u8], Option<u64>, Option<u64>);
 
-const ROWS: [Row; 40] = [
+static ROWS: [Row; 40] = [
     (b"", None, None),
     (b"\x9f", None, None),
     (b"\x9f\x00\x17\x37\x83\xa2\xc1\xf5\xff", None, None),

@@ -11,7 +11,7 @@ pub(crate) struct Row {
     pub broken: Option<BundleRule>,
 }
 
-pub(crate) const ROWS: [Row; 93] = [
+pub(crate) static ROWS: [Row; 93] = [
     // long-head
     Row {
         bytes: b"\x9f\x89\x18\x07\x00\x01\x82\x02\x82\x02\x01\x82\x02\x82\x01\x01\x82\x01\x00\x82\

@@ -22,7 +22,7 @@ const CHECKED: &[u8] =
     b"\x9f\x88\x07\x00\x00\x82\x02\x82\x02\x01\x82\x02\x82\x01\x01\x82\x01\x00\x82\x00\x00\x00\x86\x01\x01\x00\x01\x45hello\x42\x4b\xf3\xff";
 
 /// The pieces that one scan is fed, one after another, and the result of each.
-const PIECES: [(&[u8], Found); 8] = [
+static PIECES: [(&[u8], Found); 8] = [
     // A primary block, with the sequence number 7.
     (
         b"\x9f\x88\x07\x00\x00\x82\x02\x82\x02\x01\x82\x02\x82\x01\x01\x82\x01\x00\x82\x00\x07\x00",
@@ -61,8 +61,8 @@ const PIECES: [(&[u8], Found); 8] = [
 #[test]
 fn bundles_in_pieces(rt: HostRuntime) {
     let mut scan = BundleScan::new();
-    for (piece, found) in PIECES {
-        assert_eq!(rt; scan_piece(&mut scan, piece), found);
+    for (piece, found) in &PIECES {
+        assert_eq!(rt; scan_piece(&mut scan, piece), *found);
     }
     // The input ends here, two bytes after the beginning of a bundle.
     assert_eq!(rt; scan.finish(), Err((BundleFault::Cut, 2)));
@@ -71,7 +71,7 @@ fn bundles_in_pieces(rt: HostRuntime) {
 /// A stream, what `copy_data` returns for it, and the number of bytes of the bundle that it writes.
 type Recorded = (&'static [u8], Result<u64, Stop>, usize);
 
-const RECORDED: [Recorded; 5] = [
+static RECORDED: [Recorded; 5] = [
     // A contact header, a SESS_INIT, and the bundle in one segment.
     (
         b"dtn!\x04\x00\x07\x00\x3c\x00\x00\x00\x00\x00\x01\x00\x00\x00\x00\x00\x00\x00\x10\x00\x00\x00\x07ipn:1.0\x00\x00\x00\x00\x01\x03\x00\x00\x00\x00\x00\x00\x00\x00\x00\x00\x00\x00\x00\x00\x00\x00\x00\x00\x00\x22\x9f\x88\x07\x00\x00\x82\x02\x82\x02\x01\x82\x02\x82\x01\x01\x82\x01\x00\x82\x00\x00\x00\x85\x01\x01\x00\x00\x45hello\xff",
@@ -95,8 +95,8 @@ const RECORDED: [Recorded; 5] = [
 ];
 
 /// Reads a stream in two pieces, cut at every offset.
-fn expect_copied(rt: &(impl Abort + AllocGlobal), recorded: Recorded) {
-    let (stream, copied, size) = recorded;
+fn expect_copied(rt: &(impl Abort + AllocGlobal), recorded: &Recorded) {
+    let (stream, copied, size) = *recorded;
     for cut in 0..=stream.len() {
         let (front, back) = stream.split_at(cut);
         let mut output = Vec::new(rt.alloc());
@@ -111,7 +111,7 @@ fn expect_copied(rt: &(impl Abort + AllocGlobal), recorded: Recorded) {
 
 #[test]
 fn sessions_in_two_pieces(rt: HostRuntime) {
-    for recorded in RECORDED {
+    for recorded in &RECORDED {
         expect_copied(&rt, recorded);
     }
 }
@@ -119,7 +119,7 @@ fn sessions_in_two_pieces(rt: HostRuntime) {
 /// A bundle, and its segments of at most 20 bytes.
 ///
 /// The length of a bundle of at most 34 bytes is announced, if it has more than one segment.
-const CUT: [(&[u8], &[u8]); 4] = [
+static CUT: [(&[u8], &[u8]); 4] = [
     // 34 bytes: two segments, and the first announces 34.
     (
         BUNDLE,
@@ -154,7 +154,7 @@ fn bundles_as_segments(rt: HostRuntime) -> Result<(), Fail> {
 /// A stream, what `Counting` writes to the output and to the report, and the exit status.
 type Counted = (&'static [u8], &'static str, &'static str, Status);
 
-const COUNTED: [Counted; 4] = [
+static COUNTED: [Counted; 4] = [
     // Four transfers. The first has two segments, of 5 and 2 bytes. The second has 3 bytes, and the
     // START of the third abandons it. The third has no data. The last is still open after 1 byte.
     (
@@ -198,8 +198,8 @@ fn counts<R: Read + Drop, W: Write + Drop>(
 }
 
 /// Reads a stream in two pieces, cut at every offset.
-fn expect_counted(rt: &(impl Abort + AllocGlobal), counted: Counted) {
-    let (stream, sizes, faults, status) = counted;
+fn expect_counted(rt: &(impl Abort + AllocGlobal), counted: &Counted) {
+    let (stream, sizes, faults, status) = *counted;
     for cut in 0..=stream.len() {
         let (front, back) = stream.split_at(cut);
         let (output, report, answer) = counts(
@@ -215,7 +215,7 @@ fn expect_counted(rt: &(impl Abort + AllocGlobal), counted: Counted) {
 
 #[test]
 fn transfers_in_two_pieces(rt: HostRuntime) {
-    for counted in COUNTED {
+    for counted in &COUNTED {
         expect_counted(&rt, counted);
     }
 }

@@ -48,73 +48,136 @@ fn transfer(id: u64, start: u64, written: u64, length: u64, judgement: Judgement
 }
 
 /// Checks the line of a transfer.
-fn reports(rt: &impl Abort, entry: TransferEntry, want: &str) {
+fn reports(rt: &impl Abort, entry: &TransferEntry, want: &str) {
     let mut line = Line::new();
-    transfer_line(&mut line, &entry);
+    transfer_line(&mut line, entry);
     is_text(rt, line.as_slice(), want);
 }
 
-#[test]
-fn lines_of_transfers(rt: HostRuntime) {
+/// A good bundle, which `whole` makes.
+const WHOLE: BundleView<'static> = BundleView {
+    flags: 0,
+    destination: EidView::Ipn(2, 1),
+    source: EidView::Ipn(1, 1),
+    report_to: EidView::Ipn(3, 1),
+    time: 0,
+    sequence: 0,
+    lifetime: 0,
+    fragment: None,
+    blocks: 1,
+    payload: 5,
+};
+
+/// The judgement that is viewed. A bundle in it is the one that `whole` makes.
+fn judgement_of(view: &JudgementView<'_>) -> Judgement {
+    match view {
+        JudgementView::Abandoned => Judgement::Abandoned,
+        JudgementView::BadLengthItem => Judgement::BadLengthItem,
+        JudgementView::LengthDiffers(announced) => Judgement::LengthDiffers(*announced),
+        JudgementView::Good(_) => Judgement::Good(whole()),
+        JudgementView::Bad(fault, offset) => Judgement::Bad(*fault, *offset),
+    }
+}
+
+/// A transfer, and its line: its ID, start, bytes written and length, and the judgement.
+type Transfer = ([u64; 4], JudgementView<'static>, &'static str);
+
+/// Checks the line of a transfer.
+fn reports_row(rt: &impl Abort, row: &Transfer) {
+    let (numbers, view, want) = row;
+    let [id, start, written, length] = *numbers;
     reports(
-        &rt,
-        transfer(0, 0, 10, 10, Judgement::Abandoned),
-        "transfer 0 start=0 written=10 length=10 abandoned\n",
-    );
-    reports(
-        &rt,
-        transfer(1, 10, 34, 34, Judgement::Good(whole())),
-        "transfer 1 start=10 written=34 length=34 good \
-        source=ipn:1.1 time=0 sequence=0 destination=ipn:2.1 payload=5\n",
-    );
-    reports(
-        &rt,
-        transfer(0, 0, 0, 10, Judgement::Abandoned),
-        "transfer 0 start=0 written=0 length=10 abandoned\n",
-    );
-    reports(
-        &rt,
-        transfer(0, 0, 34, 34, Judgement::LengthDiffers(35)),
-        "transfer 0 start=0 written=34 length=34 length-differs announced=35\n",
-    );
-    reports(
-        &rt,
-        transfer(0, 0, 34, 34, Judgement::BadLengthItem),
-        "transfer 0 start=0 written=34 length=34 bad-length-item\n",
+        rt,
+        &transfer(id, start, written, length, judgement_of(view)),
+        want,
     );
 }
+
+static TRANSFERS: [Transfer; 5] = [
+    (
+        [0, 0, 10, 10],
+        JudgementView::Abandoned,
+        "transfer 0 start=0 written=10 length=10 abandoned\n",
+    ),
+    (
+        [1, 10, 34, 34],
+        JudgementView::Good(WHOLE),
+        "transfer 1 start=10 written=34 length=34 good \
+        source=ipn:1.1 time=0 sequence=0 destination=ipn:2.1 payload=5\n",
+    ),
+    (
+        [0, 0, 0, 10],
+        JudgementView::Abandoned,
+        "transfer 0 start=0 written=0 length=10 abandoned\n",
+    ),
+    (
+        [0, 0, 34, 34],
+        JudgementView::LengthDiffers(35),
+        "transfer 0 start=0 written=34 length=34 length-differs announced=35\n",
+    ),
+    (
+        [0, 0, 34, 34],
+        JudgementView::BadLengthItem,
+        "transfer 0 start=0 written=34 length=34 bad-length-item\n",
+    ),
+];
+
+#[test]
+fn lines_of_transfers(rt: HostRuntime) {
+    for row in &TRANSFERS {
+        reports_row(&rt, row);
+    }
+}
+
+static BAD_BUNDLES: [Transfer; 4] = [
+    (
+        [0, 0, 5, 37],
+        JudgementView::Bad(BundleFault::CheckDiffers, 33),
+        "transfer 0 start=0 written=5 length=37 bad=B13 byte=33\n",
+    ),
+    (
+        [0, 0, 38, 38],
+        JudgementView::Bad(BundleFault::BadCheckLength, 33),
+        "transfer 0 start=0 written=38 length=38 bad=B12 byte=33\n",
+    ),
+    (
+        [0, 0, 35, 35],
+        JudgementView::Bad(BundleFault::Trailing, 34),
+        "transfer 0 start=0 written=35 length=35 bad=B2 byte=34\n",
+    ),
+    (
+        [0, 0, 0, 0],
+        JudgementView::Bad(BundleFault::Cut, 0),
+        "transfer 0 start=0 written=0 length=0 bad=B1 byte=0\n",
+    ),
+];
 
 #[test]
 fn lines_of_bad_bundles(rt: HostRuntime) {
-    reports(
-        &rt,
-        transfer(0, 0, 5, 37, Judgement::Bad(BundleFault::CheckDiffers, 33)),
-        "transfer 0 start=0 written=5 length=37 bad=B13 byte=33\n",
-    );
-    reports(
-        &rt,
-        transfer(
-            0,
-            0,
-            38,
-            38,
-            Judgement::Bad(BundleFault::BadCheckLength, 33),
-        ),
-        "transfer 0 start=0 written=38 length=38 bad=B12 byte=33\n",
-    );
-    reports(
-        &rt,
-        transfer(0, 0, 35, 35, Judgement::Bad(BundleFault::Trailing, 34)),
-        "transfer 0 start=0 written=35 length=35 bad=B2 byte=34\n",
-    );
-    reports(
-        &rt,
-        transfer(0, 0, 0, 0, Judgement::Bad(BundleFault::Cut, 0)),
-        "transfer 0 start=0 written=0 length=0 bad=B1 byte=0\n",
-    );
+    for row in &BAD_BUNDLES {
+        reports_row(&rt, row);
+    }
 }
 
-/// Checks the line of this bundle, packed as the second one into two segments.
+/// The endpoint ID that is viewed.
+fn eid_of(view: EidView<'_>) -> Result<Eid, Fail> {
+    match view {
+        EidView::DtnNone => Ok(Eid::DtnNone),
+        EidView::Dtn(bytes) => name(bytes),
+        EidView::Ipn(node, service) => Ok(Eid::Ipn(node, service)),
+        EidView::Ipn3(allocator, node, service) => Ok(Eid::Ipn3(allocator, node, service)),
+    }
+}
+
+/// The source, the destination and the fragment of a bundle, and the line of the packed bundle.
+type Packed = (
+    EidView<'static>,
+    EidView<'static>,
+    Option<(u64, u64)>,
+    &'static str,
+);
+
+/// Checks the line of a bundle, packed as the second one into two segments.
 fn reports_packed(rt: &impl Abort, info: BundleInfo, want: &str) {
     let entry = PackedEntry {
         number: 1,
@@ -127,60 +190,89 @@ fn reports_packed(rt: &impl Abort, info: BundleInfo, want: &str) {
     is_text(rt, line.as_slice(), want);
 }
 
-#[test]
-fn lines_of_packed_bundles(rt: HostRuntime) {
-    reports_packed(
-        &rt,
-        whole(),
+/// Checks the line of the bundle of a row.
+fn reports_packed_row(rt: &impl Abort, row: &Packed) -> Result<(), Fail> {
+    let (source, destination, fragment, want) = *row;
+    let source = eid_of(source)?;
+    let info = bundle(source, eid_of(destination)?, fragment);
+    reports_packed(rt, info, want);
+    Ok(())
+}
+
+static PACKED: [Packed; 2] = [
+    (
+        EidView::Ipn(1, 1),
+        EidView::Ipn(2, 1),
+        None,
         "bundle 1 segments=2 length=34 \
         source=ipn:1.1 time=0 sequence=0 destination=ipn:2.1 payload=5\n",
-    );
-    reports_packed(
-        &rt,
-        bundle(Eid::Ipn(1, 1), Eid::Ipn(2, 1), Some((5, 10))),
+    ),
+    (
+        EidView::Ipn(1, 1),
+        EidView::Ipn(2, 1),
+        Some((5, 10)),
         "bundle 1 segments=2 length=34 \
         source=ipn:1.1 time=0 sequence=0 destination=ipn:2.1 payload=5 fragment=5/10\n",
-    );
+    ),
+];
+
+#[test]
+fn lines_of_packed_bundles(rt: HostRuntime) -> Result<(), Fail> {
+    for row in &PACKED {
+        reports_packed_row(&rt, row)?;
+    }
+    Ok(())
 }
 
 /// Each form of an endpoint ID, as a source and as a destination.
-#[test]
-fn endpoints_of_packed_bundles(rt: HostRuntime) -> Result<(), Fail> {
-    reports_packed(
-        &rt,
-        bundle(Eid::Ipn(1, 1), name(b"//node/a")?, None),
+static ENDPOINTS: [Packed; 5] = [
+    (
+        EidView::Ipn(1, 1),
+        EidView::Dtn(b"//node/a"),
+        None,
         "bundle 1 segments=2 length=34 \
         source=ipn:1.1 time=0 sequence=0 destination=dtn://node/a payload=5\n",
-    );
-    reports_packed(
-        &rt,
-        bundle(Eid::Ipn(1, 1), Eid::Ipn3(0, 2, 1), None),
+    ),
+    (
+        EidView::Ipn(1, 1),
+        EidView::Ipn3(0, 2, 1),
+        None,
         "bundle 1 segments=2 length=34 \
         source=ipn:1.1 time=0 sequence=0 destination=ipn:0.2.1 payload=5\n",
-    );
-    reports_packed(
-        &rt,
-        bundle(Eid::Ipn3(1000, 1, 1), Eid::Ipn(2, 1), None),
+    ),
+    (
+        EidView::Ipn3(1000, 1, 1),
+        EidView::Ipn(2, 1),
+        None,
         "bundle 1 segments=2 length=34 \
         source=ipn:1000.1.1 time=0 sequence=0 destination=ipn:2.1 payload=5\n",
-    );
-    reports_packed(
-        &rt,
-        bundle(Eid::DtnNone, name(b"")?, None),
+    ),
+    (
+        EidView::DtnNone,
+        EidView::Dtn(b""),
+        None,
         "bundle 1 segments=2 length=34 \
         source=dtn:none time=0 sequence=0 destination=dtn: payload=5\n",
-    );
-    reports_packed(
-        &rt,
-        bundle(name(b"a \\~\xff")?, Eid::DtnNone, None),
+    ),
+    (
+        EidView::Dtn(b"a \\~\xff"),
+        EidView::DtnNone,
+        None,
         "bundle 1 segments=2 length=34 \
         source=dtn:a\\x20\\x5c~\\xff time=0 sequence=0 destination=dtn:none payload=5\n",
-    );
+    ),
+];
+
+#[test]
+fn endpoints_of_packed_bundles(rt: HostRuntime) -> Result<(), Fail> {
+    for row in &ENDPOINTS {
+        reports_packed_row(&rt, row)?;
+    }
     Ok(())
 }
 
 /// Each fault of a bundle, its code and its text.
-const CODES: [(BundleFault, &str, &str); 17] = [
+static CODES: [(BundleFault, &str, &str); 17] = [
     (BundleFault::Cut, "B1", "input ends inside a bundle"),
     (BundleFault::Trailing, "B2", "bytes after the bundle"),
     (BundleFault::NotABundle, "B3", "not a bundle"),
@@ -236,7 +328,7 @@ fn has_code_and_words(
 fn has_code(rt: &impl Abort, alloc: Global, fault: BundleFault, code: &str) -> Result<(), Fail> {
     let want = format!(in alloc; "transfer 0 start=0 written=34 length=34 bad={code} byte=3\n")?;
     let entry = transfer(0, 0, 34, 34, Judgement::Bad(fault, 3));
-    reports(rt, entry, want.as_str());
+    reports(rt, &entry, want.as_str());
     Ok(())
 }
 
@@ -312,67 +404,72 @@ fn line_of_a_packed_bundle_by_reference(rt: HostRuntime) {
     is_text(&rt, line.as_slice(), want);
 }
 
+/// Whether another transfer begins, what is announced, and the judgement.
+type Judged = (bool, Announced, JudgementView<'static>);
+
 /// Checks the judgement of a transfer whose data is no bundle.
-fn judges_bad(rt: &impl Abort, abandoned: bool, announced: Announced, want: JudgementView<'_>) {
+fn judges_bad(rt: &impl Abort, row: &Judged) {
+    let (abandoned, announced, want) = *row;
     let bad = (BundleFault::Cut, 10);
     assert!(rt; judge_view(abandoned, announced, 10, Err(bad)) == want);
     assert!(rt; judge(abandoned, announced, 10, Err(bad)).view() == want);
 }
 
-/// The first judgement that holds is reported, for data that is no bundle.
-///
 /// The beginning of another transfer comes first, then the items, the length and the fault.
-#[test]
-fn first_judgement_of_a_bad_bundle(rt: HostRuntime) {
-    let bad = JudgementView::Bad(BundleFault::Cut, 10);
-    judges_bad(&rt, true, Announced::Malformed, JudgementView::Abandoned);
-    judges_bad(
-        &rt,
-        false,
-        Announced::Malformed,
-        JudgementView::BadLengthItem,
-    );
-    judges_bad(
-        &rt,
+static OF_A_BAD_BUNDLE: [Judged; 5] = [
+    (true, Announced::Malformed, JudgementView::Abandoned),
+    (false, Announced::Malformed, JudgementView::BadLengthItem),
+    (
         false,
         Announced::Total(35),
         JudgementView::LengthDiffers(35),
-    );
-    judges_bad(&rt, false, Announced::Total(10), bad);
-    judges_bad(&rt, false, Announced::Absent, bad);
+    ),
+    (
+        false,
+        Announced::Total(10),
+        JudgementView::Bad(BundleFault::Cut, 10),
+    ),
+    (
+        false,
+        Announced::Absent,
+        JudgementView::Bad(BundleFault::Cut, 10),
+    ),
+];
+
+/// The first judgement that holds is reported, for data that is no bundle.
+#[test]
+fn first_judgement_of_a_bad_bundle(rt: HostRuntime) {
+    for row in &OF_A_BAD_BUNDLE {
+        judges_bad(&rt, row);
+    }
 }
 
 /// Checks the judgement of a transfer whose data is a bundle of this length.
-fn judges_good(
-    rt: &impl Abort,
-    abandoned: bool,
-    announced: Announced,
-    length: u64,
-    want: JudgementView<'_>,
-) {
+fn judges_good(rt: &impl Abort, length: u64, row: &Judged) {
+    let (abandoned, announced, want) = *row;
     assert!(rt; judge_view(abandoned, announced, length, Ok(whole().view())) == want);
     assert!(rt; judge(abandoned, announced, length, Ok(whole())).view() == want);
 }
 
+/// The length of a bundle, and the judgement of the transfer whose data it is.
+static OF_A_GOOD_BUNDLE: [(u64, Judged); 3] = [
+    (34, (true, Announced::Absent, JudgementView::Abandoned)),
+    (
+        10,
+        (false, Announced::Total(9), JudgementView::LengthDiffers(9)),
+    ),
+    (
+        34,
+        (false, Announced::Total(34), JudgementView::Good(WHOLE)),
+    ),
+];
+
 /// The first judgement that holds is reported, for data that is a bundle.
 #[test]
 fn first_judgement_of_a_good_bundle(rt: HostRuntime) {
-    let info = whole();
-    judges_good(&rt, true, Announced::Absent, 34, JudgementView::Abandoned);
-    judges_good(
-        &rt,
-        false,
-        Announced::Total(9),
-        10,
-        JudgementView::LengthDiffers(9),
-    );
-    judges_good(
-        &rt,
-        false,
-        Announced::Total(34),
-        34,
-        JudgementView::Good(info.view()),
-    );
+    for (length, row) in &OF_A_GOOD_BUNDLE {
+        judges_good(&rt, *length, row);
+    }
 }
 
 /// A bundle with 20 digits in each number, and with names of 1,024 bytes that are all escaped.

@@ -51,7 +51,7 @@ fn session(node: &[u8], list: &[Item]) -> Result<Message, Fail> {
 }
 
 /// The least and the greatest number of each length, and numbers with zeros in their middle.
-const NUMBERS: &[(u64, &str)] = &[
+static NUMBERS: [(u64, &str); 40] = [
     (9, "9"),
     (10, "10"),
     (99, "99"),
@@ -110,7 +110,7 @@ fn shows(rt: &impl Abort, number: u64, want: &str) {
 
 #[test]
 fn numbers_of_each_length(rt: HostRuntime) {
-    for (number, want) in NUMBERS {
+    for (number, want) in &NUMBERS {
         shows(&rt, *number, want);
     }
 }
@@ -118,7 +118,7 @@ fn numbers_of_each_length(rt: HostRuntime) {
 /// Numbers whose digits are kept, numbers that are written after that, and their digits.
 ///
 /// They differ in the last four digits, or the other digits are not the kept ones.
-const AFTER_KEPT: &[(u64, u64, &str)] = &[
+static AFTER_KEPT: [(u64, u64, &str); 15] = [
     (12_345_678, 12_340_000, "12340000"),
     (12_345_678, 12_340_007, "12340007"),
     (12_345_678, 12_340_040, "12340040"),
@@ -155,7 +155,7 @@ fn shows_after(rt: &impl Abort, kept: u64, number: u64, want: &str) {
 
 #[test]
 fn numbers_after_kept_digits(rt: HostRuntime) {
-    for (kept, number, want) in AFTER_KEPT {
+    for (kept, number, want) in &AFTER_KEPT {
         shows_after(&rt, *kept, *number, want);
     }
 }
@@ -314,7 +314,7 @@ fn segments_in_place(rt: HostRuntime) -> Result<(), Fail> {
 }
 
 /// Messages that show neither the node ID nor the items, and their lines.
-const OTHERS: &[(Fields, &str)] = &[
+static OTHERS: [(Fields, &str); 5] = [
     (
         Fields::Ack {
             flags: 0x01,
@@ -349,7 +349,7 @@ const OTHERS: &[(Fields, &str)] = &[
 
 #[test]
 fn other_messages_in_place(rt: HostRuntime) -> Result<(), Fail> {
-    for (fields, want) in OTHERS {
+    for (fields, want) in &OTHERS {
         lists_in_place(&rt, *fields, want)?;
     }
     Ok(())
@@ -365,7 +365,7 @@ fn longest_node(rt: HostRuntime) -> Result<(), Fail> {
 }
 
 /// The codes of RFC 9174, table 6, and the first code past them.
-const REFUSALS: &[(u8, &str)] = &[
+static REFUSALS: [(u8, &str); 8] = [
     (0x00, "56 xfer-refuse reason=00/unknown id=0\n"),
     (0x01, "56 xfer-refuse reason=01/completed id=0\n"),
     (0x02, "56 xfer-refuse reason=02/no-resources id=0\n"),
@@ -376,23 +376,19 @@ const REFUSALS: &[(u8, &str)] = &[
     (0x07, "56 xfer-refuse reason=07/? id=0\n"),
 ];
 
+fn lists_refusal(rt: &impl Abort, reason: u8, want: &str) {
+    lists(rt, 56, &Message::Refuse { reason, id: 0 }, want);
+}
+
 #[test]
 fn reasons_of_xfer_refuse(rt: HostRuntime) {
-    for (reason, want) in REFUSALS {
-        lists(
-            &rt,
-            56,
-            &Message::Refuse {
-                reason: *reason,
-                id: 0,
-            },
-            want,
-        );
+    for (reason, want) in &REFUSALS {
+        lists_refusal(&rt, *reason, want);
     }
 }
 
 /// The codes of RFC 9174, table 10, the first code past them, and a later one.
-const TERMINATIONS: &[(u8, &str)] = &[
+static TERMINATIONS: [(u8, &str); 8] = [
     (0x00, "56 sess-term flags=01 reason=00/unknown\n"),
     (0x01, "56 sess-term flags=01 reason=01/idle-timeout\n"),
     (0x02, "56 sess-term flags=01 reason=02/version-mismatch\n"),
@@ -406,19 +402,23 @@ const TERMINATIONS: &[(u8, &str)] = &[
     (0x7f, "56 sess-term flags=01 reason=7f/?\n"),
 ];
 
+fn lists_termination(rt: &impl Abort, reason: u8, want: &str) {
+    let message = Message::SessTerm {
+        flags: 0x01,
+        reason,
+    };
+    lists(rt, 56, &message, want);
+}
+
 #[test]
 fn reasons_of_sess_term(rt: HostRuntime) {
-    for (reason, want) in TERMINATIONS {
-        let message = Message::SessTerm {
-            flags: 0x01,
-            reason: *reason,
-        };
-        lists(&rt, 56, &message, want);
+    for (reason, want) in &TERMINATIONS {
+        lists_termination(&rt, *reason, want);
     }
 }
 
 /// The codes of RFC 9174, table 4, and the codes before and after them.
-const REJECTIONS: &[(u8, &str)] = &[
+static REJECTIONS: [(u8, &str); 5] = [
     (0x00, "56 msg-reject reason=00/? header=16\n"),
     (
         0x01,
@@ -435,19 +435,23 @@ const REJECTIONS: &[(u8, &str)] = &[
     (0x04, "56 msg-reject reason=04/? header=16\n"),
 ];
 
+fn lists_rejection(rt: &impl Abort, reason: u8, want: &str) {
+    let message = Message::MsgReject {
+        reason,
+        header: 0x16,
+    };
+    lists(rt, 56, &message, want);
+}
+
 #[test]
 fn reasons_of_msg_reject(rt: HostRuntime) {
-    for (reason, want) in REJECTIONS {
-        let message = Message::MsgReject {
-            reason: *reason,
-            header: 0x16,
-        };
-        lists(&rt, 56, &message, want);
+    for (reason, want) in &REJECTIONS {
+        lists_rejection(&rt, *reason, want);
     }
 }
 
 /// Each fault of the wire and of the order, and its line.
-const FAULT_LINES: [(Fault, &str); 13] = [
+static FAULT_LINES: [(Fault, &str); 13] = [
     (
         Fault::Wire(0, WireFault::Truncated),
         "tcpclkit: byte 0: truncated\n",
@@ -518,14 +522,20 @@ fn text_of(alloc: Global, fault: &Fault) -> Result<String, Fail> {
     }
 }
 
+/// Checks that the error type of a fault has the text of its line.
+fn has_its_text(rt: &impl Abort, alloc: Global, fault: &Fault, line: &str) -> Result<(), Fail> {
+    let shown = text_of(alloc, fault)?;
+    let rest = line.strip_prefix("tcpclkit: byte ");
+    is_text(rt, shown.as_bytes(), rest.unwrap_or("no such prefix"));
+    Ok(())
+}
+
 /// The error types of faults have the same texts as the lines.
 #[test]
 fn lines_of_faults(rt: HostRuntime) -> Result<(), Fail> {
     for (fault, want) in &FAULT_LINES {
         has_line(&rt, fault, want);
-        let shown = text_of(rt.alloc(), fault)?;
-        let rest = want.strip_prefix("tcpclkit: byte ");
-        is_text(&rt, shown.as_bytes(), rest.unwrap_or("no such prefix"));
+        has_its_text(&rt, rt.alloc(), fault, want)?;
     }
     Ok(())
 }

@@ -171,7 +171,7 @@ fn terminations(rt: HostRuntime) -> Result<(), Fail> {
 /// It may have to wait for a head until no field of the head is missing (RFC 9174 sections 4.6 and
 /// 5.1 to 6.1). After the contact header comes nothing, a KEEPALIVE, a SESS_TERM, an XFER_ACK, a
 /// segment with an item, or a type that no message has.
-const HEADS: &[(&[u8], bool)] = &[
+static HEADS: [(&[u8], bool); 9] = [
     (b"dtn!\x04\x00", true),
     (b"dtn!\x04\x00\x04", false),
     (b"dtn!\x04\x00\x05\x00", true),
@@ -195,13 +195,19 @@ const HEADS: &[(&[u8], bool)] = &[
     (b"dtn!\x04\x00\x2a", false),
 ];
 
+/// Checks whether the call after the contact header may have to wait.
+fn head_is_waited_for(rt: &impl Abort, stream: &[u8], waits: bool) -> Result<(), Fail> {
+    let mut session = Session::new(Source::new(Reader::new(stream)));
+    assert!(rt; session.may_wait());
+    session.open()?;
+    assert_eq!(rt; session.may_wait(), waits);
+    Ok(())
+}
+
 #[test]
 fn heads_that_are_waited_for(rt: HostRuntime) -> Result<(), Fail> {
-    for (stream, waits) in HEADS {
-        let mut session = Session::new(Source::new(Reader::new(*stream)));
-        assert!(rt; session.may_wait());
-        session.open()?;
-        assert_eq!(rt; session.may_wait(), *waits);
+    for (stream, waits) in &HEADS {
+        head_is_waited_for(&rt, stream, *waits)?;
     }
     Ok(())
 }
@@ -209,7 +215,7 @@ fn heads_that_are_waited_for(rt: HostRuntime) -> Result<(), Fail> {
 /// Recordings, and whether the call for data may have to wait.
 ///
 /// One ends after the head of a segment with two bytes of data, the other after the first of these.
-const DATA: &[(&[u8], bool)] = &[
+static DATA: [(&[u8], bool); 2] = [
     (
         b"dtn!\x04\x00\x01\x01\x00\x00\x00\x00\x00\x00\x00\x00\x00\x00\x00\x00\x00\x00\x00\x02",
         true,
@@ -220,14 +226,20 @@ const DATA: &[(&[u8], bool)] = &[
     ),
 ];
 
+/// Checks whether the call for data may have to wait.
+fn data_is_waited_for(rt: &impl Abort, stream: &[u8], waits: bool) -> Result<(), Fail> {
+    let mut session = Session::new(Source::new(Reader::new(stream)));
+    session.open()?;
+    let _head = session.next()?;
+    assert_eq!(rt; session.left(), 2);
+    assert_eq!(rt; session.may_wait(), waits);
+    Ok(())
+}
+
 #[test]
 fn data_that_is_waited_for(rt: HostRuntime) -> Result<(), Fail> {
-    for (stream, waits) in DATA {
-        let mut session = Session::new(Source::new(Reader::new(*stream)));
-        session.open()?;
-        let _head = session.next()?;
-        assert_eq!(rt; session.left(), 2);
-        assert_eq!(rt; session.may_wait(), *waits);
+    for (stream, waits) in &DATA {
+        data_is_waited_for(&rt, stream, *waits)?;
     }
     Ok(())
 }
@@ -236,7 +248,7 @@ fn data_that_is_waited_for(rt: HostRuntime) -> Result<(), Fail> {
 ///
 /// XFER_ACK, XFER_REFUSE, KEEPALIVE and MSG_REJECT are quiet (RFC 9174 sections 5.1 and 5.2). The
 /// last byte of one is missing, or a segment, a SESS_TERM or an unknown type comes next.
-const QUIET: &[(&[u8], usize)] = &[
+static QUIET: [(&[u8], usize); 11] = [
     (b"dtn!\x04\x00", 0),
     (b"dtn!\x04\x00\x04", 1),
     (b"dtn!\x04\x00\x06\x03\x01", 3),
@@ -259,14 +271,23 @@ const QUIET: &[(&[u8], usize)] = &[
     ),
 ];
 
+/// Checks how many bytes after the contact header are passed over as quiet messages.
+fn quiet_are_passed(rt: &impl Abort, stream: &[u8], count: usize) -> Result<(), Fail> {
+    let mut session = Session::new(Source::new(Reader::new(stream)));
+    session.open()?;
+    assert_eq!(rt; session.pass_quiet(), count);
+    assert_eq!(rt; session.pass_quiet(), 0);
+    assert_eq!(rt;
+        session.into_source().given().checked_sub(6),
+        Some(count as u64)
+    );
+    Ok(())
+}
+
 #[test]
 fn quiet_messages(rt: HostRuntime) -> Result<(), Fail> {
-    for (stream, count) in QUIET {
-        let mut session = Session::new(Source::new(Reader::new(*stream)));
-        session.open()?;
-        assert_eq!(rt; session.pass_quiet(), *count);
-        assert_eq!(rt; session.pass_quiet(), 0);
-        assert_eq!(rt; session.into_source().given(), 6 + *count as u64);
+    for (stream, count) in &QUIET {
+        quiet_are_passed(&rt, stream, *count)?;
     }
     Ok(())
 }
@@ -275,7 +296,7 @@ fn quiet_messages(rt: HostRuntime) -> Result<(), Fail> {
 ///
 /// It is a KEEPALIVE, or a segment with two bytes of data. A byte of the head or of the data is
 /// missing, or an item is in the head.
-const WHOLE: &[(&[u8], bool)] = &[
+static WHOLE: [(&[u8], bool); 6] = [
     (b"dtn!\x04\x00", false),
     (b"dtn!\x04\x00\x04", true),
     (
@@ -296,16 +317,22 @@ const WHOLE: &[(&[u8], bool)] = &[
     ),
 ];
 
+/// Checks whether the message after the contact header is given with its data.
+fn is_given_whole(rt: &impl Abort, stream: &[u8], whole: bool) -> Result<(), Fail> {
+    let mut session = Session::new(Source::new(Reader::new(stream)));
+    session.open()?;
+    let mut message = MessageBuffer::new();
+    let offset = session.next_whole(&mut message);
+    assert_eq!(rt; offset, if whole { Some(6) } else { None });
+    let given = if whole { stream.len() as u64 } else { 6 };
+    assert_eq!(rt; session.into_source().given(), given);
+    Ok(())
+}
+
 #[test]
 fn whole_messages(rt: HostRuntime) -> Result<(), Fail> {
-    for (stream, whole) in WHOLE {
-        let mut session = Session::new(Source::new(Reader::new(*stream)));
-        session.open()?;
-        let mut message = MessageBuffer::new();
-        let offset = session.next_whole(&mut message);
-        assert_eq!(rt; offset, if *whole { Some(6) } else { None });
-        let given = if *whole { stream.len() as u64 } else { 6 };
-        assert_eq!(rt; session.into_source().given(), given);
+    for (stream, whole) in &WHOLE {
+        is_given_whole(&rt, stream, *whole)?;
     }
     Ok(())
 }
