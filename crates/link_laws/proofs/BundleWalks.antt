@@ -2,16 +2,19 @@
 use Rattle.std.proofs.Common.{◌≡◌, ℕ, zero, suc, ◌-◌, ◌<◌, ◌≤◌, Bool, true, false, List, [], ◌∷◌, ◌++◌, length, take, drop, Option, Some, None, Result, Ok, Err, if◌then◌else◌, refl, ap, sym, ◌∙◌, subst, ⊎_elim, append-nil, append_assoc, length-append, length-drop, arith}
 use Rattle.std.proofs.lemmas.Bool.{cases_lt, false≢true}
 use Rattle.link_cbor.specs.Pieces.{taken}
-use Rattle.link_bundle_types.specs.{Faults.lasts, declared.fault.BundleFault.BundleFault, declared.info.BundleInfo.BundleInfo}
+use Rattle.link_bundle_types.specs.{Faults.lasts, declared.fault.BundleFault.BundleFault}
+use Rattle.link_bundle_types.specs.declared.info.BundleInfo.{BundleInfo}
 use Rattle.link_bundle_blocks.specs.Bundle.{verdict, bundle_goes}
 use Rattle.link_run.specs.Made.{Made, tool_of}
 use Rattle.link_run.proofs.Ends.{take-append}
 use Rattle.link_bundle_walk.specs.Bundles.{Packed, Refusal, Longer, Faulty, Rest, Divided, IsOpen, refused_by, divided_by, divided, with_bundles}
 use Rattle.link_bundle_walk.specs.Telling.{SoFar, BundleTelling, between, come_in, stop_by, with_run, told_of}
 use Rattle.link_bundle_walk.proofs.Dividing.{front_more, none_open, whole_stops, faulty_stops, within_limit, beyond_limit, refused_so, divided_none, divided_front}
-use Rattle.link_bundle_walk.proofs.{Divisions.{IsRefused, StaysDivided, stays_divided}, Outcomes.{texts_going, unshown_going, told_same}}
+use Rattle.link_bundle_walk.proofs.Divisions.{IsRefused, StaysDivided, stays_divided}
+use Rattle.link_bundle_walk.proofs.Outcomes.{texts_going, unshown_going, told_same}
 use Rattle.link_laws.specs.Prefix.{IsPrefixed}
-use Rattle.link_laws.proofs.{Fronts.{AreFronts, fronts_same, fronts_trans}, Prefixes.{MadeOn, prefixed}}
+use Rattle.link_laws.proofs.Fronts.{AreFronts, fronts_same, fronts_trans}
+use Rattle.link_laws.proofs.Prefixes.{MadeOn, prefixed}
 
 -- What is said of the bytes so far begins what is said with more bytes, with which the bundle goes
 -- on or is whole, and what is said of an input that ends between two bundles.

@@ -3,14 +3,20 @@ use Rattle.std.specs.Prelude.{◌==◌}
 use Rattle.std.proofs.Common.{◌≡◌, ℕ, zero, suc, ◌+◌, ◌*◌, ◌<◌, ◌≤◌, Bool, true, false, ◌&&◌, List, [], ◌∷◌, ◌++◌, length, take, Option, Some, None, refl, ap, sym, ◌∙◌, subst, append-nil, append_assoc, arith}
 use Rattle.std.proofs.lemmas.{Bool.{eq-eqb, cases_lt}, List.take_all}
 use Rattle.link_wire.specs.Stream.{Entry}
-use Rattle.link_transfer.specs.{Chunks.chunk_count, Cutting.{due, due_of}, declared.event.Event.TheVariants.{SessInit, SessTerm}}
+use Rattle.link_transfer.specs.{Chunks.chunk_count, Cutting.{due, due_of}}
+use Rattle.link_transfer.specs.declared.event.Event.TheVariants.{SessInit, SessTerm}
 use Rattle.link_transfer.proofs.Due.{chunk_left, given_within, fits_back}
 use Rattle.link_unpack.specs.Transfers.{Transfer}
 use Rattle.link_laws.specs.Transfers.{transfers_of}
-use Rattle.link_laws.proofs.{Orders.AreInOrder, Divided.AreBundles, Entries.{due_entries, init_bytes, init_entry, bundle_entries, rest_entries, term_entries, end_entries, packed_entries, some_size}}
-use Rattle.link_laws.proofs.{Segments.segment_entries, Sendings.sent_all, Sent.{sent, head_of, last_at}, Standing.{Stands, fresh, carrying, stands_none, stands_more}}
+use Rattle.link_laws.proofs.{Orders.AreInOrder, Divided.AreBundles}
+use Rattle.link_laws.proofs.Entries.{due_entries, init_bytes, init_entry, bundle_entries, rest_entries, term_entries, end_entries, packed_entries, some_size}
+use Rattle.link_laws.proofs.{Segments.segment_entries, Sendings.sent_all}
+use Rattle.link_laws.proofs.Sent.{sent, head_of, last_at}
+use Rattle.link_laws.proofs.Standing.{Stands, fresh, carrying, stands_none, stands_more}
 use Rattle.link_bundle_walk.specs.Bundles.{Packed, Rest, Divided}
-use Rattle.link_pack.specs.{Packing.{segment_size, sending}, Segments.{Sending, cutting_of, segments_of}, declared.options.PackOptions.PackOptions}
+use Rattle.link_pack.specs.Packing.{segment_size, sending}
+use Rattle.link_pack.specs.Segments.{Sending, cutting_of, segments_of}
+use Rattle.link_pack.specs.declared.options.PackOptions.{PackOptions}
 
 -- ---- counts of chunks
 

@@ -1,25 +1,35 @@
 -- What `unpack` reports of a recording in which `check --must` finds no rule broken.
 use Rattle.std.specs.List.{All, flat_map}
-use Rattle.std.proofs.{Common.{◌≡◌, ℕ, Bool, true, false, List, [], ◌∷◌, ◌++◌, map, filter_map, option_map, Option, Some, None, if◌then◌else◌, refl, ap, sym, ◌∙◌, subst, arith}, lemmas.Bool.and_parts}
-use Rattle.std.proofs.lemmas.{Grind.{flat_map-append, fold-append}, List.Elements.{All-nil, All-append, All-head, All-tail}}
-use Rattle.link_wire.specs.{Message.data_length, Stream.{Entry, End, Reading, reading_of, heads_of}, declared.message.Contact.Contact, declared.message.Message.Message}
-use Rattle.link_transfer.specs.{Event.event_of, Order.{refusal, with_taken}, declared.fault.OrderFault.OrderFault}
-use Rattle.link_message_rules.specs.{Heads.JudgedHead, MessageRules.{broken_rules, level_of}, Session.order, declared.limits.PeerLimits.PeerLimits}
+use Rattle.std.proofs.Common.{◌≡◌, ℕ, Bool, true, false, List, [], ◌∷◌, ◌++◌, map, filter_map, option_map, Option, Some, None, if◌then◌else◌, refl, ap, sym, ◌∙◌, subst, arith}
+use Rattle.std.proofs.lemmas.{Bool.and_parts, Grind.{flat_map-append, fold-append}}
+use Rattle.std.proofs.lemmas.List.Elements.{All-nil, All-append, All-head, All-tail}
+use Rattle.link_wire.specs.{Message.data_length, Stream.{Entry, End, Reading, reading_of, heads_of}}
+use Rattle.link_wire.specs.declared.message.{Contact.Contact, Message.Message}
+use Rattle.link_transfer.specs.{Event.event_of, Order.{refusal, with_taken}}
+use Rattle.link_transfer.specs.declared.fault.OrderFault.{OrderFault}
+use Rattle.link_message_rules.specs.{Heads.JudgedHead, MessageRules.{broken_rules, level_of}}
+use Rattle.link_message_rules.specs.{Session.order, declared.limits.PeerLimits.PeerLimits}
 use Rattle.link_message_rules.specs.declared.rule.MessageRule.{MessageRule}
+use Rattle.link_message_rules.specs.declared.rule.MessageRule.TheVariants as message_rule
 use Rattle.link_report.specs.declared.fault.Fault.TheVariants.{Order}
 use Rattle.link_rule_report.specs.{Names.rule_level, declared.line.RuleText.RuleText}
+use Rattle.link_rule_report.specs.declared.rule.BrokenRule.TheVariants as rule
 use Rattle.link_run.specs.Made.{StreamStop, stop_of}
 use Rattle.link_walk.specs.Walk.{head_at, closes, WalkEvent, MessageHead, content_events, Walked, none_walked, with_next, walked_of, end_events, stop_by, told_of}
 use Rattle.link_unpack.specs.{Transfers.Transfer, Unpacking.Told, declared.wanted.Wanted.Wanted}
-use Rattle.link_check.specs.{Checking.{Begun, begun_by, closed_rules, heads_with, judged, latest_with, rules_at, check_tool}, Lines.{none_counts, at_offset}}
-use Rattle.link_laws.specs.{Checked.{IsAllowed, IsSecondInit, MayStop, HasOnlyAllowed}, Cuts.{fault_at, faults_after, lined}, RoundTrip.all}
+use Rattle.link_check.specs.Checking.{Begun, begun_by, closed_rules, heads_with, judged, latest_with, rules_at, check_tool}
+use Rattle.link_check.specs.Lines.{none_counts, at_offset}
+use Rattle.link_laws.specs.Checked.{IsAllowed, IsSecondInit, MayStop, HasOnlyAllowed}
+use Rattle.link_laws.specs.{Cuts.{fault_at, faults_after, lined}, RoundTrip.all}
 use Rattle.link_laws.specs.Transfers.{ordered_by, ordered_after, ordered, transfers_of, unpacked_of}
-use Rattle.link_laws.proofs.{Accepted.{accepted_first, accepted_in_order, accepted_read}, BrokenRules.{options, broken_with, broken_from, counts_append, good_kept, none_before}}
-use Rattle.link_laws.proofs.{DueRules.{due_choice, none_due, all_allowed}, Following.walk_told, Fronts.front_first, InOrder.{not_stray, taken_more, unpacked_in_order}}
-use Rattle.link_laws.proofs.{Placed.{after_events, transfers_in, told_transfers, AfterAll, from_start}, PlainHeads.{going, content_none, walk_events, walk_is, quieter}, Same.heads_said}
-use Rattle.link_laws.proofs.{SameLines.status_clean, Walks.heads_grow, Whole.{AreRead, reading_read}}
-use Rattle.link_message_rules.specs.declared.rule.MessageRule.TheVariants as message_rule
-use Rattle.link_rule_report.specs.declared.rule.BrokenRule.TheVariants as rule
+use Rattle.link_laws.proofs.Accepted.{accepted_first, accepted_in_order, accepted_read}
+use Rattle.link_laws.proofs.BrokenRules.{options, broken_with, broken_from, counts_append, good_kept, none_before}
+use Rattle.link_laws.proofs.{DueRules.{due_choice, none_due, all_allowed}, Following.walk_told}
+use Rattle.link_laws.proofs.{Fronts.front_first, InOrder.{not_stray, taken_more, unpacked_in_order}}
+use Rattle.link_laws.proofs.Placed.{after_events, transfers_in, told_transfers, AfterAll, from_start}
+use Rattle.link_laws.proofs.PlainHeads.{going, content_none, walk_events, walk_is, quieter}
+use Rattle.link_laws.proofs.{Same.heads_said, SameLines.status_clean, Walks.heads_grow}
+use Rattle.link_laws.proofs.Whole.{AreRead, reading_read}
 
 -- ---- the transfers of heads
 

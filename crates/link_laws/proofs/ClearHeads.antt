@@ -1,22 +1,31 @@
 -- The messages of a packed stream break no rule of messages.
 use Rattle.std.specs.{Prelude.IfSome, List.{All, list_any}}
 use Rattle.std.proofs.Common.{◌≡◌, ℕ, suc, ◌+◌, ◌<◌, ◌≤◌, Bool, true, false, ◌==◌, nat_le, is_some, List, [], ◌∷◌, ◌++◌, reverse, filter_map, Option, Some, None, if◌then◌else◌, refl, ap, sym, ◌∙◌, arith}
-use Rattle.std.proofs.{Math.Bool.and-false, lemmas.Bool.{ne_eqb, le-ltb}, lemmas.List.{map-append, reverse-append}, lemmas.List.Elements.{All-head, All-tail}}
-use Rattle.link_wire.specs.{Spelling.{segment_with, sess_init_with}, Stream.Entry, declared.message.Message.Message, declared.message.SegmentHead.SegmentHead}
-use Rattle.link_transfer.specs.{Event.event_of, Joiner.{IsJoinerAt, joiner_after}, Order.{refusal, refusal_by, is_stray, turn_by, effect_of, with_taken, open_of}}
-use Rattle.link_transfer.specs.declared.{announcement.Announced.Announced, announcement.Announced.TheVariants.{Absent, Total, Malformed}, event.Event.Event, joiner.Joiner.Joiner, joiner.Turn.Turn}
+use Rattle.std.proofs.{Math.Bool.and-false, lemmas.Bool.{ne_eqb, le-ltb}}
+use Rattle.std.proofs.lemmas.{List.{map-append, reverse-append}, List.Elements.{All-head, All-tail}}
+use Rattle.link_wire.specs.{Spelling.{segment_with, sess_init_with}, Stream.Entry}
+use Rattle.link_wire.specs.declared.message.{Message.Message, SegmentHead.SegmentHead}
+use Rattle.link_wire.specs.declared.message.Message.TheVariants as message
+use Rattle.link_transfer.specs.{Event.event_of, Joiner.{IsJoinerAt, joiner_after}}
+use Rattle.link_transfer.specs.Order.{refusal, refusal_by, is_stray, turn_by, effect_of, with_taken, open_of}
+use Rattle.link_transfer.specs.declared.announcement.Announced.{Announced}
+use Rattle.link_transfer.specs.declared.announcement.Announced.TheVariants.{Absent, Total, Malformed}
+use Rattle.link_transfer.specs.declared.{event.Event.Event, joiner.Joiner.Joiner, joiner.Turn.Turn}
 use Rattle.link_transfer.proofs.Joining.{refusal-at, stray-at, effect-at, IsJoinerAt-then}
-use Rattle.link_message_rules.specs.{Flags.{item_flags, segment_flags, term_flags}, Heads.{JudgedHead, messages_of, start_id}}
-use Rattle.link_message_rules.specs.{Lengths.{peer_segment, size_of, if_passed, if_exceeded, peer_transfer, ack_length}, MessageRules.broken_rules, NodeIds.node_id}
-use Rattle.link_message_rules.specs.{Session.{order, before_session, keepalive}, TransferIds.{abandoned_by, interleaved, descending, transfer_id}, declared.limits.PeerLimits.PeerLimits}
+use Rattle.link_transfer.specs.declared.joiner.Turn.TheVariants as turn
+use Rattle.link_message_rules.specs.Flags.{item_flags, segment_flags, term_flags}
+use Rattle.link_message_rules.specs.Heads.{JudgedHead, messages_of, start_id}
+use Rattle.link_message_rules.specs.Lengths.{peer_segment, size_of, if_passed, if_exceeded, peer_transfer, ack_length}
+use Rattle.link_message_rules.specs.{MessageRules.broken_rules, NodeIds.node_id}
+use Rattle.link_message_rules.specs.Session.{order, before_session, keepalive}
+use Rattle.link_message_rules.specs.TransferIds.{abandoned_by, interleaved, descending, transfer_id}
+use Rattle.link_message_rules.specs.declared.limits.PeerLimits.{PeerLimits}
 use Rattle.link_message_rules.specs.declared.rule.MessageRule.{MessageRule}
 use Rattle.link_run.proofs.Continued.{entry}
 use Rattle.link_walk.specs.Walk.{head_at}
 use Rattle.link_check.specs.Checking.{judged}
 use Rattle.link_pack.specs.Segments.{flags_of}
 use Rattle.link_laws.proofs.{InOrder.{not_stray, taken_more}, Sent.starts_as}
-use Rattle.link_wire.specs.declared.message.Message.TheVariants as message
-use Rattle.link_transfer.specs.declared.joiner.Turn.TheVariants as turn
 
 -- ---- rules, one by one
 

@@ -6,7 +6,8 @@ use Rattle.link_run.specs.{Made.{StreamStop, Made, whole_by}, Run.Outcome}
 use Rattle.link_laws.specs.Transfers.{Ordered, transfers_of, settled, lines_of, unpacking_by, by_transfers}
 use Rattle.link_laws.specs.Cuts.{order_of, entries_of, Follow, total_written, stream_stop, lined, reported, stop_line, Divides, CutsOutput, stopping}
 use Rattle.link_laws.proofs.{Prefixes.whole_output, Due.lines_are, Same.whole_is}
-use Rattle.link_unpack.specs.{Transfers.Transfer, Unpacking.{part_of, parts_of, entry_of}, declared.wanted.Wanted.Wanted}
+use Rattle.link_unpack.specs.{Transfers.Transfer, Unpacking.{part_of, parts_of, entry_of}}
+use Rattle.link_unpack.specs.declared.wanted.Wanted.{Wanted}
 
 -- ---- one more entry
 

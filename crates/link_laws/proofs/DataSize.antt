@@ -1,7 +1,10 @@
 -- A stream has no less bytes than its segments have data.
 use Rattle.std.specs.List.{flat_map}
-use Rattle.std.proofs.{Common.{ℕ, ◌+◌, ◌≤◌, List, [], ◌∷◌, length, Option, ap, length-append, arith}, lemmas.Grind.flat_map-append}
-use Rattle.link_wire.specs.{Spelled.Spelled, SpelledStream.{IsStream, IsReadingBy, IsReading}, Stream.{Entry, End, Reading}, declared.message.Contact.Contact, declared.message.Message.Message}
+use Rattle.std.proofs.Common.{ℕ, ◌+◌, ◌≤◌, List, [], ◌∷◌, length, Option, ap, length-append, arith}
+use Rattle.std.proofs.lemmas.Grind.{flat_map-append}
+use Rattle.link_wire.specs.{Spelled.Spelled, SpelledStream.{IsStream, IsReadingBy, IsReading}}
+use Rattle.link_wire.specs.{Stream.{Entry, End, Reading}, declared.message.Contact.Contact}
+use Rattle.link_wire.specs.declared.message.Message.{Message}
 use Rattle.link_laws.specs.{Cuts.data_of, Transfers.ordered}
 use Rattle.link_laws.proofs.Accepted.{accepted_first}
 

@@ -1,10 +1,12 @@
 -- The parts of an input: bundles that the peer takes, and the rest after them.
 use Rattle.std.specs.Prelude.{IfSome}
 use Rattle.std.proofs.Common.{◌≡◌, ℕ, zero, suc, ◌-◌, ◌<◌, ◌≤◌, Bool, true, false, nat_lt, List, [], ◌∷◌, ◌++◌, length, take, drop, None, Result, Ok, Err, if◌then◌else◌, refl, ap, sym, ◌∙◌, subst, length-take, length-drop, arith}
-use Rattle.std.proofs.lemmas.{Bool.{false≢true, ltb-false}, List.take-append-drop, List.Elements.{All-take, All-drop}}
+use Rattle.std.proofs.lemmas.{Bool.{false≢true, ltb-false}, List.take-append-drop}
+use Rattle.std.proofs.lemmas.List.Elements.{All-take, All-drop}
 use Rattle.link_cbor.specs.PieceLaws.{takes_shortest}
 use Rattle.link_wire.specs.Bytes.{IsByte, AreBytes}
-use Rattle.link_bundle_types.specs.{Faults.lasts, declared.fault.BundleFault.BundleFault, declared.info.BundleInfo.BundleInfo}
+use Rattle.link_bundle_types.specs.{Faults.lasts, declared.fault.BundleFault.BundleFault}
+use Rattle.link_bundle_types.specs.declared.info.BundleInfo.{BundleInfo}
 use Rattle.link_bundle_blocks.specs.Bundle.{verdict, bundle_goes}
 use Rattle.link_bundle_walk.specs.Bundles.{Packed, Refusal, Longer, Faulty, Rest, Divided, bundle_prefix, refused_by, judged_front, accepted_by, divided_by, divided_in, divided}
 use Rattle.link_bundle_walk.proofs.Dividing.{whole_stops, none_goes}

@@ -1,19 +1,27 @@
 -- A closed transfer that breaks no rule of transfers of level `must` is good, or its data may be a
 -- bundle.
 use Rattle.std.specs.List.{All, filter}
-use Rattle.std.proofs.{Common.{◌≡◌, ℕ, Bool, true, false, not, List, [], ◌∷◌, ◌++◌, length, map, filter_map, Option, Result, refl, ap, sym, ◌∙◌, arith}, lemmas.Bool.and_parts, lemmas.List.map-append}
+use Rattle.std.proofs.Common.{◌≡◌, ℕ, Bool, true, false, not, List, [], ◌∷◌, ◌++◌, length, map, filter_map, Option, Result, refl, ap, sym, ◌∙◌, arith}
+use Rattle.std.proofs.lemmas.{Bool.and_parts, List.map-append}
 use Rattle.std.proofs.lemmas.List.Elements.{All-nil, All-cons, filter-append}
-use Rattle.link_bundle_types.specs.declared.{fault.BundleFault.BundleFault, info.BundleInfo.BundleInfo}
+use Rattle.link_bundle_types.specs.declared.fault.BundleFault.{BundleFault}
+use Rattle.link_bundle_types.specs.declared.info.BundleInfo.{BundleInfo}
 use Rattle.link_bundle_blocks.specs.Bundle.{verdict}
 use Rattle.link_transfer.specs.{Announced.announced_of, declared.announcement.Announced.Announced}
-use Rattle.link_message_rules.specs.{TransferData.data_rule, TransferRules.{broken_transfer_rules, if_malformed, if_different, length_item, length_differs, length_of_one_segment, transfer_level_of}}
-use Rattle.link_message_rules.specs.declared.{limits.PeerLimits.PeerLimits, rule.TransferRule.TransferRule, rule.TransferRule.TheVariants.Unfinished}
+use Rattle.link_message_rules.specs.TransferData.{data_rule}
+use Rattle.link_message_rules.specs.TransferRules.{broken_transfer_rules, if_malformed, if_different, length_item, length_differs, length_of_one_segment, transfer_level_of}
+use Rattle.link_message_rules.specs.declared.limits.PeerLimits.{PeerLimits}
+use Rattle.link_message_rules.specs.declared.rule.TransferRule.{TransferRule}
+use Rattle.link_message_rules.specs.declared.rule.TransferRule.TheVariants.{Unfinished}
 use Rattle.link_report.specs.Judgement.{judged_length, judged_data}
-use Rattle.link_rule_report.specs.{Names.rule_level, declared.line.RuleText.RuleText, declared.rule.BrokenRule.BrokenRule}
-use Rattle.link_check.specs.{Checking.{closed_rules, data_rules}, Lines.{is_must, counts, none_counts, at_offset}}
-use Rattle.link_laws.specs.Checked.{MayBeJudged, IsAllowed}
-use Rattle.link_laws.proofs.{Placed.{Placed, Choice, transfers_in, begun_of, due_of, rules_of}, Telling.closed_not}
+use Rattle.link_rule_report.specs.{Names.rule_level, declared.line.RuleText.RuleText}
+use Rattle.link_rule_report.specs.declared.rule.BrokenRule.{BrokenRule}
 use Rattle.link_rule_report.specs.declared.rule.BrokenRule.TheVariants as rule
+use Rattle.link_check.specs.Checking.{closed_rules, data_rules}
+use Rattle.link_check.specs.Lines.{is_must, counts, none_counts, at_offset}
+use Rattle.link_laws.specs.Checked.{MayBeJudged, IsAllowed}
+use Rattle.link_laws.proofs.Placed.{Placed, Choice, transfers_in, begun_of, due_of, rules_of}
+use Rattle.link_laws.proofs.Telling.{closed_not}
 
 -- whether it is a rule of transfers of level `must`
 abbrev pub is_due : BrokenRule → Bool

@@ -3,16 +3,22 @@
 use Rattle.std.specs.List.{flat_map}
 use Rattle.std.proofs.Common.{◌≡◌, ℕ, Bool, false, not, is_some, List, [], ◌∷◌, ◌++◌, Option, Some, None, refl, ap, sym, ◌∙◌, append-nil, append_assoc, arith}
 use Rattle.link_wire.specs.{Stream.{Entry, reading_of, heads_of}, declared.message.Message.Message}
-use Rattle.link_transfer.specs.{Event.event_of, Order.{is_stray, effect_of, with_taken}, declared.joiner.Turn.Turn}
+use Rattle.link_transfer.specs.{Event.event_of, Order.{is_stray, effect_of, with_taken}}
+use Rattle.link_transfer.specs.declared.joiner.Turn.{Turn}
+use Rattle.link_transfer.specs.declared.joiner.Turn.TheVariants as turn
 use Rattle.link_run.specs.Run.{Outcome}
 use Rattle.link_walk.proofs.Heads.{other_has_none}
 use Rattle.link_unpack.specs.{Transfers.Transfer, Unpacking.parts_of, declared.wanted.Wanted.Wanted}
-use Rattle.link_unpack.proofs.{Effects.Does, Heads.{transfers_same, transfer_begins, transfer_continues}, Texts.parts_more}
-use Rattle.link_laws.specs.{Cuts.{data_of, prepended_unless, taken_after, HasEveryByte, HasEveryTakenByte}, RoundTrip.all}
+use Rattle.link_unpack.proofs.Effects.{Does}
+use Rattle.link_unpack.proofs.Heads.{transfers_same, transfer_begins, transfer_continues}
+use Rattle.link_unpack.proofs.Texts.{parts_more}
+use Rattle.link_laws.specs.Cuts.{data_of, prepended_unless, taken_after, HasEveryByte, HasEveryTakenByte}
+use Rattle.link_laws.specs.RoundTrip.{all}
 use Rattle.link_laws.specs.Transfers.{ordered_after, ordered, transfers_of, Unpacked, transfers_with, with_head, unpacked_of, by_transfers}
-use Rattle.link_laws.proofs.{Accepted.{accepted_read, accepted_in_order}, Due.latest_open, InOrder.{not_stray, taken_more, unpacked_in_order}, OneHead.{KnowsWhole, stray_is, does, through}}
+use Rattle.link_laws.proofs.{Accepted.{accepted_read, accepted_in_order}, Due.latest_open}
+use Rattle.link_laws.proofs.InOrder.{not_stray, taken_more, unpacked_in_order}
+use Rattle.link_laws.proofs.OneHead.{KnowsWhole, stray_is, does, through}
 use Rattle.link_laws.proofs.{Orders.{AreInOrder, all as in_order, first_may}, Prefixes.whole_output, Same.whole_is, Whole.{FitsData, AreRead, reading_read}}
-use Rattle.link_transfer.specs.declared.joiner.Turn.TheVariants as turn
 
 -- the data is added at the end of the output
 module _ (keep_going : Bool) where

@@ -2,13 +2,17 @@
 -- taken, and data comes while a transfer is open.
 use Rattle.std.specs.List.{fold}
 use Rattle.std.proofs.Common.{◌≡◌, ℕ, Bool, true, false, not, ◌&&◌, ◌==◌, is_some, List, [], ◌∷◌, ◌++◌, length, Option, Some, None, if◌then◌else◌, refl, ap, sym, ◌∙◌, ⊎_elim, append-nil, append_assoc, arith}
-use Rattle.std.proofs.{Math.Bool.{and-true, and-false}, lemmas.Bool.{cases_Bool, eq-eqb, eqb-true}, lemmas.Grind.fold-append}
-use Rattle.link_wire.specs.{Message.data_length, Stream.{Entry, Reading, heads_of}, declared.message.Contact.Contact}
-use Rattle.link_transfer.specs.{Event.event_of, Order.{refusal, open_of}, declared.fault.OrderFault.OrderFault, declared.joiner.Turn.Turn}
+use Rattle.std.proofs.{Math.Bool.{and-true, and-false}, lemmas.Bool.{cases_Bool, eq-eqb, eqb-true}}
+use Rattle.std.proofs.lemmas.Grind.{fold-append}
+use Rattle.link_wire.specs.{Message.data_length, Stream.{Entry, Reading, heads_of}}
+use Rattle.link_wire.specs.declared.message.Contact.{Contact}
+use Rattle.link_transfer.specs.{Event.event_of, Order.{refusal, open_of}}
+use Rattle.link_transfer.specs.declared.{fault.OrderFault.OrderFault, joiner.Turn.Turn}
 use Rattle.link_walk.specs.Telling.{ComesAfter}
 use Rattle.link_walk.specs.Walk.{Head, head_at, is_last, closes, WalkEvent, ContactHeader, MessageHead, Data, Whole, LeftOpen, data_events, open_with, open_after_event, has_open, Walked, head_events, content_events, taken_with, with_judged, with_entry_unless, with_next, none_walked, walked_of, walked, end_events}
 use Rattle.link_walk.specs.declared.consumer.Manner.{Manner}
-use Rattle.link_walk.proofs.{Comes.{plain_open, open_if}, Heads.{continues_some, open_then, has_open-append, data_keeps}}
+use Rattle.link_walk.proofs.Comes.{plain_open, open_if}
+use Rattle.link_walk.proofs.Heads.{continues_some, open_then, has_open-append, data_keeps}
 use Rattle.link_laws.proofs.Whole.{IsWhole, FitsData, AreWhole, AreRead, ReadingReads, no_content}
 
 -- a walk may tell this event after these

@@ -2,13 +2,20 @@
 use Rattle.std.proofs.Common.{◌≡◌, ℕ, suc, ◌+◌, inl, inr, ◌⊎◌, true, false, ◌&&◌, List, [], ◌∷◌, ◌++◌, length, Result, Ok, if◌then◌else◌, refl, ap, ap₂, sym, ◌∙◌, append-nil, append_assoc, length-append, arith}
 use Rattle.std.proofs.lemmas.Bool.{eq-eqb}
 use Rattle.link_bundle_blocks.specs.Bundle.{verdict}
-use Rattle.link_bundle_types.specs.declared.{fault.BundleFault.BundleFault, info.BundleInfo.BundleInfo}
-use Rattle.link_report.specs.{Judgement.judged_transfer, Transfer.transfer_text, declared.judgement.Judgement.TheVariants.Good}
+use Rattle.link_bundle_types.specs.declared.fault.BundleFault.{BundleFault}
+use Rattle.link_bundle_types.specs.declared.info.BundleInfo.{BundleInfo}
+use Rattle.link_report.specs.{Judgement.judged_transfer, Transfer.transfer_text}
+use Rattle.link_report.specs.declared.judgement.Judgement.TheVariants.{Good}
 use Rattle.link_run.specs.Run.{Outcome}
-use Rattle.link_transfer.specs.declared.announcement.{Announced.Announced, Announced.TheVariants.{Absent, Total}}
-use Rattle.link_laws.specs.{Transfers.{lines_of, are_good, by_transfers}, RoundTrip.{all, good_lines, GivesBack}}
-use Rattle.link_laws.proofs.{Carried.{onto, transfer_of}, Divided.{AreBundles, contents}, Limits.announces, Same.whole_is, Readings.{packed, nothing_left, IsPacked}}
-use Rattle.link_unpack.specs.{Transfers.Transfer, Unpacking.{parts_of, line_of, judgement_of, is_good, unpack_tool}}
+use Rattle.link_transfer.specs.declared.announcement.Announced.{Announced}
+use Rattle.link_transfer.specs.declared.announcement.Announced.TheVariants.{Absent, Total}
+use Rattle.link_laws.specs.Transfers.{lines_of, are_good, by_transfers}
+use Rattle.link_laws.specs.RoundTrip.{all, good_lines, GivesBack}
+use Rattle.link_laws.proofs.{Carried.{onto, transfer_of}, Divided.{AreBundles, contents}}
+use Rattle.link_laws.proofs.{Limits.announces, Same.whole_is}
+use Rattle.link_laws.proofs.Readings.{packed, nothing_left, IsPacked}
+use Rattle.link_unpack.specs.Transfers.{Transfer}
+use Rattle.link_unpack.specs.Unpacking.{parts_of, line_of, judgement_of, is_good, unpack_tool}
 use Rattle.link_unpack.proofs.Texts.{parts_more}
 use Rattle.link_bundle_walk.specs.Bundles.{Packed, divided}
 use Rattle.link_pack.specs.declared.options.PackOptions.{PackOptions}

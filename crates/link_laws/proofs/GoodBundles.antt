@@ -1,18 +1,24 @@
 -- Good bundles, one after another: how they are divided, and the lines of their blocks.
 use Rattle.std.specs.List.{All, flat_map}
 use Rattle.std.proofs.Common.{◌≡◌, ℕ, suc, ◌≤◌, Bool, true, false, List, [], ◌∷◌, ◌++◌, length, drop, map, None, Result, Ok, Err, refl, ap, sym, ◌∙◌, ⊎_elim, append-nil, length-append, arith}
-use Rattle.std.proofs.lemmas.{Bool.{cases_Bool, and_parts}, Grind.flat_map-append, List.take-append-drop, List.Elements.{All-nil, All-cons, All-append, All-head, All-tail}}
+use Rattle.std.proofs.lemmas.{Bool.{cases_Bool, and_parts}, Grind.flat_map-append}
+use Rattle.std.proofs.lemmas.List.{take-append-drop}
+use Rattle.std.proofs.lemmas.List.Elements.{All-nil, All-cons, All-append, All-head, All-tail}
 use Rattle.link_cbor.specs.PieceLaws.{takes_shortest}
-use Rattle.link_bundle_types.specs.{Faults.lasts, declared.fault.BundleFault.BundleFault, declared.info.BundleInfo.BundleInfo}
+use Rattle.link_bundle_types.specs.{Faults.lasts, declared.fault.BundleFault.BundleFault}
+use Rattle.link_bundle_types.specs.declared.info.BundleInfo.{BundleInfo}
 use Rattle.link_bundle_blocks.specs.Bundle.{verdict, state_of, is_going, bundle_goes}
 use Rattle.link_bundle_blocks.proofs.Lengths.{FaultLasts-holds, TrailingLasts-holds}
 use Rattle.link_transfer.specs.declared.announcement.Announced.{Announced}
-use Rattle.link_report.specs.{Judgement.{judged_transfer, judged_length, judged_data}, declared.judgement.Judgement.TheVariants.Good}
+use Rattle.link_report.specs.Judgement.{judged_transfer, judged_length, judged_data}
+use Rattle.link_report.specs.declared.judgement.Judgement.TheVariants.{Good}
 use Rattle.link_run.specs.Writers.{on_output}
 use Rattle.link_unpack.specs.{Transfers.Transfer, Unpacking.{parts_of, judgement_of, is_good}}
 use Rattle.link_bundle_walk.specs.Bundles.{Packed, bundle_prefix, divided}
-use Rattle.link_bundle_walk.proofs.{Dividing.{divided_none, divided_whole}, Divisions.stopped_lasts, Outcomes.told_as}
-use Rattle.link_blocks.specs.{Bundles.{whole_lines, bundle_lines, bundle_limit, bundle_blocks_telling, bundle_blocks_tool}, Showing.lines_of}
+use Rattle.link_bundle_walk.proofs.{Dividing.{divided_none, divided_whole}, Divisions.stopped_lasts}
+use Rattle.link_bundle_walk.proofs.Outcomes.{told_as}
+use Rattle.link_blocks.specs.Bundles.{whole_lines, bundle_lines, bundle_limit, bundle_blocks_telling, bundle_blocks_tool}
+use Rattle.link_blocks.specs.Showing.{lines_of}
 use Rattle.link_laws.specs.{RoundTrip.all, SameLines.{lines_under, renumbered}, Transfers.are_good}
 
 -- a bundle under a number

@@ -1,14 +1,20 @@
 -- Heads that are all in order: it makes no difference whether a fault of the order ends the run.
 use Rattle.std.specs.List.{flat_map, fold}
-use Rattle.std.proofs.{Common.{◌≡◌, ℕ, true, false, List, [], ◌∷◌, ◌++◌, None, refl, ap, ap₂, sym, ◌∙◌, append-nil, arith}, Math.Bool.and-true, lemmas.List.Concat.flat_map-append}
+use Rattle.std.proofs.Common.{◌≡◌, ℕ, true, false, List, [], ◌∷◌, ◌++◌, None, refl, ap, ap₂, sym, ◌∙◌, append-nil, arith}
+use Rattle.std.proofs.{Math.Bool.and-true, lemmas.List.Concat.flat_map-append}
 use Rattle.link_wire.specs.{Stream.{Entry, End}, declared.message.Message.Message}
-use Rattle.link_transfer.specs.{Event.event_of, Order.{is_stray, has_sess_init, has_sess_term, open_of, refusal, appended_unless, with_taken}, declared.event.Event.Event}
+use Rattle.link_transfer.specs.Event.{event_of}
+use Rattle.link_transfer.specs.Order.{is_stray, has_sess_init, has_sess_term, open_of, refusal, appended_unless, with_taken}
+use Rattle.link_transfer.specs.declared.event.Event.{Event}
 use Rattle.link_transfer.proofs.Joining.{not_stray as never_stray}
 use Rattle.link_report.specs.Transfer.{transfer_text}
-use Rattle.link_unpack.specs.{Transfers.{Transfer, after_message}, Unpacking.order_line, declared.wanted.Wanted.Wanted}
+use Rattle.link_unpack.specs.{Transfers.{Transfer, after_message}, Unpacking.order_line}
+use Rattle.link_unpack.specs.declared.wanted.Wanted.{Wanted}
 use Rattle.link_laws.specs.Cuts.{entries_of}
 use Rattle.link_laws.specs.Transfers.{ordered_after, ordered, transfers_of, settled, lines_of, abandoned_line, unpacking_by, Unpacked, transfers_with, with_head, unpacked_of, going_on_by}
-use Rattle.link_laws.proofs.{Due.{latest_open, lines_due, abandoned_due, settled_all, lines_are}, OneHead.{KnowsWhole, added, through}, Orders.{AreInOrder, all, first_may}, Whole.{FitsData, AreRead}}
+use Rattle.link_laws.proofs.Due.{latest_open, lines_due, abandoned_due, settled_all, lines_are}
+use Rattle.link_laws.proofs.OneHead.{KnowsWhole, added, through}
+use Rattle.link_laws.proofs.{Orders.{AreInOrder, all, first_may}, Whole.{FitsData, AreRead}}
 
 -- a stray segment has a fault
 pub not_stray : (before : List Message) (happened : Event) → refusal before happened ≡ None

@@ -4,14 +4,19 @@ use Rattle.std.proofs.Common.{◌≡◌, ℕ, suc, ◌+◌, ◌≤◌, inl, inr,
 use Rattle.std.proofs.lemmas.List.Elements.{All-nil, All-cons, All-append}
 use Rattle.link_wire.specs.{Spelling.announced, Stream.Entry}
 use Rattle.link_list.specs.Listing.{listing_of}
-use Rattle.link_transfer.specs.{Announced.announced_of, Chunks.chunk_count, Cutting.{Cutting, announcement, due}, declared.announcement.Announced.TheVariants.{Absent, Total}}
+use Rattle.link_transfer.specs.{Announced.announced_of, Chunks.chunk_count}
+use Rattle.link_transfer.specs.Cutting.{Cutting, announcement, due}
+use Rattle.link_transfer.specs.declared.announcement.Announced.TheVariants.{Absent, Total}
 use Rattle.link_unpack.specs.Transfers.{Transfer}
 use Rattle.link_bundle_walk.specs.Bundles.{Packed, Rest, Divided}
-use Rattle.link_pack.specs.{Packing.{segment_size, sending}, Segments.{cutting_of, segments_of}, declared.options.PackOptions.PackOptions}
+use Rattle.link_pack.specs.{Packing.{segment_size, sending}, Segments.{cutting_of, segments_of}}
+use Rattle.link_pack.specs.declared.options.PackOptions.{PackOptions}
 use Rattle.link_laws.specs.PackedStream.{SegmentFits, TransferFits, KeepsLimits}
-use Rattle.link_laws.proofs.{Carried.{onto, rest_onto, partly, transfer_of, due_within}, Divided.{AreBundles, IsRest}}
+use Rattle.link_laws.proofs.Carried.{onto, rest_onto, partly, transfer_of, due_within}
+use Rattle.link_laws.proofs.Divided.{AreBundles, IsRest}
 use Rattle.link_laws.proofs.Entries.{bundle_entries, due_entries, rest_entries, term_entries, end_entries, init_bytes, bundles_bytes, rest_bytes, first_entries, more_entries, last_entries, packed_entries, init_entry, some_size}
-use Rattle.link_laws.proofs.{Readings.{packed, IsPacked}, Segments.segment_entries, Sendings.segments_fit}
+use Rattle.link_laws.proofs.{Readings.{packed, IsPacked}, Segments.segment_entries}
+use Rattle.link_laws.proofs.Sendings.{segments_fit}
 
 -- ---- segments
 

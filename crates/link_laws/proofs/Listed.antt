@@ -7,9 +7,13 @@ use Rattle.link_run.specs.Run.{Outcome}
 use Rattle.link_list.specs.Listing.{listing_of, listing_by, message_lines, list_tool}
 use Rattle.link_bundle_walk.specs.Bundles.{Packed, Rest, divided}
 use Rattle.link_bundle_walk.proofs.Outcomes.{whole_of}
-use Rattle.link_pack.specs.{Packing.{sending, transfer_bytes}, Segments.{Sending, cut_at, segment_bytes, segments_from}, declared.options.PackOptions.PackOptions}
+use Rattle.link_pack.specs.Packing.{sending, transfer_bytes}
+use Rattle.link_pack.specs.Segments.{Sending, cut_at, segment_bytes, segments_from}
+use Rattle.link_pack.specs.declared.options.PackOptions.{PackOptions}
 use Rattle.link_laws.specs.Listed.{size_of_segment, segment_lines, size_of_segments, chunks_of, term_line, bundle_lines, IsListed}
-use Rattle.link_laws.proofs.{Entries.{init_bytes, init_entry, bundle_entries, term_entries, packed_entries, packed_reading}, Listings.message_lines-append, Readings.{packed, nothing_left, IsPacked}}
+use Rattle.link_laws.proofs.Entries.{init_bytes, init_entry, bundle_entries, term_entries, packed_entries, packed_reading}
+use Rattle.link_laws.proofs.Listings.{message_lines-append}
+use Rattle.link_laws.proofs.Readings.{packed, nothing_left, IsPacked}
 use Rattle.link_laws.proofs.Segments.{chunk_of, segment_entries}
 
 -- ---- sizes

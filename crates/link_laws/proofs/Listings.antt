@@ -1,10 +1,12 @@
 -- The texts of `list` that some bytes determine are prefixes of its texts for longer inputs.
-use Rattle.std.proofs.{Common.{◌≡◌, ℕ, List, ◌++◌, refl, ap, ◌∙◌, ⊎_elim}, lemmas.Grind.flat_map-append}
+use Rattle.std.proofs.Common.{◌≡◌, ℕ, List, ◌++◌, refl, ap, ◌∙◌, ⊎_elim}
+use Rattle.std.proofs.lemmas.Grind.{flat_map-append}
 use Rattle.link_wire.specs.Stream.{Entry, Stream, Reading, reading_of}
 use Rattle.link_report.specs.Message.{message_text}
 use Rattle.link_list.specs.Listing.{contact_lines, message_lines, listed_lines, listing_of, listing_by, list_tool}
 use Rattle.link_laws.specs.Prefix.{IsFrontOf, IsPrefixed}
-use Rattle.link_laws.proofs.{Fronts.{front_same, front_after, front_none, fronts_same}, Prefixes.prefixed}
+use Rattle.link_laws.proofs.Fronts.{front_same, front_after, front_none, fronts_same}
+use Rattle.link_laws.proofs.Prefixes.{prefixed}
 use Rattle.link_run.proofs.Continued.{GoesOn, stream_of, ReadingGoesOn, reading_on}
 
 pub message_lines-append : (entries more : List Entry)

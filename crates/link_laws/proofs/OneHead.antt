@@ -1,21 +1,30 @@
 -- What one head does: to the transfers, to what is said of its events, and to the lines.
 use Rattle.std.specs.List.{flat_map, fold}
 use Rattle.std.proofs.Common.{◌≡◌, ℕ, Bool, true, false, not, ◌&&◌, ◌==◌, is_some, List, [], ◌∷◌, ◌++◌, length, Option, Some, None, refl, ap, sym, ◌∙◌, subst, ⊎_elim, append-nil, append_assoc, arith}
-use Rattle.std.proofs.{Math.Bool.{and-true, and_assoc}, lemmas.Bool.eq-eqb, lemmas.List.Concat.flat_map-append, lemmas.List.Folds.list_all-append}
-use Rattle.link_wire.specs.{Codes.{is_start, is_end}, Message.data_length, Stream.Entry, declared.message.Message.Message, declared.message.SegmentHead.SegmentHead}
-use Rattle.link_transfer.specs.{Event.event_of, Order.{begins, is_segment, is_stray, refusal, effect_of, open_of}, declared.event.Event.Event, declared.fault.OrderFault.OrderFault}
+use Rattle.std.proofs.{Math.Bool.{and-true, and_assoc}, lemmas.Bool.eq-eqb}
+use Rattle.std.proofs.lemmas.List.{Concat.flat_map-append, Folds.list_all-append}
+use Rattle.link_wire.specs.{Codes.{is_start, is_end}, Message.data_length, Stream.Entry}
+use Rattle.link_wire.specs.declared.message.{Message.Message, SegmentHead.SegmentHead}
+use Rattle.link_wire.specs.declared.message.Message.TheVariants as message
+use Rattle.link_transfer.specs.Event.{event_of}
+use Rattle.link_transfer.specs.Order.{begins, is_segment, is_stray, refusal, effect_of, open_of}
+use Rattle.link_transfer.specs.declared.{event.Event.Event, fault.OrderFault.OrderFault}
 use Rattle.link_transfer.specs.declared.joiner.Turn.{Turn}
+use Rattle.link_transfer.specs.declared.event.Event.TheVariants as event
+use Rattle.link_transfer.specs.declared.joiner.Turn.TheVariants as turn
 use Rattle.link_report.specs.{Transfer.transfer_text, declared.transfer.TransferEntry.TransferEntry}
 use Rattle.link_walk.specs.Walk.{is_last, is_plain, open_with}
 use Rattle.link_walk.proofs.Heads.{open_then}
-use Rattle.link_unpack.specs.{Transfers.{Transfer, closes, after_segment}, TransferJudge.grown, Unpacking.{order_line, line_due, good_due}, declared.wanted.Wanted.Wanted}
-use Rattle.link_unpack.proofs.{Effects.{zero_eq, Does, Strays, Passes, Begins, Continues, what_does}, Heads.{transfers_same, transfer_begins, transfer_continues}}
-use Rattle.link_laws.specs.{Cuts.entries_of, Transfers.{settled, Unpacked, none_unpacked, transfers_with, transfer_lines, with_head, unpacked_of}}
-use Rattle.link_laws.proofs.{Due.{latest_open, all_good, entries_due, lines_due, goods_due, abandoned_due, closed_due, settled_all, closed_last}, Whole.{FitsData, AreWhole, AreRead, no_content}}
+use Rattle.link_unpack.specs.{Transfers.{Transfer, closes, after_segment}, TransferJudge.grown}
+use Rattle.link_unpack.specs.Unpacking.{order_line, line_due, good_due}
+use Rattle.link_unpack.specs.declared.wanted.Wanted.{Wanted}
+use Rattle.link_unpack.proofs.Effects.{zero_eq, Does, Strays, Passes, Begins, Continues, what_does}
+use Rattle.link_unpack.proofs.Heads.{transfers_same, transfer_begins, transfer_continues}
+use Rattle.link_laws.specs.Cuts.{entries_of}
+use Rattle.link_laws.specs.Transfers.{settled, Unpacked, none_unpacked, transfers_with, transfer_lines, with_head, unpacked_of}
+use Rattle.link_laws.proofs.Due.{latest_open, all_good, entries_due, lines_due, goods_due, abandoned_due, closed_due, settled_all, closed_last}
+use Rattle.link_laws.proofs.Whole.{FitsData, AreWhole, AreRead, no_content}
 use Rattle.link_laws.proofs.Telling.{closed_not, told_as, content_told, head_of, said_of, head_told}
-use Rattle.link_wire.specs.declared.message.Message.TheVariants as message
-use Rattle.link_transfer.specs.declared.event.Event.TheVariants as event
-use Rattle.link_transfer.specs.declared.joiner.Turn.TheVariants as turn
 
 begins_none : (happened : Event) → is_segment happened ≡ false → begins happened ≡ false
 begins_none (event.Segment flags id) other = absurd (cc)

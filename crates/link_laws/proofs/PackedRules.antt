@@ -1,32 +1,52 @@
 -- `check` finds only rules of bundles broken in a packed stream.
 use Rattle.std.specs.List.{All, filter}
 use Rattle.std.proofs.Common.{◌≡◌, ℕ, suc, ◌+◌, inl, inr, ◌⊎◌, Bool, true, false, ◌&&◌, nat_lt, nat_le, is_some, List, [], ◌∷◌, ◌++◌, length, map, filter_map, Option, Some, None, Result, Ok, Err, if◌then◌else◌, refl, ap, ap₂, sym, ◌∙◌, subst, append-nil, arith}
-use Rattle.std.proofs.lemmas.{Bool.{eq-eqb, ne_eqb, ltb-true}, List.map-append, List.Elements.{All-nil, All-cons, All-head, All-tail, filter-append}}
-use Rattle.link_wire.specs.{Codes.{is_start, is_end}, Message.data_length, Spelling.announced, Stream.{Entry, reading_of, heads_of}, declared.message.Contact.Contact, declared.message.Message.Message}
-use Rattle.link_wire.specs.declared.message.SegmentHead.{SegmentHead}
-use Rattle.link_bundle_types.specs.declared.{fault.BundleFault.BundleFault, info.BundleInfo.BundleInfo}
+use Rattle.std.proofs.lemmas.{Bool.{eq-eqb, ne_eqb, ltb-true}, List.map-append}
+use Rattle.std.proofs.lemmas.List.Elements.{All-nil, All-cons, All-head, All-tail, filter-append}
+use Rattle.link_wire.specs.{Codes.{is_start, is_end}, Message.data_length, Spelling.announced}
+use Rattle.link_wire.specs.{Stream.{Entry, reading_of, heads_of}, declared.message.Contact.Contact}
+use Rattle.link_wire.specs.declared.message.{Message.Message, SegmentHead.SegmentHead}
+use Rattle.link_bundle_types.specs.declared.fault.BundleFault.{BundleFault}
+use Rattle.link_bundle_types.specs.declared.info.BundleInfo.{BundleInfo}
 use Rattle.link_bundle_blocks.specs.Bundle.{verdict}
 use Rattle.link_bundle_rules.specs.declared.rule.BundleRule.{BundleRule}
-use Rattle.link_transfer.specs.{Announced.announced_of, Cutting.announcement, Order.{open_of, with_taken}, declared.announcement.Announced.Announced}
-use Rattle.link_transfer.specs.declared.{announcement.Announced.TheVariants.{Absent, Total}, joiner.Turn.Turn}
+use Rattle.link_transfer.specs.{Announced.announced_of, Cutting.announcement}
+use Rattle.link_transfer.specs.Order.{open_of, with_taken}
+use Rattle.link_transfer.specs.declared.announcement.Announced.{Announced}
+use Rattle.link_transfer.specs.declared.announcement.Announced.TheVariants.{Absent, Total}
+use Rattle.link_transfer.specs.declared.joiner.Turn.{Turn}
 use Rattle.link_transfer.proofs.Due.{chunk_left}
-use Rattle.link_message_rules.specs.{Flags.contact_flags, Heads.JudgedHead, MessageRules.broken_rules, TransferData.data_rule}
+use Rattle.link_message_rules.specs.{Flags.contact_flags, Heads.JudgedHead}
+use Rattle.link_message_rules.specs.{MessageRules.broken_rules, TransferData.data_rule}
 use Rattle.link_message_rules.specs.TransferRules.{broken_transfer_rules, if_malformed, if_different, has_length_item, length_item, length_differs, length_of_one_segment}
-use Rattle.link_message_rules.specs.declared.{limits.PeerLimits.PeerLimits, rule.TransferRule.TransferRule}
-use Rattle.link_rule_report.specs.declared.{line.RuleText.RuleText, rule.BrokenRule.BrokenRule, rule.BundlePlace.BundlePlace}
-use Rattle.link_walk.specs.Walk.{head_at, closes, WalkEvent, MessageHead, Data, Whole, data_events, content_events, walked_of, end_events}
-use Rattle.link_unpack.specs.Transfers.{Transfer}
-use Rattle.link_check.specs.{BundleRules.bundle_rules, Checking.{Begun, begun_by, closed_rules, data_rules, latest_with, rules_at}, Lines.at_offset}
-use Rattle.link_bundle_walk.specs.Bundles.{Packed, Divided, divided}
-use Rattle.link_pack.specs.{Packing.sending, Segments.Sending, declared.options.PackOptions.PackOptions}
-use Rattle.link_laws.specs.{PackedRules.{AllowsLimits, KeepsNodeId, BreaksNoMore}, RoundTrip.all, SameRules.reports}
-use Rattle.link_laws.proofs.{BrokenRules.{broken_with, broken_from}, Carried.{onto, packed_transfers, transfer_of}, ClearHeads.{judged_at, AreClear}, ClearStream.packed_clear, Divided.AreBundles}
-use Rattle.link_laws.proofs.{Entries.{packed_entries, packed_reading, some_size}, GivenBack.gives_back, InOrder.unpacked_in_order, Limits.{none_announced, total_announced}}
-use Rattle.link_laws.proofs.{Placed.{Placed, Choice, transfers_in, begun_of, AfterAll, due_of, rules_of}, PlainHeads.{going, walk_events, taken_by, walk_is}}
-use Rattle.link_laws.proofs.{Readings.{input, packed, nothing_left, IsPacked}, Sent.{head_of, last_at, ends_as}, Whole.reading_read}
+use Rattle.link_message_rules.specs.declared.limits.PeerLimits.{PeerLimits}
+use Rattle.link_message_rules.specs.declared.rule.TransferRule.{TransferRule}
 use Rattle.link_message_rules.specs.declared.rule.TransferRule.TheVariants as transfer_rule
+use Rattle.link_rule_report.specs.declared.{line.RuleText.RuleText, rule.BrokenRule.BrokenRule}
+use Rattle.link_rule_report.specs.declared.rule.BundlePlace.{BundlePlace}
 use Rattle.link_rule_report.specs.declared.rule.BrokenRule.TheVariants as rule
 use Rattle.link_rule_report.specs.declared.rule.BundlePlace.TheVariants as place
+use Rattle.link_walk.specs.Walk.{head_at, closes, WalkEvent, MessageHead, Data, Whole, data_events, content_events, walked_of, end_events}
+use Rattle.link_unpack.specs.Transfers.{Transfer}
+use Rattle.link_check.specs.BundleRules.{bundle_rules}
+use Rattle.link_check.specs.Checking.{Begun, begun_by, closed_rules, data_rules, latest_with, rules_at}
+use Rattle.link_check.specs.Lines.{at_offset}
+use Rattle.link_bundle_walk.specs.Bundles.{Packed, Divided, divided}
+use Rattle.link_pack.specs.{Packing.sending, Segments.Sending}
+use Rattle.link_pack.specs.declared.options.PackOptions.{PackOptions}
+use Rattle.link_laws.specs.{PackedRules.{AllowsLimits, KeepsNodeId, BreaksNoMore}, RoundTrip.all}
+use Rattle.link_laws.specs.SameRules.{reports}
+use Rattle.link_laws.proofs.BrokenRules.{broken_with, broken_from}
+use Rattle.link_laws.proofs.Carried.{onto, packed_transfers, transfer_of}
+use Rattle.link_laws.proofs.{ClearHeads.{judged_at, AreClear}, ClearStream.packed_clear}
+use Rattle.link_laws.proofs.Divided.{AreBundles}
+use Rattle.link_laws.proofs.Entries.{packed_entries, packed_reading, some_size}
+use Rattle.link_laws.proofs.{GivenBack.gives_back, InOrder.unpacked_in_order}
+use Rattle.link_laws.proofs.Limits.{none_announced, total_announced}
+use Rattle.link_laws.proofs.Placed.{Placed, Choice, transfers_in, begun_of, AfterAll, due_of, rules_of}
+use Rattle.link_laws.proofs.PlainHeads.{going, walk_events, taken_by, walk_is}
+use Rattle.link_laws.proofs.Readings.{input, packed, nothing_left, IsPacked}
+use Rattle.link_laws.proofs.{Sent.{head_of, last_at, ends_as}, Whole.reading_read}
 use Rattle.link_laws.proofs.SameLines as recording
 use Rattle.link_laws.proofs.SameRules as same
 

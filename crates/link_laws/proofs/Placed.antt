@@ -2,19 +2,27 @@
 use Rattle.std.specs.List.{filter, fold}
 use Rattle.std.proofs.Common.{◌≡◌, ℕ, Bool, true, false, not, ◌&&◌, ◌==◌, is_some, List, [], ◌∷◌, ◌++◌, map, Option, Some, None, option_map, if◌then◌else◌, refl, ap, sym, ◌∙◌, append-nil, append_assoc, arith}
 use Rattle.std.proofs.lemmas.List.Elements.{filter-append}
-use Rattle.link_wire.specs.{Codes.{is_start, is_end}, declared.message.Message.Message, declared.message.SegmentHead.SegmentHead}
+use Rattle.link_wire.specs.{Codes.{is_start, is_end}, declared.message.Message.Message}
+use Rattle.link_wire.specs.declared.message.SegmentHead.{SegmentHead}
+use Rattle.link_wire.specs.declared.message.Message.TheVariants as message
 use Rattle.link_transfer.specs.declared.{fault.OrderFault.OrderFault, joiner.Turn.Turn}
+use Rattle.link_transfer.specs.declared.joiner.Turn.TheVariants as turn
 use Rattle.link_walk.specs.Walk.{Head, open_after_event, has_open, WalkEvent, ContactHeader, MessageHead, Data, Whole, LeftOpen}
 use Rattle.link_walk.proofs.Heads.{has_open-append}
-use Rattle.link_unpack.specs.{Transfers.{Transfer, continued}, Unpacking.{Told, transfers_at, told_event, told_after, none_told}, declared.wanted.Wanted.Wanted}
-use Rattle.link_unpack.proofs.{Effects.{zero_eq, Does, Strays, Passes, Begins, Continues, comes_does}, Heads.{transfers_same, transfer_begins, transfer_continues}}
-use Rattle.link_message_rules.specs.{Heads.JudgedHead, declared.limits.PeerLimits.PeerLimits, declared.rule.MessageRule.MessageRule, declared.rule.TransferRule.TheVariants.Unfinished}
+use Rattle.link_unpack.specs.Transfers.{Transfer, continued}
+use Rattle.link_unpack.specs.Unpacking.{Told, transfers_at, told_event, told_after, none_told}
+use Rattle.link_unpack.specs.declared.wanted.Wanted.{Wanted}
+use Rattle.link_unpack.proofs.Effects.{zero_eq, Does, Strays, Passes, Begins, Continues, comes_does}
+use Rattle.link_unpack.proofs.Heads.{transfers_same, transfer_begins, transfer_continues}
+use Rattle.link_message_rules.specs.{Heads.JudgedHead, declared.limits.PeerLimits.PeerLimits}
+use Rattle.link_message_rules.specs.declared.rule.MessageRule.{MessageRule}
+use Rattle.link_message_rules.specs.declared.rule.TransferRule.TheVariants.{Unfinished}
 use Rattle.link_rule_report.specs.declared.{line.RuleText.RuleText, rule.BrokenRule.BrokenRule}
-use Rattle.link_check.specs.{Checking.{Begun, closed_rules, heads_with, latest_with, with_bytes}, Lines.at_offset}
-use Rattle.link_laws.proofs.{BrokenRules.{broken_with, broken_from}, Following.{Follows, AllFollow}, PlainHeads.{matters, mattering}, Telling.closed_not}
-use Rattle.link_wire.specs.declared.message.Message.TheVariants as message
-use Rattle.link_transfer.specs.declared.joiner.Turn.TheVariants as turn
 use Rattle.link_rule_report.specs.declared.rule.BrokenRule.TheVariants as rule
+use Rattle.link_check.specs.Checking.{Begun, closed_rules, heads_with, latest_with, with_bytes}
+use Rattle.link_check.specs.Lines.{at_offset}
+use Rattle.link_laws.proofs.{BrokenRules.{broken_with, broken_from}, Following.{Follows, AllFollow}}
+use Rattle.link_laws.proofs.{PlainHeads.{matters, mattering}, Telling.closed_not}
 
 -- ---- the transfers after an event
 

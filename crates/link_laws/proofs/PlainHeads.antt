@@ -2,8 +2,10 @@
 use Rattle.std.specs.List.{filter, flat_map, fold}
 use Rattle.std.proofs.Common.{◌≡◌, ℕ, Bool, true, false, not, List, [], ◌∷◌, ◌++◌, Option, Some, None, if◌then◌else◌, refl, ap, ap₂, sym, ◌∙◌, append-nil, append_assoc, arith}
 use Rattle.std.proofs.lemmas.List.Elements.{filter-append}
-use Rattle.link_wire.specs.{Message.data_length, Stream.Entry, declared.message.Contact.Contact, declared.message.Message.Message}
-use Rattle.link_transfer.specs.{Event.event_of, Order.{refusal, with_taken}, declared.fault.OrderFault.OrderFault, declared.joiner.Turn.Turn}
+use Rattle.link_wire.specs.{Message.data_length, Stream.Entry, declared.message.Contact.Contact}
+use Rattle.link_wire.specs.declared.message.Message.{Message}
+use Rattle.link_transfer.specs.{Event.event_of, Order.{refusal, with_taken}}
+use Rattle.link_transfer.specs.declared.{fault.OrderFault.OrderFault, joiner.Turn.Turn}
 use Rattle.link_walk.specs.Walk.{head_at, is_plain, WalkEvent, MessageHead, Data, Whole, LeftOpen, data_events, head_events, content_events, Walked, taken_with, with_judged, with_next, contact_events, walked_of, end_events}
 use Rattle.link_walk.specs.declared.consumer.Manner.{Manner}
 

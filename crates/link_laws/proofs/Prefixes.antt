@@ -1,5 +1,6 @@
 -- The texts that a tool determines by some bytes are prefixes of its texts for longer inputs.
-use Rattle.std.proofs.{Common.{◌≡◌, ℕ, true, List, ◌++◌, Option, Some, None, refl, ⊎_elim}, lemmas.Bool.cases_Bool}
+use Rattle.std.proofs.Common.{◌≡◌, ℕ, true, List, ◌++◌, Option, Some, None, refl, ⊎_elim}
+use Rattle.std.proofs.lemmas.Bool.{cases_Bool}
 use Rattle.link_run.specs.Made.{StreamStop, Made, whole_by, so_far_by, shows_fault, tool_of}
 use Rattle.link_run.proofs.Ends.{unshown_sofar, shown_sofar}
 use Rattle.link_laws.specs.Prefix.{IsPrefixed}

@@ -4,9 +4,11 @@ use Rattle.link_wire.specs.{SpelledStream.IsReading, Stream.{Reading, reading_of
 use Rattle.link_run.specs.{Made.{Made, whole_by}, Run.Outcome}
 use Rattle.link_walk.proofs.Heads.{heads_clean}
 use Rattle.link_bundle_walk.specs.{Bundles.{Rest, Divided, divided}, Telling.stop_by}
-use Rattle.link_pack.specs.{Packing.{packing_by, packing_of, pack_tool}, declared.options.PackOptions.PackOptions}
+use Rattle.link_pack.specs.Packing.{packing_by, packing_of, pack_tool}
+use Rattle.link_pack.specs.declared.options.PackOptions.{PackOptions}
 use Rattle.link_laws.specs.Ranges.{OptionsFit, InputFits}
-use Rattle.link_laws.proofs.{Carried.{AreCarried, packed_carried, packed_transfers}, Divided.{IsDivided, is_divided}, Entries.{packed_reading, packed_is}}
+use Rattle.link_laws.proofs.Carried.{AreCarried, packed_carried, packed_transfers}
+use Rattle.link_laws.proofs.{Divided.{IsDivided, is_divided}, Entries.{packed_reading, packed_is}}
 
 -- if no bundle is refused, nothing follows the bundles
 no_rest : (number : ℕ) (made : Made) (rest : Option Rest)

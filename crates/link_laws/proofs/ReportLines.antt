@@ -1,14 +1,18 @@
 -- The lines of the report of `unpack`, if a fault of the order does not end the run.
 use Rattle.std.specs.List.{flat_map}
-use Rattle.std.proofs.{Common.{◌≡◌, ℕ, List, [], ◌∷◌, ◌++◌, Option, Some, None, map, refl, ap, ap₂, sym, ◌∙◌, append-nil, append_assoc}, lemmas.List.Concat.flat_map-append}
+use Rattle.std.proofs.Common.{◌≡◌, ℕ, List, [], ◌∷◌, ◌++◌, Option, Some, None, map, refl, ap, ap₂, sym, ◌∙◌, append-nil, append_assoc}
+use Rattle.std.proofs.lemmas.List.Concat.{flat_map-append}
 use Rattle.link_wire.specs.Stream.{Entry, End, reading_of, heads_of}
 use Rattle.link_transfer.specs.{Event.event_of, Order.refusal, declared.fault.OrderFault.OrderFault}
-use Rattle.link_report.specs.{Fault.fault_text, Transfer.transfer_text, declared.transfer.TransferEntry.TransferEntry}
+use Rattle.link_report.specs.{Fault.fault_text, Transfer.transfer_text}
+use Rattle.link_report.specs.declared.transfer.TransferEntry.{TransferEntry}
 use Rattle.link_run.specs.{Made.{StreamStop, stop_of, whole_by}, Run.Outcome}
 use Rattle.link_unpack.specs.{Unpacking.order_line, declared.wanted.Wanted.Wanted}
 use Rattle.link_laws.specs.Cuts.{going_on, entries_of, lined, stop_line, ReportLine, OfHead, OfTransfer, line_text, entry_in, fault_in, fault_at, faults_after, CutsOutputOn}
 use Rattle.link_laws.specs.Transfers.{settled, Unpacked, with_head, unpacked_of, going_on_by, by_transfers}
-use Rattle.link_laws.proofs.{Cut.cut_by_lines, Due.{latest_open, entries_due, lines_due, abandoned_due, settled_all}, OneHead.{KnowsWhole, added, through}, Same.whole_is}
+use Rattle.link_laws.proofs.Cut.{cut_by_lines}
+use Rattle.link_laws.proofs.Due.{latest_open, entries_due, lines_due, abandoned_due, settled_all}
+use Rattle.link_laws.proofs.{OneHead.{KnowsWhole, added, through}, Same.whole_is}
 use Rattle.link_laws.proofs.Whole.{FitsData, AreRead, reading_read}
 
 -- ---- lines

@@ -1,17 +1,27 @@
 -- What `unpack` says of the events of a stream is what the transfers of the stream make.
 use Rattle.std.specs.List.{fold}
 use Rattle.std.proofs.Common.{◌≡◌, ℕ, Bool, true, false, not, ◌&&◌, is_some, List, [], ◌∷◌, ◌++◌, Option, Some, None, if◌then◌else◌, refl, ap, sym, ◌∙◌, append-nil, arith}
-use Rattle.std.proofs.{Math.Bool.{and-true, and-false, and_assoc}, lemmas.List.Folds.list_all-append, Math.Path.fun_ext}
-use Rattle.link_wire.specs.{Stream.{Entry, End, Reading, cut_heads, heads_of}, declared.message.Contact.Contact, declared.message.Message.Message}
-use Rattle.link_transfer.specs.{Event.event_of, Order.{refusal, with_taken}, declared.fault.OrderFault.OrderFault}
-use Rattle.link_run.specs.{Made.{StreamStop, Made, whole_by, so_far_by, shows_fault, stop_of, tool_of}, Run.{Texts, Outcome, Tool}}
-use Rattle.link_walk.specs.{Walk.{WalkEvent, LeftOpen, Walked, with_next, contact_events, walked_of, end_events, told_by, told_of, stop_by}, declared.consumer.Manner.Manner}
+use Rattle.std.proofs.Math.Bool.{and-true, and-false, and_assoc}
+use Rattle.std.proofs.{lemmas.List.Folds.list_all-append, Math.Path.fun_ext}
+use Rattle.link_wire.specs.Stream.{Entry, End, Reading, cut_heads, heads_of}
+use Rattle.link_wire.specs.declared.message.{Contact.Contact, Message.Message}
+use Rattle.link_transfer.specs.{Event.event_of, Order.{refusal, with_taken}}
+use Rattle.link_transfer.specs.declared.fault.OrderFault.{OrderFault}
+use Rattle.link_run.specs.Made.{StreamStop, Made, whole_by, so_far_by, shows_fault, stop_of, tool_of}
+use Rattle.link_run.specs.Run.{Texts, Outcome, Tool}
+use Rattle.link_walk.specs.Walk.{WalkEvent, LeftOpen, Walked, with_next, contact_events, walked_of, end_events, told_by, told_of, stop_by}
+use Rattle.link_walk.specs.declared.consumer.Manner.{Manner}
 use Rattle.link_laws.specs.Transfers.{Ordered, ordered_after, ordered, settled, are_good, abandoned_line, unpacking_by, Unpacked, none_unpacked, with_head, unpacked_of, going_on_by, made_of, by_transfers}
 use Rattle.link_laws.specs.Cuts.{entries_of}
-use Rattle.link_laws.proofs.{Accepted.{accepted_read, accepted_in_order, all_in_order}, Due.{latest_open, all_good, goods_due, abandoned_due, settled_all, goods_are}}
-use Rattle.link_laws.proofs.{InOrder.{not_stray, taken_more, unpacked_in_order, made_in_order}, OneHead.{KnowsWhole, added, through, heads_whole}, PlainHeads.{judged_taken, events_at}}
-use Rattle.link_laws.proofs.{Telling.told_as, Whole.{FitsData, AreRead, ReadingReads, reading_read}}
-use Rattle.link_unpack.specs.{Transfers.Transfer, Unpacking.{parts_of, unpack_tool, Told, told_after, unpack_telling, with_line, order_line, good_due}, declared.wanted.Wanted.Wanted}
+use Rattle.link_laws.proofs.Accepted.{accepted_read, accepted_in_order, all_in_order}
+use Rattle.link_laws.proofs.Due.{latest_open, all_good, goods_due, abandoned_due, settled_all, goods_are}
+use Rattle.link_laws.proofs.InOrder.{not_stray, taken_more, unpacked_in_order, made_in_order}
+use Rattle.link_laws.proofs.OneHead.{KnowsWhole, added, through, heads_whole}
+use Rattle.link_laws.proofs.{PlainHeads.{judged_taken, events_at}, Telling.told_as}
+use Rattle.link_laws.proofs.Whole.{FitsData, AreRead, ReadingReads, reading_read}
+use Rattle.link_unpack.specs.Transfers.{Transfer}
+use Rattle.link_unpack.specs.Unpacking.{parts_of, unpack_tool, Told, told_after, unpack_telling, with_line, order_line, good_due}
+use Rattle.link_unpack.specs.declared.wanted.Wanted.{Wanted}
 use Rattle.link_unpack.proofs.Events.{told_then, told_push}
 
 -- ---- heads that are taken, whether or not they are in order

@@ -1,19 +1,26 @@
 -- If every transfer of a recording is over and good, `blocks` writes the lines of the bundles that
 -- `unpack` joins.
 use Rattle.std.specs.List.{flat_map, fold}
-use Rattle.std.proofs.{Common.{◌≡◌, ℕ, ◌≤◌, Bool, true, false, List, [], ◌∷◌, ◌++◌, length, Option, Some, None, if◌then◌else◌, refl, ◌∙◌, append-nil, arith}, lemmas.Bool.and_parts}
-use Rattle.std.proofs.lemmas.Grind.{flat_map-append}
-use Rattle.link_wire.specs.{Bytes.AreBytes, SpelledStream.IsReading, Stream.{Entry, End, Reading, reading_of, heads_of}, declared.message.Contact.Contact}
+use Rattle.std.proofs.Common.{◌≡◌, ℕ, ◌≤◌, Bool, true, false, List, [], ◌∷◌, ◌++◌, length, Option, Some, None, if◌then◌else◌, refl, ◌∙◌, append-nil, arith}
+use Rattle.std.proofs.lemmas.{Bool.and_parts, Grind.flat_map-append}
+use Rattle.link_wire.specs.{Bytes.AreBytes, SpelledStream.IsReading}
+use Rattle.link_wire.specs.Stream.{Entry, End, Reading, reading_of, heads_of}
+use Rattle.link_wire.specs.declared.message.Contact.{Contact}
 use Rattle.link_transfer.specs.declared.fault.OrderFault.{OrderFault}
 use Rattle.link_run.specs.{Made.{StreamStop, Made, whole_by, stop_of}, Writers.on_output}
 use Rattle.link_run.proofs.Runs.{texts_as}
 use Rattle.link_walk.specs.Walk.{WalkEvent, MessageHead, LeftOpen, Head, head_at, contact_events, Walked, taken_with, with_judged, with_entry_unless, with_next, none_walked, walked_of, walked, end_events, has_open, stop_by, told_of}
 use Rattle.link_walk.specs.declared.consumer.Manner.{Manner}
-use Rattle.link_unpack.specs.{Transfers.Transfer, Unpacking.{Told, told_after, unpack_tool, parts_of}}
+use Rattle.link_unpack.specs.Transfers.{Transfer}
+use Rattle.link_unpack.specs.Unpacking.{Told, told_after, unpack_tool, parts_of}
 use Rattle.link_blocks.specs.{Bundles.bundle_limit, Showing.{order_line_of, lines_of, blocks_tool}}
-use Rattle.link_laws.specs.{Ranges.InputFits, RoundTrip.all, SameLines.{shown, unpacked, HasSameLines}, Transfers.{are_good, unpacked_of}}
-use Rattle.link_laws.proofs.{DataSize.{reading_size, order_size}, EveryByte.every_byte, Following.closed_at_end, GoodBundles.{carries, joined_lines}, PlainHeads.content_none}
-use Rattle.link_laws.proofs.{Same.{clean_end, clean_told}, Whole.{AreWhole, reading_read}}
+use Rattle.link_laws.specs.{Ranges.InputFits, RoundTrip.all}
+use Rattle.link_laws.specs.SameLines.{shown, unpacked, HasSameLines}
+use Rattle.link_laws.specs.Transfers.{are_good, unpacked_of}
+use Rattle.link_laws.proofs.{DataSize.{reading_size, order_size}, EveryByte.every_byte}
+use Rattle.link_laws.proofs.{Following.closed_at_end, GoodBundles.{carries, joined_lines}}
+use Rattle.link_laws.proofs.{PlainHeads.content_none, Same.{clean_end, clean_told}}
+use Rattle.link_laws.proofs.Whole.{AreWhole, reading_read}
 
 -- ---- heads that are in order have no line
 

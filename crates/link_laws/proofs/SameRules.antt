@@ -1,26 +1,39 @@
 -- If every transfer of a recording is over and good, `check --bundles` finds the same rules broken
 -- in the bundles that `unpack` joins as `check` does in the recording.
 use Rattle.std.specs.List.{All, filter, flat_map}
-use Rattle.std.proofs.{Common.{◌≡◌, ℕ, ◌≤◌, Bool, true, false, List, [], ◌∷◌, ◌++◌, length, map, None, Ok, refl, ap, ap₂, sym, ◌∙◌, append-nil, arith}, lemmas.Bool.and_parts}
-use Rattle.std.proofs.lemmas.{Grind.flat_map-append, List.Elements.{All-nil, All-cons, All-append, filter-append}, List.map-append}
+use Rattle.std.proofs.Common.{◌≡◌, ℕ, ◌≤◌, Bool, true, false, List, [], ◌∷◌, ◌++◌, length, map, None, Ok, refl, ap, ap₂, sym, ◌∙◌, append-nil, arith}
+use Rattle.std.proofs.lemmas.{Bool.and_parts, Grind.flat_map-append}
+use Rattle.std.proofs.lemmas.List.Elements.{All-nil, All-cons, All-append, filter-append}
+use Rattle.std.proofs.lemmas.List.{map-append}
 use Rattle.link_bundle_blocks.specs.Bundle.{verdict}
 use Rattle.link_bundle_types.specs.declared.info.BundleInfo.{BundleInfo}
 use Rattle.link_bundle_rules.specs.declared.rule.BundleRule.{BundleRule}
-use Rattle.link_message_rules.specs.{TransferRules.broken_transfer_rules, declared.limits.PeerLimits.PeerLimits, declared.rule.TransferRule.TransferRule}
+use Rattle.link_message_rules.specs.TransferRules.{broken_transfer_rules}
+use Rattle.link_message_rules.specs.declared.limits.PeerLimits.{PeerLimits}
+use Rattle.link_message_rules.specs.declared.rule.TransferRule.{TransferRule}
 use Rattle.link_rule_report.specs.declared.{line.RuleText.RuleText, rule.BundlePlace.BundlePlace}
-use Rattle.link_wire.specs.{Bytes.AreBytes, SpelledStream.IsReading, Stream.{Reading, reading_of, heads_of}}
+use Rattle.link_rule_report.specs.declared.rule.BrokenRule.TheVariants as rule
+use Rattle.link_rule_report.specs.declared.rule.BundlePlace.TheVariants as place
+use Rattle.link_wire.specs.{Bytes.AreBytes, SpelledStream.IsReading}
+use Rattle.link_wire.specs.Stream.{Reading, reading_of, heads_of}
 use Rattle.link_run.specs.Made.{Made, whole_by}
 use Rattle.link_walk.specs.Walk.{Walked, WalkEvent, walked, end_events, told_of}
 use Rattle.link_unpack.specs.Unpacking.{unpack_tool, parts_of}
 use Rattle.link_bundle_walk.specs.Bundles.{divided}
 use Rattle.link_bundle_walk.proofs.Outcomes.{told_as}
 use Rattle.link_blocks.specs.Bundles.{bundle_limit}
-use Rattle.link_check.specs.{BundleRules.bundle_rules, Bundles.{broken_bundles, bundle_check_telling, bundle_check_tool}, Checking.check_tool, Lines.at_offset}
-use Rattle.link_laws.specs.{Ranges.InputFits, RoundTrip.all, SameLines.unpacked, SameRules.{Carried, broken_in_transfer, is_of_bundle, reports, HasSameRules}, Transfers.are_good}
-use Rattle.link_laws.proofs.{BrokenRules.{options, broken_from, lines_said, good_kept}, Following.{follow_both, reading_told, end_follows}, GoodBundles.{divided_all, good_transfer}}
-use Rattle.link_laws.proofs.{Placed.{Placed, Choice, transfers_in, told_transfers, rules_of, due_of, AfterAll, from_start}, PlainHeads.{going, quieter, all_matter}, Same.walked_on, Whole.reading_read}
-use Rattle.link_rule_report.specs.declared.rule.BrokenRule.TheVariants as rule
-use Rattle.link_rule_report.specs.declared.rule.BundlePlace.TheVariants as place
+use Rattle.link_check.specs.BundleRules.{bundle_rules}
+use Rattle.link_check.specs.Bundles.{broken_bundles, bundle_check_telling, bundle_check_tool}
+use Rattle.link_check.specs.{Checking.check_tool, Lines.at_offset}
+use Rattle.link_laws.specs.{Ranges.InputFits, RoundTrip.all, SameLines.unpacked}
+use Rattle.link_laws.specs.SameRules.{Carried, broken_in_transfer, is_of_bundle, reports, HasSameRules}
+use Rattle.link_laws.specs.Transfers.{are_good}
+use Rattle.link_laws.proofs.BrokenRules.{options, broken_from, lines_said, good_kept}
+use Rattle.link_laws.proofs.Following.{follow_both, reading_told, end_follows}
+use Rattle.link_laws.proofs.GoodBundles.{divided_all, good_transfer}
+use Rattle.link_laws.proofs.Placed.{Placed, Choice, transfers_in, told_transfers, rules_of, due_of, AfterAll, from_start}
+use Rattle.link_laws.proofs.{PlainHeads.{going, quieter, all_matter}, Same.walked_on}
+use Rattle.link_laws.proofs.Whole.{reading_read}
 use Rattle.link_laws.proofs.SameLines as recording
 
 -- ---- the rules of bundles among others

@@ -2,7 +2,9 @@
 use Rattle.std.specs.Prelude.{IfSome}
 use Rattle.std.proofs.Common.{◌≡◌, ℕ, zero, suc, ◌+◌, ◌*◌, ◌^◌, ◌<◌, ◌≤◌, Bool, true, false, ◌&&◌, nat_lt, nat_le, List, [], ◌∷◌, length, drop, Option, Some, None, if◌then◌else◌, refl, length-take, arith}
 use Rattle.std.proofs.lemmas.{Bool.Decides.nat_tests, List.Elements.{All-take, All-drop}}
-use Rattle.link_wire.specs.{Bytes.{IsByte, AreBytes}, Spelled.HeadSpelled, SpelledStream.IsStream, Spelling.{segment_head_bytes, segment_with}, Stream.{Entry, Clean}, declared.message.Message.Message}
+use Rattle.link_wire.specs.{Bytes.{IsByte, AreBytes}, Spelled.HeadSpelled, SpelledStream.IsStream}
+use Rattle.link_wire.specs.{Spelling.{segment_head_bytes, segment_with}, Stream.{Entry, Clean}}
+use Rattle.link_wire.specs.declared.message.Message.{Message}
 use Rattle.link_wire.proofs.Spellings.{segment_spelled}
 use Rattle.link_transfer.specs.{Chunks.chunk_at, Cutting.{Cutting, announcement}}
 use Rattle.link_pack.specs.Segments.{Sending, cutting_of, cut_at, flags_of, segment_bytes, segments_from}

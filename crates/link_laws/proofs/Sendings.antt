@@ -6,9 +6,12 @@ use Rattle.link_wire.specs.Stream.{Entry}
 use Rattle.link_transfer.specs.Chunks.{chunk_count}
 use Rattle.link_transfer.proofs.Due.{byte_left}
 use Rattle.link_unpack.specs.Transfers.{Transfer}
-use Rattle.link_pack.specs.{Segments.{Sending, cut_at, segment_bytes}, declared.options.PackOptions.PackOptions}
+use Rattle.link_pack.specs.Segments.{Sending, cut_at, segment_bytes}
+use Rattle.link_pack.specs.declared.options.PackOptions.{PackOptions}
 use Rattle.link_laws.specs.PackedStream.{SegmentFits}
-use Rattle.link_laws.proofs.{Segments.{chunk_of, segment_entries}, Sent.{open_by, sent, last_at, segment_at, stands_first, stands_next}, Standing.{Stands, carrying}}
+use Rattle.link_laws.proofs.Segments.{chunk_of, segment_entries}
+use Rattle.link_laws.proofs.Sent.{open_by, sent, last_at, segment_at, stands_first, stands_next}
+use Rattle.link_laws.proofs.Standing.{Stands, carrying}
 
 not_last : (whole : Bool) (count all : ℕ) → count < all → (whole && (count == all)) ≡ false
 not_last true count all below = ne_eqb count all (λ same. absurd (omega arith))

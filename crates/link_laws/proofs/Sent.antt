@@ -1,14 +1,17 @@
 -- The segments of a transfer are in order, and their chunks are its data.
 use Rattle.std.specs.Prelude.{◌==◌}
-use Rattle.std.proofs.{Common.{◌≡◌, ℕ, suc, ◌*◌, Bool, true, false, List, [], ◌∷◌, ◌++◌, length, take, Option, Some, None, if◌then◌else◌, refl, ap, sym, ◌∙◌, subst, arith}, Math.Bool.and-true}
-use Rattle.std.proofs.{lemmas.Bool.eq-eqb, Math.Seq.take-add}
-use Rattle.link_wire.specs.{Codes.{is_start, is_end}, Stream.Entry, Spelling.announced, declared.message.SegmentHead.SegmentHead}
-use Rattle.link_transfer.specs.{Chunks.chunk_at, Order.{refusal_by, open_after}, declared.event.Event.TheVariants.Segment}
+use Rattle.std.proofs.Common.{◌≡◌, ℕ, suc, ◌*◌, Bool, true, false, List, [], ◌∷◌, ◌++◌, length, take, Option, Some, None, if◌then◌else◌, refl, ap, sym, ◌∙◌, subst, arith}
+use Rattle.std.proofs.{Math.Bool.and-true, lemmas.Bool.eq-eqb, Math.Seq.take-add}
+use Rattle.link_wire.specs.{Codes.{is_start, is_end}, Stream.Entry, Spelling.announced}
+use Rattle.link_wire.specs.declared.message.SegmentHead.{SegmentHead}
+use Rattle.link_transfer.specs.{Chunks.chunk_at, Order.{refusal_by, open_after}}
+use Rattle.link_transfer.specs.declared.event.Event.TheVariants.{Segment}
 use Rattle.link_unpack.specs.Transfers.{Transfer, closes, after_message}
 use Rattle.link_unpack.proofs.Heads.{transfer_begins, transfer_continues}
 use Rattle.link_run.proofs.Continued.{entry}
 use Rattle.link_pack.specs.Segments.{Sending, cut_at, flags_of}
-use Rattle.link_laws.proofs.{Segments.{chunk_of, message_of}, Standing.{Stands, carrying, stands_more}}
+use Rattle.link_laws.proofs.Segments.{chunk_of, message_of}
+use Rattle.link_laws.proofs.Standing.{Stands, carrying, stands_more}
 
 -- ---- flags
 

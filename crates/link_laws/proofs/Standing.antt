@@ -1,7 +1,9 @@
 -- Heads that are in order and their transfers, with one more head.
-use Rattle.std.proofs.{Common.{◌≡◌, ℕ, true, false, List, [], ◌∷◌, ◌++◌, Option, None, refl, ap, sym, ◌∙◌, subst}, lemmas.Grind.fold-append, lemmas.List.map_push}
+use Rattle.std.proofs.Common.{◌≡◌, ℕ, true, false, List, [], ◌∷◌, ◌++◌, Option, None, refl, ap, sym, ◌∙◌, subst}
+use Rattle.std.proofs.lemmas.{Grind.fold-append, List.map_push}
 use Rattle.link_wire.specs.Stream.{Entry}
-use Rattle.link_transfer.specs.{Event.event_of, Joiner.{IsJoinerAt, joiner_after}, Order.refusal_by, declared.event.Event.Event, declared.joiner.Joiner.Joiner}
+use Rattle.link_transfer.specs.{Event.event_of, Joiner.{IsJoinerAt, joiner_after}, Order.refusal_by}
+use Rattle.link_transfer.specs.declared.{event.Event.Event, joiner.Joiner.Joiner}
 use Rattle.link_transfer.proofs.Joining.{refusal-at, IsJoinerAt-none, IsJoinerAt-then}
 use Rattle.link_unpack.specs.Transfers.{Transfer, after_message}
 use Rattle.link_laws.specs.Transfers.{ordered, ordered_after, transfers_of}

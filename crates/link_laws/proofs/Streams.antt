@@ -1,6 +1,9 @@
 -- Messages, one after another, are a stream.
-use Rattle.std.proofs.{Common.{◌≡◌, ℕ, ◌+◌, List, [], ◌∷◌, ◌++◌, length, refl, ap, sym, ◌∙◌, subst, append-nil, append_assoc, length-append, arith}, lemmas.List.Elements.All-nil}
-use Rattle.link_wire.specs.{Bytes.{IsByte, AreBytes}, Message.data_length, Spelled.HeadSpelled, SpelledStream.IsStream, Stream.{Entry, End, Clean}, declared.message.Message.Message}
+use Rattle.std.proofs.Common.{◌≡◌, ℕ, ◌+◌, List, [], ◌∷◌, ◌++◌, length, refl, ap, sym, ◌∙◌, subst, append-nil, append_assoc, length-append, arith}
+use Rattle.std.proofs.lemmas.List.Elements.{All-nil}
+use Rattle.link_wire.specs.{Bytes.{IsByte, AreBytes}, Message.data_length, Spelled.HeadSpelled}
+use Rattle.link_wire.specs.{SpelledStream.IsStream, Stream.{Entry, End, Clean}}
+use Rattle.link_wire.specs.declared.message.Message.{Message}
 use Rattle.link_run.proofs.Continued.{entry}
 
 -- messages, and then the rest of the stream

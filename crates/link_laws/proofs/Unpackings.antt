@@ -1,15 +1,20 @@
 -- The texts of `unpack` that some bytes determine are prefixes of its texts for longer inputs.
-use Rattle.std.proofs.{Common.{ℕ, Bool, true, false, List, [], ◌∷◌, ◌++◌, Option, Some, None, if◌then◌else◌, refl, ⊎_elim, arith}, lemmas.Bool.cases_Bool}
+use Rattle.std.proofs.Common.{ℕ, Bool, true, false, List, [], ◌∷◌, ◌++◌, Option, Some, None, if◌then◌else◌, refl, ⊎_elim, arith}
+use Rattle.std.proofs.lemmas.Bool.{cases_Bool}
 use Rattle.link_wire.specs.{Codes.is_start, declared.message.Message.Message}
 use Rattle.link_bundle_blocks.specs.Bundle.{payload_in}
 use Rattle.link_transfer.specs.declared.joiner.Turn.{Turn}
 use Rattle.link_run.specs.Run.{Texts}
 use Rattle.link_walk.specs.Walk.{WalkEvent, ContactHeader, MessageHead, Data, Whole, LeftOpen}
 use Rattle.link_unpack.specs.{TransferJudge.grown, Transfers.{Transfer, continued, after_message}}
-use Rattle.link_unpack.specs.{Unpacking.{is_selected, parts_of, Told, transfers_at, told_event, told_after, unpack_telling, unpack_tool}, declared.wanted.Wanted.Wanted}
-use Rattle.link_unpack.proofs.{Events.told_push, Heads.{kind_of, transfers_same, transfer_begins, transfer_continues}, Texts.parts_more}
+use Rattle.link_unpack.specs.Unpacking.{is_selected, parts_of, Told, transfers_at, told_event, told_after, unpack_telling, unpack_tool}
+use Rattle.link_unpack.specs.declared.wanted.Wanted.{Wanted}
+use Rattle.link_unpack.proofs.Events.{told_push}
+use Rattle.link_unpack.proofs.Heads.{kind_of, transfers_same, transfer_begins, transfer_continues}
+use Rattle.link_unpack.proofs.Texts.{parts_more}
 use Rattle.link_laws.specs.Prefix.{IsFrontOf, IsPrefixed}
-use Rattle.link_laws.proofs.{Fronts.{front_same, front_first, front_then, front_after, front_none, AreFronts, fronts_same}, Payloads.payload_front, Walks.{Adds, told_prefix}}
+use Rattle.link_laws.proofs.Fronts.{front_same, front_first, front_then, front_after, front_none, AreFronts, fronts_same}
+use Rattle.link_laws.proofs.{Payloads.payload_front, Walks.{Adds, told_prefix}}
 
 chosen_front : (selected payload : Bool) (content piece : List ℕ)
     → IsFrontOf (if selected then (if payload then payload_in content else content) else [])

@@ -3,8 +3,11 @@
 use Rattle.std.specs.List.{fold}
 use Rattle.std.proofs.Common.{◌≡◌, ℕ, ◌<◌, Bool, true, false, not, ◌&&◌, ◌==◌, List, [], ◌∷◌, ◌++◌, length, Option, Some, None, if◌then◌else◌, refl, ap, sym, subst, ◌∙◌, ⊎_elim, append-nil, append_assoc, arith}
 use Rattle.std.proofs.lemmas.{Bool.{and_right, ne_eqb}, Grind.fold-append, List.map-append}
-use Rattle.link_wire.specs.{Message.data_length, Stream.{Entry, Stream, Reading, reading_of, cut_heads, heads_of}}
-use Rattle.link_transfer.specs.{Event.event_of, Order.{refusal}, declared.fault.OrderFault.OrderFault, declared.joiner.Turn.Turn}
+use Rattle.link_wire.specs.Message.{data_length}
+use Rattle.link_wire.specs.Stream.{Entry, Stream, Reading, reading_of, cut_heads, heads_of}
+use Rattle.link_transfer.specs.{Event.event_of, Order.refusal, declared.fault.OrderFault.OrderFault}
+use Rattle.link_transfer.specs.declared.joiner.Turn.{Turn}
+use Rattle.link_transfer.specs.declared.joiner.Turn.TheVariants as turn
 use Rattle.link_run.specs.Made.{tool_of}
 use Rattle.link_run.proofs.Continued.{entry, LastGoesOn, ReadingGoesOn, reading_on}
 use Rattle.link_walk.specs.Walk.{WalkEvent, Data, Whole, data_events, Walked, content_events, taken_with, with_entry_unless, with_next, none_walked, walked_of, walked, end_events, Telling, told_of}
@@ -12,8 +15,8 @@ use Rattle.link_walk.specs.declared.consumer.Manner.{Manner}
 use Rattle.link_walk.proofs.Texts.{made_stays, unread}
 use Rattle.link_laws.specs.Prefix.{IsPrefixed}
 use Rattle.link_laws.proofs.Following.{Follows, AllFollow, follow_rest, Told, reading_told, end_follows}
-use Rattle.link_laws.proofs.{Fronts.{IsFront, AreFronts, front_same, front_first, front_after, front_none, front_trans, fronts_same, fronts_trans}, Prefixes.prefixed, Whole.reading_read}
-use Rattle.link_transfer.specs.declared.joiner.Turn.TheVariants as turn
+use Rattle.link_laws.proofs.Fronts.{IsFront, AreFronts, front_same, front_first, front_after, front_none, front_trans, fronts_same, fronts_trans}
+use Rattle.link_laws.proofs.{Prefixes.prefixed, Whole.reading_read}
 
 -- ---- more data of a segment
 

@@ -1,8 +1,10 @@
 -- The heads of a stream have all of their data, but for the last.
-use Rattle.std.proofs.{Common.{◌≡◌, ℕ, zero, suc, ◌⊎◌, Bool, List, [], ◌∷◌, ◌++◌, length, take, nat_lt, Result, Ok, Err, if◌then◌else◌, refl, arith, length-take}, lemmas.Bool.{ltb-true, ltb-false}}
+use Rattle.std.proofs.Common.{◌≡◌, ℕ, zero, suc, ◌⊎◌, Bool, List, [], ◌∷◌, ◌++◌, length, take, nat_lt, Result, Ok, Err, if◌then◌else◌, refl, arith, length-take}
+use Rattle.std.proofs.lemmas.Bool.{ltb-true, ltb-false}
 use Rattle.link_wire.specs.Message.{data_length, contact_at, message_at}
-use Rattle.link_wire.specs.{Stream.{Entry, Cut, Stream, ended, with_entry, stream_by, messages_at, stream_at, Reading, reading_by, reading_of, cut_heads}, declared.fault.WireFault.WireFault}
-use Rattle.link_wire.specs.declared.message.{Contact.Contact, Message.Message}
+use Rattle.link_wire.specs.Stream.{Entry, Cut, Stream, ended, with_entry, stream_by, messages_at, stream_at, Reading, reading_by, reading_of, cut_heads}
+use Rattle.link_wire.specs.declared.{fault.WireFault.WireFault, message.Contact.Contact}
+use Rattle.link_wire.specs.declared.message.Message.{Message}
 use Rattle.link_run.proofs.Continued.{entry}
 
 -- All data of the head has come.

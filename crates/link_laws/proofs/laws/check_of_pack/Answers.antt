@@ -1,5 +1,4 @@
-use Rattle.link_laws.proofs.PackedRules.{breaks_no_more}
-use Rattle.link_laws.proofs.Readings.{is_packed}
+use Rattle.link_laws.proofs.{PackedRules.breaks_no_more, Readings.is_packed}
 use Rattle.link_laws.proofs.laws.check_of_pack.Goals as goal
 
 pub returns : goal.returns

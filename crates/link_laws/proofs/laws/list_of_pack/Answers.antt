@@ -1,5 +1,4 @@
-use Rattle.link_laws.proofs.Listed.{listed}
-use Rattle.link_laws.proofs.Readings.{is_packed}
+use Rattle.link_laws.proofs.{Listed.listed, Readings.is_packed}
 use Rattle.link_laws.proofs.laws.list_of_pack.Goals as goal
 
 pub returns : goal.returns

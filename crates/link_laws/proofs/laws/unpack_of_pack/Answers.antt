@@ -1,5 +1,4 @@
-use Rattle.link_laws.proofs.GivenBack.{gives_back}
-use Rattle.link_laws.proofs.Readings.{is_packed}
+use Rattle.link_laws.proofs.{GivenBack.gives_back, Readings.is_packed}
 use Rattle.link_laws.proofs.laws.unpack_of_pack.Goals as goal
 
 pub returns : goal.returns
