@@ -178,7 +178,27 @@ fn judge_inner<W: OutDevice, E: OutDevice>(
     if history.take_inner(&options.peer, length) {
         return Ok(());
     }
-    judge(options, head, history, writers, good)
+    judge_apart(options, *head, history, writers, good)
+}
+
+/// Judges a head, as [`judge`] does. This one is not inlined.
+#[cold]
+#[inline(never)]
+fn judge_apart<W: OutDevice, E: OutDevice>(
+    options: &CheckOptions,
+    head: HeadView<'_>,
+    history: &mut MessageHistory,
+    writers: &mut Writers<W, E>,
+    good: &mut bool,
+) -> Result<(), IoFault>
+    requires { SegmentHasTotals head.message.now }
+    ensures gives { (before : List JudgedHead) → Remembers history.old before
+        → WritesRules W.state E.state options.now.must writers.old writers.new good.old good.new
+        result (head_rules options.now before (told_head head.entry)) }
+    ensures history { (before : List JudgedHead) → Remembers history.old before
+        → Remembers history.new (before ++ judged (told_head head.entry) ∷ []) }
+{
+    judge(options, &head, history, writers, good)
 }
 
 /// Writes the lines of the rules that a head breaks after those of the history. Most heads break

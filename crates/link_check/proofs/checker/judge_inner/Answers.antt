@@ -23,8 +23,8 @@ returns-then-take_inner-clause-history g c = λ id before is at.
 
 pub returns-clause-gives : goal.returns-clause-gives
 returns-clause-gives g c = λ id before is at.
-    c.judge.ensures.gives before (rw (c.take_inner.ensures.same c.if-take_inner.false) at)
+    c.judge_apart.ensures.gives before (rw (c.take_inner.ensures.same c.if-take_inner.false) at)
 
 pub returns-clause-history : goal.returns-clause-history
 returns-clause-history g c = λ id before is at.
-    c.judge.ensures.history before (rw (c.take_inner.ensures.same c.if-take_inner.false) at)
+    c.judge_apart.ensures.history before (rw (c.take_inner.ensures.same c.if-take_inner.false) at)
