@@ -3,7 +3,8 @@ use Rattle.std.proofs.Common.{◌≡◌, ℕ, false, List, [], ◌∷◌, ◌++�
 use Rattle.link_wire.specs.declared.message.SegmentHead.{SegmentHead}
 use Rattle.link_transfer.specs.declared.joiner.Turn.TheVariants.{Continue}
 use Rattle.link_message_rules.specs.Flags.{item_flags, segment_flags}
-use Rattle.link_message_rules.specs.Heads.{JudgedHead, inner_head, messages_of}
+use Rattle.link_message_rules.specs.Heads.{JudgedHead, messages_of}
+use Rattle.link_message_rules.specs.Kept.{inner_head}
 use Rattle.link_message_rules.specs.Lengths.{peer_segment, peer_transfer, segments_of}
 use Rattle.link_message_rules.specs.MessageRules.{broken_rules}
 use Rattle.link_message_rules.specs.Remembered.{Remembers, ends_of, so_far_of}

@@ -2,7 +2,6 @@
 -- head and the heads before it. Those that are out of order and stray segments are among them.
 use Rattle.std.specs.Prelude.{ℕ, Bool, true, false, ◌==◌, List, [], map, Option, Some, None, if◌then◌else◌}
 use Rattle.link_wire.specs.Codes.{is_start}
-use Rattle.link_wire.specs.Inner.{inner_segment}
 use Rattle.link_wire.specs.declared.message.Item.{Item}
 use Rattle.link_wire.specs.declared.message.SegmentHead.{SegmentHead}
 use Rattle.link_wire.specs.declared.message.Message.{Message}
@@ -10,7 +9,6 @@ use Rattle.link_wire.specs.declared.message.Message.TheVariants.{SessInit, Segme
 use Rattle.link_wire.specs.MessageBuffer.{message_of}
 use Rattle.link_transfer.specs.declared.fault.OrderFault.{OrderFault}
 use Rattle.link_transfer.specs.declared.joiner.Turn.{Turn}
-use Rattle.link_transfer.specs.declared.joiner.Turn.TheVariants.{Continue}
 use Rattle.link_message_rules.specs.declared.head.JudgedHeadView.{JudgedHeadView}
 
 -- the head of a message, with the judgement of its order
@@ -24,11 +22,6 @@ pub record JudgedHead : Type 0 where
 abbrev pub viewed_head : JudgedHeadView → JudgedHead
 viewed_head head =
     record { message = message_of head.message.now; fault = head.fault; turn = head.turn }
-
--- the head of a segment in the middle of the open transfer: in order, and without flags
-abbrev pub inner_head : (id size : ℕ) → JudgedHead
-inner_head id size =
-    record { message = inner_segment id size; fault = None; turn = Some (Continue false) }
 
 abbrev pub messages_of : List JudgedHead → List Message
 messages_of heads = map (λ head. head.message) heads

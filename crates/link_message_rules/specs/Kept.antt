@@ -1,6 +1,8 @@
 -- Relations: the rules that a message after these heads keeps.
-use Rattle.std.specs.Prelude.{◌≡◌, List, None}
+use Rattle.std.specs.Prelude.{◌≡◌, ℕ, false, List, [], Some, None}
+use Rattle.link_wire.specs.Inner.{inner_segment}
 use Rattle.link_wire.specs.declared.message.Message.{Message}
+use Rattle.link_transfer.specs.declared.joiner.Turn.TheVariants.{Continue}
 use Rattle.link_message_rules.specs.Flags.{item_flags, segment_flags}
 use Rattle.link_message_rules.specs.Heads.{JudgedHead}
 use Rattle.link_message_rules.specs.Lengths.{peer_segment, peer_transfer, ack_length}
@@ -23,3 +25,8 @@ pub record KeepsSegmentRules (limits : PeerLimits) (before : List JudgedHead) (h
   pub segment : peer_segment limits.segment head.message ≡ None
   pub transfer : peer_transfer limits.transfer before head ≡ None
   pub items : item_flags head.message ≡ None
+
+-- the head of a segment in the middle of the open transfer: in order, and without flags
+abbrev pub inner_head : (id size : ℕ) → JudgedHead
+inner_head id size =
+    record { message = inner_segment id size; fault = None; turn = Some (Continue false) }

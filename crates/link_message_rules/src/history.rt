@@ -36,9 +36,9 @@ pub struct MessageHistory {
 impl MessageHistory {
     ghost use Rattle.std.specs.Prelude.{◌≡◌, ℕ, true, false, List, [], ◌∷◌, ◌++◌, option_map};
     ghost use Rattle.link_wire.specs.MessageBuffer.{SegmentHasTotals, message_of};
-    ghost use Rattle.link_message_rules.specs.Heads.{JudgedHead, inner_head, viewed_head};
+    ghost use Rattle.link_message_rules.specs.Heads.{JudgedHead, viewed_head};
     ghost use Rattle.link_message_rules.specs.MessageRules.{broken_rules};
-    ghost use Rattle.link_message_rules.specs.Kept.{KeepsAnswerRules, KeepsSegmentRules};
+    ghost use Rattle.link_message_rules.specs.Kept.{KeepsAnswerRules, KeepsSegmentRules, inner_head};
     ghost use Rattle.link_message_rules.specs.Remembered.{Remembers};
 
     /// The history before the first message.

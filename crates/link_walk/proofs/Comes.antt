@@ -25,8 +25,8 @@ use Rattle.link_transfer.specs.declared.joiner.Turn.{Turn}
 use Rattle.link_transfer.specs.declared.joiner.Turn.TheVariants as turn
 use Rattle.link_transfer.proofs.Continuing.{may_continue, continues_open, joiner_stays}
 use Rattle.link_transfer.proofs.Joining.{IsJoinerAt-then, refusal-at, effect-at, taken-at}
-use Rattle.link_walk.specs.Walk.{Head, head_at, inner_head, is_last, is_beginning, closes, is_plain, WalkEvent, MessageHead, Data, Whole, data_events, open_with, open_after_event, has_open, Walked, head_events, content_events, contact_events, taken_with, with_judged, with_entry_unless, with_next, none_walked, walked_of, walked, Telling}
-use Rattle.link_walk.specs.Telling.{data_ends, inner_events}
+use Rattle.link_walk.specs.Walk.{Head, head_at, is_last, is_beginning, closes, is_plain, WalkEvent, MessageHead, Data, Whole, data_events, open_with, open_after_event, has_open, Walked, head_events, content_events, contact_events, taken_with, with_judged, with_entry_unless, with_next, none_walked, walked_of, walked, Telling}
+use Rattle.link_walk.specs.Telling.{data_ends, inner_events, inner_head}
 use Rattle.link_walk.specs.declared.consumer.Manner.{Manner}
 use Rattle.link_walk.specs.WalkRun.{stage_in, stage_by, IsWaiting, is_open_at, walked_before, IsAt}
 use Rattle.link_walk.specs.declared.walk.Stage.{Stage}

@@ -33,8 +33,8 @@ use Rattle.link_run.proofs.Ends.{ends_unshown, made_reports, unshown_sofar}
 use Rattle.link_run.proofs.Runs.{few_over, sound_given, writer_lost, written_given}
 use Rattle.link_run.proofs.Sessions.{then_fault, part_unshown}
 use Rattle.link_run.proofs.Stands.{ends, stands_on}
-use Rattle.link_walk.specs.Telling.{ComesAfter, Tells, data_ends, inner_events}
-use Rattle.link_walk.specs.Walk.{head_at, inner_head, is_plain, WalkEvent, ContactHeader, MessageHead, Whole, data_events, data_size, data_size_of, has_open, Walked, walked, head_events, Telling, told_by, told_of}
+use Rattle.link_walk.specs.Telling.{ComesAfter, Tells, data_ends, inner_events, inner_head}
+use Rattle.link_walk.specs.Walk.{head_at, is_plain, WalkEvent, ContactHeader, MessageHead, Whole, data_events, data_size, data_size_of, has_open, Walked, walked, head_events, Telling, told_by, told_of}
 use Rattle.link_walk.specs.WalkRun.{Walks, WalkStands, StandsAt, StandsNext, AfterWalkStep, IsWaitingAfter, Finishes, TakesInner, most_by, next_of, stage_by}
 use Rattle.link_walk.specs.declared.walk.Next.{Next}
 use Rattle.link_walk.specs.declared.walk.Next.TheVariants as next

@@ -1,14 +1,16 @@
 -- Relations, but for Tells: what a consumer is told of an event, and what it writes.
-use Rattle.std.specs.Prelude.{◌≡◌, ℕ, ◌+◌, ◌^◌, ◌<◌, Bool, true, false, is_some, List, [], ◌∷◌, ◌++◌, length, Result, OnOk, if◌then◌else◌}
+use Rattle.std.specs.Prelude.{◌≡◌, ℕ, ◌+◌, ◌^◌, ◌<◌, Bool, true, false, is_some, List, [], ◌∷◌, ◌++◌, length, Some, None, Result, OnOk, if◌then◌else◌}
 use Rattle.link_wire.specs.Device.{Output}
+use Rattle.link_wire.specs.Inner.{inner_segment}
 use Rattle.link_wire.specs.MessageBuffer.{SegmentHasTotals, message_of}
 use Rattle.link_wire.specs.declared.IoFault.{IoFault}
 use Rattle.link_wire.specs.declared.message.Message.{Message}
 use Rattle.link_transfer.specs.Order.{open_of}
+use Rattle.link_transfer.specs.declared.joiner.Turn.TheVariants.{Continue}
 use Rattle.link_run.specs.Run.{Texts, ◌then◌}
 use Rattle.link_run.specs.Writers.{AfterWrite}
 use Rattle.link_run.specs.declared.writers.Writers.{Writers}
-use Rattle.link_walk.specs.Walk.{Head, head_at, inner_head, WalkEvent, ContactHeader, MessageHead, Whole, LeftOpen, data_events, data_size, has_open, head_events, Telling}
+use Rattle.link_walk.specs.Walk.{Head, head_at, WalkEvent, ContactHeader, MessageHead, Whole, LeftOpen, data_events, data_size, has_open, head_events, Telling}
 use Rattle.link_walk.specs.declared.consumer.Manner.{Manner}
 use Rattle.link_walk.specs.declared.consumer.EventView.{EventView}
 use Rattle.link_walk.specs.declared.consumer.EventView.TheVariants as view
@@ -28,6 +30,15 @@ pub record ComesAfter (before : List WalkEvent) (head : Head) : Type 0 where
   pub taken : List Message
   pub is : head ≡ head_at taken head.offset head.message
   pub opened : has_open before ≡ is_some (open_of taken)
+
+-- the head of a segment in the middle of the open transfer: in order, and without flags
+abbrev pub inner_head : (offset id size : ℕ) → Head
+inner_head offset id size = record {
+  offset = offset;
+  message = inner_segment id size;
+  fault = None;
+  turn = Some (Continue false);
+}
 
 -- A segment in the middle of the open transfer may come after these events, with all of its data.
 pub record InnerComes (manner : Manner) (before : List WalkEvent) (head : Head) (size : ℕ)

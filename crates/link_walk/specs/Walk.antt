@@ -2,7 +2,6 @@
 -- A tool over transfers says something of each event.
 use Rattle.std.specs.Prelude.{ℕ, ◌+◌, Bool, true, false, not, ◌&&◌, ◌||◌, ◌==◌, is_some, List, [], ◌∷◌, ◌++◌, map, length, Option, Some, None, if◌then◌else◌}
 use Rattle.std.specs.List.{fold}
-use Rattle.link_wire.specs.Inner.{inner_segment}
 use Rattle.link_wire.specs.Message.{data_length}
 use Rattle.link_wire.specs.Stream.{Entry, End, Reading, reading_of, heads_of}
 use Rattle.link_wire.specs.declared.message.Contact.{Contact}
@@ -34,15 +33,6 @@ head_at before offset message = record {
   message = message;
   fault = refusal before (event_of message);
   turn = effect_of before (event_of message);
-}
-
--- the head of a segment in the middle of the open transfer: in order, and without flags
-abbrev pub inner_head : (offset id size : ℕ) → Head
-inner_head offset id size = record {
-  offset = offset;
-  message = inner_segment id size;
-  fault = None;
-  turn = Some (turn.Continue false);
 }
 
 -- whether the message is the last segment of its transfer

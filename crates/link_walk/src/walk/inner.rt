@@ -9,8 +9,8 @@ ghost use Rattle.link_wire.specs.MessageBuffer.{SegmentHasTotals, message_of};
 ghost use Rattle.link_wire.specs.Session.{source_of, may_read, is_opened, data_in};
 ghost use Rattle.link_run.specs.Reading.{inner_of, Unread};
 ghost use Rattle.link_run.specs.Run.{looks};
-ghost use Rattle.link_walk.specs.Telling.{ComesAfter, Tells, inner_events};
-ghost use Rattle.link_walk.specs.Walk.{WalkEvent, data_size, has_open, inner_head};
+ghost use Rattle.link_walk.specs.Telling.{ComesAfter, Tells, inner_events, inner_head};
+ghost use Rattle.link_walk.specs.Walk.{WalkEvent, data_size, has_open};
 ghost use Rattle.link_walk.specs.WalkRun.{Strides, TakesAll, at, may_follow};
 
 use super::{Next, Stage, Walker, take_loaded};
