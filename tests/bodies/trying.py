@@ -78,7 +78,10 @@ def parted(batch, output, texts):
 
 
 class Trial:
-    """The edits to try, with what came of them. Crates are proved first, lower ones before."""
+    """The edits to try, with what came of them.
+
+    Crates are proved first, lower ones before, but after `rt ci`.
+    """
 
     def __init__(self, prover, kept, jobs, say=print):
         self.prover, self.kept, self.jobs, self.say = prover, kept, jobs, say
@@ -97,9 +100,12 @@ class Trial:
                 self.known.update([] if edit.problem else [edit])
             else:
                 by_crate[edit.crate].append(edit)
-        # The crates that are still to be proved, with their edits
-        self.left = dict(by_crate)
-        self.waiting = [Task(name) for name in self.prover.crates if name in by_crate]
+        if self.prover.after_ci:
+            self.waiting = [task for its in by_crate.values() for task in batches_of(its)]
+        else:
+            # The crates that are still to be proved, with their edits
+            self.left = dict(by_crate)
+            self.waiting = [Task(name) for name in self.prover.crates if name in by_crate]
         with ThreadPoolExecutor(self.jobs) as pool:
             try:
                 self._run_tasks(pool)
@@ -133,7 +139,8 @@ class Trial:
         texts = task.edits[0].texts
         if len(task.edits) > 1:
             texts = edits.merged(task.edits, crate.folder)
-        return texts, self.prover.check(crate, texts)
+        functions = [edit.function for edit in task.edits]
+        return texts, self.prover.check(crate, texts, functions if all(functions) else ())
 
     def _take(self, task, texts, ran):
         """Takes what came of a task. Returns the tasks that follow."""

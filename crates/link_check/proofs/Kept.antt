@@ -327,6 +327,3 @@ knows_nothing options now size good history = record {
   history = history;
   at_open = λ opened. absurd (none_open opened);
 }
-
-pub says_nothing : (options : CheckOptions) → (check_telling options).texts [] ≡ no_texts
-says_nothing options = refl

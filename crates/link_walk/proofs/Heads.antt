@@ -134,12 +134,6 @@ pub data_keeps : (was : Bool) (bytes : List ℕ)
 data_keeps was [] = refl
 data_keeps was (byte ∷ bytes) = data_keeps was bytes
 
--- data leaves the open transfer open
-pub has_open-data : (before : List WalkEvent) (bytes : List ℕ)
-    → has_open (before ++ data_events bytes) ≡ has_open before
-has_open-data before bytes =
-    has_open-append before (data_events bytes) ∙ data_keeps (has_open before) bytes
-
 pub data_size-append : (before added : List WalkEvent)
     → data_size (before ++ added) ≡ data_size before + data_size added
 unfolding data_size
