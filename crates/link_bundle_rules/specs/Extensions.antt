@@ -1,5 +1,5 @@
 -- Rules of extension blocks and of administrative records (RFC 9171 sections 4.4 and 6.1).
-use Rattle.std.specs.Prelude.{ℕ, Bool, false, ◌&&◌, ◌||◌, ◌==◌, nat_lt, List, Option, Some, None, option_map, Result, Ok, Err, if◌then◌else◌}
+use Rattle.std.specs.Prelude.{ℕ, Bool, false, ◌&&◌, ◌||◌, ◌==◌, nat_lt, List, Option, Some, None, option_map, Result, Ok, if◌then◌else◌}
 use Rattle.std.specs.Option.{option_and_then, option_flatten}
 use Rattle.link_block_data.specs.BlockData.{BlockData, HopCount}
 use Rattle.link_bundle_rules.specs.ReadBundle as block

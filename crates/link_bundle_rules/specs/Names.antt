@@ -1,5 +1,5 @@
 -- The rule of dtn names (RFC 9171 section 4.2.5.1.1).
-use Rattle.std.specs.Prelude.{ℕ, Bool, false, not, ◌&&◌, ◌==◌, List, [], ◌∷◌, Option, Some, None, option_map, if◌then◌else◌}
+use Rattle.std.specs.Prelude.{ℕ, Bool, false, not, ◌&&◌, ◌==◌, List, ◌∷◌, Option, Some, None, option_map, if◌then◌else◌}
 use Rattle.std.specs.{Char.is_ascii_graphic, List.{list_any, list_all}}
 use Rattle.link_bundle_types.specs.declared.eid.Eid.{Eid}
 use Rattle.link_bundle_types.specs.declared.eid.Eid.TheVariants as eid

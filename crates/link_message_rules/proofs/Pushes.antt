@@ -1,5 +1,5 @@
 -- The heads so far, with one more.
-use Rattle.std.proofs.Common.{◌≡◌, Bool, false, true, ◌||◌, List, [], ◌∷◌, ◌++◌, reverse, refl, sym, ◌∙◌}
+use Rattle.std.proofs.Common.{◌≡◌, ◌||◌, List, [], ◌∷◌, ◌++◌, reverse, refl, sym, ◌∙◌}
 use Rattle.std.proofs.{Math.Bool.{or-true, or-false}, lemmas.List.{map_push, reverse-append}}
 use Rattle.link_wire.specs.declared.message.Message.{Message}
 use Rattle.link_transfer.specs.{Event.event_of, Joiner.{IsJoinerAt, joiner_after}}

@@ -6,7 +6,7 @@ use Rattle.link_message_rules.specs.Heads.{JudgedHead, segment_of, start_id, is_
 use Rattle.link_message_rules.specs.Lengths.{ack_of, last_ack, segments_of}
 use Rattle.link_message_rules.specs.{Remembered.keepalives_of, TransferIds.last_run}
 use Rattle.link_message_rules.specs.declared.session.Keepalives.{Keepalives}
-use Rattle.link_message_rules.specs.declared.session.Keepalives.TheVariants.{Enabled, Disabled, SentDisabled}
+use Rattle.link_message_rules.specs.declared.session.Keepalives.TheVariants.{Enabled}
 use Rattle.link_message_rules.proofs.Disabling.{next_state, keepalives_of_push}
 use Rattle.link_message_rules.proofs.Joined.{segments_of-push}
 use Rattle.link_message_rules.proofs.Pushes.{newest-push, has_sess_init_push}
