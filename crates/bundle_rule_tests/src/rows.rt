@@ -385,7 +385,7 @@ pub(crate) static ROWS: [Row; 93] = [
         long_head: None,
         broken: Some(BundleRule::Fragment {
             offset: 0,
-            length: 1,
+            size: 1,
             total: 2,
         }),
     },
@@ -395,7 +395,7 @@ pub(crate) static ROWS: [Row; 93] = [
         long_head: None,
         broken: Some(BundleRule::Fragment {
             offset: 0,
-            length: 0,
+            size: 0,
             total: 2,
         }),
     },
@@ -405,7 +405,7 @@ pub(crate) static ROWS: [Row; 93] = [
         long_head: None,
         broken: Some(BundleRule::Fragment {
             offset: 2,
-            length: 1,
+            size: 1,
             total: 2,
         }),
     },
@@ -415,7 +415,7 @@ pub(crate) static ROWS: [Row; 93] = [
         long_head: None,
         broken: Some(BundleRule::Fragment {
             offset: 0,
-            length: 1,
+            size: 1,
             total: 1,
         }),
     },
@@ -426,7 +426,7 @@ pub(crate) static ROWS: [Row; 93] = [
         long_head: None,
         broken: Some(BundleRule::Fragment {
             offset: 18446744073709551615,
-            length: 1,
+            size: 1,
             total: 18446744073709551615,
         }),
     },

@@ -5,7 +5,7 @@ use Rattle.std.specs.Prelude.{ℕ, ◌+◌, ◌^◌, ◌<◌, Option, Some, None
 use Rattle.std.specs.Coded.{Unit-prop, le_prop}
 use Rattle.link_bundle_types.specs.ShortNames.{IsShort}
 use Rattle.link_bundle_blocks.specs.Blocks.{Primary, HasShortEids}
-use Rattle.link_block_data.specs.BlockData.{BlockData, PreviousNode, BundleAge, HopCount, Security, StatusReport, OtherRecord}
+use Rattle.link_block_data.specs.BlockData.{BlockData, PreviousNode, Security, StatusReport}
 use Rattle.link_block_data.specs.DataView.{HasShortName}
 use Rattle.link_report.specs.ShortNames.{IsShort-prop}
 
@@ -22,11 +22,9 @@ HasShortEids-prop primary = Prim.hlevel short_names
 
 pub HasShortName-prop : (found : BlockData) → IsProp (HasShortName found)
 HasShortName-prop (PreviousNode node) = IsShort-prop node
-HasShortName-prop (BundleAge age) = Unit-prop
-HasShortName-prop (HopCount limit count) = Unit-prop
 HasShortName-prop (Security block source) = IsShort-prop source
 HasShortName-prop (StatusReport report source) = IsShort-prop source
-HasShortName-prop (OtherRecord type) = Unit-prop
+HasShortName-prop others = Unit-prop
 
 pub HasFittingWords-prop : (data_start : ℕ) (found : Option (Result BlockData ℕ))
     → IsProp (HasFittingWords data_start found)

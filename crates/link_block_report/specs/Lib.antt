@@ -1,3 +1,4 @@
+pub mod Written
 pub mod Kinds
 pub mod Fields
 pub mod Words

@@ -5,8 +5,7 @@ use Rattle.link_bundle_types.specs.declared.eid.Eid.{Eid}
 use Rattle.link_block_data.specs.BlockData.{BlockData, PreviousNode, BundleAge, HopCount, Security, StatusReport, OtherRecord}
 use Rattle.link_block_data.specs.declared.values.Assertion.{Assertion}
 use Rattle.link_block_data.specs.declared.values.Assertion.TheVariants.{No, Yes, YesAt}
-use Rattle.link_block_data.specs.declared.values.Integer.{Integer}
-use Rattle.link_block_data.specs.declared.values.Report.{Report}
+use Rattle.link_block_data.specs.declared.values.{Integer.Integer, Report.Report}
 use Rattle.link_report.specs.Eid.{eid_text}
 use Rattle.link_report.specs.Reason.{name_in}
 use Rattle.link_report.specs.Text.{number_text}

@@ -7,6 +7,7 @@ ghost use Rattle.link_block_data.specs.DataView.{viewed_data, viewed_result, Has
 ghost use Rattle.link_report.specs.Eid.{eid_text};
 ghost use Rattle.link_report.specs.Reason.{name_in};
 ghost use Rattle.link_report.specs.Text.{number_text};
+ghost use Rattle.link_block_report.specs.Written.{Wrote};
 ghost use Rattle.link_block_report.specs.Fits.{HasFittingWords};
 ghost use Rattle.link_block_report.specs.Words.{report_names, integer_text, assertion_text, statuses_text, subject_fragment, subject_text, data_text, words_text};
 
@@ -73,9 +74,7 @@ fn write_next(page: &mut [u8], at: usize, number: u64) -> usize
 #[tactic(auto, unfolding(crate::specs::Words::integer_text))]
 fn write_integer(page: &mut [u8], at: usize, number: Integer) -> usize
     requires { at + 21 ≤ length page.old }
-    ensures text { take result page.new ≡ take at page.old ++ integer_text number }
-    ensures fits { result ≤ at + 21 }
-    ensures size { length page.new ≡ length page.old }
+    ensures { Wrote page.old page.new at result 21 (integer_text number) }
 {
     if !number.negative {
         return write_decimal(page, at, number.argument);
@@ -93,10 +92,7 @@ fn write_assertion<const N: usize>(
     assertion: Assertion,
 ) -> usize
     requires { at + N + 20 ≤ length page.old }
-    ensures text { take result page.new
-        ≡ take at page.old ++ label.entry ++ assertion_text assertion }
-    ensures fits { result ≤ at + N + 20 }
-    ensures size { length page.new ≡ length page.old }
+    ensures { Wrote page.old page.new at result (N + 20) (label.entry ++ assertion_text assertion) }
 {
     let at = write_bytes(page, at, label);
     match assertion {
@@ -177,11 +173,9 @@ fn write_report(page: &mut [u8], at: usize, report: &Report, source: &EidView<'_
 fn write_security(page: &mut [u8], at: usize, block: &SecurityBlock, source: &EidView<'_>) -> usize
     requires short { IsShort (viewed_eid source.now) }
     requires room { at + WORDS_MAX ≤ length page.old }
-    ensures text { take result page.new ≡ take at page.old
-        ++ number_text (codes " targets=") block.now.targets ++ codes " context="
-        ++ integer_text block.now.context ++ codes " source=" ++ eid_text (viewed_eid source.now) }
-    ensures fits { result ≤ at + WORDS_MAX }
-    ensures size { length page.new ≡ length page.old }
+    ensures { Wrote page.old page.new at result WORDS_MAX
+        (number_text (codes " targets=") block.now.targets ++ codes " context="
+        ++ integer_text block.now.context ++ codes " source=" ++ eid_text (viewed_eid source.now)) }
 {
     let at = write_number(page, at, *b" targets=", block.targets);
     let at = write_bytes(page, at, *b" context=");
@@ -196,9 +190,7 @@ fn write_security(page: &mut [u8], at: usize, block: &SecurityBlock, source: &Ei
 fn write_data(page: &mut [u8], at: usize, found: &DataView<'_>) -> usize
     requires short { HasShortName (viewed_data found.now) }
     requires room { at + WORDS_MAX ≤ length page.old }
-    ensures text { take result page.new ≡ take at page.old ++ data_text (viewed_data found.now) }
-    ensures fits { result ≤ at + WORDS_MAX }
-    ensures size { length page.new ≡ length page.old }
+    ensures { Wrote page.old page.new at result WORDS_MAX (data_text (viewed_data found.now)) }
 {
     match found {
         DataView::PreviousNode(node) => {
@@ -232,10 +224,8 @@ pub(crate) fn write_words(
 ) -> usize
     requires fits { HasFittingWords data_start (option_map viewed_result found.now) }
     requires room { at + WORDS_MAX ≤ length page.old }
-    ensures text { take result page.new
-        ≡ take at page.old ++ words_text data_start (option_map viewed_result found.now) }
-    ensures fits { result ≤ at + WORDS_MAX }
-    ensures size { length page.new ≡ length page.old }
+    ensures { Wrote page.old page.new at result WORDS_MAX
+        (words_text data_start (option_map viewed_result found.now)) }
 {
     match found {
         None => at,

@@ -1,10 +1,7 @@
 -- One more block after others.
 use Rattle.std.proofs.Common.{◌≡◌, ℕ, ◌+◌, ◌^◌, ◌<◌, Bool, true, false, ◌||◌, cond, List, [], ◌∷◌, ◌++◌, length, refl, ap, ◌∙◌, Option, Some, None, arith}
-use Rattle.std.specs.Prelude.{if◌then◌else◌}
-use Rattle.std.specs.List.{list_any}
-use Rattle.std.specs.Option.{option_or}
-use Rattle.std.proofs.lemmas.List.Folds.{list_any-append}
-use Rattle.std.proofs.lemmas.List.Sums.{sum_by-append, count_by-le-length}
+use Rattle.std.specs.{Prelude.{if◌then◌else◌}, List.list_any, Option.option_or}
+use Rattle.std.proofs.lemmas.List.{Recursion.or_push, Sums.{sum_by-append, count_by-le-length}}
 use Rattle.link_bundle_rules.specs.ReadBundle.{ReadBlock, is_of_type, count_of_type, find_map}
 use Rattle.link_bundle_rules.specs.Remembered.{within_64_bits, count_with}
 
@@ -23,14 +20,9 @@ find_map_more f [] x = or_none (f x)
 find_map_more f (first ∷ rest) x =
     or_more (f first) (find_map f rest) (f x) (find_map f (rest ++ x ∷ [])) (find_map_more f rest x)
 
-or_false : (either here : Bool) → (either || (here || false)) ≡ (either || here)
-or_false true here = refl
-or_false false true = refl
-or_false false false = refl
-
 pub any_more : {A : Type 0} (p : A → Bool) (xs : List A) (x : A)
     → list_any p (xs ++ x ∷ []) ≡ (list_any p xs || p x)
-any_more p xs x = list_any-append p xs (x ∷ []) ∙ or_false (list_any p xs) (p x)
+any_more p xs x = or_push (list_any p) p refl (λ first rest. refl) xs x
 
 one_more : (here : Bool) (count : ℕ)
     → within_64_bits (count + (0 + cond here 1 0))

@@ -1,7 +1,6 @@
 -- The first bytes of dtn names, and those after them.
 use Rattle.std.proofs.Common.{◌≡◌, ℕ, ◌-◌, ◌≤◌, ◌<◌, false, ◌&&◌, List, [], ◌∷◌, length, take, drop, get_or, refl, ap, sym, arith}
-use Rattle.std.specs.Char.{is_ascii_graphic}
-use Rattle.std.specs.List.{list_any, list_all}
+use Rattle.std.specs.{Char.is_ascii_graphic, List.{list_any, list_all}}
 use Rattle.std.proofs.lemmas.List.{take_all}
 use Rattle.link_bundle_rules.specs.Names.{is_slash, is_dtn_name}
 

@@ -1,4 +1,2 @@
-pub mod Ages
 pub mod Blocks
-pub mod Broken
 pub mod DtnNames

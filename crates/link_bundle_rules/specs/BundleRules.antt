@@ -1,7 +1,6 @@
 -- The rules that a good bundle breaks (RFC 9171 and RFC 9172), and how strictly each rule is meant.
 use Rattle.std.specs.Prelude.{List, [], ◌∷◌, filter_map, Option, option_map}
-use Rattle.link_rules.specs.declared.level.Level.{Level}
-use Rattle.link_rules.specs.declared.level.Level.TheVariants.{Must, Should}
+use Rattle.link_rules.specs.declared.level.{Level.Level, Level.TheVariants.{Must, Should}}
 use Rattle.link_bundle_rules.specs.Extensions.{age, previous_node, hop_count, hops, block_data, administrative_record}
 use Rattle.link_bundle_rules.specs.Flags.{bundle_flags, anonymous, record_reports, block_reports, block_flags}
 use Rattle.link_bundle_rules.specs.Fragments.{fragment}
@@ -25,28 +24,13 @@ judged_bundle_rules bundle =
     ∷ confidential_primary bundle ∷ hops bundle ∷ block_data bundle ∷ administrative_record bundle
     ∷ []
 
--- the rules among these that are broken
-abbrev pub broken_of : List (Option BundleRule) → List BundleRule
-broken_of judged = filter_map (λ rule. rule) judged
-
 -- the rules that a bundle breaks, in order
 unfoldable pub broken_bundle_rules : ReadBundle → List BundleRule
-broken_bundle_rules bundle = broken_of (judged_bundle_rules bundle)
+broken_bundle_rules bundle = filter_map (λ judged. judged) (judged_bundle_rules bundle)
 
 unfoldable pub bundle_level_of : BundleRule → Level
-bundle_level_of (rule.LongHead byte) = Must
 bundle_level_of (rule.BundleFlags flags) = Should
-bundle_level_of rule.PrimaryCheck = Must
-bundle_level_of (rule.Anonymous flags) = Must
-bundle_level_of (rule.RecordReports flags) = Must
-bundle_level_of (rule.BlockReports block) = Must
 bundle_level_of (rule.BlockFlags block flags) = Should
-bundle_level_of (rule.DtnName of) = Must
-bundle_level_of (rule.Fragment offset size total) = Must
-bundle_level_of (rule.Age blocks) = Must
 bundle_level_of (rule.PreviousNode blocks) = Should
-bundle_level_of (rule.HopCount blocks limit) = Must
-bundle_level_of (rule.ConfidentialPrimary block) = Must
 bundle_level_of (rule.Hops limit count) = Should
-bundle_level_of (rule.BlockData block byte) = Must
-bundle_level_of (rule.Record byte) = Must
+bundle_level_of others = Must

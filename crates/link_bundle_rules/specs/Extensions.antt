@@ -1,12 +1,11 @@
 -- Rules of extension blocks and of administrative records (RFC 9171 sections 4.4 and 6.1).
-use Rattle.std.specs.Prelude.{ℕ, Bool, false, ◌&&◌, ◌||◌, ◌==◌, nat_lt, List, Option, Some, None, option_map, Result, Ok, Err, if◌then◌else◌}
+use Rattle.std.specs.Prelude.{ℕ, Bool, false, ◌&&◌, ◌||◌, ◌==◌, nat_lt, List, Option, Some, None, option_map, Result, Ok, if◌then◌else◌}
 use Rattle.std.specs.Option.{option_and_then, option_flatten}
-use Rattle.link_block_data.specs.BlockData.{BlockData, PreviousNode, BundleAge, HopCount, Security, StatusReport, OtherRecord}
+use Rattle.link_block_data.specs.BlockData.{BlockData, HopCount}
 use Rattle.link_bundle_rules.specs.ReadBundle as block
 use Rattle.link_bundle_rules.specs.ReadBundle.{ReadBlock, ReadBundle, is_of_type, count_of_type, find_map, malformed_at}
 use Rattle.link_bundle_rules.specs.Security.{is_hidden}
-use Rattle.link_bundle_rules.specs.declared.extensions.Hops.{Hops}
-use Rattle.link_bundle_rules.specs.declared.rule.BundleRule.{BundleRule}
+use Rattle.link_bundle_rules.specs.declared.{extensions.Hops.Hops, rule.BundleRule.BundleRule}
 use Rattle.link_bundle_rules.specs.declared.rule.BundleRule.TheVariants as rule
 
 -- age: a bundle has at most one bundle age block, and has one if its creation time is 0 (section
@@ -26,18 +25,9 @@ previous_node bundle =
 
 -- ---- the hop limit and the hop count (section 4.4.3)
 
-abbrev pub hops_of : BlockData → Option Hops
-hops_of (PreviousNode node) = None
-hops_of (BundleAge age) = None
-hops_of (HopCount limit count) = Some (record { limit = limit; count = count })
-hops_of (Security block source) = None
-hops_of (StatusReport report source) = None
-hops_of (OtherRecord type) = None
-
 abbrev pub hops_in_data : Option (Result BlockData ℕ) → Option Hops
-hops_in_data None = None
-hops_in_data (Some (Ok said)) = hops_of said
-hops_in_data (Some (Err offset)) = None
+hops_in_data (Some (Ok (HopCount limit count))) = Some (record { limit = limit; count = count })
+hops_in_data others = None
 
 -- `None` for a block that is no hop count block. For a hop count block, `Some` of what its data
 -- says, which is `None` if the data is malformed. So a malformed block can be the first one.

@@ -1,14 +1,12 @@
 -- The rule of dtn names (RFC 9171 section 4.2.5.1.1).
-use Rattle.std.specs.Prelude.{ℕ, Bool, false, not, ◌&&◌, ◌==◌, List, [], ◌∷◌, Option, Some, None, option_map, if◌then◌else◌}
-use Rattle.std.specs.Char.{is_ascii_graphic}
-use Rattle.std.specs.List.{list_any, list_all}
+use Rattle.std.specs.Prelude.{ℕ, Bool, false, not, ◌&&◌, ◌==◌, List, ◌∷◌, Option, Some, None, option_map, if◌then◌else◌}
+use Rattle.std.specs.{Char.is_ascii_graphic, List.{list_any, list_all}}
 use Rattle.link_bundle_types.specs.declared.eid.Eid.{Eid}
 use Rattle.link_bundle_types.specs.declared.eid.Eid.TheVariants as eid
 use Rattle.link_bundle_blocks.specs.Blocks.{Primary}
 use Rattle.link_bundle_rules.specs.ReadBundle.{ReadBundle}
 use Rattle.link_bundle_rules.specs.declared.rule.BundleRule.{BundleRule}
-use Rattle.link_bundle_rules.specs.declared.rule.BundleRule.TheVariants.{DtnName}
-use Rattle.link_bundle_rules.specs.declared.rule.Endpoint.{Endpoint}
+use Rattle.link_bundle_rules.specs.declared.rule.{BundleRule.TheVariants.DtnName, Endpoint.Endpoint}
 use Rattle.link_bundle_rules.specs.declared.rule.Endpoint.TheVariants.{Destination, Source, ReportTo}
 
 abbrev pub is_slash : ℕ → Bool
@@ -17,18 +15,15 @@ is_slash byte = byte == 0x2f
 -- What follows `dtn:` in a URI: `//`, a node name, `/`, and a demux, with no byte outside 21 to 7e.
 -- The name and the demux may be empty.
 unfoldable pub is_dtn_name : List ℕ → Bool
-is_dtn_name [] = false
-is_dtn_name (first ∷ []) = false
 is_dtn_name (first ∷ second ∷ rest) =
     is_slash first
     && (is_slash second && (list_any is_slash rest && list_all is_ascii_graphic rest))
+is_dtn_name shorter = false
 
 -- dtn:none as the number 0 is no text
 abbrev pub has_bad_name : Eid → Bool
-has_bad_name eid.DtnNone = false
 has_bad_name (eid.Dtn name) = not (is_dtn_name name.items)
-has_bad_name (eid.Ipn node service) = false
-has_bad_name (eid.Ipn3 allocator node service) = false
+has_bad_name others = false
 
 -- the first endpoint ID of a primary block that has one
 abbrev pub bad_name : Primary → Option Endpoint

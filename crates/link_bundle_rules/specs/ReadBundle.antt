@@ -1,5 +1,5 @@
 -- A good bundle, as far as the rules for it need it (RFC 9171 section 4).
-use Rattle.std.specs.Prelude.{ℕ, ◌+◌, Bool, true, false, ◌==◌, List, [], ◌∷◌, ◌++◌, count_by, Option, Some, None, option_map, Result, Ok, Err}
+use Rattle.std.specs.Prelude.{ℕ, ◌+◌, Bool, true, false, ◌==◌, List, [], ◌∷◌, ◌++◌, count_by, Option, Some, None, option_map, Result, Err}
 use Rattle.std.specs.Option.{option_or}
 use Rattle.link_cbor.specs.declared.check.CheckKind.{CheckKind}
 use Rattle.link_bundle_types.specs.declared.eid.Eid.{Eid}
@@ -38,9 +38,7 @@ with_block bundle block = record bundle { blocks = bundle.blocks ++ block ∷ []
 -- whether an endpoint ID is dtn:none, spelled as the number 0 (section 4.2.5.1.1)
 abbrev pub is_none_eid : Eid → Bool
 is_none_eid eid.DtnNone = true
-is_none_eid (eid.Dtn name) = false
-is_none_eid (eid.Ipn node service) = false
-is_none_eid (eid.Ipn3 allocator node service) = false
+is_none_eid others = false
 
 -- whether a bundle has no source
 abbrev pub is_anonymous : Primary → Bool
@@ -79,9 +77,8 @@ find_map f [] = None
 find_map f (element ∷ more) = option_or (f element) (find_map f more)
 
 abbrev pub malformed_from : (data_start : ℕ) → Option (Result BlockData ℕ) → Option ℕ
-malformed_from data_start None = None
-malformed_from data_start (Some (Ok said)) = None
 malformed_from data_start (Some (Err offset)) = Some (data_start + offset)
+malformed_from data_start others = None
 
 -- the offset in the bundle at which the data of a block is malformed
 abbrev pub malformed_at : ReadBlock → Option ℕ

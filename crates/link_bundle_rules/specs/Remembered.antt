@@ -3,19 +3,16 @@ use Rattle.std.specs.Prelude.{◌≡◌, ℕ, ◌+◌, ◌-◌, ◌^◌, ◌==�
 use Rattle.std.specs.List.{list_any}
 use Rattle.link_cbor.specs.declared.check.CheckKind.{CheckKind}
 use Rattle.link_bundle_blocks.specs.Blocks.{Primary}
-use Rattle.arrayvec.specs.ArrayVec.{ArrayVec}
-use Rattle.link_bundle_rules.specs.BundleRules.{broken_of}
 use Rattle.link_bundle_rules.specs.Extensions.{hops_of_block, if_malformed_extension, if_malformed_payload}
 use Rattle.link_bundle_rules.specs.Flags.{if_reporting, if_other_block_flags}
 use Rattle.link_bundle_rules.specs.Names.{bad_name}
 use Rattle.link_bundle_rules.specs.ReadBundle as block
 use Rattle.link_bundle_rules.specs.ReadBundle.{ReadBlock, ReadBundle, is_anonymous, is_of_type, count_of_type, find_map}
-use Rattle.link_bundle_rules.specs.Security.{may_protect_primary, if_confidential_primary}
+use Rattle.link_bundle_rules.specs.Security.{is_hidden, may_protect_primary, if_confidential_primary}
 use Rattle.link_bundle_rules.specs.declared.extensions.ExtensionFacts.{ExtensionFacts}
 use Rattle.link_bundle_rules.specs.declared.flags.FlagFacts.{FlagFacts}
 use Rattle.link_bundle_rules.specs.declared.history.BundleHistory.{BundleHistory}
 use Rattle.link_bundle_rules.specs.declared.primary.PrimaryFacts.{PrimaryFacts}
-use Rattle.link_bundle_rules.specs.declared.rule.BundleRule.{BundleRule}
 use Rattle.link_bundle_rules.specs.declared.security.SecurityFacts.{SecurityFacts}
 
 pub record IsOfPrimary (facts : PrimaryFacts) (primary : Primary) (check : Option CheckKind)
@@ -52,14 +49,8 @@ pub record IsOfExtensions (facts : ExtensionFacts) (blocks : List ReadBlock) : T
 pub record IsOfSecurity (facts : SecurityFacts) (blocks : List ReadBlock) : Type 0 where
   pub integrity : facts.has_integrity ≡ list_any (is_of_type block.block_integrity) blocks
   pub protecting : facts.may_protect_primary ≡ list_any may_protect_primary blocks
-  pub confidentiality : facts.has_confidentiality
-      ≡ list_any (is_of_type block.block_confidentiality) blocks
+  pub hidden : facts.is_hidden ≡ is_hidden blocks
   pub confidential_primary : facts.confidential_primary ≡ find_map if_confidential_primary blocks
-
--- exactly the broken rules among these were appended
-pub record HasBroken (broken : ArrayVec BundleRule) (judged : List (Option BundleRule))
-    : Type 0 where
-  pub items : broken.items ≡ broken_of judged
 
 -- exactly these blocks of the bundle came
 pub record Remembers (history : BundleHistory) (bundle : ReadBundle) : Type 0 where

@@ -1,7 +1,7 @@
 -- Rules of security blocks (RFC 9171 section 4.3.1, RFC 9172 sections 3.7 and 3.8).
 use Rattle.std.specs.Prelude.{ℕ, Bool, true, false, ◌&&◌, ◌||◌, List, Option, Some, None, Result, Ok, Err, is_some, if◌then◌else◌}
 use Rattle.std.specs.List.{list_any}
-use Rattle.link_block_data.specs.BlockData.{BlockData, PreviousNode, BundleAge, HopCount, Security, StatusReport, OtherRecord}
+use Rattle.link_block_data.specs.BlockData.{BlockData, Security}
 use Rattle.link_bundle_rules.specs.ReadBundle.{ReadBlock, ReadBundle, block_integrity, block_confidentiality, is_of_type, find_map}
 use Rattle.link_bundle_rules.specs.declared.rule.BundleRule.{BundleRule}
 use Rattle.link_bundle_rules.specs.declared.rule.BundleRule.TheVariants.{PrimaryCheck, ConfidentialPrimary}
@@ -12,17 +12,12 @@ is_hidden blocks = list_any (is_of_type block_confidentiality) blocks
 
 -- whether the primary block is among the targets of a security block (RFC 9172 section 3.6)
 abbrev pub targets_primary : BlockData → Bool
-targets_primary (PreviousNode node) = false
-targets_primary (BundleAge age) = false
-targets_primary (HopCount limit count) = false
 targets_primary (Security block source) = block.targets_primary
-targets_primary (StatusReport report source) = false
-targets_primary (OtherRecord type) = false
+targets_primary others = false
 
 abbrev pub surely_targets_primary : Option (Result BlockData ℕ) → Bool
-surely_targets_primary None = false
 surely_targets_primary (Some (Ok said)) = targets_primary said
-surely_targets_primary (Some (Err offset)) = false
+surely_targets_primary others = false
 
 -- the targets of a malformed block are not known
 abbrev pub may_target_primary : Option (Result BlockData ℕ) → Bool

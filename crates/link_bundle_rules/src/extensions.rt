@@ -103,7 +103,7 @@ fn count_with(block_type: u64, count: u64, read: &ReadBlockView<'_>) -> u64
 }
 
 /// What the rules need of the extension blocks and of the payload so far.
-#[derive(Clone, Copy, Debug)]
+#[derive(Clone, Copy, Debug, Default)]
 pub(crate) struct ExtensionFacts {
     /// The number of bundle age blocks.
     ages: u64,
@@ -126,20 +126,6 @@ impl ExtensionFacts {
     ghost use Rattle.link_bundle_rules.specs.Remembered.{IsOfPrimary, IsOfExtensions};
     ghost use Rattle.link_bundle_rules.specs.Security.{is_hidden};
 
-    /// What holds before the first block.
-    pub(crate) fn new() -> ExtensionFacts
-        ensures { IsOfExtensions result [] }
-    {
-        ExtensionFacts {
-            ages: 0,
-            previous_nodes: 0,
-            hop_counts: 0,
-            first_hops: None,
-            malformed: None,
-            malformed_payload: None,
-        }
-    }
-
     /// Takes the next block.
     pub(crate) fn take(&mut self, read: &ReadBlockView<'_>)
         ensures { (blocks : List ReadBlock)
@@ -156,13 +142,14 @@ impl ExtensionFacts {
     }
 
     /// The rule of bundle age blocks.
+    #[tactic(auto, unfolding(crate::specs::Extensions::age))]
     pub(crate) fn age(&self, primary: &PrimaryFacts) -> Option<BundleRule>
         ensures { (bundle : ReadBundle) → length bundle.blocks < 2 ^ 64
             → IsOfPrimary primary.now bundle.primary bundle.check
             → IsOfExtensions self.now bundle.blocks → result ≡ age bundle }
     {
         let blocks = self.ages;
-        let is_wrong = is_wrong_number_of_ages(blocks, primary.has_zero_time());
+        let is_wrong = is_wrong_number_of_ages(blocks, primary.has_zero_time);
         is_wrong.then_some(BundleRule::Age { blocks })
     }
 

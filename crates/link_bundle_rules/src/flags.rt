@@ -63,7 +63,7 @@ fn if_other_block_flags(read: &ReadBlockView<'_>) -> Option<BundleRule>
 }
 
 /// What the rules need of the flags of the blocks so far.
-#[derive(Clone, Copy, Debug)]
+#[derive(Clone, Copy, Debug, Default)]
 pub(crate) struct FlagFacts {
     /// The rule of the first block, but for the payload, that requests a status report.
     reporting: Option<BundleRule>,
@@ -76,16 +76,6 @@ impl FlagFacts {
     ghost use Rattle.link_bundle_rules.specs.Flags.{block_reports, block_flags};
     ghost use Rattle.link_bundle_rules.specs.ReadBundle.{ReadBlock, ReadBundle, viewed_read_block};
     ghost use Rattle.link_bundle_rules.specs.Remembered.{IsOfFlags, IsOfPrimary};
-
-    /// What holds before the first block.
-    pub(crate) fn new() -> FlagFacts
-        ensures { IsOfFlags result [] }
-    {
-        FlagFacts {
-            reporting: None,
-            other: None,
-        }
-    }
 
     /// Takes the next block.
     #[tactic(auto, using(crate::proofs::Blocks::find_map_more))]
@@ -103,10 +93,10 @@ impl FlagFacts {
         ensures { (bundle : ReadBundle) → IsOfPrimary primary.now bundle.primary bundle.check
             → IsOfFlags self.now bundle.blocks → result ≡ block_reports bundle }
     {
-        if !primary.forbids_reports() {
-            return None;
+        if primary.forbids_reports() {
+            return self.reporting;
         }
-        self.reporting
+        None
     }
 
     /// The rule of the flags of blocks.

@@ -1,11 +1,8 @@
 //! The blocks of a bundle so far, as far as the rules for it need them.
 
-ghost use Rattle.std.specs.Prelude.{◌≡◌, ◌+◌, ◌<◌, ◌≤◌, List, [], ◌∷◌, ◌++◌, Option};
-ghost use Rattle.arrayvec.specs.ArrayVec.{array_vec_len};
+ghost use Rattle.std.specs.Prelude.{◌≡◌};
 ghost use Rattle.link_bundle_rules.specs.BundleRules.{long_head};
 ghost use Rattle.link_bundle_rules.specs.ReadBundle.{ReadBundle};
-ghost use Rattle.link_bundle_rules.specs.Remembered.{HasBroken};
-ghost use Rattle.link_bundle_rules.specs.declared.rule.BundleRule.{BundleRule};
 
 use crate::block::ReadBlockView;
 use crate::extensions::ExtensionFacts;
@@ -15,6 +12,7 @@ use crate::rule::BundleRule;
 use crate::security::SecurityFacts;
 use arrayvec::ArrayVec;
 use link_bundle_blocks::PrimaryBlock;
+use link_rules::broken_of;
 
 /// The number of rules of a bundle.
 const RULES: usize = 16;
@@ -29,19 +27,6 @@ fn long_head(byte: Option<u64>) -> Option<BundleRule>
 {
     let byte = byte?;
     Some(BundleRule::LongHead { byte })
-}
-
-/// Appends a rule, if it is broken.
-#[tactic(auto, using(crate::proofs::Broken::broken_more, crate::proofs::Broken::broken_same))]
-fn add(broken: &mut BrokenBundleRules, rule: Option<BundleRule>)
-    requires { array_vec_len broken.old < RULES }
-    ensures items { (judged : List (Option BundleRule)) → HasBroken broken.old judged
-        → HasBroken broken.new (judged ++ rule ∷ []) }
-    ensures size { array_vec_len broken.new ≤ array_vec_len broken.old + 1 }
-{
-    if let Some(rule) = rule {
-        broken.push(rule);
-    }
 }
 
 /// The blocks of a bundle so far, as far as the rules for it need them.
@@ -69,9 +54,9 @@ impl BundleHistory {
     {
         BundleHistory {
             primary: PrimaryFacts::of(primary),
-            flags: FlagFacts::new(),
-            extensions: ExtensionFacts::new(),
-            security: SecurityFacts::new(),
+            flags: FlagFacts::default(),
+            extensions: ExtensionFacts::default(),
+            security: SecurityFacts::default(),
         }
     }
 
@@ -93,6 +78,7 @@ impl BundleHistory {
     /// This takes less time than its rules.
     ///
     /// `first_long_head` and `payload_length` are as for [`BundleHistory::rules`].
+    #[tactic(auto, unfolding(crate::specs::BundleRules::broken_bundle_rules, crate::specs::BundleRules::long_head))]
     pub fn keeps_rules(&self, first_long_head: Option<u64>, payload_length: u64) -> bool
         ensures { (bundle : ReadBundle) → Remembers self.now bundle
             → length bundle.blocks < 2 ^ 64
@@ -108,7 +94,7 @@ impl BundleHistory {
         if !self.keeps_block_rules() {
             return false;
         }
-        self.keeps_data_rules(self.security.is_hidden())
+        self.keeps_data_rules(self.security.is_hidden)
     }
 
     /// Whether the primary block and the length of the payload break no rule.
@@ -155,30 +141,31 @@ impl BundleHistory {
     ///
     /// `first_long_head` is the offset of the first head that is longer than its number needs, and
     /// `payload_length` the number of bytes of the payload. The number of blocks has 64 bits.
+    #[tactic(auto, unfolding(crate::specs::BundleRules::broken_bundle_rules))]
     pub fn rules(&self, first_long_head: Option<u64>, payload_length: u64) -> BrokenBundleRules
         ensures { (bundle : ReadBundle) → Remembers self.now bundle
             → length bundle.blocks < 2 ^ 64
             → bundle.long_head ≡ first_long_head → bundle.payload_length ≡ payload_length
             → result.items ≡ broken_bundle_rules bundle }
     {
-        let hidden = self.security.is_hidden();
-        let mut broken = BrokenBundleRules::new();
-        add(&mut broken, long_head(first_long_head));
-        add(&mut broken, self.primary.bundle_flags());
-        add(&mut broken, self.security.primary_check(&self.primary));
-        add(&mut broken, self.primary.anonymous());
-        add(&mut broken, self.primary.record_reports());
-        add(&mut broken, self.flags.block_reports(&self.primary));
-        add(&mut broken, self.flags.block_flags());
-        add(&mut broken, self.primary.dtn_name());
-        add(&mut broken, self.primary.fragment(payload_length));
-        add(&mut broken, self.extensions.age(&self.primary));
-        add(&mut broken, self.extensions.previous_node());
-        add(&mut broken, self.extensions.hop_count(hidden));
-        add(&mut broken, self.security.confidential_primary());
-        add(&mut broken, self.extensions.hops(hidden));
-        add(&mut broken, self.extensions.block_data(hidden));
-        add(&mut broken, self.extensions.administrative_record(hidden));
-        broken
+        let hidden = self.security.is_hidden;
+        broken_of(&[
+            long_head(first_long_head),
+            self.primary.bundle_flags(),
+            self.security.primary_check(&self.primary),
+            self.primary.anonymous(),
+            self.primary.record_reports(),
+            self.flags.block_reports(&self.primary),
+            self.flags.block_flags(),
+            self.primary.dtn_name(),
+            self.primary.fragment(payload_length),
+            self.extensions.age(&self.primary),
+            self.extensions.previous_node(),
+            self.extensions.hop_count(hidden),
+            self.security.confidential_primary(),
+            self.extensions.hops(hidden),
+            self.extensions.block_data(hidden),
+            self.extensions.administrative_record(hidden),
+        ])
     }
 }

@@ -17,11 +17,11 @@ use link_rules::has_other_flags;
 pub(crate) struct PrimaryFacts {
     /// The bundle processing control flags (RFC 9171 section 4.2.3).
     flags: u64,
-    has_check: bool,
+    pub(crate) has_check: bool,
     /// Whether the source is dtn:none.
     is_anonymous: bool,
     /// Whether the creation time is 0.
-    has_zero_time: bool,
+    pub(crate) has_zero_time: bool,
     /// The first endpoint ID that is a text and no dtn name.
     bad_name: Option<Endpoint>,
     /// The offset and the total length of a fragment.
@@ -35,15 +35,15 @@ fn is_none_eid(eid: &EidView<'_>) -> bool
     matches!(eid, EidView::DtnNone)
 }
 
-/// Whether `length` bytes from an offset on are no part of `total` bytes.
+/// Whether `size` bytes from an offset on are no part of `total` bytes.
 ///
 /// A part is neither empty nor all of them.
-fn is_no_part(offset: u64, length: u64, total: u64) -> bool
-    ensures { result ≡ is_no_part offset length total }
+fn is_no_part(offset: u64, size: u64, total: u64) -> bool
+    ensures { result ≡ is_no_part offset size total }
 {
-    length == 0
-        || length == total
-        || match offset.checked_add(length) {
+    size == 0
+        || size == total
+        || match offset.checked_add(size) {
             Some(end) => total < end,
             None => true,
         }
@@ -71,22 +71,6 @@ impl PrimaryFacts {
             bad_name: bad_name(primary),
             fragment: primary.fragment,
         }
-    }
-
-    /// Whether the primary block has a check.
-    pub(crate) fn has_check(&self) -> bool
-        ensures { (primary : Primary) (check : Option CheckKind)
-            → IsOfPrimary self.now primary check → result ≡ is_some check }
-    {
-        self.has_check
-    }
-
-    /// Whether the creation time is 0.
-    pub(crate) fn has_zero_time(&self) -> bool
-        ensures { (primary : Primary) (check : Option CheckKind)
-            → IsOfPrimary self.now primary check → result ≡ (primary.time == 0) }
-    {
-        self.has_zero_time
     }
 
     /// Whether the blocks must request no status reports.
@@ -139,17 +123,17 @@ impl PrimaryFacts {
         Some(BundleRule::DtnName { of })
     }
 
-    /// The rule of fragments. `length` is that of the payload.
+    /// The rule of fragments. `size` is the number of bytes of the payload.
     #[tactic(auto, unfolding(crate::specs::Fragments::fragment))]
-    pub(crate) fn fragment(&self, length: u64) -> Option<BundleRule>
+    pub(crate) fn fragment(&self, size: u64) -> Option<BundleRule>
         ensures { (bundle : ReadBundle) → IsOfPrimary self.now bundle.primary bundle.check
-            → length ≡ bundle.payload_length → result ≡ fragment bundle }
+            → size ≡ bundle.payload_length → result ≡ fragment bundle }
     {
         let (offset, total) = self.fragment?;
-        if is_set(NO_FRAGMENTS, self.flags) || is_no_part(offset, length, total) {
+        if is_set(NO_FRAGMENTS, self.flags) || is_no_part(offset, size, total) {
             return Some(BundleRule::Fragment {
                 offset,
-                length,
+                size,
                 total,
             });
         }

@@ -16,76 +16,40 @@ pub enum Endpoint {
 #[derive(Clone, Copy, Debug, Default, PartialEq, Eq)]
 pub enum BundleRule {
     /// A head is longer than its number needs (section 4).
-    LongHead {
-        byte: u64,
-    },
+    LongHead { byte: u64 },
     /// The bundle has a flag that is not defined (section 4.2.3).
-    BundleFlags {
-        flags: u64,
-    },
+    BundleFlags { flags: u64 },
     /// Neither a check nor a block integrity block protects the primary block (section 4.3.1).
     #[default]
     PrimaryCheck,
     /// A bundle without a source may be fragmented, or requests status reports (section 4.2.3).
-    Anonymous {
-        flags: u64,
-    },
+    Anonymous { flags: u64 },
     /// An administrative record requests status reports (section 4.2.3).
-    RecordReports {
-        flags: u64,
-    },
+    RecordReports { flags: u64 },
     /// A block of an administrative record, or of a bundle without a source, requests a status
     /// report (section 4.2.4).
-    BlockReports {
-        block: u64,
-    },
+    BlockReports { block: u64 },
     /// A block has a flag that is not defined (section 4.2.4).
-    BlockFlags {
-        block: u64,
-        flags: u64,
-    },
+    BlockFlags { block: u64, flags: u64 },
     /// An endpoint ID of scheme dtn is no dtn name (section 4.2.5.1.1).
-    DtnName {
-        of: Endpoint,
-    },
+    DtnName { of: Endpoint },
     /// A fragment must not be one, or its payload is no part of the total (sections 4.2.3 and 5.8).
-    Fragment {
-        offset: u64,
-        length: u64,
-        total: u64,
-    },
+    Fragment { offset: u64, size: u64, total: u64 },
     /// The bundle has no bundle age block, and needs one, or it has two or more (section 4.4.2).
-    Age {
-        blocks: u64,
-    },
+    Age { blocks: u64 },
     /// The bundle has two or more previous node blocks (section 4.4.1).
-    PreviousNode {
-        blocks: u64,
-    },
+    PreviousNode { blocks: u64 },
     /// The bundle has two or more hop count blocks, or a hop limit that is not from 1 to 255
     /// (section 4.4.3).
-    HopCount {
-        blocks: u64,
-        limit: Option<u64>,
-    },
+    HopCount { blocks: u64, limit: Option<u64> },
     /// A block confidentiality block has the primary block as a target (RFC 9172 section 3.8).
-    ConfidentialPrimary {
-        block: u64,
-    },
+    ConfidentialPrimary { block: u64 },
     /// The hop count is greater than the hop limit (section 4.4.3).
-    Hops {
-        limit: u64,
-        count: u64,
-    },
+    Hops { limit: u64, count: u64 },
     /// The data of a previous node, bundle age or hop count block is malformed (section 4.4).
-    BlockData {
-        block: u64,
-        byte: u64,
-    },
+    BlockData { block: u64, byte: u64 },
     /// An administrative record is malformed (section 6.1).
-    Record {
-        byte: u64,
-    },
+    Record { byte: u64 },
 }
 
 impl BundleRule {

@@ -49,14 +49,14 @@ fn if_confidential_primary(read: &ReadBlockView<'_>) -> Option<BundleRule>
 }
 
 /// What the rules need of the security blocks so far.
-#[derive(Clone, Copy, Debug)]
+#[derive(Clone, Copy, Debug, Default)]
 pub(crate) struct SecurityFacts {
     /// Whether there is a block integrity block.
     has_integrity: bool,
     /// Whether a block integrity block is malformed or has the primary block as a target.
     may_protect_primary: bool,
-    /// Whether there is a block confidentiality block.
-    has_confidentiality: bool,
+    /// Whether data of blocks may be ciphertext: there is a block confidentiality block.
+    pub(crate) is_hidden: bool,
     /// The rule of the first block confidentiality block that has the primary block as a target.
     confidential_primary: Option<BundleRule>,
 }
@@ -67,18 +67,6 @@ impl SecurityFacts {
     ghost use Rattle.link_bundle_rules.specs.Remembered.{IsOfPrimary, IsOfSecurity};
     ghost use Rattle.link_bundle_rules.specs.Security.{is_hidden, primary_check, confidential_primary};
 
-    /// What holds before the first block.
-    pub(crate) fn new() -> SecurityFacts
-        ensures { IsOfSecurity result [] }
-    {
-        SecurityFacts {
-            has_integrity: false,
-            may_protect_primary: false,
-            has_confidentiality: false,
-            confidential_primary: None,
-        }
-    }
-
     /// Takes the next block.
     #[tactic(auto, using(crate::proofs::Blocks::find_map_more, crate::proofs::Blocks::any_more))]
     pub(crate) fn take(&mut self, read: &ReadBlockView<'_>)
@@ -87,17 +75,8 @@ impl SecurityFacts {
     {
         self.has_integrity = self.has_integrity || is_of_type(BLOCK_INTEGRITY, read);
         self.may_protect_primary = self.may_protect_primary || may_protect_primary(read);
-        self.has_confidentiality = self.has_confidentiality
-            || is_of_type(BLOCK_CONFIDENTIALITY, read);
+        self.is_hidden = self.is_hidden || is_of_type(BLOCK_CONFIDENTIALITY, read);
         self.confidential_primary = self.confidential_primary.or(if_confidential_primary(read));
-    }
-
-    /// Whether data of blocks may be ciphertext.
-    pub(crate) fn is_hidden(&self) -> bool
-        ensures { (blocks : List ReadBlock) → IsOfSecurity self.now blocks
-            → result ≡ is_hidden blocks }
-    {
-        self.has_confidentiality
     }
 
     /// The rule of the primary block's check.
@@ -106,9 +85,8 @@ impl SecurityFacts {
         ensures { (bundle : ReadBundle) → IsOfPrimary primary.now bundle.primary bundle.check
             → IsOfSecurity self.now bundle.blocks → result ≡ primary_check bundle }
     {
-        let is_protected = self.may_protect_primary
-            || (self.has_confidentiality && self.has_integrity);
-        if primary.has_check() || is_protected {
+        let is_protected = self.may_protect_primary || (self.is_hidden && self.has_integrity);
+        if primary.has_check || is_protected {
             return None;
         }
         Some(BundleRule::PrimaryCheck)

@@ -1,10 +1,9 @@
 -- An inner segment: without limits of the peer it breaks no rule, and adds its length.
-use Rattle.std.proofs.Common.{◌≡◌, ℕ, false, List, [], ◌∷◌, ◌++◌, Option, Some, None, is_some, refl, sym, ap, ◌∙◌}
+use Rattle.std.proofs.Common.{◌≡◌, ℕ, false, List, [], ◌∷◌, ◌++◌, Some, None, refl, sym, ap, ◌∙◌}
 use Rattle.link_wire.specs.declared.message.SegmentHead.{SegmentHead}
 use Rattle.link_transfer.specs.declared.joiner.Turn.TheVariants.{Continue}
 use Rattle.link_message_rules.specs.Flags.{item_flags, segment_flags}
-use Rattle.link_message_rules.specs.Heads.{JudgedHead, messages_of}
-use Rattle.link_message_rules.specs.Kept.{inner_head}
+use Rattle.link_message_rules.specs.{Heads.{JudgedHead, messages_of}, Kept.inner_head}
 use Rattle.link_message_rules.specs.Lengths.{peer_segment, peer_transfer, segments_of}
 use Rattle.link_message_rules.specs.MessageRules.{broken_rules}
 use Rattle.link_message_rules.specs.Remembered.{Remembers, ends_of, so_far_of}
@@ -12,17 +11,12 @@ use Rattle.link_message_rules.specs.TransferIds.{interleaved, transfer_id}
 use Rattle.link_message_rules.specs.declared.history.MessageHistory.{MessageHistory}
 use Rattle.link_message_rules.specs.declared.lengths.TransferSoFar.{TransferSoFar}
 use Rattle.link_message_rules.specs.declared.limits.PeerLimits.{PeerLimits}
-use Rattle.link_message_rules.proofs.Joined.{segments_of-push}
-use Rattle.link_message_rules.proofs.Kept.{segment_kept}
+use Rattle.link_message_rules.proofs.{Joined.segments_of-push, Kept.segment_kept}
 use Rattle.link_message_rules.proofs.Pushes.{messages_of-push}
 use Rattle.link_message_rules.proofs.Unchanged.{same_initiated, same_keepalives, same_run, same_ack}
 
 abbrev pub inner : (id size : ℕ) → SegmentHead
 inner id size = record { flags = 0; id = id; items = record { items = [] }; length = size }
-
-pub no_limit : (limit : Option ℕ) → is_some limit ≡ false → limit ≡ None
-no_limit None is = refl
-no_limit (Some limit) is = cc
 
 module _ (id size : ℕ) (before : List JudgedHead) where
   pub inner_kept : (limits : PeerLimits) → limits.segment ≡ None → limits.transfer ≡ None

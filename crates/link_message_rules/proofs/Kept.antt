@@ -1,21 +1,16 @@
 -- A message that keeps the rules for its kind keeps all rules.
 use Rattle.std.proofs.Common.{◌≡◌, ℕ, Bool, true, false, List, [], Option, Some, None, is_some, if◌then◌else◌, inl, inr, ◌⊎◌, refl}
 use Rattle.arrayvec.specs.ArrayVec.{ArrayVec}
-use Rattle.link_wire.specs.MessageBuffer.{message_with}
-use Rattle.link_wire.specs.declared.message.Fields.{Fields}
+use Rattle.link_wire.specs.{MessageBuffer.message_with, declared.message.Fields.Fields}
 use Rattle.link_wire.specs.declared.message.Fields.TheVariants as fields
-use Rattle.link_wire.specs.declared.message.Item.{Item}
-use Rattle.link_wire.specs.declared.message.SegmentHead.{SegmentHead}
-use Rattle.link_wire.specs.declared.message.Message.{Message}
+use Rattle.link_wire.specs.declared.message.{Item.Item, SegmentHead.SegmentHead, Message.Message}
 use Rattle.link_wire.specs.declared.message.Message.TheVariants.{Segment, Ack, Refuse, Keepalive}
-use Rattle.link_transfer.specs.declared.fault.OrderFault.{OrderFault}
 use Rattle.link_transfer.specs.declared.joiner.Turn.{Turn}
 use Rattle.link_message_rules.specs.Flags.{item_flags, segment_flags, term_flags}
 use Rattle.link_message_rules.specs.Heads.{JudgedHead, segment_of}
 use Rattle.link_message_rules.specs.Kept.{KeepsAnswerRules, KeepsSegmentRules}
 use Rattle.link_message_rules.specs.Lengths.{peer_segment, peer_transfer, ack_length}
-use Rattle.link_message_rules.specs.MessageRules.{broken_rules}
-use Rattle.link_message_rules.specs.NodeIds.{node_id}
+use Rattle.link_message_rules.specs.{MessageRules.broken_rules, NodeIds.node_id}
 use Rattle.link_message_rules.specs.Session.{order, before_session, keepalive}
 use Rattle.link_message_rules.specs.TransferIds.{interleaved, transfer_id}
 use Rattle.link_message_rules.specs.declared.limits.PeerLimits.{PeerLimits}
@@ -25,9 +20,9 @@ none_either : {A : Type 0} (test : Bool) → ◌≡◌ {A = Option A} (if test t
 none_either true = refl
 none_either false = refl
 
-pub no_fault : (fault : Option OrderFault) → is_some fault ≡ false → fault ≡ None
-no_fault None is = refl
-no_fault (Some fault) is = cc
+pub none_if : {A : Type 0} (value : Option A) → is_some value ≡ false → value ≡ None
+none_if None is = refl
+none_if (Some value) is = cc
 
 module _ (limits : PeerLimits) (before : List JudgedHead) (turn : Option Turn) where
   abbrev head_of : Message → JudgedHead

@@ -1,12 +1,10 @@
 -- The heads so far, with one more.
-use Rattle.std.proofs.Common.{◌≡◌, Bool, false, true, ◌||◌, List, [], ◌∷◌, ◌++◌, reverse, refl, sym, ◌∙◌}
-use Rattle.std.proofs.lemmas.List.{map_push, reverse-append}
+use Rattle.std.proofs.Common.{◌≡◌, ◌||◌, List, [], ◌∷◌, ◌++◌, reverse, refl, sym, ◌∙◌}
+use Rattle.std.proofs.{Math.Bool.{or-true, or-false}, lemmas.List.{map_push, reverse-append}}
 use Rattle.link_wire.specs.declared.message.Message.{Message}
-use Rattle.link_transfer.specs.Event.{event_of}
-use Rattle.link_transfer.specs.Joiner.{IsJoinerAt, joiner_after}
+use Rattle.link_transfer.specs.{Event.event_of, Joiner.{IsJoinerAt, joiner_after}}
 use Rattle.link_transfer.specs.Order.{is_sess_init, has_sess_init, has_sess_term, open_of}
-use Rattle.link_transfer.specs.declared.event.Event.{Event}
-use Rattle.link_transfer.specs.declared.event.Event.TheVariants.{SessInit, SessTerm, Segment, Other}
+use Rattle.link_transfer.specs.declared.event.{Event.Event, Event.TheVariants.SessInit}
 use Rattle.link_transfer.specs.declared.joiner.Joiner.{Joiner}
 use Rattle.link_transfer.proofs.Joining.{IsJoinerAt-then}
 use Rattle.link_message_rules.specs.Heads.{JudgedHead, messages_of}
@@ -20,14 +18,6 @@ pub newest-push : {A : Type 0} (before : List A) (last : A)
     → reverse (before ++ last ∷ []) ≡ last ∷ reverse before
 newest-push before last = reverse-append before (last ∷ [])
 
-pub or_false : (b : Bool) → (b || false) ≡ b
-or_false true = refl
-or_false false = refl
-
-or_true : (b : Bool) → (b || true) ≡ true
-or_true true = refl
-or_true false = refl
-
 -- the joiner that has accepted these messages
 abbrev joiner_at : List Message → Joiner
 joiner_at before = record {
@@ -39,15 +29,13 @@ joiner_at before = record {
 by_event : (before : List Message) (event : Event)
     → (joiner_after (joiner_at before) event).initiated
     ≡ (has_sess_init before || is_sess_init event)
-by_event before SessInit = sym (or_true (has_sess_init before))
-by_event before SessTerm = sym (or_false (has_sess_init before))
-by_event before (Segment flags id) = sym (or_false (has_sess_init before))
-by_event before Other = sym (or_false (has_sess_init before))
+by_event before SessInit = sym (or-true (has_sess_init before))
+by_event before others = sym (or-false (has_sess_init before))
 
-pub has_sess_init-push : (before : List Message) (message : Message)
+pub has_sess_init_push : (before : List Message) (message : Message)
     → has_sess_init (before ++ message ∷ [])
     ≡ (has_sess_init before || is_sess_init (event_of message))
-has_sess_init-push before message =
+has_sess_init_push before message =
     let at : IsJoinerAt (joiner_at before) before =
     record { initiated = refl; terminated = refl; transfer = refl } in
     sym (IsJoinerAt-then (joiner_at before) before message (event_of message) refl at).initiated

@@ -1,8 +1,7 @@
 -- Runs of transfer IDs, the newest first.
 use Rattle.std.proofs.Common.{◌≡◌, ℕ, ◌+◌, ◌≤◌, Bool, true, false, ◌&&◌, ◌||◌, ◌==◌, nat_le, List, [], ◌∷◌, Some, if◌then◌else◌, refl, ◌∙◌, arith}
 use Rattle.std.specs.List.{list_any}
-use Rattle.link_message_rules.specs.TransferIds.{descending}
-use Rattle.link_message_rules.specs.Remembered.{end_of, ends_of}
+use Rattle.link_message_rules.specs.{TransferIds.descending, Remembered.{end_of, ends_of}}
 use Rattle.link_message_rules.specs.declared.transfer_ids.IdRun.{IdRun}
 
 -- a run begins with the first ID

@@ -1,19 +1,8 @@
--- What a test of each byte returns.
-use Rattle.std.proofs.Common.{◌≡◌, ℕ, suc, ◌+◌, ◌<◌, Bool, true, false, not, ◌&&◌, ◌||◌, cond, nat_lt, List, [], ◌∷◌, length, take, Some, None, refl, sym, arith}
-use Rattle.std.specs.Char.{is_ascii_graphic}
-use Rattle.std.specs.Bool.{MatchBool}
-use Rattle.std.specs.List.{AllWithin, HoldsAt, list_all, list_any, position, position_or_len}
-use Rattle.std.proofs.lemmas.List.Folds.{list_all_at}
-use Rattle.std.proofs.lemmas.List.Sums.{list_all-from_AllPass}
+-- Whether some byte is a colon, and the index of the first one.
+use Rattle.std.proofs.Common.{◌≡◌, ℕ, suc, ◌+◌, Bool, true, false, not, ◌&&◌, ◌||◌, cond, nat_lt, List, [], ◌∷◌, length, take, Some, None, refl, arith}
+use Rattle.std.specs.{Char.is_ascii_graphic, List.{list_all, list_any, position, position_or_len}}
+use Rattle.std.proofs.lemmas.Option.{cond_some}
 use Rattle.link_message_rules.specs.NodeIds.{is_colon, is_scheme, is_uri}
-
-pub all_is : (test : ℕ → Bool) (bytes : List ℕ) (result : Bool)
-    → MatchBool result (AllWithin (λ byte. test byte ≡ true) bytes 0 (length bytes))
-    ((k : ℕ) × (k < length bytes) × HoldsAt (λ byte. test byte ≡ false) bytes k)
-    → result ≡ list_all test bytes
-all_is test bytes true all =
-    sym (list_all-from_AllPass test bytes (λ k d below. all k d (omega arith) below))
-all_is test bytes false (k, below, fails) = sym (list_all_at test bytes k 0 below (fails 0))
 
 -- some byte passes if there is a first one
 next_position : (passes rest : Bool) (index size : ℕ) → rest ≡ nat_lt index size
@@ -26,11 +15,6 @@ any-position : (test : ℕ → Bool) (bytes : List ℕ)
 any-position test [] = refl
 any-position test (byte ∷ bytes) =
     next_position (test byte) _ (position_or_len test bytes) (length bytes) (any-position test bytes)
-
-at_some : (found : Bool) (index colon : ℕ) → cond found (Some index) None ≡ Some colon
-    → (found ≡ true) × (index ≡ colon)
-at_some true index colon is = (refl, cc)
-at_some false index colon is = cc
 
 at_none : (found : Bool) (index : ℕ) → cond found (Some index) None ≡ None → found ≡ false
 at_none true index is = cc
@@ -45,5 +29,5 @@ pub uri_with : (bytes : List ℕ) (colon : ℕ) → position is_colon bytes ≡ 
     → (is_scheme (take colon bytes) && list_all is_ascii_graphic bytes) ≡ is_uri bytes
 unfolding is_uri
 uri_with bytes colon is =
-    let found = at_some _ _ colon is in
+    let found = cond_some _ _ colon is in
     rw (any-position is_colon bytes, found.0, found.1) refl

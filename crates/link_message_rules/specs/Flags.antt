@@ -1,9 +1,7 @@
 -- Rules of flags (RFC 9174). Only flags that are defined may be set.
 use Rattle.std.specs.Prelude.{ℕ, not, ◌&&◌, ◌==◌, find, option_map, Option, Some, None, if◌then◌else◌, bit_and}
 use Rattle.std.specs.List.{enumerate_from}
-use Rattle.link_wire.specs.declared.message.Contact.{Contact}
-use Rattle.link_wire.specs.declared.message.Item.{Item}
-use Rattle.link_wire.specs.declared.message.Message.{Message}
+use Rattle.link_wire.specs.declared.message.{Contact.Contact, Item.Item, Message.Message}
 use Rattle.link_wire.specs.declared.message.Message.TheVariants.{Segment, SessTerm}
 use Rattle.link_rules.specs.Flags.{has_other_flags}
 use Rattle.link_message_rules.specs.Heads.{items_of}

@@ -2,13 +2,10 @@
 -- head and the heads before it. Those that are out of order and stray segments are among them.
 use Rattle.std.specs.Prelude.{ℕ, Bool, true, false, ◌==◌, List, [], map, Option, Some, None, if◌then◌else◌}
 use Rattle.link_wire.specs.Codes.{is_start}
-use Rattle.link_wire.specs.declared.message.Item.{Item}
-use Rattle.link_wire.specs.declared.message.SegmentHead.{SegmentHead}
-use Rattle.link_wire.specs.declared.message.Message.{Message}
+use Rattle.link_wire.specs.declared.message.{Item.Item, SegmentHead.SegmentHead, Message.Message}
 use Rattle.link_wire.specs.declared.message.Message.TheVariants.{SessInit, Segment, Keepalive}
 use Rattle.link_wire.specs.MessageBuffer.{message_of}
-use Rattle.link_transfer.specs.declared.fault.OrderFault.{OrderFault}
-use Rattle.link_transfer.specs.declared.joiner.Turn.{Turn}
+use Rattle.link_transfer.specs.declared.{fault.OrderFault.OrderFault, joiner.Turn.Turn}
 use Rattle.link_message_rules.specs.declared.head.JudgedHeadView.{JudgedHeadView}
 
 -- the head of a message, with the judgement of its order

@@ -1,5 +1,5 @@
 -- Relations: the rules that a message after these heads keeps.
-use Rattle.std.specs.Prelude.{◌≡◌, ℕ, false, List, [], Some, None}
+use Rattle.std.specs.Prelude.{◌≡◌, ℕ, false, List, Some, None}
 use Rattle.link_wire.specs.Inner.{inner_segment}
 use Rattle.link_wire.specs.declared.message.Message.{Message}
 use Rattle.link_transfer.specs.declared.joiner.Turn.TheVariants.{Continue}

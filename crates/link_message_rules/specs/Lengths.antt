@@ -2,17 +2,14 @@
 use Rattle.std.specs.Prelude.{ℕ, ◌+◌, ◌&&◌, ◌==◌, nat_lt, nat_le, List, [], ◌∷◌, reverse, sum_by, filter_map, Option, Some, None, if◌then◌else◌}
 use Rattle.std.specs.Option.{option_and_then}
 use Rattle.link_wire.specs.Codes.{is_start}
-use Rattle.link_wire.specs.declared.message.SegmentHead.{SegmentHead}
-use Rattle.link_wire.specs.declared.message.Message.{Message}
+use Rattle.link_wire.specs.declared.message.{SegmentHead.SegmentHead, Message.Message}
 use Rattle.link_wire.specs.declared.message.Message.TheVariants as message
 use Rattle.link_transfer.specs.Announced.{announced_of}
 use Rattle.link_transfer.specs.declared.announcement.Announced.{Announced}
-use Rattle.link_transfer.specs.declared.announcement.Announced.TheVariants.{Absent, Total, Malformed}
-use Rattle.link_transfer.specs.declared.joiner.Turn.{Turn}
+use Rattle.link_transfer.specs.declared.{announcement.Announced.TheVariants.Total, joiner.Turn.Turn}
 use Rattle.link_transfer.specs.declared.joiner.Turn.TheVariants as turn
 use Rattle.link_message_rules.specs.Heads.{JudgedHead, messages_of, segment_of}
-use Rattle.link_message_rules.specs.declared.lengths.Ack.{Ack}
-use Rattle.link_message_rules.specs.declared.rule.MessageRule.{MessageRule}
+use Rattle.link_message_rules.specs.declared.{lengths.Ack.Ack, rule.MessageRule.MessageRule}
 use Rattle.link_message_rules.specs.declared.rule.MessageRule.TheVariants.{PeerSegment, PeerTransferAnnounced, PeerTransferLength, AckLength}
 
 -- ---- peer-segment
@@ -32,17 +29,15 @@ peer_segment (Some limit) message = option_and_then (if_longer limit) (segment_o
 -- For a segment with this turn, the earlier segments of its transfer. A stray segment has no
 -- transfer. `so_far` are the segments of the transfer that began last.
 abbrev pub earlier_of : Option Turn → (so_far : List SegmentHead) → Option (List SegmentHead)
-earlier_of None so_far = None
-earlier_of (Some turn.Other) so_far = None
 earlier_of (Some (turn.Begin abandoned last)) so_far = Some []
 earlier_of (Some (turn.Continue last)) so_far = Some so_far
+earlier_of others so_far = None
 
 -- a segment and those before it in its transfer; any other message changes nothing
 abbrev pub joined : Option SegmentHead → (earlier : Option (List SegmentHead))
     → (so_far : List SegmentHead) → List SegmentHead
-joined None earlier so_far = so_far
-joined (Some segment) None so_far = so_far
 joined (Some segment) (Some earlier) so_far = segment ∷ earlier
+joined others earlier so_far = so_far
 
 -- the segments of the transfer that began last, by the heads from the newest on
 abbrev pub segments_back : List JudgedHead → List SegmentHead
@@ -78,12 +73,11 @@ if_first (previous ∷ earlier) rule = None
 
 abbrev pub if_exceeded : (limit : ℕ) → Announced → SegmentHead → (earlier : List SegmentHead)
     → Option MessageRule
-if_exceeded limit Absent segment earlier = if_passed limit (size_of earlier) segment.length
-if_exceeded limit Malformed segment earlier = if_passed limit (size_of earlier) segment.length
 if_exceeded limit (Total total) segment earlier =
     if nat_lt limit total
     then if_first earlier (PeerTransferAnnounced total limit)
     else if_passed limit (size_of earlier) segment.length
+if_exceeded limit others segment earlier = if_passed limit (size_of earlier) segment.length
 
 -- the length that the first segment of a transfer announces (section 5.2.5.1)
 abbrev pub announced_first : SegmentHead → (earlier : List SegmentHead) → Announced

@@ -2,8 +2,7 @@
 -- one need.
 use Rattle.std.specs.Prelude.{◌≡◌, ℕ, ◌^◌, not, nat_lt, List, [], ◌∷◌, Option, Some, None, if◌then◌else◌}
 use Rattle.std.specs.List.{list_any}
-use Rattle.link_wire.specs.declared.message.SegmentHead.{SegmentHead}
-use Rattle.link_wire.specs.declared.message.Message.{Message}
+use Rattle.link_wire.specs.declared.message.{SegmentHead.SegmentHead, Message.Message}
 use Rattle.link_transfer.specs.Order.{has_sess_init}
 use Rattle.link_message_rules.specs.Heads.{JudgedHead, messages_of, is_keepalive, disables_keepalive}
 use Rattle.link_message_rules.specs.Lengths.{segments_of, first_segment, size_of, last_ack}

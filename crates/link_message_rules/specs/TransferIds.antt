@@ -1,9 +1,7 @@
 -- Rules of transfer IDs (RFC 9174 section 5.2).
 use Rattle.std.specs.Prelude.{ℕ, ◌+◌, ◌==◌, List, [], ◌∷◌, reverse, filter_map, Option, Some, None, if◌then◌else◌}
-use Rattle.std.specs.List.{list_any}
-use Rattle.std.specs.Option.{option_and_then}
-use Rattle.link_wire.specs.declared.message.SegmentHead.{SegmentHead}
-use Rattle.link_wire.specs.declared.message.Message.{Message}
+use Rattle.std.specs.{List.list_any, Option.option_and_then}
+use Rattle.link_wire.specs.declared.message.{SegmentHead.SegmentHead, Message.Message}
 use Rattle.link_transfer.specs.declared.joiner.Turn.{Turn}
 use Rattle.link_transfer.specs.declared.joiner.Turn.TheVariants as turn
 use Rattle.link_message_rules.specs.Heads.{JudgedHead, messages_of, segment_of, start_id}

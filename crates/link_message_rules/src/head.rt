@@ -48,6 +48,7 @@ pub(crate) fn is_end(flags: u8) -> bool
 }
 
 /// The length that a segment with these flags announces.
+#[tactic(auto, unfolding(link_transfer::specs::Announced::announced_of))]
 pub(crate) fn announcement(message: &MessageBuffer, flags: u8) -> Announced
     requires { HasTotals message.now.items.items }
     ensures { result ≡ announced_of (segment_items flags message.now.items).items }

@@ -7,10 +7,11 @@ use crate::lengths::{
 };
 use crate::limits::PeerLimits;
 use crate::node::node_id;
-use crate::rule::{MessageRule, broken_of};
+use crate::rule::MessageRule;
 use crate::session::{Keepalives, before_session, initiated_after, order};
 use crate::transfer_ids::{IdRun, interleaved, run_after, transfer_id};
 use arrayvec::ArrayVec;
+use link_rules::broken_of;
 use link_wire::{Fields, MessageBuffer};
 
 /// The number of rules of a message.
@@ -42,6 +43,7 @@ impl MessageHistory {
     ghost use Rattle.link_message_rules.specs.Remembered.{Remembers};
 
     /// The history before the first message.
+    #[tactic(auto, unfolding(link_transfer::specs::Order::has_sess_init))]
     pub fn new() -> MessageHistory
         ensures { Remembers result [] }
     {
@@ -118,6 +120,7 @@ impl MessageHistory {
     }
 
     /// The rules that the next message breaks, in order.
+    #[tactic(auto, unfolding(crate::specs::MessageRules::broken_rules))]
     #[inline(never)]
     pub fn rules(&self, limits: &PeerLimits, head: &JudgedHeadView<'_>) -> BrokenRules
         requires { SegmentHasTotals head.now.message.now }

@@ -154,12 +154,7 @@ pub(crate) fn peer_transfer(
         → result ≡ peer_transfer limit before (viewed_head head.now) }
 {
     let limit = limit?;
-    let Fields::Segment {
-        flags,
-        id: _,
-        length,
-    } = head.message.fields
-    else {
+    let Fields::Segment { flags, length, .. } = head.message.fields else {
         return None;
     };
     match earlier(head.turn, so_far)? {

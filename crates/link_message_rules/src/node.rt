@@ -48,6 +48,7 @@ fn first_colon(bytes: &[u8]) -> Option<usize>
 }
 
 /// Whether bytes are a URI (RFC 3986 section 3).
+#[tactic(auto, using(crate::proofs::Tests::uri_with, crate::proofs::Tests::uri_without))]
 fn is_uri(bytes: &[u8]) -> bool
     ensures { result ≡ is_uri bytes.now }
 {

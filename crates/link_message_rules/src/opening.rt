@@ -3,8 +3,9 @@
 ghost use Rattle.std.specs.Prelude.{◌≡◌};
 
 use crate::head::{announcement, is_end, is_start};
-use crate::rule::{TransferRule, broken_of};
+use crate::rule::TransferRule;
 use arrayvec::ArrayVec;
+use link_rules::broken_of;
 use link_transfer::Announced;
 use link_wire::MessageBuffer;
 
@@ -41,6 +42,7 @@ impl Opening {
     }
 
     /// The rules that a transfer with this many bytes of data breaks.
+    #[tactic(auto, unfolding(crate::specs::TransferRules::broken_transfer_rules))]
     pub fn rules(&self, length: u64) -> BrokenTransferRules
         ensures { (first : SegmentHead) → self.now ≡ opening_of first
             → result.items ≡ broken_transfer_rules first length }

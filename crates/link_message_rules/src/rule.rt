@@ -1,8 +1,5 @@
 //! The rules that can be broken, with what a line says of each.
 
-ghost use Rattle.std.specs.Prelude.{◌≡◌, filter_map};
-
-use arrayvec::ArrayVec;
 use link_bundle_types::BundleFault;
 use link_rules::Level;
 use link_transfer::OrderFault;
@@ -99,19 +96,4 @@ impl TransferRule {
             | TransferRule::NotRead { .. } => Level::Should,
         }
     }
-}
-
-/// Those of some rules that are broken, in order.
-pub(crate) fn broken_of<T: Copy + Default, const N: usize>(
-    judged: &[Option<T>; N],
-) -> ArrayVec<T, N>
-    ensures { result.items ≡ filter_map (λ rule. rule) judged.now }
-{
-    let mut broken = ArrayVec::new();
-    for rule in judged {
-        if let Some(rule) = rule {
-            broken.push(*rule);
-        }
-    }
-    broken
 }

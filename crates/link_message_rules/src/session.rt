@@ -30,6 +30,7 @@ impl Keepalives {
     ghost use Rattle.link_message_rules.specs.Remembered.{keepalives_of};
 
     /// The rule of KEEPALIVEs.
+    #[tactic(auto, using(crate::proofs::Disabling::keepalive_by, crate::proofs::Disabling::shown))]
     #[inline(always)]
     pub(crate) fn rule(self, message: &MessageBuffer) -> Option<MessageRule>
         ensures { (before : List JudgedHead) → self ≡ keepalives_of (messages_of before)
@@ -42,6 +43,7 @@ impl Keepalives {
     }
 
     /// What holds after one more message.
+    #[tactic(auto, using(crate::proofs::Disabling::keepalives_of_push))]
     #[inline(always)]
     pub(crate) fn after(self, message: &MessageBuffer) -> Keepalives
         ensures { (before : List Message) → self ≡ keepalives_of before
@@ -86,6 +88,7 @@ fn is_sess_init(message: &MessageBuffer) -> bool
 }
 
 /// Whether a SESS_INIT came, after one more message.
+#[tactic(auto, using(crate::proofs::Pushes::has_sess_init_push))]
 #[inline(always)]
 pub(crate) fn initiated_after(initiated: bool, message: &MessageBuffer) -> bool
     ensures { (before : List Message) → initiated ≡ has_sess_init before

@@ -1,8 +1,7 @@
 -- The names of rules and of their levels.
 
 use Rattle.std.specs.Prelude.{ℕ, List, codes}
-use Rattle.link_rules.specs.declared.level.Level.{Level}
-use Rattle.link_rules.specs.declared.level.Level.TheVariants.{Must, Should}
+use Rattle.link_rules.specs.declared.level.{Level.Level, Level.TheVariants.{Must, Should}}
 use Rattle.link_message_rules.specs.declared.rule.MessageRule.{MessageRule}
 use Rattle.link_message_rules.specs.declared.rule.MessageRule.TheVariants as message
 use Rattle.link_message_rules.specs.declared.rule.TransferRule.{TransferRule}

@@ -1,6 +1,7 @@
 //! The line of a broken rule, as a text.
 
 ghost use Rattle.std.specs.Prelude.{◌≡◌, ◌+◌, ◌≤◌, ◌++◌, length, take};
+ghost use Rattle.link_block_report.specs.Written.{Wrote};
 ghost use Rattle.link_rule_report.specs.Line.{place_text, subject_text, rule_line};
 
 use crate::names::{LEVEL_MAX, NAME_MAX, level_name, rule_name};
@@ -31,9 +32,7 @@ pub struct RuleText {
 #[tactic(auto, unfolding(crate::specs::Line::place_text))]
 fn write_place(page: &mut [u8], at: usize, place: BundlePlace) -> usize
     requires { at + SUBJECT_MAX ≤ length page.old }
-    ensures text { take result page.new ≡ take at page.old ++ place_text place }
-    ensures fits { result ≤ at + SUBJECT_MAX }
-    ensures size { length page.new ≡ length page.old }
+    ensures { Wrote page.old page.new at result SUBJECT_MAX (place_text place) }
 {
     match place {
         BundlePlace::Transfer(id) => write_number(page, at, *b" transfer=", id),
@@ -45,9 +44,7 @@ fn write_place(page: &mut [u8], at: usize, place: BundlePlace) -> usize
 #[tactic(auto, unfolding(crate::specs::Line::subject_text))]
 fn write_subject(page: &mut [u8], at: usize, rule: &BrokenRule) -> usize
     requires { at + SUBJECT_MAX ≤ length page.old }
-    ensures text { take result page.new ≡ take at page.old ++ subject_text rule.now }
-    ensures fits { result ≤ at + SUBJECT_MAX }
-    ensures size { length page.new ≡ length page.old }
+    ensures { Wrote page.old page.new at result SUBJECT_MAX (subject_text rule.now) }
 {
     match *rule {
         BrokenRule::Message(_) => at,

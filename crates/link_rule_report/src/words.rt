@@ -3,6 +3,7 @@
 ghost use Rattle.std.specs.Prelude.{◌≡◌, ◌+◌, ◌≤◌, ◌++◌, length, take, codes, decimal};
 ghost use Rattle.link_report.specs.Message.{flags_text};
 ghost use Rattle.link_report.specs.Text.{number_text};
+ghost use Rattle.link_block_report.specs.Written.{Wrote};
 ghost use Rattle.link_rule_report.specs.Words.{hyphenated, order_words, message_words, fault_words, transfer_words, control_words, endpoint_name, limit_words, bundle_words, rule_words};
 
 use crate::rule::BrokenRule;
@@ -35,10 +36,8 @@ fn write_two<const N: usize, const M: usize>(
     next: u64,
 ) -> usize
     requires { at + N + M + 40 ≤ length page.old }
-    ensures text { take result page.new ≡ take at page.old
-        ++ number_text label.entry number ++ number_text next_label.entry next }
-    ensures fits { result ≤ at + N + M + 40 }
-    ensures size { length page.new ≡ length page.old }
+    ensures { Wrote page.old page.new at result (N + M + 40)
+        (number_text label.entry number ++ number_text next_label.entry next) }
 {
     let at = write_number(page, at, label, number);
     write_number(page, at, next_label, next)
@@ -76,9 +75,7 @@ fn write_hyphenated(page: &mut [u8], at: usize, text: &str) -> usize
 #[tactic(auto, unfolding(crate::specs::Words::order_words))]
 fn write_order(page: &mut [u8], at: usize, fault: OrderFault) -> usize
     requires { at + ORDER_MAX ≤ length page.old }
-    ensures text { take result page.new ≡ take at page.old ++ order_words fault }
-    ensures fits { result ≤ at + ORDER_MAX }
-    ensures size { length page.new ≡ length page.old }
+    ensures { Wrote page.old page.new at result ORDER_MAX (order_words fault) }
 {
     let at = write_bytes(page, at, *b" fault=");
     write_hyphenated(page, at, order_words(fault))
@@ -88,10 +85,8 @@ fn write_order(page: &mut [u8], at: usize, fault: OrderFault) -> usize
 #[tactic(auto, unfolding(link_report::specs::Text::number_text))]
 fn write_passed(page: &mut [u8], at: usize, size: u128, limit: u64) -> usize
     requires { at + WORDS_MAX ≤ length page.old }
-    ensures text { take result page.new ≡ take at page.old
-        ++ number_text (codes " length=") size ++ number_text (codes " limit=") limit }
-    ensures fits { result ≤ at + WORDS_MAX }
-    ensures size { length page.new ≡ length page.old }
+    ensures { Wrote page.old page.new at result WORDS_MAX
+        (number_text (codes " length=") size ++ number_text (codes " limit=") limit) }
 {
     let at = write_bytes(page, at, *b" length=");
     let at = write_text(page, at, Buffer::new().format(size));
@@ -102,9 +97,7 @@ fn write_passed(page: &mut [u8], at: usize, size: u128, limit: u64) -> usize
 #[tactic(auto, unfolding(crate::specs::Words::message_words))]
 fn write_message(page: &mut [u8], at: usize, rule: &MessageRule) -> usize
     requires { at + WORDS_MAX ≤ length page.old }
-    ensures text { take result page.new ≡ take at page.old ++ message_words rule.now }
-    ensures fits { result ≤ at + WORDS_MAX }
-    ensures size { length page.new ≡ length page.old }
+    ensures { Wrote page.old page.new at result WORDS_MAX (message_words rule.now) }
 {
     match *rule {
         MessageRule::ContactFlags { flags }
@@ -142,9 +135,7 @@ fn write_message(page: &mut [u8], at: usize, rule: &MessageRule) -> usize
 #[tactic(auto, unfolding(crate::specs::Words::fault_words))]
 fn write_fault(page: &mut [u8], at: usize, fault: BundleFault, byte: u64) -> usize
     requires { at + WORDS_MAX ≤ length page.old }
-    ensures text { take result page.new ≡ take at page.old ++ fault_words fault byte }
-    ensures fits { result ≤ at + WORDS_MAX }
-    ensures size { length page.new ≡ length page.old }
+    ensures { Wrote page.old page.new at result WORDS_MAX (fault_words fault byte) }
 {
     let at = write_bytes(page, at, *b" code=");
     let at = write_text(page, at, code_of(fault));
@@ -155,9 +146,7 @@ fn write_fault(page: &mut [u8], at: usize, fault: BundleFault, byte: u64) -> usi
 #[tactic(auto, unfolding(crate::specs::Words::transfer_words))]
 fn write_transfer(page: &mut [u8], at: usize, rule: &TransferRule) -> usize
     requires { at + WORDS_MAX ≤ length page.old }
-    ensures text { take result page.new ≡ take at page.old ++ transfer_words rule.now }
-    ensures fits { result ≤ at + WORDS_MAX }
-    ensures size { length page.new ≡ length page.old }
+    ensures { Wrote page.old page.new at result WORDS_MAX (transfer_words rule.now) }
 {
     match *rule {
         TransferRule::Unfinished { length } => write_number(page, at, *b" length=", length),
@@ -175,9 +164,7 @@ fn write_transfer(page: &mut [u8], at: usize, rule: &TransferRule) -> usize
 #[tactic(auto, unfolding(crate::specs::Words::control_words))]
 fn write_control(page: &mut [u8], at: usize, flags: u64) -> usize
     requires { at + CONTROL_MAX ≤ length page.old }
-    ensures text { take result page.new ≡ take at page.old ++ control_words flags }
-    ensures fits { result ≤ at + CONTROL_MAX }
-    ensures size { length page.new ≡ length page.old }
+    ensures { Wrote page.old page.new at result CONTROL_MAX (control_words flags) }
 {
     let at = write_bytes(page, at, *b" flags=");
     write_flags(page, at, flags)
@@ -187,9 +174,7 @@ fn write_control(page: &mut [u8], at: usize, flags: u64) -> usize
 #[tactic(auto, unfolding(crate::specs::Words::endpoint_name))]
 fn write_endpoint(page: &mut [u8], at: usize, endpoint: Endpoint) -> usize
     requires { at + WORDS_MAX ≤ length page.old }
-    ensures text { take result page.new ≡ take at page.old ++ codes " of=" ++ endpoint_name endpoint }
-    ensures fits { result ≤ at + WORDS_MAX }
-    ensures size { length page.new ≡ length page.old }
+    ensures { Wrote page.old page.new at result WORDS_MAX (codes " of=" ++ endpoint_name endpoint) }
 {
     match endpoint {
         Endpoint::Destination => write_bytes(page, at, *b" of=destination"),
@@ -201,11 +186,9 @@ fn write_endpoint(page: &mut [u8], at: usize, endpoint: Endpoint) -> usize
 /// Writes the offset, the length and the total length of a fragment.
 fn write_fragment(page: &mut [u8], at: usize, offset: u64, size: u64, total: u64) -> usize
     requires { at + WORDS_MAX ≤ length page.old }
-    ensures text { take result page.new ≡ take at page.old
-        ++ number_text (codes " offset=") offset ++ number_text (codes " length=") size
-        ++ number_text (codes " total=") total }
-    ensures fits { result ≤ at + WORDS_MAX }
-    ensures size { length page.new ≡ length page.old }
+    ensures { Wrote page.old page.new at result WORDS_MAX
+        (number_text (codes " offset=") offset ++ number_text (codes " length=") size
+        ++ number_text (codes " total=") total) }
 {
     let at = write_two(page, at, *b" offset=", offset, *b" length=", size);
     write_number(page, at, *b" total=", total)
@@ -215,10 +198,8 @@ fn write_fragment(page: &mut [u8], at: usize, offset: u64, size: u64, total: u64
 #[tactic(auto, unfolding(crate::specs::Words::limit_words))]
 fn write_hop_limit(page: &mut [u8], at: usize, blocks: u64, limit: Option<u64>) -> usize
     requires { at + WORDS_MAX ≤ length page.old }
-    ensures text { take result page.new ≡ take at page.old
-        ++ number_text (codes " blocks=") blocks ++ limit_words limit }
-    ensures fits { result ≤ at + WORDS_MAX }
-    ensures size { length page.new ≡ length page.old }
+    ensures { Wrote page.old page.new at result WORDS_MAX
+        (number_text (codes " blocks=") blocks ++ limit_words limit) }
 {
     let at = write_number(page, at, *b" blocks=", blocks);
     match limit {
@@ -231,9 +212,7 @@ fn write_hop_limit(page: &mut [u8], at: usize, blocks: u64, limit: Option<u64>) 
 #[tactic(auto, unfolding(crate::specs::Words::bundle_words))]
 fn write_bundle(page: &mut [u8], at: usize, rule: &BundleRule) -> usize
     requires { at + WORDS_MAX ≤ length page.old }
-    ensures text { take result page.new ≡ take at page.old ++ bundle_words rule.now }
-    ensures fits { result ≤ at + WORDS_MAX }
-    ensures size { length page.new ≡ length page.old }
+    ensures { Wrote page.old page.new at result WORDS_MAX (bundle_words rule.now) }
 {
     match *rule {
         BundleRule::PrimaryCheck => at,
@@ -253,9 +232,9 @@ fn write_bundle(page: &mut [u8], at: usize, rule: &BundleRule) -> usize
         BundleRule::DtnName { of } => write_endpoint(page, at, of),
         BundleRule::Fragment {
             offset,
-            length,
+            size,
             total,
-        } => write_fragment(page, at, offset, length, total),
+        } => write_fragment(page, at, offset, size, total),
         BundleRule::Age { blocks } | BundleRule::PreviousNode { blocks } => {
             write_number(page, at, *b" blocks=", blocks)
         }
@@ -273,9 +252,7 @@ fn write_bundle(page: &mut [u8], at: usize, rule: &BundleRule) -> usize
 #[tactic(auto, unfolding(crate::specs::Words::rule_words))]
 pub(crate) fn write_words(page: &mut [u8], at: usize, rule: &BrokenRule) -> usize
     requires { at + WORDS_MAX ≤ length page.old }
-    ensures text { take result page.new ≡ take at page.old ++ rule_words rule.now }
-    ensures fits { result ≤ at + WORDS_MAX }
-    ensures size { length page.new ≡ length page.old }
+    ensures { Wrote page.old page.new at result WORDS_MAX (rule_words rule.now) }
 {
     match rule {
         BrokenRule::Message(rule) => write_message(page, at, rule),

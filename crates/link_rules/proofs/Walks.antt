@@ -1,20 +1,15 @@
 -- The first head that is sought, after more bytes.
 
 use Rattle.std.proofs.Common.{◌≡◌, ℕ, zero, suc, ◌+◌, ◌-◌, ◌%◌, ◌^◌, ◌<◌, ◌≤◌, Bool, true, false, List, [], ◌∷◌, ◌++◌, length, get_or, take, drop, Option, Some, None, refl, sym, ap, subst, ◌∙◌, append_assoc, append-nil, length-append, length-drop, length-take, mod-eq_of_lt, arith}
-use Rattle.std.specs.Prelude.{if◌then◌else◌}
-use Rattle.std.specs.Bool.{then_some}
-use Rattle.std.specs.Option.{option_or}
+use Rattle.std.specs.{Prelude.{if◌then◌else◌}, Bool.then_some, Option.option_or}
 use Rattle.std.proofs.lemmas.List.{drop-append-le, length-take-le}
 use Rattle.std.proofs.Math.Seq.{drop-append_seam, drop-length, take-add, take-length}
-use Rattle.link_cbor.specs.declared.head.Head.{Head as HeadItem}
-use Rattle.link_cbor.specs.declared.head_scan.HeadScan.{HeadScan}
+use Rattle.link_cbor.specs.declared.{head.Head.Head as HeadItem, head_scan.HeadScan.HeadScan}
 use Rattle.link_cbor.specs.Head.{Cut, IllFormed, Whole, head_front, whole_of}
 use Rattle.link_cbor.specs.HeadScan.{HasScannedHead}
 use Rattle.link_cbor.proofs.HeadLaws.{head_alone, whole_stays, ill_formed_stays}
-use Rattle.link_rules.specs.declared.heads.Stage.{Stage}
-use Rattle.link_rules.specs.declared.heads.Stage.TheVariants.{Inside, Head, Ended}
-use Rattle.link_rules.specs.declared.heads.Found.{Found}
-use Rattle.link_rules.specs.declared.heads.HeadWalk.{HeadWalk}
+use Rattle.link_rules.specs.declared.heads.{Stage.Stage, Stage.TheVariants.{Inside, Head, Ended}}
+use Rattle.link_rules.specs.declared.heads.{Found.Found, HeadWalk.HeadWalk}
 use Rattle.link_rules.specs.Heads.{content_size, is_long, is_indefinite, first_from}
 use Rattle.link_rules.specs.HeadWalk.{first_left, HasSought, HasFound, HasNoted, IsAtStage, HasSeen, HasWalked, HasTaken}
 
@@ -35,19 +30,9 @@ inside sought (suc left) offset (byte ∷ run) more within =
     let next : offset + suc (length run) ≡ offset + 1 + length run = omega arith in
     rw (here, next) (inside sought left (offset + 1) run more (omega arith))
 
-not_empty : (head : HeadItem) → head_front [] ≡ Whole head 0 → ⊥
+empty_is_cut : head_front [] ≡ Cut
 unfolding head_front
-not_empty head whole = cc
-
-not_ill_formed : head_front [] ≡ IllFormed → ⊥
-unfolding head_front
-not_ill_formed wrong = cc
-
--- a run after the bytes seen
-after_seen : (offset : ℕ) (seen run : List ℕ) → offset ≡ length seen
-    → drop offset (seen ++ run) ≡ run
-after_seen offset seen run here =
-    ap (λ (offset : ℕ). drop offset (seen ++ run)) here ∙ drop-append_seam seen run
+empty_is_cut = refl
 
 -- a whole head
 at_head : (sought : HeadItem → ℕ → Bool) (offset : ℕ) (run more : List ℕ) (head : HeadItem)
@@ -56,21 +41,19 @@ at_head : (sought : HeadItem → ℕ → Bool) (offset : ℕ) (run more : List �
     ≡ (if sought head (length run) then Some offset
     else first_from sought (content_size head) (offset + length run) more)
 unfolding first_from
-at_head sought offset [] more head whole = absurd (not_empty head whole)
+at_head sought offset [] more head whole = let cut = empty_is_cut in cc
 at_head sought offset (byte ∷ rest) more head whole =
     let here : (suc (length rest) - 1 + content_size head) - length rest ≡ content_size head =
     omega arith in
     let next : offset + 1 + length rest ≡ offset + suc (length rest) = omega arith in
-    rw (whole_stays (byte ∷ rest) more head (suc (length rest)) whole, first_from)
-    (ap (λ (found : Option ℕ). if sought head (suc (length rest)) then Some offset else found)
-    (inside sought (suc (length rest) - 1 + content_size head) (offset + 1) rest more (omega arith)
-    ∙ ap (λ (left : ℕ). first_from sought left (offset + 1 + length rest) more) here
-    ∙ ap (λ (offset : ℕ). first_from sought (content_size head) offset more) next))
+    let found = inside sought (suc (length rest) - 1 + content_size head) (offset + 1) rest more
+    (omega arith) in
+    rw (whole_stays (byte ∷ rest) more head (suc (length rest)) whole, first_from, found, here, next)
 
 at_ill_formed : (sought : HeadItem → ℕ → Bool) (offset : ℕ) (bytes more : List ℕ)
     → head_front bytes ≡ IllFormed → first_from sought 0 offset (bytes ++ more) ≡ None
 unfolding first_from
-at_ill_formed sought offset [] more wrong = absurd (not_ill_formed wrong)
+at_ill_formed sought offset [] more wrong = let cut = empty_is_cut in cc
 at_ill_formed sought offset (byte ∷ rest) more wrong =
     rw (ill_formed_stays (byte ∷ rest) more wrong, first_from) refl
 
@@ -79,10 +62,6 @@ at_cut : (sought : HeadItem → ℕ → Bool) (offset : ℕ) (bytes : List ℕ)
 unfolding first_from
 at_cut sought offset [] cut = refl
 at_cut sought offset (byte ∷ rest) cut = rw (cut, first_from) refl
-
-at_end : (sought : HeadItem → ℕ → Bool) (left offset : ℕ) → first_from sought left offset [] ≡ None
-unfolding first_from
-at_end sought left offset = refl
 
 -- ---- what is found and what is left
 
@@ -94,35 +73,43 @@ first_or (Some at) is_sought offset rest = refl
 first_or None true offset rest = refl
 first_or None false offset rest = refl
 
-sought_inside : (sought : HeadItem → ℕ → Bool) (found : Option ℕ) (left : ℕ) (seen run : List ℕ)
-    → HasSought sought found (Inside left) seen → length run ≤ left
-    → HasSought sought found (Inside (left - length run)) (seen ++ run)
-sought_inside sought found left seen run come within = record {
+-- the same of both kinds of heads
+both : {found : Found} {stage after : Stage} {seen bytes : List ℕ} → HasFound found stage seen
+    → ((sought : HeadItem → ℕ → Bool) (first : Option ℕ) → HasSought sought first stage seen
+    → HasSought sought first after bytes)
+    → HasFound found after bytes
+both come step = record {
+  long = step is_long _ come.long;
+  indefinite = step is_indefinite _ come.indefinite;
+}
+
+found_inside : (found : Found) (left : ℕ) (seen run : List ℕ) → HasFound found (Inside left) seen
+    → length run ≤ left → HasFound found (Inside (left - length run)) (seen ++ run)
+found_inside found left seen run come within = both come (λ sought first come. record {
   reads = λ more.
       let there : length (seen ++ run) ≡ length seen + length run = length-append seen run in
       rw (append_assoc seen run more, there) (come.reads (run ++ more)
-      ∙ ap (λ (rest : Option ℕ). option_or found rest)
+      ∙ ap (λ (rest : Option ℕ). option_or first rest)
       (inside sought left (length seen) run more within));
-}
+})
 
 -- where a head begins, no byte of it is seen
-sought_begins : (sought : HeadItem → ℕ → Bool) (found : Option ℕ) (seen : List ℕ)
-    → HasSought sought found (Inside 0) seen → HasSought sought found (Head (length seen)) seen
-sought_begins sought found seen come = record {
-  reads = λ more. rw (drop-length seen) (come.reads more);
-}
+found_begins : (found : Found) (offset : ℕ) (seen : List ℕ) → HasFound found (Inside 0) seen
+    → offset ≡ length seen → HasFound found (Head offset) seen
+found_begins found offset seen come here = both come (λ sought first come. record {
+  reads = λ more. rw (here, drop-length seen) (come.reads more);
+})
 
-sought_more : (sought : HeadItem → ℕ → Bool) (found : Option ℕ) (offset : ℕ) (seen run : List ℕ)
-    → HasSought sought found (Head offset) seen → offset ≤ length seen
-    → HasSought sought found (Head offset) (seen ++ run)
-sought_more sought found offset seen run come within = record {
+found_more : (found : Found) (offset : ℕ) (seen run : List ℕ) → HasFound found (Head offset) seen
+    → offset ≤ length seen → HasFound found (Head offset) (seen ++ run)
+found_more found offset seen run come within = both come (λ sought first come. record {
   reads = λ more.
       rw (
         append_assoc seen run more,
         drop-append-le offset seen run within,
         append_assoc (drop offset seen) run more,
       ) (come.reads (run ++ more));
-}
+})
 
 sought_whole : (sought : HeadItem → ℕ → Bool) (found : Option ℕ) (offset : ℕ) (seen : List ℕ)
     (head : HeadItem) → HasSought sought found (Head offset) seen → offset ≤ length seen
@@ -142,65 +129,16 @@ sought_whole sought found offset seen head come within whole = record {
       ∙ first_or found _ offset _;
 }
 
-sought_ill_formed : (sought : HeadItem → ℕ → Bool) (found : Option ℕ) (offset : ℕ) (seen : List ℕ)
-    → HasSought sought found (Head offset) seen → head_front (drop offset seen) ≡ IllFormed
-    → HasSought sought found Ended seen
-sought_ill_formed sought found offset seen come wrong = record {
-  reads = λ more. come.reads more
-      ∙ ap (λ (rest : Option ℕ). option_or found rest)
-      (at_ill_formed sought offset (drop offset seen) more wrong);
-}
-
-or_none : (found : Option ℕ) → option_or found None ≡ found
-or_none None = refl
-or_none (Some at) = refl
-
--- what is found in the bytes seen, if no more follow
-sought_now : (sought : HeadItem → ℕ → Bool) (found : Option ℕ) (stage : Stage) (seen : List ℕ)
-    → HasSought sought found stage seen → first_left sought stage seen [] ≡ None
-    → found ≡ first_from sought 1 0 seen
-sought_now sought found stage seen come none =
-    sym (ap (λ (bytes : List ℕ). first_from sought 1 0 bytes) (sym (append-nil seen))
-    ∙ come.reads [] ∙ ap (λ (rest : Option ℕ). option_or found rest) none ∙ or_none found)
-
--- ---- both kinds of heads
-
-found_inside : (found : Found) (left : ℕ) (seen run : List ℕ) → HasFound found (Inside left) seen
-    → length run ≤ left → HasFound found (Inside (left - length run)) (seen ++ run)
-found_inside found left seen run come within = record {
-  long = sought_inside is_long found.long left seen run come.long within;
-  indefinite = sought_inside is_indefinite found.indefinite left seen run come.indefinite within;
-}
-
-found_begins : (found : Found) (offset : ℕ) (seen : List ℕ) → HasFound found (Inside 0) seen
-    → offset ≡ length seen → HasFound found (Head offset) seen
-found_begins found offset seen come here =
-    subst (λ (offset : ℕ). HasFound found (Head offset) seen) (sym here) (record {
-      long = sought_begins is_long found.long seen come.long;
-      indefinite = sought_begins is_indefinite found.indefinite seen come.indefinite;
-    })
-
-found_more : (found : Found) (offset : ℕ) (seen run : List ℕ) → HasFound found (Head offset) seen
-    → offset ≤ length seen → HasFound found (Head offset) (seen ++ run)
-found_more found offset seen run come within = record {
-  long = sought_more is_long found.long offset seen run come.long within;
-  indefinite = sought_more is_indefinite found.indefinite offset seen run come.indefinite within;
-}
-
 found_whole : (old new : Found) (offset : ℕ) (seen : List ℕ) (head : HeadItem) (size : ℕ)
     → HasFound old (Head offset) seen → offset ≤ length seen
     → head_front (drop offset seen) ≡ Whole head (length (drop offset seen))
     → size ≡ length (drop offset seen) → HasNoted old new offset head size
     → HasFound new (Inside (content_size head)) seen
-found_whole old new offset seen head size come within whole sized noted =
-    let noted_here : HasNoted old new offset head (length (drop offset seen)) =
-    subst (λ (size : ℕ). HasNoted old new offset head size) sized noted in
-    record {
-      long = rw noted_here.long
-          (sought_whole is_long old.long offset seen head come.long within whole);
-      indefinite = rw noted_here.indefinite
-          (sought_whole is_indefinite old.indefinite offset seen head come.indefinite within whole);
-    }
+found_whole old new offset seen head size come within whole sized noted = record {
+  long = rw (noted.long, sized) (sought_whole is_long _ offset seen head come.long within whole);
+  indefinite = rw noted.indefinite
+      (sought_whole is_indefinite _ offset seen head come.indefinite within whole);
+}
 
 -- the next head, whose bytes are a run
 found_next : (old new : Found) (offset : ℕ) (seen run : List ℕ) (head : HeadItem) (size : ℕ)
@@ -209,12 +147,10 @@ found_next : (old new : Found) (offset : ℕ) (seen run : List ℕ) (head : Head
     → HasNoted old new offset head size
     → HasFound new (Inside (content_size head)) (seen ++ run)
 found_next old new offset seen run head size come here whole sized noted =
-    let rest : drop offset (seen ++ run) ≡ run = after_seen offset seen run here in
+    let rest : drop offset (seen ++ run) ≡ run = rw here (drop-append_seam seen run) in
     found_whole old new offset (seen ++ run) head size
     (found_more old offset seen run (found_begins old offset seen come here) (omega arith))
-    (omega (arith, length-append seen run))
-    (subst (λ (bytes : List ℕ). head_front bytes ≡ Whole head (length bytes)) (sym rest) whole)
-    (sized ∙ ap length (sym rest)) noted
+    (omega (arith, length-append seen run)) (rw rest whole) (rw rest sized) noted
 
 -- ---- the walk
 
@@ -228,9 +164,7 @@ at_stage walk stage seen is come =
 counted_more : (count size : ℕ) (seen run : List ℕ) → count ≡ length seen → size ≡ length run
     → length (seen ++ run) < 2 ^ 63 → (count + size) % 2 ^ 64 ≡ length (seen ++ run)
 counted_more count size seen run counted sized small =
-    let sum : count + size ≡ length (seen ++ run) = omega (arith, length-append seen run) in
-    let fits : count + size < 2 ^ 64 = omega arith in
-    mod-eq_of_lt fits ∙ sum
+    omega (arith, length-append seen run)
 
 pub taken_inside : (left size : ℕ) (found : Found) (head : HeadScan) (count : ℕ)
     (seen run : List ℕ) → HasSeen (Inside left) found head count seen → size ≡ length run
@@ -253,20 +187,13 @@ the_rest bytes count =
 pub joined_run : (seen bytes : List ℕ) (count more : ℕ)
     → (seen ++ take count bytes) ++ take more (drop count bytes) ≡ seen ++ take (count + more) bytes
 joined_run seen bytes count more =
-    append_assoc seen (take count bytes) (take more (drop count bytes))
-    ∙ ap (λ (run : List ℕ). seen ++ run) (sym (take-add count more bytes))
+    rw (append_assoc seen (take count bytes) (take more (drop count bytes)), take-add count more bytes)
 
 -- fewer bytes of a piece
 pub fewer : (seen piece : List ℕ) (count more : ℕ) → count ≤ more
     → length (seen ++ take more piece) < 2 ^ 63 → length (seen ++ take count piece) < 2 ^ 63
 fewer seen piece count more within small =
-    omega (
-      arith,
-      length-append seen (take more piece),
-      length-append seen (take count piece),
-      length-take more piece,
-      length-take count piece,
-    )
+    omega (arith, length-append {A = ℕ}, length-take {A = ℕ})
 
 -- the next head in a piece
 pub found_head : (old new : Found) (offset taken size : ℕ) (seen piece : List ℕ) (head : HeadItem)
@@ -344,17 +271,16 @@ pub head_ill_formed : (offset : ℕ) (found : Found) (old new : HeadScan) (count
     (seen run : List ℕ) → HasSeen (Head offset) found old count seen → 1 ≡ length run
     → length (seen ++ run) < 2 ^ 63 → head_front (drop offset (seen ++ run)) ≡ IllFormed
     → HasSeen Ended found new ((count + 1) % 2 ^ 64) (seen ++ run)
-head_ill_formed offset found old new count seen run come one small wrong =
-    let more : HasFound found (Head offset) (seen ++ run) =
-    found_more found offset seen run come.sought come.stands.in_bytes in
-    record {
-      counted = counted_more count 1 seen run come.counted one small;
-      sought = record {
-        long = sought_ill_formed is_long found.long offset (seen ++ run) more.long wrong;
-        indefinite = sought_ill_formed _ _ offset _ more.indefinite wrong;
-      };
-      stands = tt;
-    }
+head_ill_formed offset found old new count seen run come one small wrong = record {
+  counted = counted_more count 1 seen run come.counted one small;
+  sought = both (found_more found offset seen run come.sought come.stands.in_bytes)
+      (λ sought first come. record {
+        reads = λ more. come.reads more
+            ∙ ap (λ (rest : Option ℕ). option_or first rest)
+            (at_ill_formed sought offset (drop offset (seen ++ run)) more wrong);
+      });
+  stands = tt;
+}
 
 pub head_whole : (offset : ℕ) (found noted : Found) (old new : HeadScan) (count : ℕ)
     (seen run : List ℕ) (head : HeadItem) (size : ℕ) → HasSeen (Head offset) found old count seen
@@ -378,35 +304,28 @@ pub taken_then : (old middle new : HeadWalk) (run more : List ℕ) → HasTaken 
     → HasTaken middle new more → HasTaken old new (run ++ more)
 taken_then old middle new run more first second = record {
   seen = λ seen small come.
-      let first_small : length (seen ++ run) < 2 ^ 63 =
-      omega (
-        arith,
-        length-append seen run,
-        length-append run more,
-        length-append seen (run ++ more),
-      ) in
-      let small_too : length ((seen ++ run) ++ more) < 2 ^ 63 =
-      rw (append_assoc seen run more) small in
-      subst (λ (seen : List ℕ). HasWalked new seen) (append_assoc seen run more)
-      (second.seen (seen ++ run) small_too (first.seen seen first_small come));
+      let joined = append_assoc seen run more in
+      let few : length (seen ++ run) < 2 ^ 63 = omega (arith, length-append {A = ℕ}) in
+      rw (← joined) (second.seen (seen ++ run) (rw joined small) (first.seen seen few come));
 }
 
 -- ---- what is found in the bytes seen
 
 none_left : (sought : HeadItem → ℕ → Bool) (stage : Stage) (head : HeadScan) (seen : List ℕ)
     → IsAtStage stage head seen → first_left sought stage seen [] ≡ None
-none_left sought (Inside left) head seen stands = at_end sought left (length seen)
+unfolding first_from
+none_left sought (Inside left) head seen stands = refl
 none_left sought (Head offset) head seen stands =
     rw (append-nil (drop offset seen)) (at_cut sought offset (drop offset seen) stands.cut)
 none_left sought Ended head seen stands = refl
 
-pub long_now : (walk : HeadWalk) (seen : List ℕ) → HasWalked walk seen
-    → walk.found.long ≡ first_from is_long 1 0 seen
-long_now walk seen come =
-    sought_now is_long walk.found.long walk.stage seen come.sought.long
-    (none_left is_long walk.stage walk.head seen come.stands)
+or_none : (found : Option ℕ) → option_or found None ≡ found
+or_none None = refl
+or_none (Some at) = refl
 
-pub indefinite_now : (walk : HeadWalk) (seen : List ℕ) → HasWalked walk seen
-    → walk.found.indefinite ≡ first_from is_indefinite 1 0 seen
-indefinite_now walk seen come =
-    sought_now _ _ _ seen come.sought.indefinite (none_left _ _ _ seen come.stands)
+pub sought_now : (sought : HeadItem → ℕ → Bool) (found : Option ℕ) (stage : Stage)
+    (head : HeadScan) (seen : List ℕ) → HasSought sought found stage seen
+    → IsAtStage stage head seen → found ≡ first_from sought 1 0 seen
+sought_now sought found stage head seen come stands =
+    let reads = come.reads [] in
+    rw (append-nil seen, none_left sought stage head seen stands, or_none found) at (sym reads)

@@ -2,16 +2,12 @@
 -- `restart` have seen nothing, and `take` adds its bytes.
 
 use Rattle.std.specs.Prelude.{◌≡◌, ℕ, ◌^◌, ◌<◌, ◌≤◌, Bool, List, [], ◌++◌, length, drop, Option, None}
-use Rattle.std.specs.Bool.{then_some}
-use Rattle.std.specs.Option.{option_or}
-use Rattle.link_cbor.specs.declared.head.Head.{Head as HeadItem}
-use Rattle.link_cbor.specs.declared.head_scan.HeadScan.{HeadScan}
+use Rattle.std.specs.{Bool.then_some, Option.option_or}
+use Rattle.link_cbor.specs.declared.{head.Head.Head as HeadItem, head_scan.HeadScan.HeadScan}
 use Rattle.link_cbor.specs.Head.{Cut, head_front}
 use Rattle.link_cbor.specs.HeadScan.{HasScannedHead}
-use Rattle.link_rules.specs.declared.heads.Stage.{Stage}
-use Rattle.link_rules.specs.declared.heads.Stage.TheVariants.{Inside, Head, Ended}
-use Rattle.link_rules.specs.declared.heads.Found.{Found}
-use Rattle.link_rules.specs.declared.heads.HeadWalk.{HeadWalk}
+use Rattle.link_rules.specs.declared.heads.{Stage.Stage, Stage.TheVariants.{Inside, Head, Ended}}
+use Rattle.link_rules.specs.declared.heads.{Found.Found, HeadWalk.HeadWalk}
 use Rattle.link_rules.specs.Heads.{is_long, is_indefinite, first_from}
 
 -- the first head that is sought from this stage on, if `more` bytes follow those seen

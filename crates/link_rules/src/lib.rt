@@ -1,10 +1,12 @@
 //! What the rules of messages and the rules of bundles share.
 #![tactic(auto)]
 
+mod broken;
 mod flags;
 mod heads;
 mod level;
 
+pub use broken::broken_of;
 pub use flags::has_other_flags;
 pub use heads::HeadWalk;
 pub use level::Level;

@@ -76,7 +76,7 @@ static ROWS: [Row; 24] = [
     (
         Rule::Fragment {
             offset: 2,
-            length: 1,
+            size: 1,
             total: 3,
         },
         "0 must fragment bundle=0 offset=2 length=1 total=3\n",
@@ -156,7 +156,7 @@ fn names_the_transfer_or_the_bundle(rt: HostRuntime) {
 fn has_the_longest_line(rt: HostRuntime) {
     let rule = Rule::Fragment {
         offset: MAX,
-        length: MAX,
+        size: MAX,
         total: MAX,
     };
     let want = "18446744073709551615 must fragment transfer=18446744073709551615 \

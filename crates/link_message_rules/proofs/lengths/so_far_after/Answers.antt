@@ -1,8 +1,6 @@
 use Rattle.std.proofs.Common.{◌≡◌, Some, None, option_map, refl, sym, ap, ◌∙◌}
-use Rattle.link_wire.specs.MessageBuffer.{segment_items}
-use Rattle.link_wire.specs.declared.message.SegmentHead.{SegmentHead}
-use Rattle.link_message_rules.specs.Heads.{viewed_head}
-use Rattle.link_message_rules.specs.Lengths.{segments_of, earlier_of}
+use Rattle.link_wire.specs.{MessageBuffer.segment_items, declared.message.SegmentHead.SegmentHead}
+use Rattle.link_message_rules.specs.{Heads.viewed_head, Lengths.{segments_of, earlier_of}}
 use Rattle.link_message_rules.specs.Remembered.{so_far_of}
 use Rattle.link_message_rules.proofs.Joined.{segments_of-push, none_before, some_before}
 use Rattle.link_message_rules.proofs.lengths.so_far_after.Goals as goal

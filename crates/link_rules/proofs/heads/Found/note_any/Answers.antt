@@ -1,6 +1,5 @@
 use Rattle.std.proofs.Common.{ap, ◌∙◌}
-use Rattle.std.specs.Bool.{then_some}
-use Rattle.std.specs.Option.{option_or}
+use Rattle.std.specs.{Bool.then_some, Option.option_or}
 use Rattle.link_rules.proofs.heads.Found.note_any.Goals as goal
 
 pub returns : goal.returns

@@ -1,8 +1,8 @@
 use Rattle.std.proofs.Common.{arith}
 use Rattle.std.proofs.lemmas.Grind.{common_steps}
 use Rattle.std.proofs.lemmas.List.Elements.{filter_map-append}
-use Rattle.link_message_rules.proofs.rule.broken_of.Goals as goal
-use Rattle.link_message_rules.proofs.rule.broken_of.Goals.{in-Some, in_default}
+use Rattle.link_rules.proofs.broken.broken_of.Goals as goal
+use Rattle.link_rules.proofs.broken.broken_of.Goals.{in-Some, in_default}
 
 pub loop-rule-preserved : goal.loop-rule-preserved
 loop-rule-preserved g c =

@@ -1,7 +1,7 @@
 use Rattle.std.proofs.Common.{◌≡◌, ◌≤◌, take}
 use Rattle.std.specs.List.{filter_map}
 use Rattle.arrayvec.specs.ArrayVec.{array_vec_len}
-use Rattle.link_message_rules.proofs.rule.broken_of.Given as goal
+use Rattle.link_rules.proofs.broken.broken_of.Given as goal
 
 abbrev pub invariant-loop-rule : goal.invariant-loop-rule
 invariant-loop-rule g l = record {
