@@ -80,7 +80,7 @@ const PAYLOAD: CanonicalBlock = CanonicalBlock {
 };
 
 /// Primary blocks without a check. The transfer has the ID 0.
-const PRIMARIES: [(PrimaryBlock<'static>, &str); 4] = [
+static PRIMARIES: [(PrimaryBlock<'static>, &str); 4] = [
     (
         PRIMARY,
         "0 primary at=1 length=21 flags=00 check=none destination=ipn:2.1 source=ipn:1.1 \
@@ -174,7 +174,7 @@ fn expect_block(rt: &impl Abort, id: u64, block: &CanonicalBlock, want: &str) {
 }
 
 /// Canonical blocks, whose data is not read.
-const BLOCKS: [(CanonicalBlock, &str); 4] = [
+static BLOCKS: [(CanonicalBlock, &str); 4] = [
     (
         PAYLOAD,
         "0 block 1 at=22 length=7 type=1/payload flags=00 check=none data-at=28 data-length=1\n",
@@ -226,7 +226,7 @@ fn lines_of_canonical_blocks(rt: HostRuntime) {
 }
 
 /// Block types and their names.
-const TYPES: [(u64, &str); 12] = [
+static TYPES: [(u64, &str); 12] = [
     (0, "0/?"),
     (1, "1/payload"),
     (2, "2/?"),
@@ -257,7 +257,7 @@ fn names_of_types(rt: HostRuntime) -> Result<(), Fail> {
 }
 
 /// Flags of one byte to eight, and zeros inside them.
-const FLAGS: [(u64, &str); 13] = [
+static FLAGS: [(u64, &str); 13] = [
     (0, "00"),
     (0x09, "09"),
     (0xff, "ff"),
@@ -304,7 +304,7 @@ const GOOD: BundleView<'static> = BundleView {
 };
 
 /// Each judgement on the data of a transfer.
-const ENDS: [(u64, u64, JudgementView<'static>, &str); 7] = [
+static ENDS: [(u64, u64, JudgementView<'static>, &str); 7] = [
     (0, 30, JudgementView::Good(GOOD), "0 end length=30 good\n"),
     (
         7,
@@ -379,7 +379,7 @@ fn longest_line_of_a_primary_block(rt: HostRuntime) {
 }
 
 /// Kinds of data, by the flags of the bundle and the type of the block.
-const KINDS: [(u64, u64, Option<DataKind>); 18] = [
+static KINDS: [(u64, u64, Option<DataKind>); 18] = [
     (0x00, 0, None),
     (0x00, 1, None),
     (0x01, 1, None),

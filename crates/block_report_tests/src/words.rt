@@ -48,7 +48,7 @@ fn expect_words(
 }
 
 /// Data, and its words.
-const WORDS: [(DataKind, &[u8], &str); 26] = [
+static WORDS: [(DataKind, &[u8], &str); 26] = [
     (
         DataKind::PreviousNode,
         b"\x82\x02\x82\x05\x00",
@@ -163,7 +163,7 @@ fn words_of_data(rt: HostRuntime) -> Result<(), Fail> {
 }
 
 /// The reasons of status reports, and their names.
-const REASONS: [(u64, &str); 20] = [
+static REASONS: [(u64, &str); 20] = [
     (0, "no-additional-information"),
     (1, "lifetime-expired"),
     (2, "forwarded-over-unidirectional-link"),
