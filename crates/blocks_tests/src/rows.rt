@@ -158,7 +158,7 @@ pub const CHECK_DIFFERS: Row = Row {
 };
 
 /// Recordings that are read to their end.
-pub const WHOLE: [Row; 12] = [
+pub static WHOLE: [Row; 12] = [
     Row {
         name: "a contact header",
         tool: ALL,
@@ -270,7 +270,7 @@ pub const WHOLE: [Row; 12] = [
 ];
 
 /// Recordings with a fault that ends the run.
-pub const FAULTS: [Row; 3] = [
+pub static FAULTS: [Row; 3] = [
     Row {
         name: "a transfer that is open at a fault",
         tool: ALL,
@@ -302,7 +302,7 @@ pub const FAULTS: [Row; 3] = [
 ];
 
 /// Recordings with messages out of order, after which the run goes on.
-pub const DISORDER: [Row; 2] = [
+pub static DISORDER: [Row; 2] = [
     Row {
         name: "a segment of no open transfer amid a transfer",
         tool: GOING_ON,
@@ -339,7 +339,7 @@ pub const DISORDER: [Row; 2] = [
 ];
 
 /// Bundles, one after another.
-pub const BUNDLES: [Row; 6] = [
+pub static BUNDLES: [Row; 6] = [
     Row {
         name: "no bundle",
         tool: Tool::BundleBlocks,

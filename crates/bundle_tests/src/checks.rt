@@ -14,23 +14,17 @@ fn bytewise(kind: CheckKind, bytes: &[u8]) -> Check {
     check
 }
 
-fn in_slices(kind: CheckKind, slices: &[&[u8]]) -> Check {
+fn in_slices(kind: CheckKind, front: &[u8], back: &[u8]) -> Check {
     let mut check = Check::new(kind);
-    for slice in slices {
-        check.push_slice(slice);
-    }
+    check.push_slice(front);
+    check.push_slice(back);
     check
-}
-
-/// Checks that this is the value of a check of the bytes.
-fn is_value(rt: &impl Abort, check: &Check, kind: CheckKind, bytes: &[u8], value: u32) {
-    assert_eq!(rt; check.value(), value, "{kind:?} of {bytes:?}");
 }
 
 /// Checks the value of the bytes, pushed at once and one by one.
 fn expect_value(rt: &impl Abort, kind: CheckKind, bytes: &[u8], value: u32) {
-    is_value(rt, &in_slices(kind, &[bytes]), kind, bytes, value);
-    is_value(rt, &bytewise(kind, bytes), kind, bytes, value);
+    assert_eq!(rt; in_slices(kind, bytes, b"").value(), value);
+    assert_eq!(rt; bytewise(kind, bytes).value(), value);
 }
 
 /// Bytes, and their values under both kinds of check.
@@ -86,21 +80,20 @@ fn single_bytes(rt: HostRuntime) {
     }
 }
 
-/// Checks that a check of slices is the one of their bytes one by one.
-fn is_check(rt: &impl Abort, kind: CheckKind, slices: &[&[u8]], expected: &Check) {
-    assert_eq!(rt;
-        &in_slices(kind, slices),
-        expected,
-        "{kind:?} of {slices:?}"
+/// Compares the bytes pushed in two slices with the bytes one by one.
+fn is_check(rt: &impl Abort, kind: CheckKind, front: &[u8], back: &[u8], expected: &Check) {
+    assert!(rt;
+        in_slices(kind, front, back) == *expected,
+        "{front:?}, {back:?}"
     );
 }
 
-/// Compares the bytes pushed at once, and cut in two at every position, with the bytes one by one.
+/// Compares the bytes cut in two at every position with the bytes one by one.
 fn expect_slices(rt: &impl Abort, kind: CheckKind, bytes: &[u8]) {
     let expected = bytewise(kind, bytes);
-    is_check(rt, kind, &[bytes], &expected);
     for cut in 0..=bytes.len() {
-        is_check(rt, kind, &[&bytes[..cut], &bytes[cut..]], &expected);
+        let (front, back) = bytes.split_at(cut);
+        is_check(rt, kind, front, back, &expected);
     }
 }
 

@@ -1,6 +1,5 @@
 //! Verdicts on bytes fed at once, byte by byte, and in two pieces cut at every position.
-ghost use Rattle.std.specs.Prelude.{◌+◌, ◌-◌, ◌*◌, ◌^◌, ◌<◌, ◌≤◌, length};
-ghost use Rattle.link_bundle.specs.Scan.{scan_size};
+ghost use Rattle.std.specs.Prelude.{◌<◌};
 
 use link_bundle::{BundleFault, BundleScan, BundleView, EidView, State};
 use link_cbor::Piecewise;
@@ -358,47 +357,43 @@ struct Expected {
 }
 
 /// Feeds a piece, and passes the byte after the end of a bundle to `step`.
-fn give(scan: &mut BundleScan, bytes: &[u8])
-    requires { scan_size scan.old + length bytes.now ≤ 2 ^ 63 - 1 }
-    ensures { scan_size scan.new ≤ scan_size scan.old + length bytes.now }
-{
+fn give(rt: &impl Abort, scan: &mut BundleScan, bytes: &[u8]) {
+    assert!(rt; scan.count() < 1_000_000 && bytes.len() < 1_000_000);
     let taken = scan.feed(bytes);
-    if matches!(scan.state(), State::Ended) && taken < bytes.len() {
-        scan.step(bytes[taken]);
+    if let (State::Ended, [byte, ..]) = (scan.state(), &bytes[taken..]) {
+        scan.step(*byte);
     }
 }
 
-fn in_two(bytes: &[u8], cut: usize) -> BundleScan
-    requires short { length bytes.now < 2 ^ 32 }
-    requires within { cut ≤ length bytes.now }
-{
+fn in_two(rt: &impl Abort, bytes: &[u8], cut: usize) -> BundleScan {
+    let (front, back) = bytes.split_at(bytes.len().min(cut));
     let mut scan = BundleScan::new();
-    give(&mut scan, &bytes[..cut]);
-    give(&mut scan, &bytes[cut..]);
+    give(rt, &mut scan, front);
+    give(rt, &mut scan, back);
     scan
 }
 
-fn by_bytes(bytes: &[u8]) -> BundleScan
-    requires { length bytes.now < 2 ^ 32 }
-{
+fn by_bytes(rt: &impl Abort, bytes: &[u8]) -> BundleScan {
     let mut scan = BundleScan::new();
     for byte in bytes {
-        give(&mut scan, &[*byte]);
+        give(rt, &mut scan, &[*byte]);
     }
     scan
+}
+
+/// Checks how a scan ends. The bytes were cut at this position, or into pieces of this size.
+fn ends(rt: &impl Abort, scan: &BundleScan, fault: Fault, cut: usize) {
+    assert_eq!(rt; scan.finish().err(), fault, "cut at {cut}");
 }
 
 fn expect_cuts(rt: &impl Abort, bytes: &[u8], cuts: Range<usize>, fault: Fault) {
-    assert!(rt; bytes.len() < 100_000);
     for cut in cuts {
-        assert!(rt; cut < bytes.len());
-        assert_eq!(rt; in_two(bytes, cut).finish().err(), fault, "cut at {cut}");
+        ends(rt, &in_two(rt, bytes, cut), fault, cut);
     }
 }
 
 fn expect_fault(rt: &impl Abort, bytes: &[u8], fault: Fault) {
-    assert!(rt; bytes.len() < 100_000);
-    assert_eq!(rt; by_bytes(bytes).finish().err(), fault);
+    ends(rt, &by_bytes(rt, bytes), fault, 1);
     expect_cuts(rt, bytes, 0..bytes.len(), fault);
 }
 
@@ -409,11 +404,15 @@ fn faults(rt: HostRuntime) {
     }
 }
 
+/// Checks the offset and the size of the payload that a scan saw, as `ends` does.
+fn saw(rt: &impl Abort, scan: &BundleScan, payload: Option<(u64, u64)>, cut: usize) {
+    assert_eq!(rt; scan.payload_seen(), payload, "cut at {cut}");
+}
+
 fn expect_payload(rt: &impl Abort, bytes: &[u8], payload: Option<(u64, u64)>) {
-    assert!(rt; bytes.len() < 1_000);
-    assert_eq!(rt; by_bytes(bytes).payload_seen(), payload);
+    saw(rt, &by_bytes(rt, bytes), payload, 1);
     for cut in 0..bytes.len() {
-        assert_eq!(rt; in_two(bytes, cut).payload_seen(), payload, "cut at {cut}");
+        saw(rt, &in_two(rt, bytes, cut), payload, cut);
     }
 }
 
@@ -427,28 +426,41 @@ fn payloads(rt: HostRuntime) {
 #[test]
 fn a_scan_shows_its_state_and_count(rt: HostRuntime) -> Result<(), Fail> {
     let mut scan = BundleScan::new();
-    scan.feed(&PLAIN[..3]);
+    scan.feed(b"\x9f\x88\x07");
     let text = format!(in rt.alloc(); "{scan:?}")?;
     assert_eq!(rt; text.as_str(), "BundleScan { state: Going, count: 3, .. }");
     Ok(())
 }
 
+/// Checks the state of a scan.
+fn is_in(rt: &impl Abort, scan: &BundleScan, state: State) {
+    assert_eq!(rt; scan.state(), state);
+}
+
+/// Checks how many bytes a scan takes of these.
+fn takes(rt: &impl Abort, scan: &mut BundleScan, bytes: &[u8], count: usize) {
+    assert!(rt; scan.count() < 1_000_000 && bytes.len() < 1_000_000);
+    assert_eq!(rt; scan.feed(bytes), count);
+}
+
 #[test]
 fn steps_past_the_end(rt: HostRuntime) {
     let mut scan = BundleScan::new();
-    assert_eq!(rt; scan.state(), State::Going);
-    assert_eq!(rt; scan.finish(), Err((BundleFault::Cut, 0)));
-    assert_eq!(rt; scan.feed(PLAIN), PLAIN.len());
-    assert!(rt; matches!(scan.state(), State::Ended));
-    scan.step(0);
-    assert_eq!(rt; scan.state(), State::Failed(BundleFault::Trailing, 34));
-    assert_eq!(rt; scan.feed(&[0]), 0);
+    is_in(&rt, &scan, State::Going);
+    ends(&rt, &scan, Some((BundleFault::Cut, 0)), 0);
+    takes(&rt, &mut scan, PLAIN, PLAIN.len());
+    is_in(&rt, &scan, State::Ended);
+    give(&rt, &mut scan, b"\x00");
+    is_in(&rt, &scan, State::Failed(BundleFault::Trailing, 34));
+    takes(&rt, &mut scan, b"\x00", 0);
 }
 
 fn expect_info(rt: &impl Abort, info: &BundleView, expected: &Expected) {
-    assert_eq!(rt; info.destination, expected.destination);
-    assert_eq!(rt; info.source, expected.source);
-    assert_eq!(rt; info.report_to, expected.report_to);
+    let names = [info.destination, info.source, info.report_to];
+    assert_eq!(rt;
+        names,
+        [expected.destination, expected.source, expected.report_to]
+    );
     let numbers = [
         info.flags,
         info.time,
@@ -457,8 +469,10 @@ fn expect_info(rt: &impl Abort, info: &BundleView, expected: &Expected) {
         info.blocks,
         info.payload,
     ];
-    assert_eq!(rt; numbers, expected.numbers);
-    assert_eq!(rt; info.fragment, expected.fragment);
+    assert_eq!(rt;
+        (numbers, info.fragment),
+        (expected.numbers, expected.fragment)
+    );
 }
 
 fn expect_view(rt: &impl Abort, scan: &BundleScan, expected: &Expected) {
@@ -468,41 +482,39 @@ fn expect_view(rt: &impl Abort, scan: &BundleScan, expected: &Expected) {
     }
 }
 
+/// Checks the fields of a bundle that was scanned, by reference and as they are kept.
+fn expect_both(rt: &impl Abort, scan: &BundleScan, expected: &Expected) {
+    expect_view(rt, scan, expected);
+    match scan.finish() {
+        Ok(info) => expect_info(rt, &info.view(), expected),
+        Err(_) => assert!(rt; false),
+    }
+}
+
 fn expect_bundles(rt: &impl Abort, bundles: &[Expected]) {
     for expected in bundles {
         expect_fault(rt, expected.bytes, None);
-        assert!(rt; expected.bytes.len() < 10_000);
-        let scan = by_bytes(expected.bytes);
-        expect_view(rt, &scan, expected);
-        match scan.finish() {
-            Ok(info) => expect_info(rt, &info.view(), expected),
-            Err(_) => assert!(rt; false),
-        }
+        expect_both(rt, &by_bytes(rt, expected.bytes), expected);
     }
 }
 
 /// Restarts the scan and feeds it the bytes in pieces of this size.
-fn in_pieces(scan: &mut BundleScan, bytes: &[u8], size: usize)
-    requires short { length bytes.now < 2 ^ 32 }
-    requires some { 0 < size }
+fn in_pieces(rt: &impl Abort, scan: &mut BundleScan, bytes: &[u8], size: usize)
+    requires { 0 < size }
 {
     scan.restart();
-    let mut rest = bytes;
-    while !rest.is_empty() {
-        let (piece, after) = rest.split_at(rest.len().min(size));
-        give(scan, piece);
-        rest = after;
+    for piece in bytes.chunks(size) {
+        give(rt, scan, piece);
     }
 }
 
 /// Feeds the scan the bundle in pieces of 1 to 40 bytes, and restarts it for each size.
 fn expect_pieces(rt: &impl Abort, scan: &mut BundleScan, expected: &Expected) {
-    assert!(rt; expected.bytes.len() < 1_000);
-    let payload = by_bytes(expected.bytes).payload_seen();
+    let payload = by_bytes(rt, expected.bytes).payload_seen();
     for size in 1..41 {
-        in_pieces(scan, expected.bytes, size);
-        assert_eq!(rt; scan.finish().err(), None, "pieces of {size}");
-        assert_eq!(rt; scan.payload_seen(), payload, "pieces of {size}");
+        in_pieces(rt, scan, expected.bytes, size);
+        ends(rt, scan, None, size);
+        saw(rt, scan, payload, size);
         expect_view(rt, scan, expected);
     }
 }
@@ -527,9 +539,19 @@ fn bundles_of_another_encoder_in_pieces(rt: HostRuntime) {
 
 /// Compares a scan with one that was fed nothing.
 fn expect_new(rt: &impl Abort, scan: &BundleScan) {
-    assert_eq!(rt; scan.count(), 0);
-    assert_eq!(rt; scan.state(), State::Going);
-    assert_eq!(rt; scan.payload_seen(), None);
+    assert!(rt; scan.count() == 0);
+    is_in(rt, scan, State::Going);
+    saw(rt, scan, None, 0);
+}
+
+/// Feeds a scan bytes and restarts it, and feeds it the plain bundle.
+fn expect_restart(rt: &impl Abort, scan: &mut BundleScan, bytes: &[u8]) {
+    scan.restart();
+    expect_new(rt, scan);
+    give(rt, scan, bytes);
+    scan.restart();
+    give(rt, scan, PLAIN);
+    is_in(rt, scan, State::Ended);
 }
 
 /// A restarted scan is like a new one after each fault.
@@ -537,13 +559,7 @@ fn expect_new(rt: &impl Abort, scan: &BundleScan) {
 fn faults_do_not_outlast_a_restart(rt: HostRuntime) {
     let mut scan = BundleScan::new();
     for &(bytes, _, _) in &FAULTS {
-        scan.restart();
-        expect_new(&rt, &scan);
-        assert!(rt; bytes.len() < 1_000);
-        give(&mut scan, bytes);
-        scan.restart();
-        give(&mut scan, PLAIN);
-        assert!(rt; matches!(scan.state(), State::Ended));
+        expect_restart(&rt, &mut scan, bytes);
     }
 }
 
@@ -560,7 +576,7 @@ fn bundles_of_another_encoder(rt: HostRuntime) {
 /// The bundle with a payload of 70,000 bytes.
 fn large(alloc: Global) -> Result<Vec<u8>, AllocError> {
     let mut bytes = LARGE_FRONT.to_vec(alloc)?;
-    bytes.extend_from_slice(&[0xa5; 70_000])?;
+    bytes.resize(LARGE_FRONT.len() + 70_000, 0xa5)?;
     bytes.extend_from_slice(LARGE_REST)?;
     Ok(bytes)
 }
@@ -568,11 +584,9 @@ fn large(alloc: Global) -> Result<Vec<u8>, AllocError> {
 #[test]
 fn a_large_payload_by_bytes(rt: HostRuntime) -> Result<(), Fail> {
     let bytes = large(rt.alloc())?;
-    assert!(rt; bytes.len() < 100_000);
-    let scan = by_bytes(&bytes);
-    assert_eq!(rt; scan.finish().err(), None);
-    let place = LARGE_FRONT.len() as u64;
-    assert_eq!(rt; scan.payload_seen(), Some((place, 70_000)));
+    let scan = by_bytes(&rt, &bytes);
+    ends(&rt, &scan, None, 1);
+    saw(&rt, &scan, Some((LARGE_FRONT.len() as u64, 70_000)), 1);
     Ok(())
 }
 
@@ -583,8 +597,7 @@ fn cut_in_eighth(rt: &(impl Abort + AllocGlobal), eighth: usize) -> Result<(), F
     requires { eighth < 8 }
 {
     let bytes = large(rt.alloc())?;
-    assert!(rt; bytes.len() < 100_000);
-    let size = bytes.len().div_ceil(8);
+    let size = bytes.len().div_ceil(8).min(100_000);
     let end = bytes.len().min((eighth + 1) * size);
     expect_cuts(rt, &bytes, eighth * size..end, None);
     Ok(())
@@ -630,19 +643,23 @@ fn a_large_payload_cut_in_its_last_eighth(rt: HostRuntime) -> Result<(), Fail> {
     cut_in_eighth(&rt, 7)
 }
 
-/// The plain bundle with this many more blocks before its payload block, numbered from 2 on.
-fn with_blocks(alloc: Global, blocks: u8) -> Result<Vec<u8>, AllocError>
-    requires { blocks ≤ 64 }
-{
-    let mut bytes = PLAIN[..22].to_vec(alloc)?;
-    for number in 2..blocks + 2 {
-        if number < 24 {
-            bytes.extend_from_slice(&[0x85, 0x0a, number, 0x00, 0x00, 0x40])?;
-        } else {
-            bytes.extend_from_slice(&[0x85, 0x0a, 0x18, number, 0x00, 0x00, 0x40])?;
-        }
+/// Appends a block with this number, without data.
+fn put_block(bytes: &mut Vec<u8>, number: u8) -> Result<(), AllocError> {
+    if number < 24 {
+        bytes.extend_from_slice(&[0x85, 0x0a, number, 0x00, 0x00, 0x40])
+    } else {
+        bytes.extend_from_slice(&[0x85, 0x0a, 0x18, number, 0x00, 0x00, 0x40])
     }
-    bytes.extend_from_slice(&PLAIN[22..])?;
+}
+
+/// The plain bundle with this many more blocks before its payload block, numbered from 2 on.
+fn with_blocks(alloc: Global, blocks: u8) -> Result<Vec<u8>, AllocError> {
+    let (front, back) = PLAIN.split_at(22);
+    let mut bytes = front.to_vec(alloc)?;
+    for number in 0..blocks {
+        put_block(&mut bytes, number.saturating_add(2))?;
+    }
+    bytes.extend_from_slice(back)?;
     Ok(bytes)
 }
 

@@ -163,7 +163,7 @@ pub const BETWEEN: Row = Row {
 };
 
 /// Recordings that are read to their end.
-pub const WHOLE: [Row; 10] = [
+pub static WHOLE: [Row; 10] = [
     Row {
         name: "order, kept 0",
         tool: ALL,
@@ -294,7 +294,7 @@ pub const CUT: Row = Row {
 };
 
 /// Recordings with a fault that ends the run.
-pub const FAULTS: [Row; 3] = [
+pub static FAULTS: [Row; 3] = [
     CUT,
     Row {
         name: "lines before a fault",
@@ -363,7 +363,7 @@ pub const BAD_BUNDLE: Row = Row {
 };
 
 /// Bundles, one after another.
-pub const BUNDLES: [Row; 5] = [
+pub static BUNDLES: [Row; 5] = [
     ONE_BUNDLE,
     BAD_BUNDLE,
     Row {

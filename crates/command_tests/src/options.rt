@@ -37,7 +37,20 @@ fn has_text(outcome: &Result<Invocation, UsageFault>) -> bool {
     }
 }
 
-/// Checks that each line has the expected outcome, by its name in `name_of`, and with its text.
+/// Checks that a line has the expected outcome, by its name in `name_of`, and with its text.
+fn comes_to(rt: &impl Abort, alloc: Global, expected: &str, line: &[&str]) -> Result<(), Fail> {
+    let words = words_of(alloc, line)?;
+    let outcome = options(alloc, words.as_slice());
+    assert!(rt;
+        name_of(&outcome) == expected,
+        "{line:?} is {}",
+        name_of(&outcome)
+    );
+    assert!(rt; has_text(&outcome), "{line:?} has no text");
+    Ok(())
+}
+
+/// Checks that each line has the expected outcome.
 fn all_come_to(
     rt: &impl Abort,
     alloc: Global,
@@ -45,14 +58,7 @@ fn all_come_to(
     lines: &[&[&str]],
 ) -> Result<(), Fail> {
     for line in lines {
-        let words = words_of(alloc, line)?;
-        let outcome = options(alloc, words.as_slice());
-        assert!(rt;
-            name_of(&outcome) == expected,
-            "{line:?} is {}",
-            name_of(&outcome)
-        );
-        assert!(rt; has_text(&outcome), "{line:?} has no text");
+        comes_to(rt, alloc, expected, line)?;
     }
     Ok(())
 }
@@ -114,95 +120,91 @@ fn all_of_pack() -> Result<PackOptions, Fail> {
     })
 }
 
+/// Lines with a wrong word.
+static WRONG_WORDS: [&[&str]; 52] = [
+    &[],
+    &["lists"],
+    &["help", "lists"],
+    &["help", "list", "list"],
+    &["pack"],
+    &["list", "a", "b"],
+    &["list", "--payload"],
+    &["list", "--keep-going"],
+    &["unpack", "--transfer", "18446744073709551616"],
+    &["unpack", "--transfer", "-1"],
+    &["unpack", "--transfer"],
+    &["unpack", "--transfer", ""],
+    &["unpack", "--transfer", "1", "--transfer", "1"],
+    &["unpack", "--payload", "--payload"],
+    &["unpack", "--payload=true"],
+    &["unpack", "--keep-going", "--keep-going"],
+    &["unpack", "--keep-going=true"],
+    &["unpack", "--keep"],
+    &["unpack", "--end"],
+    &["unpack", "a", "b"],
+    &["blocks", "--transfer", "18446744073709551616"],
+    &["blocks", "--transfer", "1", "--transfer", "1"],
+    &["blocks", "--bundles", "--bundles"],
+    &["blocks", "--bundles=true"],
+    &["blocks", "--keep-going", "--keep-going"],
+    &["blocks", "--payload"],
+    &["blocks", "a", "b"],
+    &["unpack", "--bundles"],
+    &["check", "--peer-segment", "0"],
+    &["check", "--peer-segment", "18446744073709551616"],
+    &["check", "--peer-segment"],
+    &["check", "--peer-segment", "1", "--peer-segment", "1"],
+    &["check", "--peer-transfer", "18446744073709551616"],
+    &["check", "--peer-transfer", "-1"],
+    &["check", "--peer-transfer", "1", "--peer-transfer", "1"],
+    &["check", "--must", "--must"],
+    &["check", "--must=true"],
+    &["check", "--bundles", "--bundles"],
+    &["check", "--keep-going"],
+    &["check", "--transfer", "0"],
+    &["check", "a", "b"],
+    &["blocks", "--must"],
+    &["blocks", "--peer-segment", "1"],
+    &["pack", "--node", "x", "--peer-segment", "0"],
+    &["pack", "--node", "ipn:1.0", "--announce", "1048577"],
+    &["pack", "--node", "x", "--keepalive", "65536"],
+    &["pack", "--node", "x", "--keepalive", "six"],
+    &["pack", "--node", "x", "--node", "x"],
+    &["pack", "--node", "-x"],
+    &["pack", "--node", "x", "--unknown"],
+    &["pack", "--node", "x", "--keep-going"],
+    &["pack", "--node", "x", "a", "b"],
+];
+
 #[test]
 fn wrong_words(rt: HostRuntime) -> Result<(), Fail> {
-    all_come_to(
-        &rt,
-        rt.alloc(),
-        "words",
-        &[
-            &[],
-            &["lists"],
-            &["help", "lists"],
-            &["help", "list", "list"],
-            &["pack"],
-            &["list", "a", "b"],
-            &["list", "--payload"],
-            &["list", "--keep-going"],
-            &["unpack", "--transfer", "18446744073709551616"],
-            &["unpack", "--transfer", "-1"],
-            &["unpack", "--transfer"],
-            &["unpack", "--transfer", ""],
-            &["unpack", "--transfer", "1", "--transfer", "1"],
-            &["unpack", "--payload", "--payload"],
-            &["unpack", "--payload=true"],
-            &["unpack", "--keep-going", "--keep-going"],
-            &["unpack", "--keep-going=true"],
-            &["unpack", "--keep"],
-            &["unpack", "--end"],
-            &["unpack", "a", "b"],
-            &["blocks", "--transfer", "18446744073709551616"],
-            &["blocks", "--transfer", "1", "--transfer", "1"],
-            &["blocks", "--bundles", "--bundles"],
-            &["blocks", "--bundles=true"],
-            &["blocks", "--keep-going", "--keep-going"],
-            &["blocks", "--payload"],
-            &["blocks", "a", "b"],
-            &["unpack", "--bundles"],
-            &["check", "--peer-segment", "0"],
-            &["check", "--peer-segment", "18446744073709551616"],
-            &["check", "--peer-segment"],
-            &["check", "--peer-segment", "1", "--peer-segment", "1"],
-            &["check", "--peer-transfer", "18446744073709551616"],
-            &["check", "--peer-transfer", "-1"],
-            &["check", "--peer-transfer", "1", "--peer-transfer", "1"],
-            &["check", "--must", "--must"],
-            &["check", "--must=true"],
-            &["check", "--bundles", "--bundles"],
-            &["check", "--keep-going"],
-            &["check", "--transfer", "0"],
-            &["check", "a", "b"],
-            &["blocks", "--must"],
-            &["blocks", "--peer-segment", "1"],
-            &["pack", "--node", "x", "--peer-segment", "0"],
-            &["pack", "--node", "ipn:1.0", "--announce", "1048577"],
-            &["pack", "--node", "x", "--keepalive", "65536"],
-            &["pack", "--node", "x", "--keepalive", "six"],
-            &["pack", "--node", "x", "--node", "x"],
-            &["pack", "--node", "-x"],
-            &["pack", "--node", "x", "--unknown"],
-            &["pack", "--node", "x", "--keep-going"],
-            &["pack", "--node", "x", "a", "b"],
-        ],
-    )
+    all_come_to(&rt, rt.alloc(), "words", &WRONG_WORDS)
 }
+
+/// Lines that ask for a help text, or for the version.
+static REQUESTS_FOR_HELP: [&[&str]; 17] = [
+    &["--help"],
+    &["-h"],
+    &["--version"],
+    &["-V"],
+    &["list", "--help"],
+    &["unpack", "--help"],
+    &["blocks", "--help"],
+    &["check", "--help"],
+    &["pack", "--help"],
+    &["pack", "-h"],
+    &["help"],
+    &["help", "list"],
+    &["help", "unpack"],
+    &["help", "blocks"],
+    &["help", "check"],
+    &["help", "pack"],
+    &["help", "help"],
+];
 
 #[test]
 fn requests_for_help(rt: HostRuntime) -> Result<(), Fail> {
-    all_come_to(
-        &rt,
-        rt.alloc(),
-        "help",
-        &[
-            &["--help"],
-            &["-h"],
-            &["--version"],
-            &["-V"],
-            &["list", "--help"],
-            &["unpack", "--help"],
-            &["blocks", "--help"],
-            &["check", "--help"],
-            &["pack", "--help"],
-            &["pack", "-h"],
-            &["help"],
-            &["help", "list"],
-            &["help", "unpack"],
-            &["help", "blocks"],
-            &["help", "check"],
-            &["help", "pack"],
-            &["help", "help"],
-        ],
-    )
+    all_come_to(&rt, rt.alloc(), "help", &REQUESTS_FOR_HELP)
 }
 
 #[test]
@@ -213,115 +215,136 @@ fn list_has_no_options(rt: HostRuntime) -> Result<(), Fail> {
     Ok(())
 }
 
-/// Checks that each line asks for these options.
-fn all_ask_for(rt: &impl Abort, alloc: Global, lines: &[(&[&str], Options)]) -> Result<(), Fail> {
-    for (line, options) in lines {
-        let invocation = taken(alloc, line)?;
-        assert!(rt; invocation.options == *options, "{line:?}");
+/// Checks that a line asks for these options.
+fn wants(rt: &impl Abort, alloc: Global, line: &[&str], options: &Options) -> Result<(), Fail> {
+    let invocation = taken(alloc, line)?;
+    assert!(rt; invocation.options == *options, "{line:?}");
+    Ok(())
+}
+
+/// Checks that each line of `unpack` asks for these options.
+fn all_want(rt: &impl Abort, alloc: Global, lines: &[(&[&str], Wanted)]) -> Result<(), Fail> {
+    for &(line, wanted) in lines {
+        wants(rt, alloc, line, &Options::Unpack(wanted))?;
     }
     Ok(())
 }
 
+/// All data of all transfers.
+const ALL: Wanted = Wanted {
+    only: None,
+    payload: false,
+    keep_going: false,
+};
+
+/// The payloads of transfers with ID 7.
+const OF_SEVEN: Wanted = Wanted {
+    only: Some(7),
+    payload: true,
+    keep_going: false,
+};
+
+/// All data of transfers with the greatest ID.
+const OF_LAST: Wanted = Wanted {
+    only: Some(u64::MAX),
+    payload: false,
+    keep_going: false,
+};
+
+/// Lines of `unpack`, and the options that each asks for.
+static OF_UNPACK: [(&[&str], Wanted); 6] = [
+    (&["unpack"], ALL),
+    (&["unpack", "--payload", "--transfer", "7", "f"], OF_SEVEN),
+    (&["unpack", "f", "--transfer=7", "--payload"], OF_SEVEN),
+    (&["unpack", "--transfer", "+07", "--payload"], OF_SEVEN),
+    (&["unpack", "--transfer", "18446744073709551615"], OF_LAST),
+    (&["unpack", "--", "--payload"], ALL),
+];
+
 #[test]
 fn options_of_unpack(rt: HostRuntime) -> Result<(), Fail> {
-    let all = Wanted::default();
-    let of_seven = Wanted {
-        only: Some(7),
-        payload: true,
-        ..all
-    };
-    let of_last = Wanted {
-        only: Some(u64::MAX),
-        ..all
-    };
-    let lines: [(&[&str], Options); 6] = [
-        (&["unpack"], Options::Unpack(all)),
-        (
-            &["unpack", "--payload", "--transfer", "7", "f"],
-            Options::Unpack(of_seven),
-        ),
-        (
-            &["unpack", "f", "--transfer=7", "--payload"],
-            Options::Unpack(of_seven),
-        ),
-        (
-            &["unpack", "--transfer", "+07", "--payload"],
-            Options::Unpack(of_seven),
-        ),
-        (
-            &["unpack", "--transfer", "18446744073709551615"],
-            Options::Unpack(of_last),
-        ),
-        (&["unpack", "--", "--payload"], Options::Unpack(all)),
-    ];
-    all_ask_for(&rt, rt.alloc(), &lines)
+    all_want(&rt, rt.alloc(), &OF_UNPACK)
 }
+
+/// All data of all transfers, also after a fault of the order.
+const GOING_ON: Wanted = Wanted {
+    only: None,
+    payload: false,
+    keep_going: true,
+};
+
+/// The payloads of transfers with ID 7, also after a fault of the order.
+const GOING_ON_WITH_SEVEN: Wanted = Wanted {
+    only: Some(7),
+    payload: true,
+    keep_going: true,
+};
+
+/// Lines of `unpack` with `--keep-going`, and the options that each asks for.
+static UNPACK_GOES_ON: [(&[&str], Wanted); 4] = [
+    (&["unpack", "--keep-going"], GOING_ON),
+    (&["unpack", "f", "--keep-going"], GOING_ON),
+    (&["unpack", "--", "--keep-going"], ALL),
+    (
+        &["unpack", "--keep-going", "--payload", "--transfer", "7"],
+        GOING_ON_WITH_SEVEN,
+    ),
+];
 
 #[test]
 fn unpack_goes_on(rt: HostRuntime) -> Result<(), Fail> {
-    let going_on = Wanted {
-        keep_going: true,
-        ..Wanted::default()
-    };
-    let with_seven = Wanted {
-        only: Some(7),
-        payload: true,
-        keep_going: true,
-    };
-    let lines: [(&[&str], Options); 4] = [
-        (&["unpack", "--keep-going"], Options::Unpack(going_on)),
-        (&["unpack", "f", "--keep-going"], Options::Unpack(going_on)),
-        (
-            &["unpack", "--", "--keep-going"],
-            Options::Unpack(Wanted::default()),
-        ),
-        (
-            &["unpack", "--keep-going", "--payload", "--transfer", "7"],
-            Options::Unpack(with_seven),
-        ),
-    ];
-    all_ask_for(&rt, rt.alloc(), &lines)
+    all_want(&rt, rt.alloc(), &UNPACK_GOES_ON)
 }
+
+/// The blocks of all transfers.
+const BLOCKS: BlockOptions = BlockOptions {
+    only: None,
+    keep_going: false,
+};
+
+/// The blocks of transfers with ID 7, also after a fault of the order.
+const BLOCKS_OF_SEVEN: BlockOptions = BlockOptions {
+    only: Some(7),
+    keep_going: true,
+};
+
+/// Lines of `blocks`, and the options that each asks for.
+static OF_BLOCKS: [(&[&str], BlockOptions); 4] = [
+    (&["blocks"], BLOCKS),
+    (
+        &["blocks", "--keep-going", "--transfer", "7", "f"],
+        BLOCKS_OF_SEVEN,
+    ),
+    (
+        &["blocks", "f", "--transfer=7", "--keep-going"],
+        BLOCKS_OF_SEVEN,
+    ),
+    (&["blocks", "--", "--bundles"], BLOCKS),
+];
 
 #[test]
 fn options_of_blocks(rt: HostRuntime) -> Result<(), Fail> {
-    let all = BlockOptions::default();
-    let of_seven = BlockOptions {
-        only: Some(7),
-        keep_going: true,
-    };
-    let lines: [(&[&str], Options); 6] = [
-        (&["blocks"], Options::Blocks(all)),
-        (
-            &["blocks", "--keep-going", "--transfer", "7", "f"],
-            Options::Blocks(of_seven),
-        ),
-        (
-            &["blocks", "f", "--transfer=7", "--keep-going"],
-            Options::Blocks(of_seven),
-        ),
-        (&["blocks", "--", "--bundles"], Options::Blocks(all)),
-        (&["blocks", "--bundles"], Options::BundleBlocks),
-        (&["blocks", "f", "--bundles"], Options::BundleBlocks),
-    ];
-    all_ask_for(&rt, rt.alloc(), &lines)
+    for &(line, options) in &OF_BLOCKS {
+        wants(&rt, rt.alloc(), line, &Options::Blocks(options))?;
+    }
+    let options = Options::BundleBlocks;
+    wants(&rt, rt.alloc(), &["blocks", "--bundles"], &options)?;
+    wants(&rt, rt.alloc(), &["blocks", "f", "--bundles"], &options)
 }
+
+/// Lines of `blocks` with `--bundles` and an option for recordings.
+static MIXED_INPUTS: [&[&str]; 5] = [
+    &["blocks", "--bundles", "--transfer", "0"],
+    &["blocks", "--transfer=0", "--bundles"],
+    &["blocks", "--bundles", "--keep-going"],
+    &["blocks", "--keep-going", "--bundles", "f"],
+    &["blocks", "--bundles", "--keep-going", "--transfer", "7"],
+];
 
 /// `--bundles` is accepted alone, and not with an option for recordings.
 #[test]
 fn mixed_inputs(rt: HostRuntime) -> Result<(), Fail> {
-    all_come_to(
-        &rt,
-        rt.alloc(),
-        "mixed inputs",
-        &[
-            &["blocks", "--bundles", "--transfer", "0"],
-            &["blocks", "--transfer=0", "--bundles"],
-            &["blocks", "--bundles", "--keep-going"],
-            &["blocks", "--keep-going", "--bundles", "f"],
-            &["blocks", "--bundles", "--keep-going", "--transfer", "7"],
-        ],
-    )
+    all_come_to(&rt, rt.alloc(), "mixed inputs", &MIXED_INPUTS)
 }
 
 /// The options of `check` for a recording.
@@ -330,157 +353,165 @@ fn judged(must: bool, segment: Option<u64>, transfer: Option<u64>) -> Options {
     Options::Check(CheckOptions { must, peer })
 }
 
+/// Lines of `check`, whether each asks for `must` alone, and the limits that it gives.
+static OF_CHECK: [(&[&str], bool, Option<u64>, Option<u64>); 8] = [
+    (&["check"], false, None, None),
+    (&["check", "--must", "f"], true, None, None),
+    (&["check", "--peer-segment", "1"], false, Some(1), None),
+    (&["check", "--peer-transfer", "0"], false, None, Some(0)),
+    (
+        &["check", "--peer-segment", "18446744073709551615"],
+        false,
+        Some(u64::MAX),
+        None,
+    ),
+    (
+        &["check", "--peer-transfer", "18446744073709551615"],
+        false,
+        None,
+        Some(u64::MAX),
+    ),
+    (
+        &[
+            "check",
+            "f",
+            "--peer-transfer=9",
+            "--peer-segment=8",
+            "--must",
+        ],
+        true,
+        Some(8),
+        Some(9),
+    ),
+    (&["check", "--", "--bundles"], false, None, None),
+];
+
 #[test]
 fn options_of_check(rt: HostRuntime) -> Result<(), Fail> {
-    let lines: [(&[&str], Options); 8] = [
-        (&["check"], judged(false, None, None)),
-        (&["check", "--must", "f"], judged(true, None, None)),
-        (
-            &["check", "--peer-segment", "1"],
-            judged(false, Some(1), None),
-        ),
-        (
-            &["check", "--peer-transfer", "0"],
-            judged(false, None, Some(0)),
-        ),
-        (
-            &["check", "--peer-segment", "18446744073709551615"],
-            judged(false, Some(u64::MAX), None),
-        ),
-        (
-            &["check", "--peer-transfer", "18446744073709551615"],
-            judged(false, None, Some(u64::MAX)),
-        ),
-        (
-            &[
-                "check",
-                "f",
-                "--peer-transfer=9",
-                "--peer-segment=8",
-                "--must",
-            ],
-            judged(true, Some(8), Some(9)),
-        ),
-        (&["check", "--", "--bundles"], judged(false, None, None)),
-    ];
-    all_ask_for(&rt, rt.alloc(), &lines)
+    for &(line, must, segment, transfer) in &OF_CHECK {
+        wants(&rt, rt.alloc(), line, &judged(must, segment, transfer))?;
+    }
+    Ok(())
 }
+
+/// Lines of `check --bundles`, and whether each asks for `must` alone.
+static CHECK_OF_BUNDLES: [(&[&str], bool); 5] = [
+    (&["check", "--bundles"], false),
+    (&["check", "f", "--bundles"], false),
+    (&["check", "--bundles", "--", "--must"], false),
+    (&["check", "--bundles", "--must"], true),
+    (&["check", "--must", "f", "--bundles"], true),
+];
 
 #[test]
 fn check_of_bundles(rt: HostRuntime) -> Result<(), Fail> {
-    let lines: [(&[&str], Options); 5] = [
-        (
-            &["check", "--bundles"],
-            Options::BundleCheck { must: false },
-        ),
-        (
-            &["check", "f", "--bundles"],
-            Options::BundleCheck { must: false },
-        ),
-        (
-            &["check", "--bundles", "--", "--must"],
-            Options::BundleCheck { must: false },
-        ),
-        (
-            &["check", "--bundles", "--must"],
-            Options::BundleCheck { must: true },
-        ),
-        (
-            &["check", "--must", "f", "--bundles"],
-            Options::BundleCheck { must: true },
-        ),
-    ];
-    all_ask_for(&rt, rt.alloc(), &lines)
+    for &(line, must) in &CHECK_OF_BUNDLES {
+        wants(&rt, rt.alloc(), line, &Options::BundleCheck { must })?;
+    }
+    Ok(())
 }
+
+/// Lines of `check` with `--bundles` and a limit of the peer.
+static LIMITED_BUNDLES: [&[&str]; 4] = [
+    &["check", "--bundles", "--peer-segment", "1"],
+    &["check", "--peer-transfer=0", "--bundles"],
+    &["check", "--must", "--bundles", "--peer-transfer", "7", "f"],
+    &[
+        "check",
+        "--bundles",
+        "--peer-segment",
+        "1",
+        "--peer-transfer",
+        "0",
+    ],
+];
 
 /// `check --bundles` is accepted with `--must`, and not with a limit of the peer.
 #[test]
 fn limited_bundles(rt: HostRuntime) -> Result<(), Fail> {
-    all_come_to(
-        &rt,
-        rt.alloc(),
-        "limited bundles",
-        &[
-            &["check", "--bundles", "--peer-segment", "1"],
-            &["check", "--peer-transfer=0", "--bundles"],
-            &["check", "--must", "--bundles", "--peer-transfer", "7", "f"],
-            &[
-                "check",
-                "--bundles",
-                "--peer-segment",
-                "1",
-                "--peer-transfer",
-                "0",
-            ],
-        ],
-    )
+    all_come_to(&rt, rt.alloc(), "limited bundles", &LIMITED_BUNDLES)
 }
 
 #[test]
 fn options_of_pack(rt: HostRuntime) -> Result<(), Fail> {
-    let alloc = rt.alloc();
-    let invocation = taken(alloc, &["pack", "--node", "ipn:1.0"])?;
-    assert!(rt; invocation.options == Options::Pack(pack_defaults("ipn:1.0")?));
+    packs_with_defaults(&rt, rt.alloc(), "ipn:1.0")?;
+    packs_with_defaults(&rt, rt.alloc(), "")?;
+    packs_with_all(&rt, rt.alloc())
+}
+
+/// Checks the invocation of `pack` with this node ID and no other option.
+fn packs_with_defaults(rt: &impl Abort, alloc: Global, node: &str) -> Result<(), Fail> {
+    let invocation = taken(alloc, &["pack", "--node", node])?;
+    assert!(rt; invocation.options == Options::Pack(pack_defaults(node)?));
     assert!(rt; invocation.file.is_none());
-    let invocation = taken(alloc, &["pack", "--node", ""])?;
-    assert!(rt; invocation.options == Options::Pack(pack_defaults("")?));
+    Ok(())
+}
+
+/// Checks the invocation of `ALL_OF_PACK`.
+fn packs_with_all(rt: &impl Abort, alloc: Global) -> Result<(), Fail> {
     let invocation = taken(alloc, ALL_OF_PACK)?;
     assert!(rt; invocation.options == Options::Pack(all_of_pack()?));
     assert!(rt; invocation.file.as_deref() == Some("f"));
     Ok(())
 }
 
+/// Lines with the least or the greatest number that an option takes.
+static ENDS_OF_RANGES: [&[&str]; 10] = [
+    &["pack", "--node", "x", "--keepalive", "0"],
+    &["pack", "--node", "x", "--keepalive", "65535"],
+    &["pack", "--node", "x", "--segment-mru", "0"],
+    &[
+        "pack",
+        "--node",
+        "x",
+        "--segment-mru",
+        "18446744073709551615",
+    ],
+    &["pack", "--node", "x", "--transfer-mru", "0"],
+    &[
+        "pack",
+        "--node",
+        "x",
+        "--transfer-mru",
+        "18446744073709551615",
+    ],
+    &["pack", "--node", "x", "--peer-segment", "1"],
+    &[
+        "pack",
+        "--node",
+        "x",
+        "--peer-segment",
+        "18446744073709551615",
+    ],
+    &["pack", "--node", "x", "--peer-transfer", "0"],
+    &["pack", "--node", "x", "--announce", "1048576"],
+];
+
 #[test]
 fn ends_of_ranges(rt: HostRuntime) -> Result<(), Fail> {
-    all_come_to(
-        &rt,
-        rt.alloc(),
-        "taken",
-        &[
-            &["pack", "--node", "x", "--keepalive", "0"],
-            &["pack", "--node", "x", "--keepalive", "65535"],
-            &["pack", "--node", "x", "--segment-mru", "0"],
-            &[
-                "pack",
-                "--node",
-                "x",
-                "--segment-mru",
-                "18446744073709551615",
-            ],
-            &["pack", "--node", "x", "--transfer-mru", "0"],
-            &[
-                "pack",
-                "--node",
-                "x",
-                "--transfer-mru",
-                "18446744073709551615",
-            ],
-            &["pack", "--node", "x", "--peer-segment", "1"],
-            &[
-                "pack",
-                "--node",
-                "x",
-                "--peer-segment",
-                "18446744073709551615",
-            ],
-            &["pack", "--node", "x", "--peer-transfer", "0"],
-            &["pack", "--node", "x", "--announce", "1048576"],
-        ],
-    )
+    all_come_to(&rt, rt.alloc(), "taken", &ENDS_OF_RANGES)
+}
+
+/// Lines with a file, and its name.
+static FILES: [(&[&str], &str); 5] = [
+    (&["list", "f"], "f"),
+    (&["list", ""], ""),
+    (&["list", "--", "-x"], "-x"),
+    (&["unpack", "--payload", "--", "--payload"], "--payload"),
+    (&["list", "list"], "list"),
+];
+
+/// Checks that a line names this file.
+fn names_file(rt: &impl Abort, alloc: Global, line: &[&str], file: &str) -> Result<(), Fail> {
+    let invocation = taken(alloc, line)?;
+    assert!(rt; invocation.file.as_deref() == Some(file), "{line:?}");
+    Ok(())
 }
 
 #[test]
 fn files(rt: HostRuntime) -> Result<(), Fail> {
-    let lines: [(&[&str], &str); 5] = [
-        (&["list", "f"], "f"),
-        (&["list", ""], ""),
-        (&["list", "--", "-x"], "-x"),
-        (&["unpack", "--payload", "--", "--payload"], "--payload"),
-        (&["list", "list"], "list"),
-    ];
-    for &(line, file) in &lines {
-        let invocation = taken(rt.alloc(), line)?;
-        assert!(rt; invocation.file.as_deref() == Some(file), "{line:?}");
+    for &(line, file) in &FILES {
+        names_file(&rt, rt.alloc(), line, file)?;
     }
     Ok(())
 }
@@ -494,18 +525,17 @@ fn node_of(alloc: Global, size: usize) -> Result<String, AllocError> {
     Ok(node)
 }
 
+/// Checks the outcome of a node ID of this many characters.
+fn node_comes_to(rt: &impl Abort, alloc: Global, size: usize, expected: &str) -> Result<(), Fail> {
+    let node = node_of(alloc, size)?;
+    comes_to(rt, alloc, expected, &["pack", "--node", node.as_str()])
+}
+
 #[test]
 fn node_ids(rt: HostRuntime) -> Result<(), Fail> {
-    let alloc = rt.alloc();
-    for (size, expected) in [
-        (1023, "taken"),
-        (1024, "node too long"),
-        (2000, "node too long"),
-    ] {
-        let node = node_of(alloc, size)?;
-        all_come_to(&rt, alloc, expected, &[&["pack", "--node", node.as_str()]])?;
-    }
-    Ok(())
+    node_comes_to(&rt, rt.alloc(), 1023, "taken")?;
+    node_comes_to(&rt, rt.alloc(), 1024, "node too long")?;
+    node_comes_to(&rt, rt.alloc(), 2000, "node too long")
 }
 
 /// The result of `options`. `None`: there was no memory, and a line on standard output says so.
@@ -604,11 +634,6 @@ fn memory_of_list(rt: HostRuntime) -> Result<(), Fail> {
 
 #[test]
 fn memory_of_unpack(rt: HostRuntime) -> Result<(), Fail> {
-    let wanted = Wanted {
-        only: Some(7),
-        payload: true,
-        keep_going: true,
-    };
     asks_for(
         &rt,
         &[
@@ -619,21 +644,17 @@ fn memory_of_unpack(rt: HostRuntime) -> Result<(), Fail> {
             "7",
             "f",
         ],
-        &Options::Unpack(wanted),
+        &Options::Unpack(GOING_ON_WITH_SEVEN),
         Some("f"),
     )
 }
 
 #[test]
 fn memory_of_blocks(rt: HostRuntime) -> Result<(), Fail> {
-    let options = BlockOptions {
-        only: Some(7),
-        keep_going: true,
-    };
     asks_for(
         &rt,
         &["blocks", "--keep-going", "--transfer", "7", "f"],
-        &Options::Blocks(options),
+        &Options::Blocks(BLOCKS_OF_SEVEN),
         Some("f"),
     )
 }

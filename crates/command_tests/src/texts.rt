@@ -16,7 +16,7 @@ fn text_of(alloc: Global, line: &[&str]) -> Result<String, Fail> {
 }
 
 /// Lines that ask for a help text, and parts of the text.
-const HELP_TEXTS: [(&[&str], &[&str]); 7] = [
+static HELP_TEXTS: [(&[&str], &[&str]); 7] = [
     (
         &["--help"],
         &[
@@ -89,14 +89,16 @@ const HELP_TEXTS: [(&[&str], &[&str]); 7] = [
     (&["--version"], &["tcpclkit 0.4.0\n"]),
 ];
 
+/// Checks that a text has this part.
+fn has_part(rt: &impl Abort, text: &str, part: &str) {
+    assert!(rt; text.contains(part), "without {part:?}: {text}");
+}
+
 /// Checks that a text is there for a line, and that it has these parts.
 fn has_parts(rt: &impl Abort, alloc: Global, line: &[&str], parts: &[&str]) -> Result<(), Fail> {
     let text = text_of(alloc, line)?;
     for part in parts {
-        assert!(rt;
-            text.as_str().contains(part),
-            "{line:?} without {part:?}: {text}"
-        );
+        has_part(rt, text.as_str(), part);
     }
     Ok(())
 }
@@ -110,71 +112,77 @@ fn texts_of_help(rt: HostRuntime) -> Result<(), Fail> {
     Ok(())
 }
 
+/// Lines with `help`, and the lines with `--help` that have the same text.
+static COMMAND_HELP: [(&[&str], &[&str]); 6] = [
+    (&["help"], &["--help"]),
+    (&["help", "list"], &["list", "--help"]),
+    (&["help", "unpack"], &["unpack", "--help"]),
+    (&["help", "blocks"], &["blocks", "--help"]),
+    (&["help", "check"], &["check", "--help"]),
+    (&["help", "pack"], &["pack", "--help"]),
+];
+
+/// Checks that the texts of two lines are the same.
+fn has_same_text(rt: &impl Abort, alloc: Global, line: &[&str], same: &[&str]) -> Result<(), Fail> {
+    let text = text_of(alloc, line)?;
+    let expected = text_of(alloc, same)?;
+    assert!(rt; text == expected, "{line:?}: {text}{expected}");
+    Ok(())
+}
+
 /// The texts of `help` and `help NAME` are those of `--help` and `NAME --help`.
 #[test]
 fn texts_of_the_command_help(rt: HostRuntime) -> Result<(), Fail> {
-    let lines: [(&[&str], &[&str]); 6] = [
-        (&["help"], &["--help"]),
-        (&["help", "list"], &["list", "--help"]),
-        (&["help", "unpack"], &["unpack", "--help"]),
-        (&["help", "blocks"], &["blocks", "--help"]),
-        (&["help", "check"], &["check", "--help"]),
-        (&["help", "pack"], &["pack", "--help"]),
-    ];
-    for &(line, same) in &lines {
-        let text = text_of(rt.alloc(), line)?;
-        let expected = text_of(rt.alloc(), same)?;
-        assert!(rt; text == expected, "{line:?}: {text}{expected}");
+    for &(line, same) in &COMMAND_HELP {
+        has_same_text(&rt, rt.alloc(), line, same)?;
     }
     Ok(())
 }
+
+/// Lines with wrong words, and two parts of their text.
+static TEXTS_OF_WRONG_WORDS: [(&[&str], &str, &str); 5] = [
+    (&[], "requires a subcommand", "Usage: tcpclkit <COMMAND>"),
+    (
+        &["check", "--peer-segment", "0"],
+        "'--peer-segment <N>': 0 is not in 1..18446744073709551615",
+        "For more information",
+    ),
+    (&["pack"], "--node <TEXT>", "Usage: tcpclkit pack"),
+    (
+        &["pack", "--node", "x", "--announce", "1048577"],
+        "0..=1048576",
+        "For more information",
+    ),
+    (
+        &["list", "--payload"],
+        "unexpected argument",
+        "Usage: tcpclkit list",
+    ),
+];
 
 /// The text for wrong words says what is wrong, and has the usage or says how to find it.
 #[test]
 fn texts_of_wrong_words(rt: HostRuntime) -> Result<(), Fail> {
-    let lines: [(&[&str], &str, &str); 5] = [
-        (&[], "requires a subcommand", "Usage: tcpclkit <COMMAND>"),
-        (
-            &["check", "--peer-segment", "0"],
-            "'--peer-segment <N>': 0 is not in 1..18446744073709551615",
-            "For more information",
-        ),
-        (&["pack"], "--node <TEXT>", "Usage: tcpclkit pack"),
-        (
-            &["pack", "--node", "x", "--announce", "1048577"],
-            "0..=1048576",
-            "For more information",
-        ),
-        (
-            &["list", "--payload"],
-            "unexpected argument",
-            "Usage: tcpclkit list",
-        ),
-    ];
-    for &(line, wrong, usage) in &lines {
-        let text = text_of(rt.alloc(), line)?;
-        assert!(rt;
-            text.as_str().contains(wrong) && text.as_str().contains(usage),
-            "{line:?}: {text}"
-        );
+    for &(line, wrong, usage) in &TEXTS_OF_WRONG_WORDS {
+        has_parts(&rt, rt.alloc(), line, &[wrong, usage])?;
     }
     Ok(())
 }
 
+/// Checks how the program ends after this fault.
+fn ends(rt: &impl Abort, fault: &UsageFault, exit: (u8, &'static str)) {
+    assert_eq!(rt; usage_exit(fault), exit);
+}
+
 #[test]
-fn ends_of_the_program(rt: HostRuntime) -> Result<(), Fail> {
-    let text = String::new(rt.alloc());
-    assert!(rt; usage_exit(&UsageFault::Help(text)) == (0, ""));
-    let text = String::new(rt.alloc());
-    assert!(rt; usage_exit(&UsageFault::Words(text)) == (2, ""));
-    assert!(rt;
-        usage_exit(&UsageFault::NodeTooLong) == (2, "tcpclkit: node id longer than 1024 bytes")
-    );
-    assert!(rt;
-        usage_exit(&UsageFault::MixedInputs) == (2, "tcpclkit: --bundles goes with no other option")
-    );
+fn ends_of_the_program(rt: HostRuntime) {
+    ends(&rt, &UsageFault::Help(String::new(rt.alloc())), (0, ""));
+    ends(&rt, &UsageFault::Words(String::new(rt.alloc())), (2, ""));
+    let text = "tcpclkit: node id longer than 1024 bytes";
+    ends(&rt, &UsageFault::NodeTooLong, (2, text));
+    let text = "tcpclkit: --bundles goes with no other option";
+    ends(&rt, &UsageFault::MixedInputs, (2, text));
     let text = "tcpclkit: --bundles goes with neither --peer-segment nor --peer-transfer";
-    assert!(rt; usage_exit(&UsageFault::LimitedBundles) == (2, text));
-    assert!(rt; usage_exit(&UsageFault::Memory) == (4, "tcpclkit: out of memory"));
-    Ok(())
+    ends(&rt, &UsageFault::LimitedBundles, (2, text));
+    ends(&rt, &UsageFault::Memory, (4, "tcpclkit: out of memory"));
 }

@@ -13,7 +13,7 @@ const BUFFER: usize = 64 << 10;
 const WINDOW: usize = 8192;
 
 /// Sizes around a page, a window and the buffer.
-const SIZES: [usize; 10] = [
+static SIZES: [usize; 10] = [
     1, 4095, 4096, 4097, 5000, 8191, 8193, 65_535, 65_536, 65_537,
 ];
 

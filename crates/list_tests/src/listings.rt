@@ -182,7 +182,7 @@ fn long_segment(rt: HostRuntime) -> Result<(), Fail> {
 }
 
 /// The offsets at which the contact header and each of the messages end.
-const ENDS: [usize; 8] = [6, 38, 56, 66, 67, 70, 73, 76];
+static ENDS: [usize; 8] = [6, 38, 56, 66, 67, 70, 73, 76];
 
 /// The lines of the whole messages in a prefix of `MESSAGES`, and the offset at which they end.
 fn whole_lines(alloc: Global, size: usize) -> Result<(Vec<u8>, usize), Fail> {

@@ -59,7 +59,7 @@ pub const MESSAGE_LINES: &[&[u8]] = &[
 ];
 
 /// Streams without segments.
-pub const SESSIONS: [Row; 8] = [
+pub static SESSIONS: [Row; 8] = [
     Row {
         name: "every message but segments",
         stream: MESSAGES,
@@ -183,7 +183,7 @@ pub const SESSIONS: [Row; 8] = [
 ];
 
 /// Streams with segments.
-pub const TRANSFERS: [Row; 5] = [
+pub static TRANSFERS: [Row; 5] = [
     Row {
         name: "one transfer",
         stream: TRANSFER,
@@ -293,7 +293,7 @@ pub const TRANSFERS: [Row; 5] = [
 ];
 
 /// Streams with a fault.
-pub const FAULTS: [Row; 16] = [
+pub static FAULTS: [Row; 16] = [
     Row {
         name: "nothing",
         stream: &[],

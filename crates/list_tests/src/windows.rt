@@ -19,7 +19,7 @@ struct Part {
 }
 
 /// Every kind of message, with extension items and data: 168 bytes.
-const PARTS: [Part; 9] = [
+static PARTS: [Part; 9] = [
     Part {
         bytes: &[
             PARAMETERS,

@@ -9,9 +9,7 @@ use link_report::{
     transfer_view_line,
 };
 use link_transfer::Announced;
-use std::alloc::Global;
 use std::process::Abort;
-use std::test::Fail;
 
 /// A bundle with a payload of five bytes.
 fn bundle(source: Eid, destination: Eid, fragment: Option<(u64, u64)>) -> BundleInfo {
@@ -33,8 +31,9 @@ fn whole() -> BundleInfo {
     bundle(Eid::Ipn(1, 1), Eid::Ipn(2, 1), None)
 }
 
-fn name(bytes: &[u8]) -> Result<Eid, Fail> {
-    Ok(Eid::Dtn(ArrayVec::try_from(bytes)?))
+/// An endpoint ID with this name, which has at most 1,024 bytes.
+fn name(bytes: &[u8]) -> Eid {
+    Eid::Dtn(ArrayVec::try_from(bytes).unwrap_or_default())
 }
 
 fn transfer(id: u64, start: u64, written: u64, length: u64, judgement: Judgement) -> TransferEntry {
@@ -160,12 +159,12 @@ fn lines_of_bad_bundles(rt: HostRuntime) {
 }
 
 /// The endpoint ID that is viewed.
-fn eid_of(view: EidView<'_>) -> Result<Eid, Fail> {
+fn eid_of(view: EidView<'_>) -> Eid {
     match view {
-        EidView::DtnNone => Ok(Eid::DtnNone),
+        EidView::DtnNone => Eid::DtnNone,
         EidView::Dtn(bytes) => name(bytes),
-        EidView::Ipn(node, service) => Ok(Eid::Ipn(node, service)),
-        EidView::Ipn3(allocator, node, service) => Ok(Eid::Ipn3(allocator, node, service)),
+        EidView::Ipn(node, service) => Eid::Ipn(node, service),
+        EidView::Ipn3(allocator, node, service) => Eid::Ipn3(allocator, node, service),
     }
 }
 
@@ -191,12 +190,10 @@ fn reports_packed(rt: &impl Abort, info: BundleInfo, want: &str) {
 }
 
 /// Checks the line of the bundle of a row.
-fn reports_packed_row(rt: &impl Abort, row: &Packed) -> Result<(), Fail> {
+fn reports_packed_row(rt: &impl Abort, row: &Packed) {
     let (source, destination, fragment, want) = *row;
-    let source = eid_of(source)?;
-    let info = bundle(source, eid_of(destination)?, fragment);
+    let info = bundle(eid_of(source), eid_of(destination), fragment);
     reports_packed(rt, info, want);
-    Ok(())
 }
 
 static PACKED: [Packed; 2] = [
@@ -217,11 +214,10 @@ static PACKED: [Packed; 2] = [
 ];
 
 #[test]
-fn lines_of_packed_bundles(rt: HostRuntime) -> Result<(), Fail> {
+fn lines_of_packed_bundles(rt: HostRuntime) {
     for row in &PACKED {
-        reports_packed_row(&rt, row)?;
+        reports_packed_row(&rt, row);
     }
-    Ok(())
 }
 
 /// Each form of an endpoint ID, as a source and as a destination.
@@ -264,11 +260,10 @@ static ENDPOINTS: [Packed; 5] = [
 ];
 
 #[test]
-fn endpoints_of_packed_bundles(rt: HostRuntime) -> Result<(), Fail> {
+fn endpoints_of_packed_bundles(rt: HostRuntime) {
     for row in &ENDPOINTS {
-        reports_packed_row(&rt, row)?;
+        reports_packed_row(&rt, row);
     }
-    Ok(())
 }
 
 /// Each fault of a bundle, its code and its text.
@@ -313,41 +308,42 @@ fn has_line(rt: &impl Abort, fault: &Fault, want: &str) {
 
 /// Checks the code and the text of a fault in the line of the fault.
 fn has_code_and_words(
-    rt: &impl Abort,
-    alloc: Global,
+    rt: &(impl Abort + AllocGlobal),
     fault: BundleFault,
     code: &str,
     words: &str,
-) -> Result<(), Fail> {
-    let want = format!(in alloc; "tcpclkit: bundle 1 byte 3: {code} {words}\n")?;
-    has_line(rt, &Fault::Bundle(1, 3, fault), want.as_str());
-    Ok(())
+) {
+    let want = format!(in rt.alloc(); "tcpclkit: bundle 1 byte 3: {code} {words}\n");
+    has_line(
+        rt,
+        &Fault::Bundle(1, 3, fault),
+        want.expect(rt, "memory").as_str(),
+    );
 }
 
 /// Checks the code of a fault in the line of a transfer.
-fn has_code(rt: &impl Abort, alloc: Global, fault: BundleFault, code: &str) -> Result<(), Fail> {
-    let want = format!(in alloc; "transfer 0 start=0 written=34 length=34 bad={code} byte=3\n")?;
+fn has_code(rt: &(impl Abort + AllocGlobal), fault: BundleFault, code: &str) {
+    let want = format!(in rt.alloc();
+        "transfer 0 start=0 written=34 length=34 bad={code} byte=3\n"
+    );
     let entry = transfer(0, 0, 34, 34, Judgement::Bad(fault, 3));
-    reports(rt, &entry, want.as_str());
-    Ok(())
+    reports(rt, &entry, want.expect(rt, "memory").as_str());
 }
 
 /// Checks the text of the error type of a fault.
-fn has_words(rt: &impl Abort, alloc: Global, fault: BundleFault, words: &str) -> Result<(), Fail> {
-    let shown = format!(in alloc; "{fault}")?;
+fn has_words(rt: &(impl Abort + AllocGlobal), fault: BundleFault, words: &str) {
+    let shown = format!(in rt.alloc(); "{fault}").expect(rt, "memory");
     is_text(rt, shown.as_bytes(), words);
-    Ok(())
 }
 
 /// The code and the text of each fault are in lines. The text is also that of its error type.
 #[test]
-fn codes_of_faults(rt: HostRuntime) -> Result<(), Fail> {
+fn codes_of_faults(rt: HostRuntime) {
     for (fault, code, words) in &CODES {
-        has_code_and_words(&rt, rt.alloc(), *fault, code, words)?;
-        has_code(&rt, rt.alloc(), *fault, code)?;
-        has_words(&rt, rt.alloc(), *fault, words)?;
+        has_code_and_words(&rt, *fault, code, words);
+        has_code(&rt, *fault, code);
+        has_words(&rt, *fault, words);
     }
-    Ok(())
 }
 
 #[test]
@@ -473,42 +469,40 @@ fn first_judgement_of_a_good_bundle(rt: HostRuntime) {
 }
 
 /// A bundle with 20 digits in each number, and with names of 1,024 bytes that are all escaped.
-fn longest_bundle() -> Result<BundleInfo, Fail> {
-    Ok(BundleInfo {
+fn longest_bundle() -> BundleInfo {
+    BundleInfo {
         flags: u64::MAX,
-        destination: name(&[0xff; 1024])?,
-        source: name(&[0x20; 1024])?,
-        report_to: name(&[0xff; 1024])?,
+        destination: name(&[0xff; 1024]),
+        source: name(&[0x20; 1024]),
+        report_to: name(&[0xff; 1024]),
         time: u64::MAX,
         sequence: u64::MAX,
         lifetime: u64::MAX,
         fragment: Some((u64::MAX, u64::MAX)),
         blocks: u64::MAX,
         payload: u64::MAX,
-    })
+    }
 }
 
 #[test]
-fn longest_line_of_a_transfer(rt: HostRuntime) -> Result<(), Fail> {
-    let good = Judgement::Good(longest_bundle()?);
+fn longest_line_of_a_transfer(rt: HostRuntime) {
+    let good = Judgement::Good(longest_bundle());
     let entry = transfer(u64::MAX, u64::MAX, u64::MAX, u64::MAX, good);
     let mut line = Line::new();
     transfer_line(&mut line, &entry);
     assert_eq!(rt; line.len(), 8476);
     assert!(rt; line.ends_with(b" fragment=18446744073709551615/18446744073709551615\n"));
-    Ok(())
 }
 
 #[test]
-fn longest_line_of_a_packed_bundle(rt: HostRuntime) -> Result<(), Fail> {
+fn longest_line_of_a_packed_bundle(rt: HostRuntime) {
     let entry = PackedEntry {
         number: u64::MAX,
         segments: u64::MAX,
         length: u64::MAX,
-        info: longest_bundle()?,
+        info: longest_bundle(),
     };
     let mut line = Line::new();
     packed_line(&mut line, &entry);
     assert_eq!(rt; line.len(), 8443);
-    Ok(())
 }

@@ -6,9 +6,7 @@ use link_wire::{
     Contact, Fields, Item, Items, Message, MessageBuffer, NodeId, SegmentHead, TEXT_MAX, Text,
     WireFault,
 };
-use std::alloc::Global;
 use std::process::Abort;
-use std::test::Fail;
 
 const WITH_TOTAL: Item = Item {
     flags: 0x00,
@@ -31,23 +29,25 @@ fn item(flags: u8, kind: u16, length: u16) -> Item {
     }
 }
 
-fn segment(flags: u8, list: &[Item], length: u64) -> Result<Message, Fail> {
-    Ok(Message::Segment(SegmentHead {
+/// A segment of transfer 0 with these items, at most 64.
+fn segment(flags: u8, list: &[Item], length: u64) -> Message {
+    Message::Segment(SegmentHead {
         flags,
         id: 0,
-        items: Items::try_from(list)?,
+        items: Items::try_from(list).unwrap_or_default(),
         length,
-    }))
+    })
 }
 
-fn session(node: &[u8], list: &[Item]) -> Result<Message, Fail> {
-    Ok(Message::SessInit {
+/// A SESS_INIT with a node ID of at most 1,024 bytes, and with at most 64 items.
+fn session(node: &[u8], list: &[Item]) -> Message {
+    Message::SessInit {
         keepalive: 60,
         segment_mru: 65536,
         transfer_mru: 1048576,
-        node: NodeId::try_from(node)?,
-        items: Items::try_from(list)?,
-    })
+        node: NodeId::try_from(node).unwrap_or_default(),
+        items: Items::try_from(list).unwrap_or_default(),
+    }
 }
 
 /// The least and the greatest number of each length, and numbers with zeros in their middle.
@@ -171,73 +171,60 @@ fn lists(rt: &impl Abort, offset: u64, message: &Message, want: &str) {
 const SESSION: &str = "6 sess-init keepalive=60 segment-mru=65536 transfer-mru=1048576 node=";
 
 /// Checks the line of a SESS_INIT after `SESSION`.
-fn lists_session(rt: &impl Abort, node: &[u8], list: &[Item], want: &str) -> Result<(), Fail> {
+fn lists_session(rt: &impl Abort, node: &[u8], list: &[Item], want: &str) {
     let mut line = Line::new();
-    message_line(&mut line, 6, &session(node, list)?);
+    message_line(&mut line, 6, &session(node, list));
     let shown = line.strip_prefix(SESSION.as_bytes());
     is_text(rt, shown.unwrap_or(b""), want);
-    Ok(())
 }
 
 #[test]
-fn lines_of_sessions(rt: HostRuntime) -> Result<(), Fail> {
+fn lines_of_sessions(rt: HostRuntime) {
     let two = [item(0x01, 0x1234, 1), item(0x00, 0xabcd, 0)];
-    lists_session(&rt, b"ipn:1.0", &[], "ipn:1.0 items=0\n")?;
+    lists_session(&rt, b"ipn:1.0", &[], "ipn:1.0 items=0\n");
     lists_session(
         &rt,
         b"ipn:1.0",
         &two,
         "ipn:1.0 items=2 item=01:1234:1 item=00:abcd:0\n",
-    )?;
-    lists_session(&rt, b"\x20\x5c\xff", &[], "\\x20\\x5c\\xff items=0\n")?;
-    lists_session(&rt, b"", &[], " items=0\n")
+    );
+    lists_session(&rt, b"\x20\x5c\xff", &[], "\\x20\\x5c\\xff items=0\n");
+    lists_session(&rt, b"", &[], " items=0\n");
 }
 
 /// Bytes that are escaped and bytes that are not, hexadecimal digits, and the greatest number.
 #[test]
-fn pieces_of_text(rt: HostRuntime) -> Result<(), Fail> {
+fn pieces_of_text(rt: HostRuntime) {
     let list = [item(0x0a, 0x0fe9, 0)];
     lists(
         &rt,
         u64::MAX,
-        &session(b"!~ \\\x7f\x00a", &list)?,
+        &session(b"!~ \\\x7f\x00a", &list),
         "18446744073709551615 sess-init keepalive=60 segment-mru=65536 transfer-mru=1048576 \
         node=!~\\x20\\x5c\\x7f\\x00a items=1 item=0a:0fe9:0\n",
     );
-    Ok(())
-}
-
-/// Checks the line of a segment.
-fn lists_segment(
-    rt: &impl Abort,
-    offset: u64,
-    segment: Result<Message, Fail>,
-    want: &str,
-) -> Result<(), Fail> {
-    lists(rt, offset, &segment?, want);
-    Ok(())
 }
 
 #[test]
-fn lines_of_segments(rt: HostRuntime) -> Result<(), Fail> {
-    lists_segment(
+fn lines_of_segments(rt: HostRuntime) {
+    lists(
         &rt,
         38,
-        segment(0x03, &[], 34),
+        &segment(0x03, &[], 34),
         "38 xfer-segment flags=03 id=0 items=0 length=34\n",
-    )?;
-    lists_segment(
+    );
+    lists(
         &rt,
         38,
-        segment(0x02, &[WITH_TOTAL], 17),
+        &segment(0x02, &[WITH_TOTAL], 17),
         "38 xfer-segment flags=02 id=0 items=1 item=00:0001:8 length=17\n",
-    )?;
-    lists_segment(
+    );
+    lists(
         &rt,
         90,
-        segment(0x01, &[], 17),
+        &segment(0x01, &[], 17),
         "90 xfer-segment flags=01 id=0 length=17\n",
-    )
+    );
 }
 
 #[test]
@@ -258,30 +245,29 @@ fn lines_of_numbers(rt: HostRuntime) {
 }
 
 /// A message in a buffer in which the node ID and the items of a SESS_INIT stay.
-fn in_place(fields: Fields) -> Result<MessageBuffer, Fail> {
+fn in_place(fields: Fields) -> MessageBuffer {
     let mut message = MessageBuffer::new();
-    message.node = NodeId::try_from(b"ipn:1.0".as_slice())?;
-    message.items.try_push(WITH_TOTAL)?;
+    message.node = NodeId::try_from(b"ipn:1.0".as_slice()).unwrap_or_default();
+    message.items = Items::try_from([WITH_TOTAL].as_slice()).unwrap_or_default();
     message.fields = fields;
-    Ok(message)
+    message
 }
 
 /// Checks the line of this message in place, after two other bytes of a page.
-fn lists_in_place(rt: &impl Abort, fields: Fields, want: &str) -> Result<(), Fail> {
+fn lists_in_place(rt: &impl Abort, fields: Fields, want: &str) {
     let text = MessageText {
         offset: 6,
-        message: &in_place(fields)?,
+        message: &in_place(fields),
         kept: &KeptDigits::new(),
     };
     let mut page = [b'-'; TEXT_MAX + 2];
     let end = text.put(&mut page, 2);
     let shown = page[..end].strip_prefix(b"--");
     is_text(rt, shown.unwrap_or(b""), want);
-    Ok(())
 }
 
 #[test]
-fn session_in_place(rt: HostRuntime) -> Result<(), Fail> {
+fn session_in_place(rt: HostRuntime) {
     let fields = Fields::SessInit {
         keepalive: 60,
         segment_mru: 65536,
@@ -289,28 +275,28 @@ fn session_in_place(rt: HostRuntime) -> Result<(), Fail> {
     };
     let want = "6 sess-init keepalive=60 segment-mru=65536 transfer-mru=1048576 \
         node=ipn:1.0 items=1 item=00:0001:8\n";
-    lists_in_place(&rt, fields, want)
+    lists_in_place(&rt, fields, want);
 }
 
 /// Checks the line of a segment in place with these flags.
-fn lists_segment_in_place(rt: &impl Abort, flags: u8, want: &str) -> Result<(), Fail> {
+fn lists_segment_in_place(rt: &impl Abort, flags: u8, want: &str) {
     let fields = Fields::Segment {
         flags,
         id: 0,
         length: 17,
     };
-    lists_in_place(rt, fields, want)
+    lists_in_place(rt, fields, want);
 }
 
 /// Only a segment with START shows the items. No segment shows the node ID.
 #[test]
-fn segments_in_place(rt: HostRuntime) -> Result<(), Fail> {
+fn segments_in_place(rt: HostRuntime) {
     lists_segment_in_place(
         &rt,
         0x02,
         "6 xfer-segment flags=02 id=0 items=1 item=00:0001:8 length=17\n",
-    )?;
-    lists_segment_in_place(&rt, 0x01, "6 xfer-segment flags=01 id=0 length=17\n")
+    );
+    lists_segment_in_place(&rt, 0x01, "6 xfer-segment flags=01 id=0 length=17\n");
 }
 
 /// Messages that show neither the node ID nor the items, and their lines.
@@ -348,20 +334,18 @@ static OTHERS: [(Fields, &str); 5] = [
 ];
 
 #[test]
-fn other_messages_in_place(rt: HostRuntime) -> Result<(), Fail> {
+fn other_messages_in_place(rt: HostRuntime) {
     for (fields, want) in &OTHERS {
-        lists_in_place(&rt, *fields, want)?;
+        lists_in_place(&rt, *fields, want);
     }
-    Ok(())
 }
 
 #[test]
-fn longest_node(rt: HostRuntime) -> Result<(), Fail> {
+fn longest_node(rt: HostRuntime) {
     let mut line = Line::new();
-    message_line(&mut line, 6, &session(&[0xff; 1024], &[])?);
+    message_line(&mut line, 6, &session(&[0xff; 1024], &[]));
     assert_eq!(rt; line.len(), 4174);
     assert!(rt; line.ends_with(b"\\xff\\xff items=0\n"));
-    Ok(())
 }
 
 /// The codes of RFC 9174, table 6, and the first code past them.
@@ -514,28 +498,27 @@ fn has_line(rt: &impl Abort, fault: &Fault, want: &str) {
 }
 
 /// The offset and the text of a fault of the wire or of the order. Other faults have none.
-fn text_of(alloc: Global, fault: &Fault) -> Result<String, Fail> {
-    match fault {
-        Fault::Wire(offset, fault) => Ok(format!(in alloc; "{offset}: {fault}\n")?),
-        Fault::Order(offset, fault) => Ok(format!(in alloc; "{offset}: {fault}\n")?),
-        _ => Ok(String::new(alloc)),
-    }
+fn text_of(rt: &(impl Abort + AllocGlobal), fault: &Fault) -> String {
+    let text = match fault {
+        Fault::Wire(offset, fault) => format!(in rt.alloc(); "{offset}: {fault}\n"),
+        Fault::Order(offset, fault) => format!(in rt.alloc(); "{offset}: {fault}\n"),
+        _ => Ok(String::new(rt.alloc())),
+    };
+    text.expect(rt, "memory")
 }
 
 /// Checks that the error type of a fault has the text of its line.
-fn has_its_text(rt: &impl Abort, alloc: Global, fault: &Fault, line: &str) -> Result<(), Fail> {
-    let shown = text_of(alloc, fault)?;
+fn has_its_text(rt: &(impl Abort + AllocGlobal), fault: &Fault, line: &str) {
+    let shown = text_of(rt, fault);
     let rest = line.strip_prefix("tcpclkit: byte ");
     is_text(rt, shown.as_bytes(), rest.unwrap_or("no such prefix"));
-    Ok(())
 }
 
 /// The error types of faults have the same texts as the lines.
 #[test]
-fn lines_of_faults(rt: HostRuntime) -> Result<(), Fail> {
+fn lines_of_faults(rt: HostRuntime) {
     for (fault, want) in &FAULT_LINES {
         has_line(&rt, fault, want);
-        has_its_text(&rt, rt.alloc(), fault, want)?;
+        has_its_text(&rt, fault, want);
     }
-    Ok(())
 }

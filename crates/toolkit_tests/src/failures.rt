@@ -126,7 +126,7 @@ fn is_prefix(device: &str, written: &[u8], whole: &[u8]) -> Result<(), Fail> {
 }
 
 /// The ends of those lines that only the end of the input determines.
-const AT_THE_END: [&[u8]; 3] = [
+static AT_THE_END: [&[u8]; 3] = [
     b": truncated\n",
     b" abandoned\n",
     b": B1 input ends inside a bundle\n",

@@ -188,7 +188,7 @@ pub const LATE_TRANSFERS: Row = Row {
 };
 
 /// A stream for each fault of the order.
-pub const EACH_FAULT: [Row; 5] = [
+pub static EACH_FAULT: [Row; 5] = [
     SECOND_SESS_INIT,
     EARLY_TRANSFER,
     STRAY_SEGMENTS,
@@ -197,7 +197,7 @@ pub const EACH_FAULT: [Row; 5] = [
 ];
 
 /// Streams in which faults of the order meet each other or an option.
-pub const TOGETHER: [Row; 8] = [
+pub static TOGETHER: [Row; 8] = [
     STRAY_FIRST,
     Row {
         name: "heads with two faults",
@@ -315,7 +315,7 @@ pub const TOGETHER: [Row; 8] = [
 ];
 
 /// Streams in which a fault of the wire follows.
-pub const ENDED: [Row; 3] = [
+pub static ENDED: [Row; 3] = [
     STRAY_CUT,
     Row {
         name: "a cut segment that repeats a start",

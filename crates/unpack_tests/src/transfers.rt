@@ -111,7 +111,7 @@ pub const PAYLOADS: Row = Row {
 };
 
 /// Streams that are read to their end, with all of their data wanted.
-pub const WHOLE: [Row; 9] = [
+pub static WHOLE: [Row; 9] = [
     Row {
         name: "a contact header",
         wanted: ALL,
@@ -194,7 +194,7 @@ pub const WHOLE: [Row; 9] = [
 ];
 
 /// Streams from which only a part is wanted.
-pub const PARTS: [Row; 4] = [
+pub static PARTS: [Row; 4] = [
     Row {
         name: "one of two transfers",
         wanted: ONLY_1,
@@ -239,7 +239,7 @@ pub const PARTS: [Row; 4] = [
 ];
 
 /// Streams with a fault.
-pub const FAULTS: [Row; 7] = [
+pub static FAULTS: [Row; 7] = [
     Row {
         name: "the longest segment cut",
         wanted: ALL,

@@ -16,7 +16,7 @@ type Changed = ([usize; 2], &'static [u8], &'static str, &'static [u8]);
 
 const GOOD: &str = "good source=ipn:1.1 time=0 sequence=0 destination=ipn:2.1 payload=5";
 
-const PRIMARY: [Changed; 17] = [
+static PRIMARY: [Changed; 17] = [
     // no array of indefinite length
     ([0, 1], b"\x85", "bad=B3 byte=0", b""),
     // seven elements
@@ -63,7 +63,7 @@ const PRIMARY: [Changed; 17] = [
     ([5, 10], b"\x82\x02\x83\x00\x02\x40", "bad=B5 byte=10", b""),
 ];
 
-const NAMES: [Changed; 4] = [
+static NAMES: [Changed; 4] = [
     // a fragment
     (
         [1, 22],
@@ -94,7 +94,7 @@ const NAMES: [Changed; 4] = [
     ),
 ];
 
-const BLOCKS: [Changed; 12] = [
+static BLOCKS: [Changed; 12] = [
     // the bundle as it is
     ([34, 34], b"", GOOD, b"hello"),
     // no bytes

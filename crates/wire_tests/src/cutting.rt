@@ -1,10 +1,10 @@
 //! Bundles cut into chunks.
 
-ghost use Rattle.std.specs.Prelude.{◌≡◌, ◌<◌, ◌≤◌, false, length, IfOk, OnOk};
+ghost use Rattle.std.specs.Prelude.{◌≡◌, ◌<◌, ◌≤◌, false, length};
 ghost use Rattle.link_transfer.specs.Cutter.{cut_waits};
 
 use link_transfer::{Cut, Cutter};
-use std::alloc::{AllocError, Global};
+use std::alloc::AllocError;
 use std::process::Abort;
 use std::test::Fail;
 
@@ -14,202 +14,232 @@ const BUNDLE: &[u8] = b"abcdefghijklm";
 /// The size of a segment in bytes.
 const SEGMENT: usize = 4;
 
-/// A chunk that was cut: its description, and its bytes.
-#[derive(Debug, PartialEq, Drop)]
-struct Given {
-    cut: Cut,
-    bytes: Vec<u8>,
-}
-
-/// The chunks that a cutter has to cut a bundle into.
+/// The chunks that a cutter with this hold has to cut a bundle into, and how many it has cut.
 ///
 /// They are the chunks of std, with the first and the last marked. The length is announced if the
 /// bundle is longer than a segment and not longer than the hold.
-fn wanted(alloc: Global, bundle: &[u8], hold: usize) -> Result<Vec<Given>, AllocError> {
-    let mut wanted = Vec::new(alloc);
-    let is_announced = SEGMENT < bundle.len() && bundle.len() <= hold;
-    let count = bundle.len().div_ceil(SEGMENT);
-    for (index, chunk) in bundle.chunks(SEGMENT).enumerate() {
-        let cut = Cut {
-            first: index == 0,
-            last: count - index == 1,
-            announce: (is_announced && index == 0).then_some(bundle.len() as u64),
-        };
-        wanted.push(Given {
-            cut,
-            bytes: Vec::from_slice(alloc, chunk)?,
-        })?;
+#[derive(Clone, Copy)]
+struct Chunks<'a> {
+    bundle: &'a [u8],
+    hold: usize,
+    count: usize,
+}
+
+impl Chunks<'_> {
+    /// The description of the next chunk.
+    fn next_cut(&self) -> Cut {
+        let length = self.bundle.len();
+        let is_announced = SEGMENT < length && length <= self.hold && self.count == 0;
+        Cut {
+            first: self.count == 0,
+            last: length.div_ceil(SEGMENT) == self.count.saturating_add(1),
+            announce: is_announced.then_some(length as u64),
+        }
     }
-    Ok(wanted)
+
+    /// Checks the next chunk: its description, and its bytes.
+    fn take(&mut self, rt: &impl Abort, cut: Cut, bytes: &[u8]) {
+        assert_eq!(rt;
+            cut,
+            self.next_cut(),
+            "{:?}, hold {}",
+            self.bundle,
+            self.hold
+        );
+        let chunk = self.bundle.chunks(SEGMENT).nth(self.count);
+        assert_eq!(rt; Some(bytes), chunk, "{:?}, hold {}", self.bundle, self.hold);
+        self.count = self.count.saturating_add(1);
+    }
+
+    /// Checks that the whole bundle was cut, and begins again.
+    fn end(&mut self, rt: &impl Abort) {
+        let count = self.bundle.len().div_ceil(SEGMENT);
+        assert_eq!(rt; self.count, count, "{:?}, hold {}", self.bundle, self.hold);
+        self.count = 0;
+    }
+
+    /// Checks a cutter after the first `come` bytes of the bundle.
+    ///
+    /// While the bundle is incomplete and has at most `hold` bytes, no chunk was cut. After more
+    /// bytes each full chunk was cut. The other bytes are shown.
+    fn leave(&self, rt: &impl Abort, cutter: &Cutter, come: usize) {
+        if come == self.bundle.len() {
+            assert_eq!(rt; cutter.bytes(), b"".as_slice(), "{come} bytes");
+            return;
+        }
+        let full = if come > self.hold { come / SEGMENT } else { 0 };
+        assert_eq!(rt; self.count, full, "{come} bytes");
+        let rest = self.bundle.get(full.saturating_mul(SEGMENT)..come);
+        assert_eq!(rt; Some(cutter.bytes()), rest, "{come} bytes");
+    }
 }
 
 /// Takes the chunks that are ready.
-fn take_all(alloc: Global, cutter: &mut Cutter, given: &mut Vec<Given>) -> Result<(), AllocError>
-    ensures { OnOk result (cut_waits cutter.new ≡ false) }
+fn take_all(rt: &impl Abort, cutter: &mut Cutter, chunks: &mut Chunks<'_>)
+    ensures { cut_waits cutter.new ≡ false }
 {
     while let Some(cut) = cutter.cut() {
-        given.push(Given {
-            cut,
-            bytes: Vec::from_slice(alloc, cutter.bytes())?,
-        })?;
+        chunks.take(rt, cut, cutter.bytes());
     }
-    Ok(())
+}
+
+/// Takes a chunk that can be cut where it lies, or else pushes its bytes.
+fn take_in_place(
+    rt: &impl Abort,
+    cutter: &mut Cutter,
+    part: &[u8],
+    last: bool,
+    chunks: &mut Chunks<'_>,
+)
+    requires { cut_waits cutter.old ≡ false }
+{
+    match cutter.cut_slice(part, last) {
+        Some(cut) => chunks.take(rt, cut, part),
+        None => {
+            cutter.push_slice(part, last);
+        }
+    }
 }
 
 /// Takes bytes until a chunk is ready, or all, and returns how many.
 ///
 /// With `in_place`, a chunk that can be cut where it lies is taken, and its bytes are not pushed.
 fn advance(
-    alloc: Global,
+    rt: &impl Abort,
     cutter: &mut Cutter,
     piece: &[u8],
     last: bool,
     in_place: bool,
-    given: &mut Vec<Given>,
-) -> Result<usize, AllocError>
+    chunks: &mut Chunks<'_>,
+) -> usize
     requires quiet { cut_waits cutter.old ≡ false }
     requires some { 0 < length piece.now }
-    ensures { IfOk result (λ size. (0 < size) × (size ≤ length piece.now)) }
+    ensures some { 0 < result }
+    ensures within { result ≤ length piece.now }
 {
     if !in_place {
-        return Ok(cutter.push_slice(piece, last));
+        return cutter.push_slice(piece, last);
     }
     let size = cutter.wanted().min(piece.len());
-    let part = &piece[..size];
     let ends = last && size == piece.len();
-    match cutter.cut_slice(part, ends) {
-        Some(cut) => given.push(Given {
-            cut,
-            bytes: Vec::from_slice(alloc, part)?,
-        })?,
-        None => {
-            cutter.push_slice(part, ends);
-        }
-    }
-    Ok(size)
+    take_in_place(rt, cutter, &piece[..size], ends, chunks);
+    size
 }
 
 /// Pushes a piece of a bundle, and takes each chunk as soon as it is ready.
 fn push_piece(
-    alloc: Global,
+    rt: &impl Abort,
     cutter: &mut Cutter,
     piece: &[u8],
     last: bool,
     in_place: bool,
-    given: &mut Vec<Given>,
-) -> Result<(), AllocError>
+    chunks: &mut Chunks<'_>,
+)
     requires { cut_waits cutter.old ≡ false }
-    ensures { OnOk result (cut_waits cutter.new ≡ false) }
+    ensures { cut_waits cutter.new ≡ false }
 {
     let mut at = 0;
     while at < piece.len() {
-        at += advance(alloc, cutter, &piece[at..], last, in_place, given)?;
-        take_all(alloc, cutter, given)?;
+        at += advance(rt, cutter, &piece[at..], last, in_place, chunks);
+        take_all(rt, cutter, chunks);
+    }
+}
+
+/// Pushes the bundle in two pieces.
+fn push_in_two(
+    rt: &impl Abort,
+    cutter: &mut Cutter,
+    at: usize,
+    in_place: bool,
+    chunks: &mut Chunks<'_>,
+)
+    requires { cut_waits cutter.old ≡ false }
+    ensures { cut_waits cutter.new ≡ false }
+{
+    let (front, back) = chunks.bundle.split_at(chunks.bundle.len().min(at));
+    push_piece(rt, cutter, front, false, in_place, chunks);
+    push_piece(rt, cutter, back, true, in_place, chunks);
+    chunks.end(rt);
+}
+
+/// Pushes the bundle byte by byte, and takes each chunk as soon as it is ready.
+fn push_bytes(rt: &impl Abort, cutter: &mut Cutter, bundle: &[u8], chunks: &mut Chunks<'_>)
+    requires { cut_waits cutter.old ≡ false }
+    ensures { cut_waits cutter.new ≡ false }
+{
+    for (index, &byte) in bundle.iter().enumerate() {
+        let come = index.saturating_add(1);
+        cutter.push(byte, come == bundle.len());
+        take_all(rt, cutter, chunks);
+        chunks.leave(rt, cutter, come);
+    }
+    chunks.end(rt);
+}
+
+/// A cutter cuts the bundle and the same bundle again, each pushed in two pieces.
+fn cuts_in_two(
+    rt: &(impl Abort + AllocGlobal),
+    bundle: &[u8],
+    hold: usize,
+    at: usize,
+    in_place: bool,
+) -> Result<(), AllocError>
+    requires { hold ≤ 1048576 }
+{
+    let mut cutter = Cutter::new(rt.alloc(), SEGMENT, hold)?;
+    let mut chunks = Chunks {
+        bundle,
+        hold,
+        count: 0,
+    };
+    push_in_two(rt, &mut cutter, at, in_place, &mut chunks);
+    push_in_two(rt, &mut cutter, at, in_place, &mut chunks);
+    Ok(())
+}
+
+/// A cutter cuts the bundle and the same bundle again, each pushed byte by byte.
+fn cuts_bytes(rt: &(impl Abort + AllocGlobal), bundle: &[u8], hold: usize) -> Result<(), AllocError>
+    requires { hold ≤ 1048576 }
+{
+    let mut cutter = Cutter::new(rt.alloc(), SEGMENT, hold)?;
+    let mut chunks = Chunks {
+        bundle,
+        hold,
+        count: 0,
+    };
+    push_bytes(rt, &mut cutter, bundle, &mut chunks);
+    push_bytes(rt, &mut cutter, bundle, &mut chunks);
+    Ok(())
+}
+
+/// Checks the chunks of one bundle under this hold.
+fn cuts(rt: &(impl Abort + AllocGlobal), bundle: &[u8], hold: usize) -> Result<(), AllocError> {
+    assert!(rt; hold <= 1_048_576);
+    cuts_bytes(rt, bundle, hold)?;
+    for at in 0..bundle.len() {
+        cuts_in_two(rt, bundle, hold, at, false)?;
+        cuts_in_two(rt, bundle, hold, at, true)?;
     }
     Ok(())
 }
 
-/// The chunks of the bundle and of the same bundle again, each pushed in two pieces.
-fn in_two(
-    alloc: Global,
-    hold: usize,
-    bundle: &[u8],
-    at: usize,
-    in_place: bool,
-) -> Result<Vec<Given>, AllocError>
-    requires hold { hold ≤ 1048576 }
-    requires at { at ≤ length bundle.now }
-{
-    let mut cutter = Cutter::new(alloc, SEGMENT, hold)?;
-    let mut given = Vec::new(alloc);
-    for _ in 0..2 {
-        push_piece(
-            alloc,
-            &mut cutter,
-            &bundle[..at],
-            false,
-            in_place,
-            &mut given,
-        )?;
-        push_piece(
-            alloc,
-            &mut cutter,
-            &bundle[at..],
-            true,
-            in_place,
-            &mut given,
-        )?;
-    }
-    Ok(given)
-}
+/// Lengths around multiples of a segment.
+static LENGTHS: [usize; 9] = [1, 3, 4, 5, 7, 8, 9, 12, 13];
 
-/// The chunks of the bundle and of the same bundle again, each pushed byte by byte.
-///
-/// While the bundle is incomplete and has at most `hold` bytes, no chunk was cut. After more bytes
-/// each full chunk was cut. The other bytes are shown.
-fn in_bytes(rt: &(impl Abort + AllocGlobal), hold: usize, bundle: &[u8]) -> Result<Vec<Given>, Fail>
-    requires { hold ≤ 1048576 }
-{
-    let mut cutter = Cutter::new(rt.alloc(), SEGMENT, hold)?;
-    let mut given = Vec::new(rt.alloc());
-    for turn in 0..2 {
-        let before = given.len();
-        for (index, &byte) in bundle.iter().enumerate() {
-            let last = bundle.len() - index == 1;
-            cutter.push(byte, last);
-            take_all(rt.alloc(), &mut cutter, &mut given)?;
-            let come = index + 1;
-            let full = if come > hold { come / SEGMENT } else { 0 };
-            let left = if last {
-                &[]
-            } else {
-                &bundle[full * SEGMENT..come]
-            };
-            assert!(rt;
-                last || given.len() == before + full,
-                "{come} bytes, turn {turn}"
-            );
-            assert_eq!(rt; cutter.bytes(), left, "{come} bytes, turn {turn}");
-        }
-    }
-    Ok(given)
-}
+/// Holds around a segment and around the lengths.
+static HOLDS: [usize; 13] = [0, 1, 3, 4, 5, 7, 8, 9, 11, 12, 13, 14, 1_048_576];
 
-/// Bundles with lengths around multiples of a segment, and holds around the segment and the length.
+/// Bundles of each length, under each hold.
 ///
 /// Each is pushed byte by byte, whole, and in two pieces cut at every position. The pieces are also
 /// cut where they lie.
 #[test]
 fn gives_the_chunks(rt: HostRuntime) -> Result<(), Fail> {
-    for &length in &[1, 3, 4, 5, 7, 8, 9, 12, 13] {
-        for &hold in &[0, 1, 3, 4, 5, 7, 8, 9, 11, 12, 13, 14, 1_048_576] {
-            gives_the_chunks_of(&rt, &BUNDLE[..length], hold)?;
+    for &length in &LENGTHS {
+        let bundle = BUNDLE.get(..length).ok_or("more than the bundle")?;
+        for &hold in &HOLDS {
+            cuts(&rt, bundle, hold)?;
         }
     }
     Ok(())
-}
-
-/// Checks the chunks of one bundle under this hold.
-fn gives_the_chunks_of(
-    rt: &(impl Abort + AllocGlobal),
-    bundle: &[u8],
-    hold: usize,
-) -> Result<(), Fail>
-    requires bundle { length bundle.now ≤ 13 }
-    requires hold { hold ≤ 1048576 }
-{
-    let mut want = wanted(rt.alloc(), bundle, hold)?;
-    want.extend(wanted(rt.alloc(), bundle, hold)?)?;
-    let bytewise = in_bytes(rt, hold, bundle)?;
-    is_wanted(rt, &bytewise, &want, bundle, hold);
-    for at in 0..2 * bundle.len() {
-        let pieces = in_two(rt.alloc(), hold, bundle, at / 2, at % 2 == 1)?;
-        is_wanted(rt, &pieces, &want, bundle, hold);
-    }
-    Ok(())
-}
-
-/// Checks that these are the chunks that are wanted of a bundle under this hold.
-fn is_wanted(rt: &impl Abort, given: &[Given], want: &[Given], bundle: &[u8], hold: usize) {
-    assert_eq!(rt; given, want, "{bundle:?}, hold {hold}");
 }

@@ -1,24 +1,31 @@
 //! Tests of the bytes that the `put_` calls append, and of what a session reads and waits for.
 
-ghost use Rattle.std.specs.Prelude.{◌≡◌, ◌≤◌};
+ghost use Rattle.std.specs.Prelude.{◌≡◌, IsTrue};
 ghost use Rattle.arrayvec.specs.ArrayVec.{array_vec_len};
+ghost use Rattle.link_wire.specs.Session.{may_read};
 
 use link_wire::{
-    Contact, END, HeadBuf, Item, Items, Message, MessageBuffer, NodeId, Reader, START, SegmentHead,
-    Session, Source, Stop, put_contact, put_segment_head, put_sess_init, put_sess_term,
+    Contact, END, HeadBuf, InDevice, Item, Items, Message, MessageBuffer, NodeId, Reader, START,
+    SegmentHead, Session, Source, put_contact, put_segment_head, put_sess_init, put_sess_term,
 };
 use std::process::Abort;
-use std::test::Fail;
 
-/// Reads the first message of a session that consists of these bytes.
-fn read_again(bytes: &[u8]) -> Result<Option<(u64, Message)>, Stop> {
+/// A session over these bytes whose contact header was read.
+fn opened<'a>(rt: &impl Abort, bytes: &'a [u8]) -> Session<Reader<&'a [u8]>>
+    ensures { IsTrue (may_read result) }
+{
     let mut session = Session::new(Source::new(Reader::new(bytes)));
-    session.open()?;
-    session.next()
+    assert!(rt; session.open().is_ok());
+    session
+}
+
+/// Checks that this is the first message of a session that consists of these bytes.
+fn is_read(rt: &impl Abort, bytes: &[u8], message: Message) {
+    assert_eq!(rt; opened(rt, bytes).next(), Ok(Some((6, message))));
 }
 
 /// A contact header without flags.
-fn opened() -> HeadBuf
+fn with_contact() -> HeadBuf
     ensures { array_vec_len result ≡ 6 }
 {
     let mut buffer = HeadBuf::new();
@@ -26,63 +33,88 @@ fn opened() -> HeadBuf
     buffer
 }
 
-/// Whether the head of a segment is read as it was put.
-///
-/// It has no items, or with START one item that announces a total.
-fn put_and_read(flags: u8, id: u64, length: u64, items: &[Item]) -> Result<bool, Fail> {
-    let mut buffer = opened();
-    let announce = match items {
-        [item] if flags & START == START => item.total,
-        _ => None,
-    };
-    put_segment_head(&mut buffer, flags, id, length, announce);
+/// No items, or one that announces a total length.
+fn items_of(announced: Option<u64>) -> Items {
+    let mut items = Items::new();
+    if announced.is_some() {
+        items.push(Item {
+            flags: 0,
+            kind: 1,
+            length: 8,
+            total: announced,
+        });
+    }
+    items
+}
+
+/// Checks that the head of a segment without items is read as it was put.
+fn put_and_read(rt: &impl Abort, flags: u8, id: u64, length: u64) {
+    let mut buffer = with_contact();
+    put_segment_head(&mut buffer, flags, id, length, None);
     let head = SegmentHead {
         flags,
         id,
-        items: Items::try_from(items)?,
+        items: Items::new(),
         length,
     };
-    Ok(read_again(buffer.as_slice())? == Some((6, Message::Segment(head))))
+    is_read(rt, buffer.as_slice(), Message::Segment(head));
 }
 
-/// The item that announces a total length.
-fn announced(total: u64) -> Item {
-    Item {
-        flags: 0,
-        kind: 1,
-        length: 8,
-        total: Some(total),
-    }
+/// Checks that the head of a segment that announces a total is read as it was put.
+fn put_and_read_announced(rt: &impl Abort, announced: u64) {
+    let mut buffer = with_contact();
+    put_segment_head(&mut buffer, START, 1, 2, Some(announced));
+    let head = SegmentHead {
+        flags: START,
+        id: 1,
+        items: items_of(Some(announced)),
+        length: 2,
+    };
+    is_read(rt, buffer.as_slice(), Message::Segment(head));
 }
 
 /// Checks that a contact header is read as it was put.
-fn put_and_open(rt: &impl Abort, flags: u8) -> Result<(), Fail> {
+fn put_and_open(rt: &impl Abort, flags: u8) {
     let mut buffer = HeadBuf::new();
     put_contact(&mut buffer, flags);
     let mut session = Session::new(Source::new(Reader::new(buffer.as_slice())));
-    assert_eq!(rt; session.open()?, Contact { flags });
-    Ok(())
+    assert_eq!(rt; session.open(), Ok(Contact { flags }));
+}
+
+/// Checks the bytes that were put.
+fn is_put(rt: &impl Abort, buffer: &HeadBuf, want: &[u8]) {
+    assert_eq!(rt; buffer.as_slice(), want);
 }
 
 #[test]
-fn contact_headers(rt: HostRuntime) -> Result<(), Fail> {
-    put_and_open(&rt, 0)?;
-    put_and_open(&rt, 1)?;
-    put_and_open(&rt, 255)?;
-    assert_eq!(rt; opened().as_slice(), b"dtn!\x04\x00".as_slice());
-    Ok(())
+fn contact_headers(rt: HostRuntime) {
+    put_and_open(&rt, 0);
+    put_and_open(&rt, 1);
+    put_and_open(&rt, 255);
+    is_put(&rt, &with_contact(), b"dtn!\x04\x00");
+}
+
+/// A node ID of this many bytes, or of 1,024 if there are more.
+fn node_of(size: usize) -> NodeId {
+    let mut node = NodeId::new();
+    for _ in 0..size {
+        if !node.is_full() {
+            node.push(0x64);
+        }
+    }
+    node
 }
 
 #[test]
-fn example_of_a_session(rt: HostRuntime) -> Result<(), Fail> {
-    let node = NodeId::try_from(b"ipn:1.0".as_slice())?;
+fn example_of_a_session(rt: HostRuntime) {
+    let node = NodeId::try_from(b"ipn:1.0".as_slice()).unwrap_or_default();
     let mut example = HeadBuf::new();
     put_sess_init(&mut example, 60, 65_536, 1_048_576, &node);
-    assert_eq!(rt;
-        example.as_slice(),
-        b"\x07\x00\x3c\x00\x00\x00\x00\x00\x01\x00\x00\x00\x00\x00\x00\x00\x10\x00\x00\x00\x07ipn:1.0\x00\x00\x00\x00".as_slice()
+    is_put(
+        &rt,
+        &example,
+        b"\x07\x00\x3c\x00\x00\x00\x00\x00\x01\x00\x00\x00\x00\x00\x00\x00\x10\x00\x00\x00\x07ipn:1.0\x00\x00\x00\x00",
     );
-    Ok(())
 }
 
 /// Checks that a SESS_INIT whose node ID has this size is read as it was put.
@@ -92,78 +124,76 @@ fn put_and_read_session(
     segment_mru: u64,
     transfer_mru: u64,
     size: usize,
-) -> Result<(), Fail>
-    requires { size ≤ 1024 }
-{
-    let node = NodeId::try_from(&[0x64; 1024][..size])?;
-    let mut buffer = opened();
+) {
+    let node = node_of(size);
+    let mut buffer = with_contact();
     put_sess_init(&mut buffer, keepalive, segment_mru, transfer_mru, &node);
-    let expected = Message::SessInit {
+    let message = Message::SessInit {
         keepalive,
         segment_mru,
         transfer_mru,
         node,
         items: Items::new(),
     };
-    assert_eq!(rt; read_again(buffer.as_slice())?, Some((6, expected)));
-    Ok(())
+    is_read(rt, buffer.as_slice(), message);
 }
 
 #[test]
-fn sessions(rt: HostRuntime) -> Result<(), Fail> {
-    put_and_read_session(&rt, 0, 0, 1, 0)?;
-    put_and_read_session(&rt, 1, 1, u64::MAX, 1)?;
-    put_and_read_session(&rt, u16::MAX, u64::MAX, 0, 1024)
-}
-
-#[test]
-fn segments(rt: HostRuntime) -> Result<(), Fail> {
-    let mut example = HeadBuf::new();
-    put_segment_head(&mut example, START | END, 0, 34, None);
-    assert_eq!(rt;
-        example.as_slice(),
-        b"\x01\x03\x00\x00\x00\x00\x00\x00\x00\x00\x00\x00\x00\x00\x00\x00\x00\x00\x00\x00\x00\x22".as_slice()
-    );
-    segments_of(&rt, 0)?;
-    segments_of(&rt, 1)?;
-    segments_of(&rt, u64::MAX)
+fn sessions(rt: HostRuntime) {
+    put_and_read_session(&rt, 0, 0, 1, 0);
+    put_and_read_session(&rt, 1, 1, u64::MAX, 1);
+    put_and_read_session(&rt, u16::MAX, u64::MAX, 0, 1024);
 }
 
 /// Checks segments with this number as their ID, their length or their announced total.
-fn segments_of(rt: &impl Abort, number: u64) -> Result<(), Fail> {
-    assert!(rt; put_and_read(0, number, 1, &[])?);
-    assert!(rt; put_and_read(END, 0, number, &[])?);
-    assert!(rt; put_and_read(START, number, 0, &[])?);
-    assert!(rt; put_and_read(255, 1, number, &[])?);
-    assert!(rt; put_and_read(START, 1, 2, &[announced(number)])?);
-    Ok(())
+fn segments_of(rt: &impl Abort, number: u64) {
+    put_and_read(rt, 0, number, 1);
+    put_and_read(rt, END, 0, number);
+    put_and_read(rt, START, number, 0);
+    put_and_read(rt, 255, 1, number);
+    put_and_read_announced(rt, number);
+}
+
+#[test]
+fn segments(rt: HostRuntime) {
+    let mut example = HeadBuf::new();
+    put_segment_head(&mut example, START | END, 0, 34, None);
+    is_put(
+        &rt,
+        &example,
+        b"\x01\x03\x00\x00\x00\x00\x00\x00\x00\x00\x00\x00\x00\x00\x00\x00\x00\x00\x00\x00\x00\x22",
+    );
+    segments_of(&rt, 0);
+    segments_of(&rt, 1);
+    segments_of(&rt, u64::MAX);
 }
 
 #[test]
 fn announced_total(rt: HostRuntime) {
     let mut buffer = HeadBuf::new();
     put_segment_head(&mut buffer, START, 0, 17, Some(34));
-    assert_eq!(rt;
-        buffer.as_slice(),
-        b"\x01\x02\x00\x00\x00\x00\x00\x00\x00\x00\x00\x00\x00\x0d\x00\x00\x01\x00\x08\x00\x00\x00\x00\x00\x00\x00\x22\x00\x00\x00\x00\x00\x00\x00\x11".as_slice()
+    is_put(
+        &rt,
+        &buffer,
+        b"\x01\x02\x00\x00\x00\x00\x00\x00\x00\x00\x00\x00\x00\x0d\x00\x00\x01\x00\x08\x00\x00\x00\x00\x00\x00\x00\x22\x00\x00\x00\x00\x00\x00\x00\x11",
     );
 }
 
 /// Checks that a SESS_TERM is read as it was put.
-fn put_and_read_termination(rt: &impl Abort, flags: u8, reason: u8) -> Result<(), Fail> {
-    let mut buffer = opened();
+fn put_and_read_termination(rt: &impl Abort, flags: u8, reason: u8) {
+    let mut buffer = with_contact();
     put_sess_term(&mut buffer, flags, reason);
-    let expected = Message::SessTerm { flags, reason };
-    assert_eq!(rt; read_again(buffer.as_slice())?, Some((6, expected)));
-    Ok(())
+    is_read(rt, buffer.as_slice(), Message::SessTerm { flags, reason });
 }
 
+/// The flags and the reasons of messages.
+static TERMINATIONS: [(u8, u8); 6] = [(0, 3), (1, 3), (255, 3), (1, 0), (1, 1), (1, 255)];
+
 #[test]
-fn terminations(rt: HostRuntime) -> Result<(), Fail> {
-    for &(flags, reason) in &[(0, 3), (1, 3), (255, 3), (1, 0), (1, 1), (1, 255)] {
-        put_and_read_termination(&rt, flags, reason)?;
+fn terminations(rt: HostRuntime) {
+    for &(flags, reason) in &TERMINATIONS {
+        put_and_read_termination(&rt, flags, reason);
     }
-    Ok(())
 }
 
 /// Recordings, and whether the call after the contact header may have to wait.
@@ -196,20 +226,16 @@ static HEADS: [(&[u8], bool); 9] = [
 ];
 
 /// Checks whether the call after the contact header may have to wait.
-fn head_is_waited_for(rt: &impl Abort, stream: &[u8], waits: bool) -> Result<(), Fail> {
-    let mut session = Session::new(Source::new(Reader::new(stream)));
-    assert!(rt; session.may_wait());
-    session.open()?;
-    assert_eq!(rt; session.may_wait(), waits);
-    Ok(())
+fn head_is_waited_for(rt: &impl Abort, stream: &[u8], waits: bool) {
+    assert!(rt; Session::new(Source::new(Reader::new(stream))).may_wait());
+    assert_eq!(rt; opened(rt, stream).may_wait(), waits);
 }
 
 #[test]
-fn heads_that_are_waited_for(rt: HostRuntime) -> Result<(), Fail> {
+fn heads_that_are_waited_for(rt: HostRuntime) {
     for (stream, waits) in &HEADS {
-        head_is_waited_for(&rt, stream, *waits)?;
+        head_is_waited_for(&rt, stream, *waits);
     }
-    Ok(())
 }
 
 /// Recordings, and whether the call for data may have to wait.
@@ -227,21 +253,17 @@ static DATA: [(&[u8], bool); 2] = [
 ];
 
 /// Checks whether the call for data may have to wait.
-fn data_is_waited_for(rt: &impl Abort, stream: &[u8], waits: bool) -> Result<(), Fail> {
-    let mut session = Session::new(Source::new(Reader::new(stream)));
-    session.open()?;
-    let _head = session.next()?;
-    assert_eq!(rt; session.left(), 2);
-    assert_eq!(rt; session.may_wait(), waits);
-    Ok(())
+fn data_is_waited_for(rt: &impl Abort, stream: &[u8], waits: bool) {
+    let mut session = opened(rt, stream);
+    assert!(rt; session.next().is_ok());
+    assert_eq!(rt; (session.left(), session.may_wait()), (2, waits));
 }
 
 #[test]
-fn data_that_is_waited_for(rt: HostRuntime) -> Result<(), Fail> {
+fn data_that_is_waited_for(rt: HostRuntime) {
     for (stream, waits) in &DATA {
-        data_is_waited_for(&rt, stream, *waits)?;
+        data_is_waited_for(&rt, stream, *waits);
     }
-    Ok(())
 }
 
 /// Recordings, and how many bytes after the contact header are passed over as quiet messages.
@@ -271,25 +293,24 @@ static QUIET: [(&[u8], usize); 11] = [
     ),
 ];
 
+/// The number of bytes after the contact header that a session has given.
+fn given_after_contact<R: InDevice + Drop>(session: Session<R>) -> Option<u64> {
+    session.into_source().given().checked_sub(6)
+}
+
 /// Checks how many bytes after the contact header are passed over as quiet messages.
-fn quiet_are_passed(rt: &impl Abort, stream: &[u8], count: usize) -> Result<(), Fail> {
-    let mut session = Session::new(Source::new(Reader::new(stream)));
-    session.open()?;
+fn quiet_are_passed(rt: &impl Abort, stream: &[u8], count: usize) {
+    let mut session = opened(rt, stream);
     assert_eq!(rt; session.pass_quiet(), count);
     assert_eq!(rt; session.pass_quiet(), 0);
-    assert_eq!(rt;
-        session.into_source().given().checked_sub(6),
-        Some(count as u64)
-    );
-    Ok(())
+    assert_eq!(rt; given_after_contact(session), Some(count as u64));
 }
 
 #[test]
-fn quiet_messages(rt: HostRuntime) -> Result<(), Fail> {
+fn quiet_messages(rt: HostRuntime) {
     for (stream, count) in &QUIET {
-        quiet_are_passed(&rt, stream, *count)?;
+        quiet_are_passed(&rt, stream, *count);
     }
-    Ok(())
 }
 
 /// Recordings, and whether the message after the contact header is given with its data.
@@ -318,21 +339,18 @@ static WHOLE: [(&[u8], bool); 6] = [
 ];
 
 /// Checks whether the message after the contact header is given with its data.
-fn is_given_whole(rt: &impl Abort, stream: &[u8], whole: bool) -> Result<(), Fail> {
-    let mut session = Session::new(Source::new(Reader::new(stream)));
-    session.open()?;
+fn is_given_whole(rt: &impl Abort, stream: &[u8], whole: bool) {
+    let mut session = opened(rt, stream);
     let mut message = MessageBuffer::new();
     let offset = session.next_whole(&mut message);
-    assert_eq!(rt; offset, if whole { Some(6) } else { None });
-    let given = if whole { stream.len() as u64 } else { 6 };
-    assert_eq!(rt; session.into_source().given(), given);
-    Ok(())
+    assert_eq!(rt; offset, whole.then_some(6));
+    let size = if whole { stream.len() } else { 6 };
+    assert_eq!(rt; session.into_source().given(), size as u64);
 }
 
 #[test]
-fn whole_messages(rt: HostRuntime) -> Result<(), Fail> {
+fn whole_messages(rt: HostRuntime) {
     for (stream, whole) in &WHOLE {
-        is_given_whole(&rt, stream, *whole)?;
+        is_given_whole(&rt, stream, *whole);
     }
-    Ok(())
 }

@@ -1,7 +1,0 @@
-//! Tests of the lines of blocks.
-#![tactic(auto)]
-
-#[cfg(test)]
-mod lines;
-#[cfg(test)]
-mod words;

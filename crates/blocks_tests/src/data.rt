@@ -1,0 +1,4 @@
+//! Tests of the data of blocks.
+
+mod rows;
+mod scans;

@@ -1,0 +1,6 @@
+//! Tests of the rules of messages and of transfers.
+
+mod alone;
+mod judging;
+mod lengths;
+mod together;

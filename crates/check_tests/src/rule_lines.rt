@@ -1,0 +1,5 @@
+//! Tests of the lines of broken rules.
+
+mod bundles;
+mod messages;
+mod transfers;

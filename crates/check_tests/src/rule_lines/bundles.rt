@@ -1,0 +1,171 @@
+//! The lines of the rules of bundles. They are those of tests/rows.
+
+use super::messages::{MAX, expect};
+use link_bundle_rules::{BundleRule as Rule, Endpoint};
+use link_rule_report::{BrokenRule, BundlePlace};
+
+/// A rule, and the line of a bundle that breaks it. The bundle is the first of an input.
+type Row = (Rule, &'static str);
+
+static ROWS: [Row; 24] = [
+    (
+        Rule::LongHead { byte: 2 },
+        "0 must long-head bundle=0 byte=2\n",
+    ),
+    (
+        Rule::BundleFlags { flags: 0x20_0000 },
+        "0 should bundle-flags bundle=0 flags=200000\n",
+    ),
+    (
+        Rule::BundleFlags { flags: 0x08 },
+        "0 should bundle-flags bundle=0 flags=08\n",
+    ),
+    (
+        Rule::BundleFlags { flags: MAX },
+        "0 should bundle-flags bundle=0 flags=ffffffffffffffff\n",
+    ),
+    (Rule::PrimaryCheck, "0 must primary-check bundle=0\n"),
+    (
+        Rule::Anonymous { flags: 0 },
+        "0 must anonymous bundle=0 flags=00\n",
+    ),
+    (
+        Rule::Anonymous { flags: 0x01_0004 },
+        "0 must anonymous bundle=0 flags=010004\n",
+    ),
+    (
+        Rule::RecordReports { flags: 0x4002 },
+        "0 must record-reports bundle=0 flags=4002\n",
+    ),
+    (
+        Rule::BlockReports { block: 2 },
+        "0 must block-reports bundle=0 block=2\n",
+    ),
+    (
+        Rule::BlockFlags {
+            block: 2,
+            flags: 0x08,
+        },
+        "0 should block-flags bundle=0 block=2 flags=08\n",
+    ),
+    (
+        Rule::BlockFlags {
+            block: 1,
+            flags: 0x0100,
+        },
+        "0 should block-flags bundle=0 block=1 flags=0100\n",
+    ),
+    (
+        Rule::DtnName {
+            of: Endpoint::Destination,
+        },
+        "0 must dtn-name bundle=0 of=destination\n",
+    ),
+    (
+        Rule::DtnName {
+            of: Endpoint::Source,
+        },
+        "0 must dtn-name bundle=0 of=source\n",
+    ),
+    (
+        Rule::DtnName {
+            of: Endpoint::ReportTo,
+        },
+        "0 must dtn-name bundle=0 of=report-to\n",
+    ),
+    (
+        Rule::Fragment {
+            offset: 2,
+            size: 1,
+            total: 3,
+        },
+        "0 must fragment bundle=0 offset=2 length=1 total=3\n",
+    ),
+    (Rule::Age { blocks: 0 }, "0 must age bundle=0 blocks=0\n"),
+    (
+        Rule::PreviousNode { blocks: 2 },
+        "0 should previous-node bundle=0 blocks=2\n",
+    ),
+    (
+        Rule::HopCount {
+            blocks: 2,
+            limit: Some(30),
+        },
+        "0 must hop-count bundle=0 blocks=2 limit=30\n",
+    ),
+    (
+        Rule::HopCount {
+            blocks: 2,
+            limit: None,
+        },
+        "0 must hop-count bundle=0 blocks=2\n",
+    ),
+    (
+        Rule::ConfidentialPrimary { block: 2 },
+        "0 must confidential-primary bundle=0 block=2\n",
+    ),
+    (
+        Rule::Hops { limit: 5, count: 6 },
+        "0 should hops bundle=0 limit=5 count=6\n",
+    ),
+    (
+        Rule::BlockData { block: 3, byte: 38 },
+        "0 must block-data bundle=0 block=3 byte=38\n",
+    ),
+    (
+        Rule::Record { byte: 32 },
+        "0 must record bundle=0 byte=32\n",
+    ),
+    (
+        Rule::HopCount {
+            blocks: 1,
+            limit: Some(0),
+        },
+        "0 must hop-count bundle=0 blocks=1 limit=0\n",
+    ),
+];
+
+#[test]
+fn has_lines_of_bundles(rt: HostRuntime) {
+    for &(rule, want) in &ROWS {
+        expect(
+            &rt,
+            0,
+            BrokenRule::Bundle(BundlePlace::Input(0), rule),
+            want,
+        );
+    }
+}
+
+#[test]
+fn names_the_transfer_or_the_bundle(rt: HostRuntime) {
+    let rule = Rule::Anonymous { flags: 0 };
+    let in_transfer = BrokenRule::Bundle(BundlePlace::Transfer(5), rule);
+    expect(
+        &rt,
+        300,
+        in_transfer,
+        "300 must anonymous transfer=5 flags=00\n",
+    );
+    let third = BrokenRule::Bundle(BundlePlace::Input(2), rule);
+    expect(&rt, 300, third, "300 must anonymous bundle=2 flags=00\n");
+}
+
+/// No line is longer.
+#[test]
+fn has_the_longest_line(rt: HostRuntime) {
+    let rule = Rule::Fragment {
+        offset: MAX,
+        size: MAX,
+        total: MAX,
+    };
+    let want = "18446744073709551615 must fragment transfer=18446744073709551615 \
+        offset=18446744073709551615 length=18446744073709551615 total=18446744073709551615\n";
+    assert_eq!(rt; want.len(), 148);
+    expect(
+        &rt,
+        MAX,
+        BrokenRule::Bundle(BundlePlace::Transfer(MAX), rule),
+        want,
+    );
+}

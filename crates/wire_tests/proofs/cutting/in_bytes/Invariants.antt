@@ -1,9 +1,0 @@
-use Rattle.std.proofs.Common.{◌≡◌, false}
-use Rattle.link_transfer.specs.Cutter.{cut_waits}
-use Rattle.wire_tests.proofs.cutting.in_bytes.Given as goal
-
-abbrev pub invariant-loop-turn : goal.invariant-loop-turn
-invariant-loop-turn g l = cut_waits l.cutter ≡ false
-
-abbrev pub invariant-loop-index : goal.invariant-loop-index
-invariant-loop-index g l = cut_waits l.cutter ≡ false
