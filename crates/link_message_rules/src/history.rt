@@ -59,6 +59,7 @@ impl MessageHistory {
     /// Whether the next message is known to break no rule. This takes less time than its rules.
     ///
     /// It is never known of a SESS_INIT, a SESS_TERM or a MSG_REJECT, which are rare.
+    #[tactic(auto, using(crate::proofs::Kept::none_if, crate::proofs::Kept::segment_kept, crate::proofs::Kept::answer_kept))]
     #[inline(always)]
     pub fn keeps_rules(&self, limits: &PeerLimits, head: &JudgedHeadView<'_>) -> bool
         requires { SegmentHasTotals head.now.message.now }
@@ -148,6 +149,7 @@ impl MessageHistory {
     /// returns whether it did. If not, the history stays as it was.
     ///
     /// It is never known if the peer has a limit.
+    #[tactic(auto, using(crate::proofs::Kept::none_if, crate::proofs::Inner::inner_kept))]
     #[inline(always)]
     pub fn take_inner(&mut self, limits: &PeerLimits, length: u64) -> bool
         ensures kept { (id : ℕ) (before : List JudgedHead) → result ≡ true

@@ -174,6 +174,7 @@ impl HeadWalk {
     }
 
     /// The offset in the bundle of the first head that is longer than its number needs.
+    #[tactic(auto, using(crate::proofs::Walks::sought_now))]
     pub fn first_long(&self) -> Option<u64>
         ensures { (seen : List ℕ) → HasWalked self.now seen → result ≡ first_long seen }
     {
@@ -181,6 +182,7 @@ impl HeadWalk {
     }
 
     /// The offset in the bundle of the first head of indefinite length.
+    #[tactic(auto, using(crate::proofs::Walks::sought_now))]
     pub fn first_indefinite(&self) -> Option<u64>
         ensures { (seen : List ℕ) → HasWalked self.now seen → result ≡ first_indefinite seen }
     {

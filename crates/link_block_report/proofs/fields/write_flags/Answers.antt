@@ -6,16 +6,7 @@ use Rattle.link_block_report.proofs.fields.write_flags.Goals as goal
 
 -- a number of one byte in eight bytes
 one_byte : (n : ℕ) → n < 256 → to_be_bytes w64 n ≡ 0 ∷ 0 ∷ 0 ∷ 0 ∷ 0 ∷ 0 ∷ 0 ∷ n ∷ []
-one_byte n few =
-    let a : byte_at 0 n ≡ n = omega arith in
-    let b : byte_at 1 n ≡ 0 = omega arith in
-    let c : byte_at 2 n ≡ 0 = omega arith in
-    let d : byte_at 3 n ≡ 0 = omega arith in
-    let e : byte_at 4 n ≡ 0 = omega arith in
-    let f : byte_at 5 n ≡ 0 = omega arith in
-    let g : byte_at 6 n ≡ 0 = omega arith in
-    let h : byte_at 7 n ≡ 0 = omega arith in
-    rw (a, b, c, d, e, f, g, h) refl
+one_byte n few = grind arith
 
 one_pair : (n : ℕ) → n < 256 → flags_text n ≡ hex2 n
 unfolding flags_text hex2

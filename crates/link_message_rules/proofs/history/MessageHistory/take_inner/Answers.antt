@@ -1,13 +1,6 @@
-use Rattle.std.proofs.Common.{refl, sym, ◌∙◌}
-use Rattle.link_message_rules.proofs.{Inner.{inner, inner_kept, inner_taken}, Kept.none_if}
+use Rattle.std.proofs.Common.{refl}
+use Rattle.link_message_rules.proofs.Inner.{inner, inner_taken}
 use Rattle.link_message_rules.proofs.history.MessageHistory.take_inner.Goals as goal
-
-pub returns-in-Some-clause-kept : goal.returns-in-Some-clause-kept
-returns-in-Some-clause-kept c = λ id before known.
-    let limits = c.args.limits.now in
-    inner_kept id c.args.length before limits
-    (none_if limits.segment (sym c.is_some.ensures ∙ c.if-is_some.false))
-    (none_if limits.transfer (sym c.is_some-2.ensures ∙ c.if-is_some-2.false))
 
 pub returns-in-Some-clause-taken : goal.returns-in-Some-clause-taken
 returns-in-Some-clause-taken c = λ id before at known.
