@@ -14,7 +14,11 @@ use std::test::Fail;
 fn read_again(bytes: &[u8]) -> Result<Option<(u64, Message)>, Stop> {
     let mut session = Session::new(Source::new(Reader::new(bytes)));
     session.open()?;
-    session.next()
+    let mut message = MessageBuffer::new();
+    match session.next(&mut message)? {
+        Some(offset) => Ok(Some((offset, message.into_message()))),
+        None => Ok(None),
+    }
 }
 
 /// A contact header without flags.
@@ -230,7 +234,7 @@ static DATA: [(&[u8], bool); 2] = [
 fn data_is_waited_for(rt: &impl Abort, stream: &[u8], waits: bool) -> Result<(), Fail> {
     let mut session = Session::new(Source::new(Reader::new(stream)));
     session.open()?;
-    let _head = session.next()?;
+    let _head = session.next(&mut MessageBuffer::new())?;
     assert_eq!(rt; session.left(), 2);
     assert_eq!(rt; session.may_wait(), waits);
     Ok(())
@@ -292,47 +296,75 @@ fn quiet_messages(rt: HostRuntime) -> Result<(), Fail> {
     Ok(())
 }
 
-/// Recordings, and whether the message after the contact header is given with its data.
+/// Recordings, and what `next_here` does with the message after the contact header: how many bytes
+/// are given then, how many bytes of data are to come, and how many of these are at hand.
 ///
-/// It is a KEEPALIVE, or a segment with two bytes of data. A byte of the head or of the data is
-/// missing, or an item is in the head.
-static WHOLE: [(&[u8], bool); 6] = [
-    (b"dtn!\x04\x00", false),
-    (b"dtn!\x04\x00\x04", true),
+/// It is a KEEPALIVE, or a segment with two bytes of data. A byte of the head, or data, is missing,
+/// or an item is in the head. After one of the segments comes a KEEPALIVE.
+static HERE: [(&[u8], u64, u64, usize); 8] = [
+    (b"dtn!\x04\x00", 6, 0, 0),
+    (b"dtn!\x04\x00\x04", 7, 0, 0),
     (
         b"dtn!\x04\x00\x01\x01\x00\x00\x00\x00\x00\x00\x00\x00\x00\x00\x00\x00\x00\x00\x00\x02\x9f\xff",
-        true,
+        24,
+        2,
+        2,
+    ),
+    (
+        b"dtn!\x04\x00\x01\x01\x00\x00\x00\x00\x00\x00\x00\x00\x00\x00\x00\x00\x00\x00\x00\x02\x9f\xff\x04",
+        24,
+        2,
+        2,
     ),
     (
         b"dtn!\x04\x00\x01\x01\x00\x00\x00\x00\x00\x00\x00\x00\x00\x00\x00\x00\x00\x00\x00\x02\x9f",
-        false,
+        24,
+        2,
+        1,
+    ),
+    (
+        b"dtn!\x04\x00\x01\x01\x00\x00\x00\x00\x00\x00\x00\x00\x00\x00\x00\x00\x00\x00\x00\x02",
+        24,
+        2,
+        0,
     ),
     (
         b"dtn!\x04\x00\x01\x01\x00\x00\x00\x00\x00\x00\x00\x00\x00\x00\x00\x00\x00\x00\x00",
-        false,
+        6,
+        0,
+        0,
     ),
     (
         b"dtn!\x04\x00\x01\x02\x00\x00\x00\x00\x00\x00\x00\x00\x00\x00\x00\x05\x00\x00\x02\x00\x00\x00\x00\x00\x00\x00\x00\x00\x00",
-        false,
+        6,
+        0,
+        0,
     ),
 ];
 
-/// Checks whether the message after the contact header is given with its data.
-fn is_given_whole(rt: &impl Abort, stream: &[u8], whole: bool) -> Result<(), Fail> {
+/// Checks how far the message after the contact header is given where it lies.
+fn is_given_here(
+    rt: &impl Abort,
+    stream: &[u8],
+    given: u64,
+    left: u64,
+    ready: usize,
+) -> Result<(), Fail> {
     let mut session = Session::new(Source::new(Reader::new(stream)));
     session.open()?;
     let mut message = MessageBuffer::new();
-    let offset = session.next_whole(&mut message);
-    assert_eq!(rt; offset, if whole { Some(6) } else { None });
-    let given = if whole { stream.len() as u64 } else { 6 };
-    assert_eq!(rt; session.into_source().given(), given);
+    let offset = session.next_here(&mut message);
+    assert_eq!(rt; offset, if given > 6 { Some(6) } else { None });
+    assert_eq!(rt; session.given(), given);
+    assert_eq!(rt; session.left(), left);
+    assert_eq!(rt; session.loaded().len(), ready);
     Ok(())
 }
 
 #[test]
-fn whole_messages(rt: HostRuntime) -> Result<(), Fail> {
-    for (stream, whole) in &WHOLE {
-        is_given_whole(&rt, stream, *whole)?;
+fn messages_where_they_lie(rt: HostRuntime) -> Result<(), Fail> {
+    for (stream, given, left, ready) in &HERE {
+        is_given_here(&rt, stream, *given, *left, *ready)?;
     }
     Ok(())
 }
