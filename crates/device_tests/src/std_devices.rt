@@ -7,8 +7,8 @@ ghost use Rattle.std.specs.Prelude.{◌≡◌, ◌<◌, false};
 
 use link_tools::{Status, list, list_run, run_exit};
 use link_wire::{
-    Contact, Filled, InDevice, IoFault, OutDevice, Reader, Session, Source, Stop, Writer,
-    write_whole,
+    Contact, Filled, InDevice, IoFault, MessageBuffer, OutDevice, Reader, Session, Source, Stop,
+    Writer, write_whole,
 };
 use std::alloc::Global;
 use std::io::{self, ErrorKind, Read, Write};
@@ -391,7 +391,8 @@ fn interrupted_session(rt: HostRuntime) -> Result<(), Fail> {
     let stream = joined(rt.alloc(), TRANSFER)?;
     let mut session = Session::new(Source::new(reader(stream.as_slice(), 8)));
     assert_eq!(rt; session.open(), Ok(Contact { flags: 0 }));
-    assert_eq!(rt; session.next(), Err(Stop::Io(IoFault::Read)));
+    let mut message = MessageBuffer::new();
+    assert_eq!(rt; session.next(&mut message), Err(Stop::Io(IoFault::Read)));
     gives_no_data(&rt, &mut session);
     assert_eq!(rt; session.into_source().into_reader().into_inner().calls, 8);
     Ok(())

@@ -21,7 +21,7 @@ pub fn copy_data<R: Read + Drop, W: Write + Drop>(input: R, output: W) -> Result
             let size = session.load()?;
             write_whole(&mut output, session.loaded()).map_err(Stop::Io)?;
             session.pass(size);
-        } else if session.read_next(&mut message)?.is_none() {
+        } else if session.next(&mut message)?.is_none() {
             break;
         } else if let Fields::Segment { .. } = message.fields {
             segments += 1;

@@ -103,9 +103,10 @@ impl<S, W, E> Input<S, W, E> {
 
 /// The calls that read a recorded session.
 impl<R: InDevice, W: OutDevice, E: OutDevice> Input<Session<R>, W, E> {
-    ghost use Rattle.std.specs.Prelude.{◌≤◌, None, take};
-    ghost use Rattle.link_wire.specs.Session.{may_open, PassedBytes, AfterOpen};
-    ghost use Rattle.link_wire.specs.Whole.{ReadWhole, PassedQuiet};
+    ghost use Rattle.std.specs.Prelude.{◌+◌, ◌≤◌, None, take};
+    ghost use Rattle.link_wire.specs.Session.{may_open, HasEndedBetween, PassedBytes, AfterOpen, ReadMessage};
+    ghost use Rattle.link_wire.specs.Source.{given_by, reader_of};
+    ghost use Rattle.link_wire.specs.Whole.{PassedQuiet};
 
     /// Reads the contact header, as [`Session::open`] does.
     ///
@@ -124,7 +125,7 @@ impl<R: InDevice, W: OutDevice, E: OutDevice> Input<Session<R>, W, E> {
         self.inner.open()
     }
 
-    /// Reads the head of the next message, as [`Session::read_next`] does.
+    /// Reads the head of the next message, as [`Session::next`] does.
     ///
     /// If the window does not have the whole head and the read may have to wait, the call first
     /// hands on what was written. If that fails, it reads nothing and returns the failure as a
@@ -146,27 +147,28 @@ impl<R: InDevice, W: OutDevice, E: OutDevice> Input<Session<R>, W, E> {
         }
     }
 
-    /// Gives the next message with its data if it lies whole in the window, as
-    /// [`Session::next_whole`] does.
+    /// Gives the next message if it has a frequent head that is whole in the window, as
+    /// [`Session::next_here`] does.
     ///
     /// It reads nothing, so it hands nothing on.
     #[inline(always)]
-    pub fn next_whole(&mut self, message: &mut MessageBuffer) -> Option<u64>
+    pub fn next_here(&mut self, message: &mut MessageBuffer) -> Option<u64>
         requires { IsTrue (may_read (inner_of self.old)) }
         ensures none { result ≡ None → (self.new ≡ self.old) × (message.new ≡ message.old) }
-        ensures may_read { IsTrue (may_read (inner_of self.new)) }
+        ensures reader { reader_of (source_of (inner_of self.new))
+            ≡ reader_of (source_of (inner_of self.old)) }
         ensures gives { (history : List ℕ) → IsSessionAt R.state (inner_of self.old) history
-            → IfSome result (λ offset. ReadWhole R.state (inner_of self.old) (inner_of self.new)
+            → IfSome result (λ offset. ReadMessage R.state (inner_of self.old) (inner_of self.new)
             history offset (message_of message.new)) }
         ensures totals { IfSome result (λ offset. SegmentHasTotals message.new) }
         ensures opened { IsTrue (is_opened (inner_of self.new)) }
+        ensures again { HasEndedBetween (inner_of self.old) → result ≡ None }
         ensures stopped { (stop : _) → HasStopped (inner_of self.old) stop → result ≡ None }
-        ensures shrinks { IfSome result (λ offset.
-            length (window_of (source_of (inner_of self.new)))
-            < length (window_of (source_of (inner_of self.old)))) }
+        ensures some { IfSome result (λ offset.
+            given_by (source_of (inner_of self.old)) < given_by (source_of (inner_of self.new))) }
         ensures unread { Unread R.state source_of self.old self.new }
     {
-        self.inner.next_whole(message)
+        self.inner.next_here(message)
     }
 
     /// Passes over the quiet messages that lie whole in the window, as [`Session::pass_quiet`]
@@ -223,6 +225,8 @@ impl<R: InDevice, W: OutDevice, E: OutDevice> Input<Session<R>, W, E> {
         ensures none { count ≡ 0 → self.new ≡ self.old }
         ensures stopped { (stop : _) → HasStopped (inner_of self.old) stop
             → HasStopped (inner_of self.new) stop }
+        ensures count { given_by (source_of (inner_of self.new))
+            ≡ given_by (source_of (inner_of self.old)) + count }
         ensures unread { Unread R.state source_of self.old self.new }
     {
         self.inner.pass(count);
@@ -298,7 +302,7 @@ fn read_message<R: InDevice, W: OutDevice, E: OutDevice>(
         input.old input.new writers.old writers.new message.new result }
 {
     settle_before(&input.inner, writers, &mut input.waits)?;
-    input.inner.read_rest(message)
+    input.inner.next(message)
 }
 
 /// Makes data of the segment ready if none is at hand.

@@ -201,8 +201,3 @@ message_at bytes = do
 abbrev pub data_length : Message → ℕ
 data_length (Segment head) = head.length
 data_length message = 0
-
--- if the message is a segment, `HasTotals` holds for its items
-abbrev pub MessageHasTotals : Message → Type 0
-MessageHasTotals (Segment head) = HasTotals head.items.items
-MessageHasTotals message = Unit {0}

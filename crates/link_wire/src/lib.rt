@@ -6,7 +6,8 @@
 //! ```
 //! let mut session = Session::new(Source::new(Reader::new(stdin)));
 //! let contact = session.open()?;
-//! while let Some((offset, message)) = session.next()? {
+//! let mut message = MessageBuffer::new();
+//! while let Some(offset) = session.next(&mut message)? {
 //!     // the data of a segment comes before the next message
 //!     while session.load()? > 0 {
 //!         let data = session.loaded();

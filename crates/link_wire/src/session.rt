@@ -4,7 +4,7 @@ use crate::fault::{Stop, WireFault};
 use crate::halt::Halt;
 use crate::head::{contact, fields, kind};
 use crate::here::{FRONT, has_contact, has_head};
-use crate::message::{Contact, Fields, Message, MessageBuffer};
+use crate::message::{Contact, Fields, MessageBuffer};
 use crate::plain::plain;
 use crate::quiet::quiet;
 use link_io::{InDevice, Source, WINDOW};
@@ -32,14 +32,13 @@ pub struct Session<R> {
 }
 
 impl<R: InDevice> Session<R> {
-    ghost use Rattle.std.specs.Prelude.{◌≡◌, ◌<◌, true, false, [], ℕ, List, length, IfOk, IfErr, IfSome, Some, None, Ok, Err, IsTrue};
+    ghost use Rattle.std.specs.Prelude.{◌≡◌, ◌<◌, true, false, [], ℕ, List, length, IfErr, IfSome, None, IsTrue};
     ghost use Rattle.link_wire.specs.Halt.{stop_at};
     ghost use Rattle.link_io.specs.Limits.{window_size};
     ghost use Rattle.link_io.specs.Source.{is_fresh, reader_of, given_by, window_of, front_of, reach};
     ghost use Rattle.link_wire.specs.Plain.{IsHead};
-    ghost use Rattle.link_wire.specs.Message.{MessageHasTotals};
     ghost use Rattle.link_wire.specs.MessageBuffer.{message_of, SegmentHasTotals};
-    ghost use Rattle.link_wire.specs.Session.{source_of, may_open, may_read, is_opened, IsSessionAt, HasContact, HasEndedBetween, HasNext, HasStopped, left_of, data_in, AfterOpen, ReadMessage, AfterNext, ReadsNext};
+    ghost use Rattle.link_wire.specs.Session.{source_of, may_open, may_read, is_opened, IsSessionAt, HasContact, HasEndedBetween, HasNext, HasStopped, left_of, data_in, AfterOpen, ReadMessage, ReadsNext};
     ghost use Rattle.link_wire.specs.declared.session.Phase.TheVariants as phase;
 
     /// Makes a session over a source that has taken nothing.
@@ -147,38 +146,16 @@ impl<R: InDevice> Session<R> {
         }
     }
 
-    /// Reads the next message, and returns it with the offset of its type byte.
-    ///
-    /// Only the head of a segment is read. If the stream ends between two messages, it returns
-    /// `None` at the end, and again on each later call. It may be called when the contact header
-    /// and all data of the message before have been given. It may also be called after a stop: then
-    /// it returns that stop again, and reads nothing.
-    pub fn next(&mut self) -> Result<Option<(u64, Message)>, Stop>
-        requires { IsTrue (may_read self.old) }
-        ensures settles { IfErr result (HasStopped self.new) }
-        ensures left { IfErr result (λ _. left_of self.new ≡ left_of self.old) }
-        ensures again { HasEndedBetween self.old → (self.new ≡ self.old) × (result ≡ Ok None) }
-        ensures gives { (history : List ℕ) → IsSessionAt R.state self.old history
-            → AfterNext R.state self.old self.new history result }
-        // The items of a segment have their totals.
-        ensures totals { IfOk result (λ got. IfSome got (λ next. MessageHasTotals next.1)) }
-        ensures opened { IsTrue (is_opened self.new) }
-        ensures stopped { (stop : _) → HasStopped self.old stop
-            → (self.new ≡ self.old) × (result ≡ Err stop) }
-    {
-        let mut message = MessageBuffer::new();
-        match self.read_next(&mut message)? {
-            Some(offset) => Ok(Some((offset, message.into_message()))),
-            None => Ok(None),
-        }
-    }
-
     /// Reads the next message into `message`, and returns the offset of its type byte.
     ///
-    /// This is [`Session::next`] without moving the message. If it returns no offset, the content
-    /// of `message` has no meaning.
+    /// Only the head of a segment is read. If the stream ends between two messages, it returns
+    /// `None` at the end, and again on each later call. If it returns no offset, the content of
+    /// `message` has no meaning.
+    ///
+    /// It may be called when the contact header and all data of the message before have been given.
+    /// It may also be called after a stop: then it returns that stop again, and reads nothing.
     #[inline(always)]
-    pub fn read_next(&mut self, message: &mut MessageBuffer) -> Result<Option<u64>, Stop>
+    pub fn next(&mut self, message: &mut MessageBuffer) -> Result<Option<u64>, Stop>
         requires { IsTrue (may_read self.old) }
         ensures { ReadsNext R.state self.old self.new message.new result }
     {
@@ -188,13 +165,10 @@ impl<R: InDevice> Session<R> {
         }
     }
 
-    /// Reads the next message as [`Session::read_next`] does, for a caller to whom
-    /// [`Session::next_here`] has just given nothing.
-    ///
-    /// It does not make that call again.
+    /// `next` where [`Session::next_here`] has given nothing.
     #[cold]
     #[inline(never)]
-    pub fn read_rest(&mut self, message: &mut MessageBuffer) -> Result<Option<u64>, Stop>
+    fn read_rest(&mut self, message: &mut MessageBuffer) -> Result<Option<u64>, Stop>
         requires { IsTrue (may_read self.old) }
         ensures { ReadsNext R.state self.old self.new message.new result }
     {
@@ -206,8 +180,8 @@ impl<R: InDevice> Session<R> {
 
     /// Gives the next message if it has a frequent head that is whole in the window.
     ///
-    /// This is [`Session::read_next`] for such a head, and it does not read from the reader.
-    /// Without such a head, and after a stop, it returns `None` and gives nothing.
+    /// This is [`Session::next`] for such a head, and it does not read from the reader. Without such
+    /// a head, and after a stop, it returns `None` and gives nothing.
     #[inline(always)]
     pub fn next_here(&mut self, message: &mut MessageBuffer) -> Option<u64>
         requires { IsTrue (may_read self.old) }
@@ -220,6 +194,8 @@ impl<R: InDevice> Session<R> {
         ensures opened { IsTrue (is_opened self.new) }
         ensures again { HasEndedBetween self.old → result ≡ None }
         ensures stopped { (stop : _) → HasStopped self.old stop → result ≡ None }
+        ensures some { IfSome result (λ offset.
+            given_by (source_of self.old) < given_by (source_of self.new)) }
         ensures unread { reach R.state (source_of self.new) ≡ reach R.state (source_of self.old) }
     {
         if let Phase::Stopped(_) = self.phase {
@@ -289,6 +265,7 @@ impl<R: InDevice> Session<R> {
         ensures gives { (history : List ℕ) → IsSessionAt R.state self.old history
             → ReadMessage R.state self.old self.new history result (message_of message.new) }
         ensures totals { SegmentHasTotals message.new }
+        ensures some { given_by self.old.source < given_by self.new.source }
         ensures unread { reach R.state self.new.source ≡ reach R.state self.old.source }
     {
         let offset = self.source.given();
@@ -299,7 +276,7 @@ impl<R: InDevice> Session<R> {
         offset
     }
 
-    /// `read_next` for a head that is read field by field, or after a stop.
+    /// `next` for a head that is read field by field, or after a stop.
     #[cold]
     #[inline(never)]
     fn read_fields(&mut self, message: &mut MessageBuffer) -> Result<Option<u64>, Stop>
@@ -338,71 +315,12 @@ impl<R: InDevice> Session<R> {
     }
 }
 
-/// The calls for messages that lie whole in the window.
+/// The call for quiet messages.
 impl<R: InDevice> Session<R> {
-    ghost use Rattle.std.specs.Prelude.{◌≡◌, ◌+◌, ◌<◌, ◌≤◌, ℕ, List, length, IfSome, None, IsTrue};
-    ghost use Rattle.link_io.specs.Source.{reader_of, window_of, reach};
-    ghost use Rattle.link_wire.specs.Message.{data_length};
-    ghost use Rattle.link_wire.specs.MessageBuffer.{message_of, message_with, SegmentHasTotals};
-    ghost use Rattle.link_wire.specs.Plain.{IsHead};
+    ghost use Rattle.std.specs.Prelude.{◌≡◌, ℕ, List, IsTrue};
+    ghost use Rattle.link_io.specs.Source.{reader_of, reach};
     ghost use Rattle.link_wire.specs.Session.{source_of, may_read, is_opened, HasEndedBetween, HasStopped, IsSessionAt};
-    ghost use Rattle.link_wire.specs.Whole.{ReadWhole, PassedQuiet};
-
-    /// Gives the next message with its data, if all of it is in the window and its head is
-    /// frequent.
-    ///
-    /// Without such a message, and after a stop, it returns `None` and gives nothing. It does not
-    /// read from the reader.
-    #[inline(always)]
-    pub fn next_whole(&mut self, message: &mut MessageBuffer) -> Option<u64>
-        requires { IsTrue (may_read self.old) }
-        ensures none { result ≡ None → (self.new ≡ self.old) × (message.new ≡ message.old) }
-        ensures reader { reader_of (source_of self.new) ≡ reader_of (source_of self.old) }
-        ensures may_read { IsTrue (may_read self.new) }
-        ensures gives { (history : List ℕ) → IsSessionAt R.state self.old history
-            → IfSome result (λ offset.
-            ReadWhole R.state self.old self.new history offset (message_of message.new)) }
-        ensures totals { IfSome result (λ offset. SegmentHasTotals message.new) }
-        ensures opened { IsTrue (is_opened self.new) }
-        ensures again { HasEndedBetween self.old → result ≡ None }
-        ensures stopped { (stop : _) → HasStopped self.old stop → result ≡ None }
-        ensures shrinks { IfSome result (λ offset.
-            length (window_of (source_of self.new)) < length (window_of (source_of self.old))) }
-        ensures unread { reach R.state (source_of self.new) ≡ reach R.state (source_of self.old) }
-    {
-        let window = self.source.window();
-        match self.phase {
-            Phase::Stopped(_) => None,
-            _ => match plain(window) {
-                Some((fields, size)) if fields.data_length() <= (window.len() - size) as u64 => {
-                    Some(self.give_whole(fields, size, message))
-                }
-                _ => None,
-            },
-        }
-    }
-
-    /// Gives a message that lies whole in the window, and returns its offset.
-    #[inline(always)]
-    fn give_whole(&mut self, fields: Fields, size: usize, message: &mut MessageBuffer) -> u64
-        requires may_read { IsTrue (may_read self.old) }
-        requires head { IsHead (window_of self.old.source) fields size }
-        requires within { size + data_length (message_with fields message.old.node message.old.items)
-            ≤ length (window_of self.old.source) }
-        ensures reader { reader_of self.new.source ≡ reader_of self.old.source }
-        ensures may_read { IsTrue (may_read self.new) }
-        ensures opened { IsTrue (is_opened self.new) }
-        ensures shrinks { length (window_of self.new.source) < length (window_of self.old.source) }
-        ensures gives { (history : List ℕ) → IsSessionAt R.state self.old history
-            → ReadWhole R.state self.old self.new history result (message_of message.new) }
-        ensures totals { SegmentHasTotals message.new }
-        ensures unread { reach R.state self.new.source ≡ reach R.state self.old.source }
-    {
-        let offset = self.source.given();
-        self.source.give(size + fields.data_length() as usize);
-        message.set(fields);
-        offset
-    }
+    ghost use Rattle.link_wire.specs.Whole.{PassedQuiet};
 
     /// Passes over the quiet messages that lie whole in the window. Returns how many bytes they
     /// have: 0 if the window begins with another message or with a part of one, or after a stop.
@@ -433,8 +351,8 @@ impl<R: InDevice> Session<R> {
 
 /// The calls for the data of segments.
 impl<R: InDevice> Session<R> {
-    ghost use Rattle.std.specs.Prelude.{◌≡◌, ◌<◌, ◌≤◌, ℕ, List, length, take, drop, IfOk, IfErr, Ok, Err, IsTrue};
-    ghost use Rattle.link_io.specs.Source.{reach};
+    ghost use Rattle.std.specs.Prelude.{◌≡◌, ◌+◌, ◌<◌, ◌≤◌, ℕ, List, length, take, drop, IfOk, IfErr, Ok, Err, IsTrue};
+    ghost use Rattle.link_io.specs.Source.{given_by, reach};
     ghost use Rattle.link_wire.specs.Session.{source_of, is_opened, IsSessionAt, HasStopped, left_of, data_in, PassedBytes, AfterData, LoadsData};
     ghost use Rattle.link_wire.specs.declared.session.Phase.TheVariants as phase;
 
@@ -549,6 +467,7 @@ impl<R: InDevice> Session<R> {
             → PassedBytes R.state self.old self.new history (take count (data_in R.state self.old)) }
         ensures none { count ≡ 0 → self.new ≡ self.old }
         ensures stopped { (stop : _) → HasStopped self.old stop → HasStopped self.new stop }
+        ensures count { given_by (source_of self.new) ≡ given_by (source_of self.old) + count }
         ensures unread { reach R.state (source_of self.new) ≡ reach R.state (source_of self.old) }
     {
         self.source.give_front(count);

@@ -1,9 +1,11 @@
 //! Tests of a session that is read message by message.
 
-ghost use Rattle.std.specs.Prelude.{◌<◌};
+ghost use Rattle.std.specs.Prelude.{◌<◌, IsTrue};
+ghost use Rattle.link_wire.specs.Session.{may_read, is_opened};
 
 use link_wire::{
-    Contact, InDevice, Items, Message, NodeId, SegmentHead, Session, Source, Stop, WireFault,
+    Contact, InDevice, Items, Message, MessageBuffer, NodeId, SegmentHead, Session, Source, Stop,
+    WireFault,
 };
 use std::process::Abort;
 use std::test::Fail;
@@ -32,13 +34,23 @@ fn segment() -> Message {
     })
 }
 
-/// Checks what a session gave as its next message, with its offset.
-fn is_message(
+/// Checks what a session gives as its next message, with its offset.
+fn is_message<R: InDevice>(
     rt: &impl Abort,
-    given: Result<Option<(u64, Message)>, Stop>,
+    session: &mut Session<R>,
     want: Option<(u64, Message)>,
-) {
-    assert_eq!(rt; given, Ok(want));
+) -> Result<(), Fail>
+    requires { IsTrue (may_read session.old) }
+    ensures { IsTrue (is_opened session.new) }
+{
+    let mut message = MessageBuffer::new();
+    let offset = session.next(&mut message)?;
+    let given = match offset {
+        Some(offset) => Some((offset, message.into_message())),
+        None => None,
+    };
+    assert_eq!(rt; given, want);
+    Ok(())
 }
 
 /// Checks that the data of `TRANSFER` was given.
@@ -53,15 +65,15 @@ fn message_by_message(rt: HostRuntime) -> Result<(), Fail> {
     let reader = TestReader::new(&stream, usize::MAX, Failing::Never);
     let mut session = Session::new(Source::new(reader));
     assert_eq!(rt; session.open(), Ok(Contact { flags: 0 }));
-    is_message(&rt, session.next(), Some((6, sess_init()?)));
+    is_message(&rt, &mut session, Some((6, sess_init()?)))?;
     assert_eq!(rt; session.left(), 0);
-    is_message(&rt, session.next(), Some((38, segment())));
+    is_message(&rt, &mut session, Some((38, segment())))?;
     assert_eq!(rt; session.left(), 34);
     let mut data = [0; 34];
     let given = session.data(&mut data);
     is_data(&rt, given, &data);
     assert_eq!(rt; session.left(), 0);
-    is_message(&rt, session.next(), None);
+    is_message(&rt, &mut session, None)?;
     let source = session.into_source();
     assert_eq!(rt; (source.given(), source.taken()), (94, 94));
     Ok(())
@@ -111,9 +123,10 @@ fn cut_data(rt: HostRuntime) -> Result<(), Fail> {
     let reader = TestReader::new(prefix, usize::MAX, Failing::Never);
     let mut session = Session::new(Source::new(reader));
     assert_eq!(rt; session.open(), Ok(Contact { flags: 0 }));
-    assert!(rt; session.next().is_ok());
+    let mut message = MessageBuffer::new();
+    assert!(rt; session.next(&mut message).is_ok());
     assert_eq!(rt; session.left(), 0);
-    assert!(rt; session.next().is_ok());
+    assert!(rt; session.next(&mut message).is_ok());
     gives_three_bytes(&rt, &mut session);
     Ok(())
 }

@@ -21,7 +21,9 @@ fn opened<'a>(rt: &impl Abort, bytes: &'a [u8]) -> Session<Reader<&'a [u8]>>
 
 /// Checks that this is the first message of a session that consists of these bytes.
 fn is_read(rt: &impl Abort, bytes: &[u8], message: Message) {
-    assert_eq!(rt; opened(rt, bytes).next(), Ok(Some((6, message))));
+    let mut read = MessageBuffer::new();
+    assert_eq!(rt; opened(rt, bytes).next(&mut read), Ok(Some(6)));
+    assert_eq!(rt; read.into_message(), message);
 }
 
 /// A contact header without flags.
@@ -255,7 +257,7 @@ static DATA: [(&[u8], bool); 2] = [
 /// Checks whether the call for data may have to wait.
 fn data_is_waited_for(rt: &impl Abort, stream: &[u8], waits: bool) {
     let mut session = opened(rt, stream);
-    assert!(rt; session.next().is_ok());
+    assert!(rt; session.next(&mut MessageBuffer::new()).is_ok());
     assert_eq!(rt; (session.left(), session.may_wait()), (2, waits));
 }
 
@@ -313,44 +315,64 @@ fn quiet_messages(rt: HostRuntime) {
     }
 }
 
-/// Recordings, and whether the message after the contact header is given with its data.
+/// Recordings, and what `next_here` does with the message after the contact header: how many bytes
+/// are given then, how many bytes of data are to come, and how many of these are at hand.
 ///
-/// It is a KEEPALIVE, or a segment with two bytes of data. A byte of the head or of the data is
-/// missing, or an item is in the head.
-static WHOLE: [(&[u8], bool); 6] = [
-    (b"dtn!\x04\x00", false),
-    (b"dtn!\x04\x00\x04", true),
+/// It is a KEEPALIVE, or a segment with two bytes of data. A byte of the head, or data, is missing,
+/// or an item is in the head. After one of the segments comes a KEEPALIVE.
+static HERE: [(&[u8], u64, u64, usize); 8] = [
+    (b"dtn!\x04\x00", 6, 0, 0),
+    (b"dtn!\x04\x00\x04", 7, 0, 0),
     (
         b"dtn!\x04\x00\x01\x01\x00\x00\x00\x00\x00\x00\x00\x00\x00\x00\x00\x00\x00\x00\x00\x02\x9f\xff",
-        true,
+        24,
+        2,
+        2,
+    ),
+    (
+        b"dtn!\x04\x00\x01\x01\x00\x00\x00\x00\x00\x00\x00\x00\x00\x00\x00\x00\x00\x00\x00\x02\x9f\xff\x04",
+        24,
+        2,
+        2,
     ),
     (
         b"dtn!\x04\x00\x01\x01\x00\x00\x00\x00\x00\x00\x00\x00\x00\x00\x00\x00\x00\x00\x00\x02\x9f",
-        false,
+        24,
+        2,
+        1,
+    ),
+    (
+        b"dtn!\x04\x00\x01\x01\x00\x00\x00\x00\x00\x00\x00\x00\x00\x00\x00\x00\x00\x00\x00\x02",
+        24,
+        2,
+        0,
     ),
     (
         b"dtn!\x04\x00\x01\x01\x00\x00\x00\x00\x00\x00\x00\x00\x00\x00\x00\x00\x00\x00\x00",
-        false,
+        6,
+        0,
+        0,
     ),
     (
         b"dtn!\x04\x00\x01\x02\x00\x00\x00\x00\x00\x00\x00\x00\x00\x00\x00\x05\x00\x00\x02\x00\x00\x00\x00\x00\x00\x00\x00\x00\x00",
-        false,
+        6,
+        0,
+        0,
     ),
 ];
 
-/// Checks whether the message after the contact header is given with its data.
-fn is_given_whole(rt: &impl Abort, stream: &[u8], whole: bool) {
+/// Checks how far the message after the contact header is given where it lies.
+fn is_given_here(rt: &impl Abort, stream: &[u8], given: u64, left: u64, ready: usize) {
     let mut session = opened(rt, stream);
-    let mut message = MessageBuffer::new();
-    let offset = session.next_whole(&mut message);
-    assert_eq!(rt; offset, whole.then_some(6));
-    let size = if whole { stream.len() } else { 6 };
-    assert_eq!(rt; session.into_source().given(), size as u64);
+    let offset = session.next_here(&mut MessageBuffer::new());
+    assert_eq!(rt; offset, (given > 6).then_some(6));
+    assert_eq!(rt; (session.given(), session.left()), (given, left));
+    assert_eq!(rt; session.loaded().len(), ready);
 }
 
 #[test]
-fn whole_messages(rt: HostRuntime) {
-    for (stream, whole) in &WHOLE {
-        is_given_whole(&rt, stream, *whole);
+fn messages_where_they_lie(rt: HostRuntime) {
+    for (stream, given, left, ready) in &HERE {
+        is_given_here(&rt, stream, *given, *left, *ready);
     }
 }

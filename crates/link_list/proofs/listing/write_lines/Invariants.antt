@@ -1,7 +1,7 @@
-use Rattle.std.proofs.Common.{◌≡◌, List, ℕ, length, ◌++◌}
+use Rattle.std.proofs.Common.{◌≡◌, List, ℕ, ◌+◌, length, ◌++◌}
 use Rattle.std.specs.Prelude.{IsTrue, false}
 use Rattle.link_wire.specs.Session.{source_of, may_read}
-use Rattle.link_wire.specs.Source.{window_of}
+use Rattle.link_wire.specs.Source.{reader_of, window_of}
 use Rattle.link_run.specs.Reading.{inner_of, Unread}
 use Rattle.link_run.specs.Run.{Texts}
 use Rattle.link_run.specs.Writers.{on_output, Writes}
@@ -23,5 +23,8 @@ invariant-lines g l =
           → ListedOn look first (inner_of l.fn.input) (inner_of l.input) (lines ++ latest_line l.latest) history;
     }
 
+-- the bytes at hand
 abbrev pub decreases-lines : goal.decreases-lines
-decreases-lines g l = length (window_of (source_of (inner_of l.input)))
+decreases-lines g l =
+    length (window_of (source_of (inner_of l.input)))
+    + length (g.R.InDevice.state (reader_of (source_of (inner_of l.input)))).held

@@ -25,11 +25,11 @@ pub returns : goal.returns
 returns g c =
     let look = looks g.R.InDevice.state g.W.OutDevice.state g.E.OutDevice.state in
     let settled = c.in_ok-settle_before.ensures in
-    let read = c.read_rest.ensures in
+    let read = c.next.ensures in
     record {
       opened = read.opened;
       gives = λ history at.
-          message_given look c.args.input.now.inner c.read_rest.new.self c.args.writers.now
+          message_given look c.args.input.now.inner c.next.new.self c.args.writers.now
           c.settle_before.new.writers history settled.gives _ (read.gives history at);
       waits = λ history at. waits_enough (settled.waits history at);
       totals = read.totals;
