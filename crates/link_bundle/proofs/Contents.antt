@@ -59,10 +59,8 @@ content_at-run : (left : ℕ) (check : Option CheckKind) (start : ℕ)
     ≡ content_at (left - length run) check start bytes (offset + length run)
 unfolding content_at skipped
 content_at-run left check start bytes more run offset here fits =
-    ap (λ (reading : ReadAt (List ℕ)). skipped check start bytes reading)
-    (bytes_at-run left bytes more run offset here fits)
-    ∙ skipped-with_run check start bytes run
-    (bytes_at (left - length run) bytes (offset + length run))
+    rw (bytes_at-run left bytes more run offset here fits) (skipped-with_run check start bytes run
+    (bytes_at (left - length run) bytes (offset + length run)))
 
 -- ---- a run of bytes of a name or of data
 

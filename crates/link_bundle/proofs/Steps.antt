@@ -1,9 +1,8 @@
 -- One more byte, stage by stage.
 
-use Rattle.std.proofs.Common.{◌≡◌, ℕ, ◌+◌, ◌<◌, ◌≤◌, Bool, true, false, List, [], ◌∷◌, ◌++◌, length, get_or, take, drop, None, Some, Result, Ok, Err, refl, sym, ap, subst, ◌∙◌, append_assoc, append-nil, length-append, length-drop, ◌⊎◌, inl, inr, ⊎_elim, arith}
+use Rattle.std.proofs.Common.{◌≡◌, ℕ, ◌+◌, ◌<◌, ◌≤◌, true, false, List, [], ◌∷◌, ◌++◌, length, get_or, take, drop, None, Some, Result, Ok, Err, refl, sym, ap, subst, ◌∙◌, append_assoc, append-nil, length-append, length-drop, ◌⊎◌, inl, inr, ⊎_elim, arith}
 use Rattle.std.proofs.lemmas.Bool.{false≢true}
 use Rattle.std.specs.Prelude.{IsTrue, slice_range}
-use Rattle.std.specs.Bool.{MatchBool}
 use Rattle.std.proofs.lemmas.List.{drop-append-le}
 use Rattle.std.proofs.Math.Nat.{sub_self}
 use Rattle.std.proofs.Math.Seq.{drop-append_seam, drop-length, take-length}
@@ -126,15 +125,11 @@ module _ (old new : Cursor) (check after : CheckType) (start : ℕ) (seen : List
       let here : new.offset ≡ length seen = enters.offset ∙ counted in
       ⊎_elim
       (λ (is, at).
-      let fresh : Covers Unread new.checks [] =
-      subst (λ (b : Bool). MatchBool b (Covers Unread new.checks []) (new.checks ≡ old.checks)) is
-      enters.checks in
+      let fresh : Covers Unread new.checks [] = rw is at enters.checks in
       begun which new after start seen here enters.head (omega (arith, at))
       (rw (at, nothing_yet new.offset seen here) (narrowed after new.checks [] fresh)))
       (λ (is, at).
-      let same : new.checks ≡ old.checks =
-      subst (λ (b : Bool). MatchBool b (Covers Unread new.checks []) (new.checks ≡ old.checks)) is
-      enters.checks in
+      let same : new.checks ≡ old.checks = rw is at enters.checks in
       begun which new after start seen here enters.head (omega (arith, at))
       (rw at (held (keeps.1 is) same)))
       (begins which start new.offset)
