@@ -87,8 +87,7 @@ dtn_turn : (owner : Owner) (part : Option ℕ) (draft : Draft) (bytes : List ℕ
     → located (by_eid owner draft bytes (dtn_at part bytes next))
     ≡ rest_at (took_dtn owner part draft) bytes next
 unfolding dtn_at name_left
-dtn_turn owner None draft bytes next within =
-    owner_ends owner (with_eid DtnNone draft) bytes next
+dtn_turn owner None draft bytes next within = owner_ends owner (with_eid DtnNone draft) bytes next
 dtn_turn owner (Some size) draft bytes next within =
     name_begins owner draft [] size bytes next within
 
@@ -116,9 +115,11 @@ pub items_then : {A : Type 0} (item : ReadAt A) (items : ℕ → ReadAt (List A)
 items_then (Err stop) items rest = refl
 items_then (Ok (first, offset)) items rest = then_then (items offset) _ rest
 
-others_some : (left : ℕ) → others_due (suc left) ≡ due.Assertion (status.Other left)
-others_some left =
-    let some : (suc left == 0) ≡ false = ne_eqb (suc left) 0 (λ none. omega arith) in
+-- what is due while some are left
+some_due : (left : ℕ) (none : Due) (next : ℕ → Due)
+    → (if suc left == 0 then none else next (suc left - 1)) ≡ next left
+some_due left none next =
+    let some : (suc left == 0) ≡ false = ne_eqb (suc left) 0 (λ zero. omega arith) in
     let less : suc left - 1 ≡ left = omega arith in
     rw (some, less) refl
 
@@ -129,13 +130,8 @@ unfolding stage_left due_left others_left items_at reason_left
 others_turn zero draft bytes next = refl
 others_turn (suc left) draft bytes next =
     ap located (items_then (assertion_at bytes next) (items_at assertion_at left bytes) _)
-    ∙ ap (λ (which : Due). rest_at (AtHead which, draft) bytes next) (sym (others_some left))
-
-targets_some : (left : ℕ) → targets_due (suc left) ≡ due.Number (number.Target left)
-targets_some left =
-    let some : (suc left == 0) ≡ false = ne_eqb (suc left) 0 (λ none. omega arith) in
-    let less : suc left - 1 ≡ left = omega arith in
-    rw (some, less) refl
+    ∙ ap (λ (which : Due). rest_at (AtHead which, draft) bytes next)
+    (sym (some_due left (due.Number number.Reason) (λ left. due.Assertion (status.Other left))))
 
 -- whether 0 is among the targets so far is kept
 no_more_targets : (draft : Draft) → with_primary false draft ≡ draft
@@ -157,7 +153,8 @@ targets_turn (suc left) draft bytes next =
     same_then (items_at (row_at unsigned) left bytes x.1) _ _ (λ y.
     ap (λ (draft : Draft). context_left draft bytes y.1)
     (more_targets draft (x.0 == 0) (list_any (λ target. target == 0) y.0)))))
-    ∙ ap (λ (which : Due). rest_at (AtHead which, draft) bytes next) (sym (targets_some left))
+    ∙ ap (λ (which : Due). rest_at (AtHead which, draft) bytes next)
+    (sym (some_due left due.ContextId (λ left. due.Number (number.Target left))))
 
 -- ---- status assertions
 
@@ -174,8 +171,7 @@ by_assertion-then : {A : Type 0} (status : Status) (draft : Draft) (bytes : List
     → by_assertion status draft bytes (part >>= next)
     ≡ (part >>= λ x. by_assertion status draft bytes (next x))
 by_assertion-then status draft bytes (Ok x) next = refl
-by_assertion-then status draft bytes (Err stop) next =
-    by_assertion-stopped status draft bytes stop
+by_assertion-then status draft bytes (Err stop) next = by_assertion-stopped status draft bytes stop
 
 status_turn : (status : Status) (assertion : Assertion) (draft : Draft) (bytes : List ℕ) (next : ℕ)
     → located (by_assertion status draft bytes (Ok (assertion, next)))
@@ -209,19 +205,6 @@ unfolding assertion_at after_array boolean_at
 assertion_parts bytes offset =
     same_then (row_at one_or_two bytes offset) _ _
     (λ x. sym (then_then (head_at bytes x.1) _ _))
-
-array_turn : (status : Status) (has_time : Bool) (draft : Draft) (bytes : List ℕ) (next : ℕ)
-    → located (by_assertion status draft bytes (after_array has_time bytes next))
-    ≡ rest_at (AtHead (due.Asserted status has_time), draft) bytes next
-unfolding stage_left due_left after_array
-array_turn status has_time draft bytes next = refl
-
-boolean_at-whole : (has_time : Bool) (bytes : List ℕ) (offset next : ℕ) (head : Head)
-    → head_at bytes offset ≡ Ok (head, next)
-    → boolean_at has_time bytes offset
-    ≡ outcome_at offset next (assertion has_time (next - offset) head)
-unfolding boolean_at
-boolean_at-whole has_time bytes offset next head whole = rw whole refl
 
 -- ---- unsigned integers
 
@@ -271,8 +254,7 @@ number_turn (number.HopCount limit) value draft bytes next = refl
 number_turn (number.Target left) value draft bytes next =
     targets_turn left (with_primary (value == 0) draft) bytes next
 number_turn number.ContextFlags value draft bytes next = eid_turn owner.Security draft bytes next
-number_turn number.RecordType value draft bytes next =
-    type_turn (value == 1) value draft bytes next
+number_turn number.RecordType value draft bytes next = type_turn (value == 1) value draft bytes next
 number_turn (number.AssertedTime status) value draft bytes next =
     status_turn status (YesAt value) draft bytes next
 number_turn number.Reason value draft bytes next =
@@ -300,30 +282,14 @@ pair_turn pair_.HopCount draft bytes next = refl
 pair_turn pair_.Record draft bytes next = refl
 pair_turn pair_.Timestamp draft bytes next = refl
 
-flags_turn : (draft : Draft) (bytes : List ℕ) (next : ℕ)
-    → located (flags_left draft bytes next)
-    ≡ rest_at (AtHead (due.Number number.ContextFlags), draft) bytes next
-unfolding stage_left due_left flags_left
-flags_turn draft bytes next = refl
-
-assertions_turn : (draft : Draft) (bytes : List ℕ) (next : ℕ)
-    → located (assertions_left draft bytes next) ≡ rest_at (AtHead due.Assertions, draft) bytes next
-unfolding stage_left due_left
-assertions_turn draft bytes next = refl
-
-received_turn : (draft : Draft) (bytes : List ℕ) (next : ℕ)
-    → located (received_left draft bytes (assertion_at bytes next))
-    ≡ rest_at (AtHead (due.Assertion status.Received), draft) bytes next
-unfolding stage_left due_left
-received_turn draft bytes next = refl
-
 -- ---- each head
 
 pub head_turn : (which : Due) (draft : Draft) (head : Head) (bytes : List ℕ) (offset next : ℕ)
     → head_at bytes offset ≡ Ok (head, next) → next ≤ length bytes
     → located (due_left which draft bytes offset)
     ≡ goes_on (judged which (next - offset) head draft) bytes offset next
-unfolding due_left specific_at scheme_left context_left report_left assertions_left
+unfolding due_left specific_at scheme_left context_left report_left assertions_left stage_left
+    flags_left boolean_at after_array
 head_turn (due.Number which) draft head bytes offset next whole within =
     by_row (λ (reading : ReadAt ℕ).
     reading >>= λ (value, end). number_left which draft value bytes end)
@@ -358,34 +324,31 @@ head_turn due.ContextId draft head bytes offset next whole within =
     flags_left (with_context context draft) bytes end)
     (λ (context : Integer).
     (AtHead (due.Number number.ContextFlags), with_context context draft)) integer bytes offset next
-    head whole (λ context. flags_turn (with_context context draft) bytes next) (λ stop. refl)
+    head whole (λ context. refl) (λ stop. refl)
 head_turn due.Report draft head bytes offset next whole within =
     by_row (λ (reading : ReadAt ℕ). reading >>= λ (count, end).
     assertions_left (record draft { is_fragment = count == 6 }) bytes end)
     (λ (count : ℕ). (AtHead due.Assertions, record draft { is_fragment = count == 6 }))
     four_or_six bytes offset next head whole
-    (λ count. assertions_turn (record draft { is_fragment = count == 6 }) bytes next) (λ stop. refl)
+    (λ count. refl) (λ stop. refl)
 head_turn due.Assertions draft head bytes offset next whole within =
     by_row (λ (reading : ReadAt ℕ). reading >>= λ (count, end).
     received_left (record draft { others = count - 4 }) bytes (assertion_at bytes end))
     (λ (count : ℕ).
     (AtHead (due.Assertion status.Received), record draft { others = count - 4 })) four_or_more
     bytes offset next head whole
-    (λ count. received_turn (record draft { others = count - 4 }) bytes next) (λ stop. refl)
+    (λ count. refl) (λ stop. refl)
 head_turn (due.Assertion status) draft head bytes offset next whole within =
     ap (λ (reading : ReadAt Assertion). located (by_assertion status draft bytes reading))
     (assertion_parts bytes offset)
     ∙ by_row (λ (reading : ReadAt ℕ). by_assertion status draft bytes
     (reading >>= λ (count, start). after_array (count == 2) bytes start))
     (λ (count : ℕ). (AtHead (due.Asserted status (count == 2)), draft)) one_or_two bytes offset next
-    head whole (λ count. array_turn status (count == 2) draft bytes next)
+    head whole (λ count. refl)
     (λ stop. by_assertion-stopped status draft bytes stop)
 head_turn (due.Asserted status has_time) draft head bytes offset next whole within =
-    ap (λ (reading : ReadAt Bool).
-    located (by_assertion status draft bytes (boolean_left has_time bytes reading)))
-    (boolean_at-whole has_time bytes offset next head whole)
-    ∙ by_outcome (λ (reading : ReadAt Bool).
+    rw whole (by_outcome (λ (reading : ReadAt Bool).
     by_assertion status draft bytes (boolean_left has_time bytes reading))
     (λ (asserted : Bool). took_asserted status has_time asserted draft) _ bytes offset next
     (λ asserted. asserted_turn status _ _ draft bytes next)
-    (λ stop. by_assertion-stopped status draft bytes stop)
+    (λ stop. by_assertion-stopped status draft bytes stop))

@@ -1,6 +1,6 @@
 -- What the data says that ends after the bytes seen, at each stage of a scan.
 
-use Rattle.std.proofs.Common.{◌≡◌, ◌++◌, ℕ, ◌<◌, Bool, true, false, List, [], length, Ok, Err, refl, sym, ap, subst, ◌∙◌, append-nil, arith}
+use Rattle.std.proofs.Common.{◌≡◌, ◌++◌, ℕ, ◌<◌, Bool, true, false, List, [], length, Ok, Err, refl, sym, ap, ◌∙◌, append-nil, arith}
 use Rattle.std.specs.Prelude.{◌==◌, ◌||◌, IsTrue, if◌then◌else◌}
 use Rattle.link_cbor.specs.declared.head_scan.HeadScan.{HeadScan}
 use Rattle.link_bundle_types.specs.declared.fault.BundleFault.TheVariants.{Cut}
@@ -20,48 +20,6 @@ use Rattle.link_block_data.specs.Left.{data_from, may_follow, stage_left}
 use Rattle.link_block_data.specs.Scan.{HasSeen}
 use Rattle.link_block_data.proofs.Stops.{due_left-stopped}
 
--- the reading of the bytes seen, if no more follow
-read_now : (kind : DataKind) (stage : Stage) (draft : Draft) (head : HeadScan)
-    (offset count : ℕ) (seen : List ℕ)
-    → HasSeen kind stage draft head offset count seen
-    → data_of kind seen ≡ stage_left stage draft seen offset (length seen)
-read_now kind stage draft head offset count seen come =
-    subst (λ (bytes : List ℕ). data_of kind bytes ≡ stage_left stage draft bytes offset (length seen))
-    (append-nil seen) (come.reads [])
-
-pub result_failed : (kind : DataKind) (at : ℕ) (draft : Draft) (head : HeadScan)
-    (offset count : ℕ) (seen : List ℕ)
-    → HasSeen kind (Failed at) draft head offset count seen → data_of kind seen ≡ Err at
-unfolding stage_left
-result_failed kind at draft head offset count seen come =
-    read_now kind (Failed at) draft head offset count seen come
-
-pub lasts_failed : (kind : DataKind) (at : ℕ) (draft : Draft) (head : HeadScan)
-    (offset count : ℕ) (seen more : List ℕ)
-    → HasSeen kind (Failed at) draft head offset count seen → data_of kind (seen ++ more) ≡ Err at
-unfolding stage_left
-lasts_failed kind at draft head offset count seen more come = come.reads more
-
-pub result_head : (kind : DataKind) (which : Due) (draft : Draft) (head : HeadScan)
-    (offset count : ℕ) (seen : List ℕ)
-    → HasSeen kind (Head which) draft head offset count seen → data_of kind seen ≡ Err count
-unfolding stage_left
-result_head kind which draft head offset count seen come =
-    read_now kind (Head which) draft head offset count seen come
-    ∙ ap located (due_left-stopped which draft seen offset (stopped Cut (length seen))
-    (head_at-cut seen offset come.stands.cut))
-    ∙ ap (λ (count : ℕ). Err count) (sym come.counted)
-
-pub result_name : (kind : DataKind) (owner : Owner) (left : ℕ) (draft : Draft) (head : HeadScan)
-    (offset count : ℕ) (seen : List ℕ)
-    → HasSeen kind (Name owner left) draft head offset count seen → 0 < left
-    → data_of kind seen ≡ Err count
-unfolding stage_left name_left
-result_name kind owner left draft head offset count seen come some =
-    read_now kind (Name owner left) draft head offset count seen come
-    ∙ rw (bytes_at-cut left seen (length seen) (omega arith))
-    (ap (λ (count : ℕ). Err count) (sym come.counted))
-
 ended_there : (follow : Bool) (found : BlockData) (bytes : List ℕ) (offset : ℕ)
     → IsTrue (follow || (offset == length bytes))
     → located (if follow then Ok found else alone bytes offset found) ≡ Ok found
@@ -69,11 +27,41 @@ unfolding alone
 ended_there true found bytes offset stands = refl
 ended_there false found bytes offset stands = rw stands refl
 
-pub result_read : (kind : DataKind) (found : Found) (draft : Draft) (head : HeadScan)
-    (offset count : ℕ) (seen : List ℕ)
-    → HasSeen kind (Read found) draft head offset count seen
-    → data_of kind seen ≡ Ok (data_from found draft)
-unfolding stage_left
-result_read kind found draft head offset count seen come =
-    read_now kind (Read found) draft head offset count seen come
-    ∙ ended_there (may_follow found) (data_from found draft) seen offset come.stands
+module _ {kind : DataKind} {draft : Draft} {head : HeadScan} {offset count : ℕ} {seen : List ℕ} where
+  -- the reading of the bytes seen, if no more follow
+  read_now : {stage : Stage} → HasSeen kind stage draft head offset count seen
+      → data_of kind seen ≡ stage_left stage draft seen offset (length seen)
+  read_now come = rw append-nil at (come.reads [])
+
+  pub lasts_failed : {at : ℕ} (more : List ℕ)
+      → HasSeen kind (Failed at) draft head offset count seen → data_of kind (seen ++ more) ≡ Err at
+  unfolding stage_left
+  lasts_failed more come = come.reads more
+
+  pub result_failed : {at : ℕ} → HasSeen kind (Failed at) draft head offset count seen
+      → data_of kind seen ≡ Err at
+  unfolding stage_left
+  result_failed come = read_now come
+
+  pub result_head : {which : Due} → HasSeen kind (Head which) draft head offset count seen
+      → data_of kind seen ≡ Err count
+  unfolding stage_left
+  result_head {which = which} come =
+      read_now come
+      ∙ ap located (due_left-stopped which draft seen offset (stopped Cut (length seen))
+      (head_at-cut seen offset come.stands.cut))
+      ∙ ap Err (sym come.counted)
+
+  pub result_name : {owner : Owner} {left : ℕ}
+      → HasSeen kind (Name owner left) draft head offset count seen → 0 < left
+      → data_of kind seen ≡ Err count
+  unfolding stage_left name_left
+  result_name {left = left} come some =
+      read_now come
+      ∙ rw (bytes_at-cut left seen (length seen) (omega arith)) (ap Err (sym come.counted))
+
+  pub result_read : {found : Found} → HasSeen kind (Read found) draft head offset count seen
+      → data_of kind seen ≡ Ok (data_from found draft)
+  unfolding stage_left
+  result_read {found = found} come =
+      read_now come ∙ ended_there (may_follow found) (data_from found draft) seen offset come.stands

@@ -23,8 +23,6 @@ viewed_result (Err offset) = Err offset
 -- the name of a dtn endpoint ID in the data has at most 1,024 bytes
 abbrev pub HasShortName : BlockData → Type 0
 HasShortName (PreviousNode node) = IsShort node
-HasShortName (BundleAge age) = Unit {0}
-HasShortName (HopCount limit count) = Unit {0}
 HasShortName (Security block source) = IsShort source
 HasShortName (StatusReport report source) = IsShort source
-HasShortName (OtherRecord type) = Unit {0}
+HasShortName _ = Unit {0}

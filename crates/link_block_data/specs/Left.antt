@@ -46,12 +46,9 @@ data_from (found.OtherRecord type) draft = OtherRecord type
 
 -- whether bytes may follow what was read
 abbrev pub may_follow : Found → Bool
-may_follow found.PreviousNode = false
-may_follow (found.BundleAge age) = false
-may_follow (found.HopCount limit count) = false
 may_follow found.Security = true
-may_follow found.StatusReport = false
 may_follow (found.OtherRecord type) = true
+may_follow _ = false
 
 abbrev pub ended : Found → Draft → List ℕ → ℕ → Result BlockData Stop
 ended found draft bytes offset =
@@ -234,8 +231,7 @@ number_left (number.Service owner allocator node) draft service bytes offset =
     by_eid owner draft bytes (Ok (numbered allocator node service, offset))
 
 abbrev pub pair_left : Pair → Draft → List ℕ → ℕ → Result BlockData Stop
-pair_left (pair_.Eid owner) draft bytes offset =
-    by_eid owner draft bytes (scheme_left bytes offset)
+pair_left (pair_.Eid owner) draft bytes offset = by_eid owner draft bytes (scheme_left bytes offset)
 pair_left pair_.HopCount draft bytes offset = limit_left draft bytes offset
 pair_left pair_.Record draft bytes offset = type_left draft bytes offset
 pair_left pair_.Timestamp draft bytes offset = time_left draft bytes offset
@@ -247,8 +243,7 @@ due_left (due.Number which) draft bytes offset = do
 due_left (due.Pair which) draft bytes offset = do
   (_, offset) ← row_at pair bytes offset
   pair_left which draft bytes offset
-due_left (due.Scheme owner) draft bytes offset =
-    by_eid owner draft bytes (scheme_left bytes offset)
+due_left (due.Scheme owner) draft bytes offset = by_eid owner draft bytes (scheme_left bytes offset)
 due_left (due.DtnPart owner) draft bytes offset =
     by_eid owner draft bytes (specific_at Dtn bytes offset)
 due_left (due.IpnPart owner) draft bytes offset =

@@ -8,7 +8,7 @@ use Rattle.link_cbor.specs.HeadScan.{HasScannedHead}
 use Rattle.link_block_data.specs.declared.kind.DataKind.{DataKind}
 use Rattle.link_block_data.specs.declared.due.Due.{Due}
 use Rattle.link_block_data.specs.declared.due.Stage.{Stage}
-use Rattle.link_block_data.specs.declared.due.Stage.TheVariants.{Head, Name, Read, Failed}
+use Rattle.link_block_data.specs.declared.due.Stage.TheVariants.{Head, Read}
 use Rattle.link_block_data.specs.declared.draft.Draft.{Draft}
 use Rattle.link_block_data.specs.declared.scan.DataScan.{DataScan}
 use Rattle.link_block_data.specs.BlockData.{located, data_of}
@@ -23,9 +23,8 @@ pub record IsInHead (head : HeadScan) (offset : ℕ) (seen : List ℕ) : Type 0 
 -- the state of the scan at each stage
 abbrev pub IsAtStage : Stage → HeadScan → ℕ → List ℕ → Type 0
 IsAtStage (Head which) head offset seen = IsInHead head offset seen
-IsAtStage (Name owner left) head offset seen = Unit {0}
 IsAtStage (Read found) head offset seen = IsTrue (may_follow found || (offset == length seen))
-IsAtStage (Failed at) head offset seen = Unit {0}
+IsAtStage _ head offset seen = Unit {0}
 
 -- Exactly these bytes were seen of data of this kind. Whatever bytes follow, the data is the rest
 -- that is read from this stage on.
@@ -47,8 +46,7 @@ pub record HasSeenHead (kind : DataKind) (which : Due) (draft : Draft) (offset c
       → data_of kind (seen ++ more) ≡ located (due_left which draft (seen ++ more) offset)
 
 abbrev pub HasScanned : DataKind → DataScan → List ℕ → Type 0
-HasScanned kind scan seen =
-    HasSeen kind scan.stage scan.draft scan.head scan.offset scan.count seen
+HasScanned kind scan seen = HasSeen kind scan.stage scan.draft scan.head scan.offset scan.count seen
 
 -- the number of bytes seen
 abbrev pub scan_size : DataScan → ℕ

@@ -93,9 +93,7 @@ with_assertion (status.Other left) assertion draft = draft
 
 abbrev pub with_targets : ℕ → Draft → Draft
 with_targets count draft =
-    record draft {
-      security = record draft.security { targets = count; targets_primary = false };
-    }
+    record draft { security = record draft.security { targets = count; targets_primary = false } }
 
 -- whether 0 is among the targets so far, after more of them
 abbrev pub with_primary : Bool → Draft → Draft
@@ -107,8 +105,7 @@ with_primary among draft =
     }
 
 abbrev pub with_context : Integer → Draft → Draft
-with_context context draft =
-    record draft { security = record draft.security { context = context } }
+with_context context draft = record draft { security = record draft.security { context = context } }
 
 abbrev pub with_eid : Eid → Draft → Draft
 with_eid eid draft = record draft { eid = eid }
@@ -138,8 +135,7 @@ abbrev pub took : Number → ℕ → Draft → Stage × Draft
 took number.Age age draft = (Read (found.BundleAge age), draft)
 took number.HopLimit limit draft = (Head (due.Number (number.HopCount limit)), draft)
 took (number.HopCount limit) count draft = (Read (found.HopCount limit count), draft)
-took (number.Target left) target draft =
-    (Head (targets_due left), with_primary (target == 0) draft)
+took (number.Target left) target draft = (Head (targets_due left), with_primary (target == 0) draft)
 took number.ContextFlags flags draft = (Head (due.Pair (pair_.Eid owner.Security)), draft)
 took number.RecordType type draft = (after_type type, draft)
 took (number.AssertedTime status) time draft = took_assertion status (YesAt time) draft
@@ -152,8 +148,7 @@ took number.CreationTime time draft = (
   record draft { report = record draft.report { time = time } },
 )
 took number.Sequence sequence draft = took_sequence sequence draft
-took number.FragmentOffset start draft =
-    (Head (due.Number (number.FragmentLength start)), draft)
+took number.FragmentOffset start draft = (Head (due.Number (number.FragmentLength start)), draft)
 took (number.FragmentLength start) size draft = (
   Read found.StatusReport,
   record draft { report = record draft.report { fragment = Some (start, size) } },
@@ -178,15 +173,13 @@ took_run owner left run draft = (
 )
 
 abbrev pub took_asserted : Status → Bool → Bool → Draft → Stage × Draft
-took_asserted status true asserted draft =
-    (Head (due.Number (number.AssertedTime status)), draft)
+took_asserted status true asserted draft = (Head (due.Number (number.AssertedTime status)), draft)
 took_asserted status false asserted draft =
     took_assertion status (if asserted then Yes else No) draft
 
 -- a complete head of `size` bytes, judged by the row of what is due
 abbrev pub judged : Due → ℕ → HeadItem → Draft → Result (Stage × Draft) BundleFault
-judged (due.Number which) size head draft =
-    unsigned head >>= λ value. Ok (took which value draft)
+judged (due.Number which) size head draft = unsigned head >>= λ value. Ok (took which value draft)
 judged (due.Pair which) size head draft = pair head >>= λ _. Ok (Head (first_of which), draft)
 judged (due.Scheme owner) size head draft =
     scheme head >>= λ scheme. Ok (Head (specific owner scheme), draft)

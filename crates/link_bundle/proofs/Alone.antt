@@ -13,8 +13,7 @@ use Rattle.link_bundle.specs.declared.stage.CheckType.{CheckType}
 use Rattle.link_bundle.specs.declared.stage.CheckType.TheVariants.{Unread, Is}
 use Rattle.link_bundle.specs.declared.stage.Stage.TheVariants.{Start, Ended}
 use Rattle.link_bundle.specs.CheckKinds.{is_unread}
-use Rattle.link_bundle.specs.Covers.{Covers}
-use Rattle.link_bundle_blocks.specs.Bundle.{Bundle, with_blocks, bundle_at, bundle_goes, if_alone, judged_bundle}
+use Rattle.link_bundle_blocks.specs.Bundle.{Bundle, with_blocks, bundle_at, bundle_goes, judged_bundle}
 use Rattle.link_bundle_blocks.specs.Blocks.{Block}
 use Rattle.link_bundle.specs.Left.{bundle_of, stage_left}
 use Rattle.link_bundle.specs.Scan.{HasSeen, HasScanned, HasTaken}
@@ -49,11 +48,8 @@ whole_come {old = old} {new = new} {after = after} {blocks = blocks} {seen = see
           all_grown seen run come.all_bytes (All-take (λ (byte : ℕ). byte < 256) size bytes all);
       count = omega (arith, come.count);
       reads = λ more.
-          subst (λ (seen : List ℕ). judged_bundle ((seen ++ run) ++ more)
-          ≡ with_blocks blocks (if_alone ((seen ++ run) ++ more) (bundle_of after new.offset)))
-          (sym come.stands.nothing)
-          (rw (begins.reads more, end)
-          (alone_after (size == length (run ++ more)) (bundle_of after size) _ blocks refl refl));
+          rw (come.stands.nothing, begins.reads more, end)
+          (alone_after (size == length (run ++ more)) (bundle_of after size) _ blocks refl refl);
       stands = omega arith;
     }
 
@@ -63,8 +59,7 @@ pub goes_in_whole : {old : Cursor} {draft : Draft} {before : List Block} {bundle
     → Begins (λ bundle. bundle.length) bundle_at bundle bytes → count < bundle.length
     → bundle_goes (seen ++ take count bytes) ≡ true
 goes_in_whole {bytes = bytes} count come begins sooner =
-    ap (λ (seen : List ℕ). bundle_goes (seen ++ take count bytes)) come.stands.nothing
-    ∙ cut_goes-on (take count bytes) (begins.cuts count sooner)
+    rw come.stands.nothing (cut_goes-on (take count bytes) (begins.cuts count sooner))
 
 unread_of : (check : CheckType) → is_unread check ≡ true → check ≡ Unread
 unread_of Unread is = refl
@@ -82,8 +77,7 @@ restarted {cursor = cursor} {draft = draft} after come unread fresh = record {
   reads = come.reads;
   stands = record {
     nothing = come.stands.nothing;
-    checks = subst (λ (check : CheckType). Covers check cursor.checks [])
-        (unread_of draft.check unread ∙ sym fresh) come.stands.checks;
+    checks = rw fresh (rw (unread_of draft.check unread) at come.stands.checks);
   };
 }
 

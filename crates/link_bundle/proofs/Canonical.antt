@@ -33,8 +33,7 @@ unfolding blocks_at block_too_many
 blocks_at-full left numbers primary bytes offset next head count none outcome judged =
     rw (
       none,
-      row_at-refused block_too_many bytes offset next head TooManyBlocks outcome
-          (rw judged refl),
+      row_at-refused block_too_many bytes offset next head TooManyBlocks outcome (rw judged refl),
     ) refl
 
 pub blocks_at-open : (draft : Draft) (bytes : List ℕ) (offset next : ℕ) (head : Head) (count : ℕ)

@@ -32,8 +32,8 @@ use Rattle.link_bundle.specs.Left.{primary_of, block_of, block_end, span_of, bun
 use Rattle.link_bundle.specs.Scan.{HasSeen, IsInside, IsInStored}
 use Rattle.link_bundle.proofs.Fields.{stored_left-step, stored_left-last}
 use Rattle.link_bundle.proofs.Heads.{no_content, refused_in}
-use Rattle.link_bundle_blocks.proofs.Runs.{with_run, bytes_at-run, run_within}
-use Rattle.link_bundle.proofs.Steps.{entered, regrown, all_grown, byte_grown, count_more, failed, next_run}
+use Rattle.link_bundle_blocks.proofs.Runs.{with_run, bytes_at-run}
+use Rattle.link_bundle.proofs.Steps.{entered, grown_reads, all_grown, byte_grown, count_more, failed, next_run}
 
 -- the bundle, by the check field of its current block
 abbrev by_field : BlockKind → Draft → Option CheckKind → List ℕ → ReadAt Bool → Result Bundle Stop
@@ -59,21 +59,8 @@ content_at-run : (left : ℕ) (check : Option CheckKind) (start : ℕ)
     ≡ content_at (left - length run) check start bytes (offset + length run)
 unfolding content_at skipped
 content_at-run left check start bytes more run offset here fits =
-    ap (λ (reading : ReadAt (List ℕ)). skipped check start bytes reading)
-    (bytes_at-run left bytes more run offset here fits)
-    ∙ skipped-with_run check start bytes run
-    (bytes_at (left - length run) bytes (offset + length run))
-
-content_at-ends : (left : ℕ) (check : Option CheckKind) (start : ℕ)
-    (bytes more run : List ℕ) (offset : ℕ)
-    → drop offset bytes ≡ run ++ more → 0 < left → left ≡ length run
-    → content_at left check start bytes offset ≡ field_at check start bytes (offset + length run)
-content_at-ends left check start bytes more run offset here some all =
-    let none : left - length run ≡ 0 = omega arith in
-    content_at-run left check start bytes more run offset here (omega arith)
-    ∙ ap (λ (rest : ℕ). content_at rest check start bytes (offset + length run)) none
-    ∙ no_content check start bytes (offset + length run)
-    (run_within bytes more run offset here (omega arith))
+    rw (bytes_at-run left bytes more run offset here fits) (skipped-with_run check start bytes run
+    (bytes_at (left - length run) bytes (offset + length run)))
 
 -- ---- a run of bytes of a name or of data
 
@@ -116,34 +103,27 @@ module _ {left : ℕ} {old grown : Cursor} {draft : Draft} {before : List Block}
     reads = λ more.
         let bytes = (seen ++ run) ++ more in
         let check = kind_of draft.check in
-        let start = draft.block.start in
-        regrown (λ (all : List ℕ). with_blocks before
-        (stage_left (Content left) draft old.offset all (length seen))) seen run come.reads more
+        grown_reads come run more
         ∙ ap (λ (field : ReadAt Bool). with_blocks before (by_field Canonical draft check bytes field))
-        (content_at-run left check start bytes more run (length seen) (next_run seen more run) fits
-        ∙ rw (is_rest, length-append seen run) refl);
+        (content_at-run left check draft.block.start bytes more run (length seen)
+        (next_run seen more run) fits ∙ rw (is_rest, length-append seen run) refl);
     stands = inside_grown draft come.count come.stands takes;
   }
 
   -- the last bytes of data
-  pub ended_content : {new : Cursor} {after : Draft} {stage : Stage} → 0 < left → left ≡ length run
+  pub ended_content : {new : Cursor} {after : Draft} {stage : Stage} → left ≡ length run
       → FieldsEnd Canonical draft stage after → after.block.start ≡ draft.block.start
       → KeepsCheck draft.check stage after.check → Enters stage grown new
       → HasSeen stage new after before (seen ++ run)
   unfolding stage_left
-  ended_content some all ends starts keeps enters =
+  ended_content all ends starts keeps enters =
       ran_out draft come.count come.stands takes come.all_bytes are starts keeps enters
       (λ more.
       let bytes = (seen ++ run) ++ more in
-      let check = kind_of draft.check in
-      let start = draft.block.start in
-      regrown (λ (all : List ℕ). with_blocks before
-      (stage_left (Content left) draft old.offset all (length seen))) seen run come.reads more
-      ∙ ap (λ (field : ReadAt Bool). with_blocks before (by_field Canonical draft check bytes field))
-      (content_at-ends left check start bytes more run (length seen) (next_run seen more run) some all
-      ∙ rw (length-append seen run) refl)
+      (grown_content 0 (omega arith) (omega arith)).reads more
       ∙ ap (λ (reading : Result Bundle Stop). with_blocks before reading)
-      (ends bytes (length (seen ++ run))))
+      (rw (no_content (kind_of draft.check) draft.block.start bytes (length (seen ++ run))
+      (omega (arith, length-append (seen ++ run) more))) (ends bytes (length (seen ++ run)))))
 
 -- bytes of a name
 pub grown_name : {role : Role} {left : ℕ} {old grown new : Cursor} {draft after : Draft}
@@ -157,8 +137,7 @@ grown_name {role = role} {left = left} {old = old} {draft = draft} {after = afte
     {before = before} {seen = seen} {run = run} come are takes goes starts keeps enters =
     ran_out draft come.count come.stands takes come.all_bytes are starts keeps enters
     (λ more.
-    regrown (λ (all : List ℕ). with_blocks before
-    (stage_left (Name role left) draft old.offset all (length seen))) seen run come.reads more
+    grown_reads come run more
     ∙ ap (λ (reading : Result Bundle Stop). with_blocks before reading)
     (goes ((seen ++ run) ++ more) more old.offset (length seen) (next_run seen more run)
     ∙ rw (length-append seen run) refl))
@@ -237,9 +216,7 @@ module _ {field left stored : ℕ} {block : BlockKind} {kind : CheckKind} {old g
             let bytes = now ++ more in
             let check =
             zeroed_check kind draft.block.start old.offset (length seen + left - old.offset) bytes in
-            regrown (λ (all : List ℕ). with_blocks before
-            (stage_left (Stored field left stored block kind) draft old.offset all (length seen))) seen
-            (byte ∷ []) come.reads more
+            grown_reads come (byte ∷ []) more
             ∙ ap (λ (reading : ReadAt Bool). with_blocks before
             (by_field block draft (Some kind) bytes reading))
             (stored_left-step left stored check field bytes more byte (length seen)
@@ -264,9 +241,7 @@ module _ {field left stored : ℕ} {block : BlockKind} {kind : CheckKind} {old g
         ≡ expected =
         rw (zeros, sym takes.offset)
         (checked kind draft.check grown expected start now more stored_grown checks) in
-        regrown (λ (all : List ℕ). with_blocks before
-        (stage_left (Stored field left stored block kind) draft old.offset all (length seen))) seen
-        (byte ∷ []) come.reads more
+        grown_reads come (byte ∷ []) more
         ∙ ap (λ (reading : ReadAt Bool). with_blocks before
         (by_field block draft (Some kind) bytes reading))
         (ap (λ (check : ℕ). stored_left left stored check field bytes (length seen)) check
@@ -341,8 +316,7 @@ trailing {old = old} {new = new} {draft = draft} {before = before} {seen = seen}
     (count_more old.count new.count seen byte counts come.count)
     (λ more.
     let bytes = (seen ++ byte ∷ []) ++ more in
-    regrown (λ (all : List ℕ). with_blocks before
-    (stage_left Ended draft old.offset all (length seen))) seen (byte ∷ []) come.reads more
+    grown_reads come (byte ∷ []) more
     ∙ ap (λ (reading : Result Bundle Stop). with_blocks before reading)
     (alone-trailing draft.payload_span (bundle_of draft old.offset).info old.offset bytes outcome
     (omega (

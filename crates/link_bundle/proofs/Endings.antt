@@ -51,8 +51,7 @@ ending_ends scan found rest is =
 
 not_within : (count end : ℕ) (block : Block) → count < end → EndsAt end block
     → LiesWithin count block → ⊥
-not_within count end (PrimaryOf primary check last) below ends within =
-    omega (arith, ends, within)
+not_within count end (PrimaryOf primary check last) below ends within = omega (arith, ends, within)
 not_within count end (CanonicalOf block) below ends within =
     let here : end ≤ count =
     subst (λ (last : Option ℕ). IfSome last (λ last. last ≤ count)) ends within.1 in

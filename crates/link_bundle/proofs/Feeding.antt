@@ -1,6 +1,6 @@
 -- A piece that is taken in runs.
 
-use Rattle.std.proofs.Common.{◌≡◌, ℕ, suc, ◌+◌, ◌<◌, ◌≤◌, true, false, List, [], ◌∷◌, ◌++◌, length, take, drop, Option, None, Some, Result, Err, refl, sym, ap, subst, ◌∙◌, append_assoc, append-nil, length-append, arith}
+use Rattle.std.proofs.Common.{◌≡◌, ℕ, suc, ◌+◌, ◌<◌, ◌≤◌, true, false, List, [], ◌∷◌, ◌++◌, length, take, drop, Option, None, Some, Err, refl, sym, ap, subst, ◌∙◌, append_assoc, append-nil, length-append, arith}
 use Rattle.std.proofs.lemmas.List.{drop-drop, drop_all, length-take, length-take-le, take-take, take-append-drop}
 use Rattle.std.proofs.Math.Seq.{take-add}
 use Rattle.link_cbor.specs.declared.head.Head.{Head as HeadItem}
@@ -15,11 +15,9 @@ use Rattle.link_bundle.specs.declared.stage.Field.{Field}
 use Rattle.link_bundle.specs.declared.stage.Role.{Role}
 use Rattle.link_bundle.specs.declared.stage.Stage.TheVariants.{Head, Name, Content}
 use Rattle.link_bundle_blocks.specs.Reading.{Stop, stopped}
-use Rattle.link_bundle_types.specs.declared.fault.BundleFault.{BundleFault}
-use Rattle.link_bundle_types.specs.declared.info.BundleInfo.{BundleInfo}
 use Rattle.link_bundle.specs.CheckKinds.{kind_of}
 use Rattle.link_bundle_blocks.specs.Blocks.{Block}
-use Rattle.link_bundle_blocks.specs.Bundle.{Bundle, with_blocks, judged_bundle, verdict_by, verdict, state_of, is_going, bundle_goes}
+use Rattle.link_bundle_blocks.specs.Bundle.{with_blocks, judged_bundle, verdict_by, verdict, state_of, is_going, bundle_goes}
 use Rattle.link_bundle.specs.Left.{last_block, with_known_payload, stage_left}
 use Rattle.link_bundle_blocks.proofs.Blocks.{verdict_by-blocks}
 use Rattle.link_bundle_blocks.proofs.Rests.{joined_run}
@@ -52,8 +50,7 @@ runs-wanted seen run byte wanted count below =
 taken-run : (seen run rest : List ℕ)
     → ((count : ℕ) → count < length run → bundle_goes (seen ++ take count run) ≡ true)
     → taken bundle_goes seen (run ++ rest) ≡ run ++ taken bundle_goes (seen ++ run) rest
-taken-run seen [] rest wanted =
-    ap (λ (seen : List ℕ). taken bundle_goes seen rest) (sym (append-nil seen))
+taken-run seen [] rest wanted = rw append-nil refl
 taken-run seen (byte ∷ run) rest wanted =
     taken-cons bundle_goes seen byte (run ++ rest)
     (ap bundle_goes (sym (append-nil seen)) ∙ wanted 0 (omega arith))
@@ -86,20 +83,17 @@ taken_more seen bytes count more within wanted before = record {
       let run = take more rest in
       let now = seen ++ take count bytes in
       before.splits
-      ∙ ap (λ (bytes' : List ℕ). take count bytes ++ taken bundle_goes now bytes')
-      (sym (take-append-drop more rest))
       ∙ ap (λ (front : List ℕ). take count bytes ++ front)
-      (taken-run now run (drop more rest)
-      (λ size below. ap (λ (front : List ℕ). bundle_goes (now ++ front))
+      (rw (take-append-drop more rest) at
+      (taken-run now run (drop more rest) (λ size below. ap (λ (front : List ℕ). bundle_goes (now ++ front))
       (take-take size more rest (omega (arith, length-take-le more rest within)))
-      ∙ wanted size (omega (arith, length-take-le more rest within))))
-      ∙ sym (append_assoc (take count bytes) run (taken bundle_goes (now ++ run) (drop more rest)))
-      ∙ ap (λ (front : List ℕ). front ++ taken bundle_goes (now ++ run) (drop more rest))
-      (sym (take-add count more bytes))
-      ∙ ap (λ (seen : List ℕ). take (count + more) bytes ++ taken bundle_goes seen (drop more rest))
-      (joined_run seen bytes count more)
-      ∙ ap (λ (rest : List ℕ). take (count + more) bytes
-      ++ taken bundle_goes (seen ++ take (count + more) bytes) rest) (drop-drop more count bytes);
+      ∙ wanted size (omega (arith, length-take-le more rest within)))))
+      ∙ rw (
+        joined_run seen bytes count more,
+        drop-drop more count bytes,
+        take-add count more bytes,
+        append_assoc,
+      ) refl;
 }
 
 in_all : (seen bytes : List ℕ) (count : ℕ) → count ≤ length bytes
@@ -115,22 +109,17 @@ pub taken_stop : (seen bytes : List ℕ) (count : ℕ) → count ≤ length byte
     → TakenSoFar seen bytes count → TakenInAll seen bytes count
 taken_stop seen bytes count within idle before =
     in_all seen bytes count within
-    (before.splits
-    ∙ ap (λ (rest : List ℕ). take count bytes ++ rest)
-    (taken-idle bundle_goes (seen ++ take count bytes) (drop count bytes) idle)
-    ∙ append-nil (take count bytes))
+    (before.splits ∙ rw (
+      taken-idle bundle_goes (seen ++ take count bytes) (drop count bytes) idle,
+      append-nil,
+    ) refl)
 
 -- the bytes taken, if all were consumed
 pub taken_all : (seen bytes : List ℕ) (count : ℕ) → count ≡ length bytes
     → TakenSoFar seen bytes count → TakenInAll seen bytes count
 taken_all seen bytes count all before =
     in_all seen bytes count (omega arith)
-    (before.splits
-    ∙ ap (λ (rest : List ℕ). take count bytes ++ taken bundle_goes (seen ++ take count bytes) rest)
-    (drop_all count bytes (omega arith))
-    ∙ ap (λ (rest : List ℕ). take count bytes ++ rest)
-    (taken-nil bundle_goes (seen ++ take count bytes))
-    ∙ append-nil (take count bytes))
+    (before.splits ∙ rw (drop_all count bytes (omega arith), taken-nil, append-nil) refl)
 
 -- more bytes are needed if the bytes end inside a bundle
 verdict_by-cut : (payload : Option (ℕ × ℕ)) (stop : Stop) → stop.fault ≡ Cut
@@ -144,10 +133,8 @@ pub goes-cut : (payload : Option (ℕ × ℕ)) (bytes : List ℕ) (before : List
     → bundle_goes bytes ≡ true
 unfolding verdict
 goes-cut payload bytes before stop cut is =
-    ap (λ (reading : Result Bundle Stop). is_going (state_of (verdict_by reading))) is
-    ∙ ap (λ (verdict : Result BundleInfo (BundleFault × ℕ)). is_going (state_of verdict))
-    (verdict_by-blocks before (with_known_payload payload (Err stop)))
-    ∙ verdict_by-cut payload stop cut
+    rw (is, verdict_by-blocks before (with_known_payload payload (Err stop)))
+    (verdict_by-cut payload stop cut)
 
 -- more bytes are needed inside a name and inside data
 pub goes_in_content : {left : ℕ} {cursor : Cursor} {draft : Draft} {before : List Block}
@@ -218,8 +205,7 @@ goes_in_head {which = which} {cursor = cursor} {draft = draft} {before = before}
     ∙ at_head which draft cursor.offset before bytes (Err stop)
     (field_left-stopped which draft bytes cursor.offset (stopped Cut (length bytes))
     (head_at-cut bytes cursor.offset cut))
-    ∙ ap (λ (reading : Result Bundle Stop). with_blocks all reading)
-    (read_alone-stopped draft.payload_span bytes stop))
+    ∙ rw (read_alone-stopped draft.payload_span bytes stop) refl)
 
 -- inside data, a piece that is shorter than what is left of it is taken whole
 pub content_taken : {left : ℕ} {cursor : Cursor} {draft : Draft} {before : List Block}

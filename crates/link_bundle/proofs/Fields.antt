@@ -1,6 +1,6 @@
 -- The content of a check field.
 
-use Rattle.std.proofs.Common.{◌≡◌, ℕ, zero, suc, ◌+◌, ◌-◌, ◌*◌, ◌^◌, ◌<◌, Bool, true, false, ◌&&◌, List, [], ◌∷◌, drop, None, Some, Ok, Err, refl, ap, ◌∙◌, arith}
+use Rattle.std.proofs.Common.{◌≡◌, ℕ, zero, suc, ◌+◌, ◌-◌, ◌*◌, ◌^◌, ◌<◌, Bool, true, false, ◌&&◌, List, [], ◌∷◌, drop, None, Some, Ok, Err, refl, arith}
 use Rattle.std.specs.Prelude.{IsTrue, nat_lt, nat_le, ◌==◌, if◌then◌else◌}
 use Rattle.std.proofs.lemmas.Bool.Decides.{nat_tests}
 use Rattle.std.proofs.lemmas.Bool.{ltb-true, false≢true}
@@ -64,9 +64,8 @@ pub stored_left-step : (left stored expected field : ℕ) (bytes more : List ℕ
     ≡ stored_left (left - 1) (stored * 256 + byte) expected field bytes (offset + 1)
 unfolding stored_left compared
 stored_left-step left stored expected field bytes more byte offset here some =
-    ap (λ (reading : ReadAt (List ℕ)). compared stored expected field reading)
-    (bytes_at-step left bytes more byte offset here some)
-    ∙ compared-with_run stored expected field byte (bytes_at (left - 1) bytes (offset + 1))
+    rw (bytes_at-step left bytes more byte offset here some)
+    (compared-with_run stored expected field byte (bytes_at (left - 1) bytes (offset + 1)))
 
 -- the last byte of a content
 pub stored_left-last : (left stored expected field : ℕ) (bytes more : List ℕ) (byte offset : ℕ)

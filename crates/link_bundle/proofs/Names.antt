@@ -57,9 +57,8 @@ pub name_left-run : (name run : List ℕ) (left : ℕ) (bytes more : List ℕ) (
     ≡ name_left (name ++ run) (left - length run) bytes (offset + length run)
 unfolding name_left
 name_left-run name run left bytes more offset here fits =
-    ap (λ (reading : ReadAt (List ℕ)). name_then name reading)
-    (bytes_at-run left bytes more run offset here fits)
-    ∙ name_then-with_run name run (bytes_at (left - length run) bytes (offset + length run))
+    rw (bytes_at-run left bytes more run offset here fits)
+    (name_then-with_run name run (bytes_at (left - length run) bytes (offset + length run)))
 
 -- the bytes so far of a name are in its field
 in_place : (role : Role) (draft : Draft) (name bytes : List ℕ)
@@ -92,11 +91,8 @@ pub name_ends : (role : Role) (old new : Draft) (name bytes : List ℕ)
     ≡ stage_left (stage_after role) new next bytes next
 unfolding name_left
 name_ends role old new name bytes next within is =
-    ap (λ (reading : ReadAt (List ℕ)). by_eid role old bytes (name_then name reading))
-    (bytes_at-none bytes next within)
-    ∙ ap (λ (items : List ℕ). by_eid role old bytes
-    (Ok (Dtn (record { items = items }), next))) (append-nil name)
-    ∙ eid_ends role old new (Dtn (record { items = name })) bytes next is
+    rw (bytes_at-none bytes next within, append-nil name)
+    (eid_ends role old new (Dtn (record { items = name })) bytes next is)
 
 -- an incomplete name, after more of its bytes
 pub name_run_goes_on : (role : Role) (old new : Draft) (run : List ℕ) (left rest : ℕ)
@@ -107,12 +103,9 @@ pub name_run_goes_on : (role : Role) (old new : Draft) (run : List ℕ) (left re
     ≡ stage_left (Name role rest) new (offset + length run) bytes (offset + length run)
 unfolding stage_left
 name_run_goes_on role old new run left rest bytes more field offset here fits is_rest is =
-    ap (λ (reading : ReadAt Eid). by_eid role old bytes reading)
-    (name_left-run (kept_name role old) run left bytes more offset here fits)
-    ∙ ap (λ (rest : ℕ). by_eid role old bytes
-    (name_left (kept_name role old ++ run) rest bytes (offset + length run))) (sym is_rest)
-    ∙ name_goes_on role old new (kept_name role old ++ run) rest bytes (offset + length run)
-    (offset + length run) is
+    rw (name_left-run (kept_name role old) run left bytes more offset here fits, sym is_rest)
+    (name_goes_on role old new (kept_name role old ++ run) rest bytes (offset + length run)
+    (offset + length run) is)
 
 pub name_run_ends : (role : Role) (old new : Draft) (run : List ℕ) (left : ℕ)
     (bytes more : List ℕ) (field offset : ℕ)
@@ -123,9 +116,6 @@ pub name_run_ends : (role : Role) (old new : Draft) (run : List ℕ) (left : ℕ
 unfolding stage_left
 name_run_ends role old new run left bytes more field offset here some all is =
     let none : left - length run ≡ 0 = omega arith in
-    ap (λ (reading : ReadAt Eid). by_eid role old bytes reading)
-    (name_left-run (kept_name role old) run left bytes more offset here (omega arith))
-    ∙ ap (λ (rest : ℕ). by_eid role old bytes
-    (name_left (kept_name role old ++ run) rest bytes (offset + length run))) none
-    ∙ name_ends role old new (kept_name role old ++ run) bytes (offset + length run)
-    (run_within bytes more run offset here (omega arith)) is
+    rw (name_left-run (kept_name role old) run left bytes more offset here (omega arith), none)
+    (name_ends role old new (kept_name role old ++ run) bytes (offset + length run)
+    (run_within bytes more run offset here (omega arith)) is)

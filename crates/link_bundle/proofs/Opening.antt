@@ -1,6 +1,6 @@
 -- The first byte of a bundle.
 
-use Rattle.std.proofs.Common.{◌≡◌, ◌≢◌, ℕ, ◌+◌, ◌<◌, ◌&&◌, List, [], ◌∷◌, ◌++◌, length, Option, None, Some, Result, Err, refl, sym, ap, append_assoc, ◌∙◌, arith}
+use Rattle.std.proofs.Common.{◌≡◌, ◌≢◌, ℕ, ◌+◌, ◌<◌, ◌&&◌, List, [], ◌∷◌, ◌++◌, length, Option, None, Some, Result, Err, refl, sym, ap, ◌∙◌, arith}
 use Rattle.std.specs.Prelude.{IsTrue, is_none, ◌==◌}
 use Rattle.std.proofs.lemmas.Bool.{ne_eqb, false≢true}
 use Rattle.std.proofs.lemmas.Bool.Decides.{nat_tests}
@@ -22,7 +22,7 @@ use Rattle.link_bundle_blocks.specs.Bundle.{Bundle, with_blocks, opening_at, bun
 use Rattle.link_bundle.specs.Left.{field_left, stage_left, with_known_payload, primary_block_left, version_left, flags_left, check_type_left, destination_left, source_left, report_to_left, timestamp_left, time_left, sequence_left, lifetime_left}
 use Rattle.link_bundle.specs.Scan.{HasSeen}
 use Rattle.link_bundle.proofs.Fields.{before_and, after_and}
-use Rattle.link_bundle.proofs.Steps.{nothing_yet, narrowed, begun, byte_grown, count_more, failed}
+use Rattle.link_bundle.proofs.Steps.{nothing_yet, narrowed, begun, byte_grown, count_more, failed, grown_reads}
 
 -- a draft without a payload and without block numbers
 pub record IsBlank (draft : Draft) : Type 0 where
@@ -72,11 +72,7 @@ pub after_first : {cursor : Cursor} {draft : Draft} {before : List Block} {seen 
     → judged_bundle ((seen ++ run) ++ more) ≡ with_blocks before reading
 unfolding stage_left
 after_first {before = before} {seen = seen} run more come is =
-    ap judged_bundle (append_assoc seen run more)
-    ∙ come.reads (run ++ more)
-    ∙ ap (λ (bytes : List ℕ). with_blocks before (judged_bundle bytes))
-    (sym (append_assoc seen run more) ∙ first_run seen run more come.stands.nothing)
-    ∙ ap (λ (reading : Result Bundle Stop). with_blocks before reading) is
+    grown_reads come run more ∙ rw (come.stands.nothing, is) refl
 
 pub opened : {old new : Cursor} {draft : Draft} {before : List Block} {seen : List ℕ} (byte : ℕ)
     → HasSeen Start old draft before seen → IsTrue (stage_fits Start draft) → byte ≡ 0x9f

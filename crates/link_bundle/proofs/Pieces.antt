@@ -1,6 +1,6 @@
 -- The judging of a bundle in pieces, until no further byte can change the verdict.
 
-use Rattle.std.proofs.Common.{◌≡◌, ℕ, ◌+◌, ◌<◌, ◌≤◌, inl, inr, Bool, true, false, List, [], ◌∷◌, ◌++◌, length, take, drop, get_or, Result, Ok, Err, refl, sym, ap, ◌∙◌, subst, ⊎_elim, append-nil, append_assoc, arith}
+use Rattle.std.proofs.Common.{◌≡◌, ℕ, ◌+◌, ◌<◌, ◌≤◌, inl, inr, Bool, true, false, List, [], ◌∷◌, ◌++◌, length, take, drop, get_or, Result, Ok, Err, refl, sym, ap, ◌∙◌, ⊎_elim, append-nil, append_assoc, arith}
 use Rattle.std.specs.Prelude.{if◌then◌else◌}
 use Rattle.std.proofs.lemmas.Bool.{cases_lt, false≢true}
 use Rattle.std.proofs.lemmas.List.{take-append-drop, drop_all, drop_more}
@@ -11,10 +11,9 @@ use Rattle.link_bundle_types.specs.declared.fault.State.{State}
 use Rattle.link_bundle_types.specs.declared.fault.State.TheVariants as state
 use Rattle.link_bundle_types.specs.declared.info.BundleInfo.{BundleInfo}
 use Rattle.link_bundle_types.specs.Faults.{lasts}
-use Rattle.link_bundle_blocks.specs.Bundle.{Bundle, judged_bundle, verdict_by, verdict, payload_of, payload_in, spanned, payload_seen, state_of, is_going, bundle_goes}
+use Rattle.link_bundle_blocks.specs.Bundle.{judged_bundle, verdict_by, verdict, payload_in, payload_seen, state_of, is_going, bundle_goes}
 use Rattle.link_bundle_blocks.specs.Blocks.{Block}
 use Rattle.link_bundle.specs.Left.{stage_left}
-use Rattle.link_bundle_blocks.specs.Reading.{Stop}
 use Rattle.link_bundle.specs.Scan.{HasSeen, HasScanned, HasJudged, may_scan}
 use Rattle.link_bundle.specs.Stages.{stage_state, takes_bytes}
 use Rattle.link_bundle.specs.declared.cursor.Cursor.{Cursor}
@@ -31,8 +30,7 @@ use Rattle.link_bundle.proofs.Verdicts.{state_of-seen}
 -- a scan may take a step exactly if another byte can change its verdict
 may_scan-seen : (scan : BundleScan) (seen : List ℕ) → HasScanned scan seen
     → may_scan scan ≡ takes_bytes (state_of (verdict seen))
-may_scan-seen scan seen come =
-    ap takes_bytes (state_of-seen come)
+may_scan-seen scan seen come = ap takes_bytes (state_of-seen come)
 
 stuck_idle : (now : State) → takes_bytes now ≡ false → is_going now ≡ false
 stuck_idle state.Going stuck = absurd (false≢true (sym stuck))
@@ -81,9 +79,7 @@ module _ (scan later : BundleScan) (content piece : List ℕ) (count : ℕ)
       let none = taken-idle bundle_goes before.seen piece
       (stuck_stops scan before.seen before.scanned stuck) in (
         size before.seen before.scanned ∙ ap length none,
-        subst (HasScanned later) (append-nil before.seen)
-            (subst (λ (run : List ℕ). HasScanned later (before.seen ++ run)) none
-            (fed before.seen before.scanned)),
+        rw (none, append-nil before.seen) at (fed before.seen before.scanned),
       )
 
   judged_stuck : may_scan scan ≡ false → HasJudged later (content ++ piece)
@@ -102,7 +98,7 @@ module _ (scan later : BundleScan) (content piece : List ℕ) (count : ℕ)
   -- the scan had seen all of the content before the piece
   module _ (all : before.rest ≡ []) where
     whole : before.seen ≡ content
-    whole = sym (append-nil before.seen) ∙ ap (λ xs. before.seen ++ xs) (sym all) ∙ before.parts
+    whole = rw (all, append-nil) at before.parts
 
     front : List ℕ
     front = taken bundle_goes before.seen piece
@@ -116,10 +112,7 @@ module _ (scan later : BundleScan) (content piece : List ℕ) (count : ℕ)
     seen_front =
         let taken_is : front ≡ take count piece =
         shortest.is_front ∙ ap (λ n. take n piece) (sym (size before.seen before.scanned)) in
-        append_assoc before.seen front (drop count piece)
-        ∙ ap (λ xs. xs ++ (front ++ drop count piece)) whole
-        ∙ ap (λ xs. content ++ (xs ++ drop count piece)) taken_is
-        ∙ ap (λ xs. content ++ xs) (take-append-drop count piece)
+        rw (append_assoc, taken_is, whole, take-append-drop) refl
 
     -- the scan took the whole piece
     judged_whole : length piece ≤ count → HasJudged later (content ++ piece)
@@ -233,8 +226,7 @@ all_judged scan seen come = record {
 -- what is found in the bytes seen is found in all of the content
 module _ (scan : BundleScan) (content : List ℕ) (now : HasJudged scan content) where
   all_seen : now.rest ≡ [] → now.seen ≡ content
-  all_seen all =
-      sym (append-nil now.seen) ∙ ap (λ (rest : List ℕ). now.seen ++ rest) (sym all) ∙ now.parts
+  all_seen all = rw (all, append-nil) at now.parts
 
   reading_judged : judged_bundle now.seen ≡ judged_bundle content
   reading_judged = ⊎_elim
@@ -258,7 +250,4 @@ module _ (scan : BundleScan) (content : List ℕ) (now : HasJudged scan content)
 
   pub span_judged : payload_seen now.seen ≡ payload_seen content
   unfolding payload_seen
-  span_judged =
-      ap (λ (reading : Result Bundle Stop). spanned (payload_of reading)
-      (length (payload_in now.seen))) reading_judged
-      ∙ ap (λ (there : List ℕ). spanned (payload_of (judged_bundle content)) (length there)) payload_judged
+  span_judged = rw (reading_judged, payload_judged) refl

@@ -1,13 +1,12 @@
 -- One more byte, stage by stage.
 
-use Rattle.std.proofs.Common.{◌≡◌, ℕ, ◌+◌, ◌<◌, ◌≤◌, Bool, true, false, List, [], ◌∷◌, ◌++◌, length, take, drop, None, Some, Result, Ok, Err, refl, sym, ap, subst, ◌∙◌, append_assoc, append-nil, length-append, length-drop, ◌⊎◌, inl, inr, ⊎_elim, arith}
+use Rattle.std.proofs.Common.{◌≡◌, ℕ, ◌+◌, ◌<◌, ◌≤◌, true, false, List, [], ◌∷◌, ◌++◌, length, get_or, take, drop, None, Some, Result, Ok, Err, refl, sym, ap, subst, ◌∙◌, append_assoc, append-nil, length-append, length-drop, ◌⊎◌, inl, inr, ⊎_elim, arith}
 use Rattle.std.proofs.lemmas.Bool.{false≢true}
 use Rattle.std.specs.Prelude.{IsTrue, slice_range}
-use Rattle.std.specs.Bool.{MatchBool}
 use Rattle.std.proofs.lemmas.List.{drop-append-le}
 use Rattle.std.proofs.Math.Nat.{sub_self}
 use Rattle.std.proofs.Math.Seq.{drop-append_seam, drop-length, take-length}
-use Rattle.std.proofs.lemmas.List.Elements.{All-nil, All-push, All-append}
+use Rattle.std.proofs.lemmas.List.Elements.{All-nil, All-push, All-append, All-from_get_or}
 use Rattle.link_cbor.specs.declared.head.Head.{Head as HeadItem}
 use Rattle.link_cbor.specs.Head.{AreBytes, Cut as CutHead, IllFormed, Whole, head_front}
 use Rattle.link_cbor.proofs.HeadLaws.{whole_stays, ill_formed_stays}
@@ -34,7 +33,7 @@ use Rattle.link_bundle_blocks.specs.Blocks.{Block}
 use Rattle.link_bundle_blocks.specs.Bundle.{Bundle, with_blocks, judged_bundle}
 use Rattle.link_bundle_blocks.specs.Reading.{Stop, stopped, head_at}
 use Rattle.link_bundle.specs.Left.{block_start, field_left, last_block, with_last, read_alone, with_known_payload, stage_left, goes_on, AsReadFrom}
-use Rattle.link_bundle_blocks.proofs.Blocks.{both_before}
+use Rattle.link_bundle_blocks.proofs.Blocks.{both_before, none_before}
 use Rattle.link_bundle.proofs.Blocks.{read_alone-blocks, with_last-is}
 use Rattle.link_bundle.proofs.Heads.{read_alone-stopped}
 use Rattle.link_bundle.proofs.Stops.{stop_at-bad, field_left-stopped}
@@ -126,15 +125,11 @@ module _ (old new : Cursor) (check after : CheckType) (start : ℕ) (seen : List
       let here : new.offset ≡ length seen = enters.offset ∙ counted in
       ⊎_elim
       (λ (is, at).
-      let fresh : Covers Unread new.checks [] =
-      subst (λ (b : Bool). MatchBool b (Covers Unread new.checks []) (new.checks ≡ old.checks)) is
-      enters.checks in
+      let fresh : Covers Unread new.checks [] = rw is at enters.checks in
       begun which new after start seen here enters.head (omega (arith, at))
       (rw (at, nothing_yet new.offset seen here) (narrowed after new.checks [] fresh)))
       (λ (is, at).
-      let same : new.checks ≡ old.checks =
-      subst (λ (b : Bool). MatchBool b (Covers Unread new.checks []) (new.checks ≡ old.checks)) is
-      enters.checks in
+      let same : new.checks ≡ old.checks = rw is at enters.checks in
       begun which new after start seen here enters.head (omega (arith, at))
       (rw at (held (keeps.1 is) same)))
       (begins which start new.offset)
@@ -157,8 +152,7 @@ module _ (old new : Cursor) (check after : CheckType) (start : ℕ) (seen : List
           up_to_the_end seen start,
           sub_self (length seen),
           append-nil (drop start seen),
-        )
-            (held (keeps.1 refl) enters.checks);
+        ) (held (keeps.1 refl) enters.checks);
       }
   stands_entered Ended keeps enters = enters.offset ∙ counted
   stands_entered (Failed fault offset) keeps enters = tt
@@ -183,18 +177,21 @@ entered {stage = stage} {old = old} {new = new} {draft = draft} {start = start} 
     }
 
 -- the rest, after a run of more bytes
-pub regrown : (left : List ℕ → Result Bundle Stop) (seen run : List ℕ)
-    → ((more : List ℕ) → judged_bundle (seen ++ more) ≡ left (seen ++ more))
-    → (more : List ℕ) → judged_bundle ((seen ++ run) ++ more) ≡ left ((seen ++ run) ++ more)
-regrown left seen run reads more =
-    subst (λ (bytes : List ℕ). judged_bundle bytes ≡ left bytes) (sym (append_assoc seen run more))
-    (reads (run ++ more))
+pub grown_reads : {stage : Stage} {cursor : Cursor} {draft : Draft} {before : List Block}
+    {seen : List ℕ} → HasSeen stage cursor draft before seen → (run more : List ℕ)
+    → judged_bundle ((seen ++ run) ++ more)
+    ≡ with_blocks before (stage_left stage draft cursor.offset ((seen ++ run) ++ more) (length seen))
+grown_reads {seen = seen} come run more = rw (append_assoc seen run more) (come.reads (run ++ more))
 
 pub all_grown : (seen run : List ℕ) → AreBytes seen → AreBytes run → AreBytes (seen ++ run)
 all_grown seen run all more = All-append (λ (b : ℕ). b < 256) seen run all more
 
 pub one_byte : (byte : ℕ) → byte < 256 → AreBytes (byte ∷ [])
 one_byte byte small = All-push (λ (b : ℕ). b < 256) [] byte (All-nil (λ (b : ℕ). b < 256)) small
+
+-- a slice has bytes
+pub slice_bytes : (run : List ℕ) → ((k : ℕ) → get_or run k 0 < 256) → AreBytes run
+slice_bytes run each = All-from_get_or (λ (b : ℕ). b < 256) run 0 (λ k within. each k)
 
 -- one more byte, and the number of bytes with it
 pub byte_grown : (seen : List ℕ) (byte : ℕ) → AreBytes seen → byte < 256
@@ -205,6 +202,18 @@ pub count_more : (old new : ℕ) (seen : List ℕ) (byte : ℕ) → new ≡ old 
     → new ≡ length (seen ++ byte ∷ [])
 count_more old new seen byte grows counted =
     grows ∙ ap (λ (count : ℕ). count + 1) counted ∙ sym (length-append seen (byte ∷ []))
+
+-- no byte was seen
+pub nothing_seen : {cursor : Cursor} {draft : Draft}
+    → cursor.count ≡ 0 → draft.check ≡ Unread → Covers Unread cursor.checks []
+    → HasSeen Start cursor draft [] []
+unfolding stage_left
+nothing_seen count unread checks = record {
+  all_bytes = All-nil (λ (b : ℕ). b < 256);
+  count = count;
+  reads = λ more. sym (none_before _);
+  stands = record { nothing = refl; checks = rw unread checks };
+}
 
 -- a fault that the bytes seen show
 pub failed : (fault : BundleFault) (offset : ℕ) (cursor : Cursor) (draft : Draft)
@@ -236,10 +245,7 @@ module _ {which : Field} {old : Cursor} {draft : Draft} {before : List Block} {s
       record {
         all_bytes = all_grown seen run come.all_bytes are;
         count = omega (arith, takes.count, come.count, longer);
-        reads = rw takes.offset
-            (regrown (λ (bytes : List ℕ).
-            with_blocks before (stage_left (Head which) draft old.offset bytes (length seen))) seen run
-            come.reads);
+        reads = rw takes.offset (grown_reads come run);
         in_bytes = omega (arith, at.in_bytes, takes.offset);
         in_block = rw takes.offset (omega (arith, at.in_block));
         checks = rw (takes.offset, drop-append-le begins seen run at.in_block)
@@ -264,7 +270,7 @@ after_seen offset seen run here =
 
 -- the bytes seen of a head stay the same, whatever bytes follow
 
-head_at-whole : (offset : ℕ) (seen more : List ℕ) (head : HeadItem) → offset ≤ length seen
+pub head_at-whole : (offset : ℕ) (seen more : List ℕ) (head : HeadItem) → offset ≤ length seen
     → head_front (drop offset seen) ≡ Whole head (length (drop offset seen))
     → head_at (seen ++ more) offset ≡ Ok (head, length seen)
 unfolding head_at
@@ -273,12 +279,11 @@ head_at-whole offset seen more head within outcome =
     omega (arith, length-drop offset seen) in
     rw (
       drop-append-le offset seen more within,
-      whole_stays (drop offset seen) more head
-          (length (drop offset seen)) outcome,
+      whole_stays (drop offset seen) more head (length (drop offset seen)) outcome,
       next,
     ) refl
 
-head_at-bad : (offset : ℕ) (seen more : List ℕ) → offset ≤ length seen
+pub head_at-bad : (offset : ℕ) (seen more : List ℕ) → offset ≤ length seen
     → head_front (drop offset seen) ≡ IllFormed
     → head_at (seen ++ more) offset ≡ Err (stopped BadHead offset)
 unfolding head_at

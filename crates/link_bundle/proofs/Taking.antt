@@ -71,8 +71,7 @@ pub takes_more : {old new : BundleScan} {run : List ℕ}
     → HasTaken old new run
 takes_more {old = old} {new = new} {run = run} size same none goes = record {
   size = size;
-  seen = λ seen come.
-      record { before = come.before; come = goes come.before seen come.come };
+  seen = λ seen come. record { before = come.before; come = goes come.before seen come.come };
   blocks = λ seen come.
       blocks_grown old new come.before seen run come (goes come.before seen come.come)
       (ap (λ (last : List Block). come.before ++ last) same

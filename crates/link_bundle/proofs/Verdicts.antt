@@ -1,6 +1,6 @@
 -- The verdict on the bytes that a scan has seen.
 
-use Rattle.std.proofs.Common.{◌≡◌, ℕ, ◌+◌, ◌-◌, ◌<◌, true, min, List, [], ◌++◌, length, drop, Option, None, Some, Result, Ok, Err, refl, sym, ap, subst, ◌∙◌, append-nil, length-drop, length-take, arith}
+use Rattle.std.proofs.Common.{◌≡◌, ℕ, ◌+◌, ◌-◌, ◌<◌, true, min, List, [], ◌++◌, length, drop, Option, None, Some, Result, Ok, Err, refl, sym, ap, ◌∙◌, append-nil, length-drop, length-take, arith}
 use Rattle.std.specs.Prelude.{IsTrue, is_some}
 use Rattle.std.proofs.lemmas.Bool.{eq-eqb, ltb-true}
 use Rattle.link_cbor.specs.Head.{Cut as CutHead, head_front}
@@ -24,7 +24,7 @@ use Rattle.link_bundle_types.specs.declared.info.BundleInfo.{BundleInfo}
 use Rattle.link_bundle_blocks.specs.declared.block.CanonicalBlock.{CanonicalBlock}
 use Rattle.link_bundle_blocks.specs.Blocks.{Block}
 use Rattle.link_bundle_blocks.specs.Bundle.{Bundle, with_blocks, opening_at, bundle_at, judged_bundle, verdict_by, verdict, payload_of, payload_in, payload_seen, state_of, blocks_of, blocks_in, cut_block_of, cut_block_in}
-use Rattle.link_bundle.specs.Left.{span_of, bundle_of, read_alone, with_known_payload, kept_name, name_left, zeroed_check, stored_left, after_field, kind_block, stage_block, last_block, stage_last, stage_left}
+use Rattle.link_bundle.specs.Left.{span_of, bundle_of, read_alone, with_known_payload, kept_name, name_left, zeroed_check, stored_left, after_field, kind_block, stage_block, stage_last, stage_left}
 use Rattle.link_bundle_blocks.proofs.Blocks.{verdict_by-blocks, payload_of-blocks, blocks_of-blocks, cut_block_of-blocks}
 use Rattle.link_bundle.proofs.Steps.{at_head}
 use Rattle.link_bundle.specs.declared.scan.BundleScan.{BundleScan}
@@ -37,14 +37,11 @@ use Rattle.link_bundle_blocks.proofs.Runs.{bytes_at-cut}
 use Rattle.link_bundle.proofs.Stops.{stop_at-cut, field_left-stopped}
 
 -- the reading of the bytes seen, if no more follow
-read_now : (stage : Stage) (cursor : Cursor) (draft : Draft) (before : List Block) (seen : List ℕ)
-    → (come : HasSeen stage cursor draft before seen)
+read_now : {stage : Stage} {cursor : Cursor} {draft : Draft} {before : List Block} {seen : List ℕ}
+    → HasSeen stage cursor draft before seen
     → judged_bundle seen
     ≡ with_blocks before (stage_left stage draft cursor.offset seen (length seen))
-read_now stage cursor draft before seen come =
-    subst (λ (bytes : List ℕ). judged_bundle bytes
-    ≡ with_blocks before (stage_left stage draft cursor.offset bytes (length seen))) (append-nil seen)
-    (come.reads [])
+read_now come = rw append-nil at (come.reads [])
 
 pub head_at-cut : (bytes : List ℕ) (offset : ℕ) → head_front (drop offset bytes) ≡ CutHead
     → head_at bytes offset ≡ cut_short bytes
@@ -53,8 +50,7 @@ head_at-cut bytes offset cut = rw cut refl
 
 -- the stop of bytes that end at a stage
 abbrev pub cut_at : Stage → Draft → ℕ → Stop
-cut_at stage draft offset =
-    record (stopped Cut offset) { cut_block = stage_block stage draft }
+cut_at stage draft offset = record (stopped Cut offset) { cut_block = stage_block stage draft }
 
 pub cut_name : (left : ℕ) (role : Role) (draft : Draft) (bytes : List ℕ) (offset : ℕ)
     → length bytes < offset + left
@@ -91,66 +87,41 @@ going_cut : (stage : Stage) (cursor : Cursor) (draft : Draft) (before : List Blo
     (with_known_payload draft.payload_span (Err (cut_at stage draft (length seen))))
 unfolding stage_left judged_bundle bundle_at opening_at
 going_cut Start cursor draft before seen come fits going =
-    read_now Start cursor draft before seen come
-    ∙ rw (come.stands.nothing, (blank draft fits).payload)
-    (ap (λ (blocks : List Block). with_blocks blocks (Err (stopped Cut 0))) (sym (append-nil before)))
+    read_now come ∙ rw (come.stands.nothing, (blank draft fits).payload, append-nil before, append-nil before) refl
 going_cut (Head which) cursor draft before seen come fits going =
-    read_now (Head which) cursor draft before seen come
+    read_now come
     ∙ at_head which draft cursor.offset before seen (Err (cut_at (Head which) draft (length seen)))
     (field_left-stopped which draft seen cursor.offset (stopped Cut (length seen))
     (head_at-cut seen cursor.offset come.stands.cut)
     ∙ ap Err (stop_at-cut which draft (length seen)))
-    ∙ ap (λ (reading : Result Bundle Stop).
-    with_blocks (before ++ last_block which draft cursor.offset) reading)
-    (read_alone-stopped draft.payload_span seen (cut_at (Head which) draft (length seen)))
+    ∙ rw (read_alone-stopped draft.payload_span seen (cut_at (Head which) draft (length seen))) refl
 going_cut (Name role left) cursor draft before seen come fits going =
-    read_now (Name role left) cursor draft before seen come
+    let some = some_left left (rest_fits role draft left) fits in
+    read_now come
     ∙ rw (
-      cut_name left role draft seen (length seen)
-          (omega (arith, some_left left (rest_fits role draft left) fits)),
+      cut_name left role draft seen (length seen) (omega arith),
       append-nil before,
-    )
-    (ap (λ (reading : Result Bundle Stop). with_blocks before reading)
-    (read_alone-stopped draft.payload_span seen (stopped Cut (length seen))))
+      read_alone-stopped draft.payload_span seen (stopped Cut (length seen)),
+    ) refl
 going_cut (Content left) cursor draft before seen come fits going =
-    read_now (Content left) cursor draft before seen come
+    let some = ltb-true 0 left fits in
+    read_now come
     ∙ rw (
-      cut_content left (kind_of draft.check) draft.block.start seen (length seen)
-          (omega (arith, ltb-true 0 left fits)),
+      cut_content left (kind_of draft.check) draft.block.start seen (length seen) (omega arith),
       append-nil before,
-    )
-    (ap (λ (reading : Result Bundle Stop). with_blocks before reading)
-    (read_alone-stopped draft.payload_span seen (cut_at (Content left) draft (length seen))))
+      read_alone-stopped draft.payload_span seen (cut_at (Content left) draft (length seen)),
+    ) refl
 going_cut (Stored field left stored block kind) cursor draft before seen come fits going =
     let some = (has_room (is_kind (kind_of draft.check) kind) left stored 0 fits (omega arith)).wants in
-    read_now (Stored field left stored block kind) cursor draft before seen come
+    read_now come
     ∙ rw (
       cut_stored left stored (zeroed_check kind draft.block.start cursor.offset
           (length seen + left - cursor.offset) seen) field seen some,
       append-nil before,
-    )
-    (ap (λ (reading : Result Bundle Stop). with_blocks before reading)
-    (cut_field block draft kind seen))
+      cut_field block draft kind seen,
+    ) refl
 going_cut Ended cursor draft before seen come fits going = cc
 going_cut (Failed fault offset) cursor draft before seen come fits going = cc
-
--- bytes that are a bundle
-ended_whole : (cursor : Cursor) (draft : Draft) (before : List Block) (seen : List ℕ)
-    → HasSeen Ended cursor draft before seen
-    → judged_bundle seen ≡ with_blocks before (Ok (bundle_of draft cursor.offset))
-unfolding stage_left
-ended_whole cursor draft before seen come =
-    read_now Ended cursor draft before seen come
-    ∙ rw (eq-eqb cursor.offset (length seen) come.stands) refl
-
-failed_stop : (fault : BundleFault) (offset : ℕ) (cursor : Cursor) (draft : Draft)
-    (before : List Block) (seen : List ℕ)
-    → HasSeen (Failed fault offset) cursor draft before seen
-    → judged_bundle seen
-    ≡ with_blocks before (with_known_payload draft.payload_span (Err (stopped fault offset)))
-unfolding stage_left
-failed_stop fault offset cursor draft before seen come =
-    read_now (Failed fault offset) cursor draft before seen come
 
 -- ---- the reading of the bytes seen, at each stage
 
@@ -177,19 +148,15 @@ seen_is : (stage : Stage) (cursor : Cursor) (draft : Draft) (before : List Block
     → judged_bundle seen
     ≡ with_blocks (before ++ stage_last stage draft cursor.offset)
     (seen_reading stage cursor.offset cursor.count draft)
+unfolding stage_left
 seen_is Ended cursor draft before seen come fits =
-    rw (append-nil before) (ended_whole cursor draft before seen come)
+    read_now come ∙ rw (append-nil before, eq-eqb cursor.offset (length seen) come.stands) refl
 seen_is (Failed fault at) cursor draft before seen come fits =
-    rw (append-nil before)
-    (failed_stop fault at cursor draft before seen come
-    ∙ ap (λ (reading : Result Bundle Stop). with_blocks before reading)
-    (known_stop draft.payload_span fault at None))
+    read_now come ∙ rw (append-nil before, known_stop draft.payload_span fault at None) refl
 seen_is stage cursor draft before seen come fits =
     rw come.count
     (going_cut stage cursor draft before seen come fits refl
-    ∙ ap (λ (reading : Result Bundle Stop).
-    with_blocks (before ++ stage_last stage draft cursor.offset) reading)
-    (known_stop draft.payload_span Cut (length seen) (stage_block stage draft)))
+    ∙ rw (known_stop draft.payload_span Cut (length seen) (stage_block stage draft)) refl)
 
 -- ---- what follows from it
 

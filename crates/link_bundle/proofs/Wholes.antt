@@ -33,7 +33,7 @@ use Rattle.link_bundle_blocks.proofs.Payloads.{cut_goes-on}
 use Rattle.link_bundle_blocks.proofs.Readings.{has_parts, canonical_read, after_primary, bundle_parts, primary_read}
 use Rattle.link_bundle_blocks.proofs.Shifting.{shifted, whole_canonical-shifted}
 use Rattle.link_bundle_blocks.proofs.Steady.{EndsCut}
-use Rattle.link_bundle.proofs.Steps.{entered, regrown, all_grown, at_head}
+use Rattle.link_bundle.proofs.Steps.{entered, grown_reads, all_grown, at_head}
 
 -- the field at which a canonical block begins
 abbrev block_field : Field
@@ -101,10 +101,9 @@ goes_in_canonical {cursor = cursor} {draft = draft} {before = before} {seen = se
     let start : length seen + 0 ≡ cursor.offset = omega (arith, come.count) in
     let left : suc (63 - length numbers) ≡ 64 - length numbers = omega arith in
     let cut : EndsCut (whole_canonical numbers bytes cursor.offset) =
-    subst (λ (offset : ℕ). EndsCut (whole_canonical numbers bytes offset)) start
-    (rw (whole_canonical-shifted numbers seen run 0)
+    rw (sym start, whole_canonical-shifted numbers seen run 0)
     (cut_shifted (length seen) (moved (length seen)) (whole_canonical numbers run 0)
-    (begins.cuts count sooner))) in
+    (begins.cuts count sooner)) in
     goes_by_cut draft.payload_span bytes (before ++ last_block block_field draft cursor.offset)
     (field_left block_field draft bytes cursor.offset)
     (subst (λ (left : ℕ). EndsCut (blocks_at left numbers (primary_of draft) bytes cursor.offset))
@@ -128,12 +127,9 @@ known_block : (payload : Option (ℕ × ℕ)) (numbers : List ℕ) (primary : Pr
 known_block payload numbers primary bytes start block next none room is =
     let left : 64 - length numbers ≡ suc (63 - length numbers) = omega arith in
     let parts = has_parts numbers bytes start (block, next) is in
-    ap (λ (left : ℕ). with_known_payload payload (blocks_at left numbers primary bytes start)) left
-    ∙ ap (λ (reading : Result Bundle Stop). with_known_payload payload reading)
-    (canonical_read (63 - length numbers) numbers primary bytes start block next is)
-    ∙ data_read payload (then_some (block.block_type == 1) (block.data_start, block.data_length))
-    (block.block_type == 1) numbers primary block bytes none refl
-    ∙ rw parts.rest refl
+    rw (left, canonical_read (63 - length numbers) numbers primary bytes start block next is)
+    (data_read payload (then_some (block.block_type == 1) (block.data_start, block.data_length))
+    (block.block_type == 1) numbers primary block bytes none refl ∙ rw parts.rest refl)
 
 -- the block where it lies in the bundle
 lies_there : (numbers seen run more : List ℕ) (block : CanonicalBlock) (size offset count : ℕ)
@@ -142,11 +138,13 @@ lies_there : (numbers seen run more : List ℕ) (block : CanonicalBlock) (size o
     → whole_canonical numbers ((seen ++ run) ++ more) offset ≡ Ok (moved count block, count + size)
 lies_there numbers seen run more block size offset count here counted is =
     let start : offset ≡ length seen + 0 = omega (arith, here, counted) in
-    ap (λ (bytes : List ℕ). whole_canonical numbers bytes offset) (append_assoc seen run more)
-    ∙ ap (λ (offset : ℕ). whole_canonical numbers (seen ++ (run ++ more)) offset) start
-    ∙ whole_canonical-shifted numbers seen (run ++ more) 0
-    ∙ ap (λ (reading : ReadAt CanonicalBlock). shifted (length seen) (moved (length seen)) reading) is
-    ∙ ap (λ (count : ℕ). Ok (moved count block, count + size)) (sym counted)
+    rw (
+      append_assoc seen run more,
+      start,
+      whole_canonical-shifted numbers seen (run ++ more) 0,
+      is,
+      counted,
+    ) refl
 
 pub canonical_come : {old new : Cursor} {draft after : Draft} {stage : Stage}
     {before : List Block} {seen : List ℕ} (run : List ℕ) (block : CanonicalBlock)
@@ -172,8 +170,7 @@ canonical_come {old = old} {draft = draft} {after = after} {stage = stage} {befo
     (starts ∙ omega arith) keeps enters
     (λ more.
     let bytes = (seen ++ run) ++ more in
-    regrown (λ (bytes : List ℕ). with_blocks before
-    (stage_left (Head block_field) draft old.offset bytes (length seen))) seen run come.reads more
+    grown_reads come run more
     ∙ at_head block_field draft old.offset before bytes
     (field_left block_field draft bytes old.offset) refl
     ∙ ap (λ (reading : Result Bundle Stop). with_blocks all (read_alone bytes reading))
@@ -213,9 +210,7 @@ known_primary : (draft after : Draft) (stage : Stage) (check : Option CheckKind)
     → judged_bundle bytes ≡ stage_left stage after next bytes next
 unfolding judged_bundle
 known_primary draft after stage check bytes next none blank whole ends =
-    ap (λ (reading : Result Bundle Stop). read_alone bytes reading)
-    (primary_read bytes (primary_of draft) check next whole)
-    ∙ (rw (none, blank) at (ends bytes next))
+    rw (primary_read bytes (primary_of draft) check next whole) (rw (none, blank) at (ends bytes next))
 
 pub primary_come : {old new : Cursor} {draft after : Draft} {stage : Stage}
     {before : List Block} {seen : List ℕ} (run : List ℕ) (check : Option CheckKind)
@@ -238,5 +233,4 @@ primary_come {old = old} {draft = draft} {after = after} {stage = stage} {before
     after_first run more come
     (known_primary draft after stage check (run ++ more) (length run) none.payload none.numbers
     (primary_lasts run more read (length run) whole) ends)
-    ∙ ap (λ (seen : List ℕ). with_blocks before (stage_left stage after (length (seen ++ run))
-    ((seen ++ run) ++ more) (length (seen ++ run)))) (sym come.stands.nothing))
+    ∙ rw come.stands.nothing refl)

@@ -34,8 +34,7 @@ primary_fits _ draft = true
 -- the payload block was not seen yet, and there is room for the number of the block
 abbrev pub canonical_fits : CanonicalField → Draft → Bool
 canonical_fits canonical.Block draft = is_none draft.payload_span && is_unread draft.check
-canonical_fits canonical.Data draft =
-    is_none draft.payload_span && nat_lt (length draft.numbers) 64
+canonical_fits canonical.Data draft = is_none draft.payload_span && nat_lt (length draft.numbers) 64
 canonical_fits _ draft =
     is_none draft.payload_span && (is_unread draft.check && nat_lt (length draft.numbers) 64)
 

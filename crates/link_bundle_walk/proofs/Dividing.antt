@@ -33,19 +33,16 @@ own_front part wanted =
 
 pub prefix_again : (bytes : List ℕ) → bundle_prefix (bundle_prefix bytes) ≡ bundle_prefix bytes
 prefix_again bytes =
-    own_front (bundle_prefix bytes)
-    ((takes_shortest bundle_goes [] bytes (bundle_prefix bytes)).1 refl).wanted
+    own_front _ ((takes_shortest bundle_goes [] bytes (bundle_prefix bytes)).1 refl).wanted
 
 -- bytes that are taken whole are followed by the bytes that they still need
 pub front_more : (part more : List ℕ) → bundle_prefix part ≡ part
     → bundle_prefix (part ++ more) ≡ part ++ taken bundle_goes part more
-front_more part more front =
-    joins_pieces bundle_goes [] part more ∙ ap (λ (seen : List ℕ). seen ++ taken bundle_goes seen more) front
+front_more part more front = joins_pieces bundle_goes [] part more ∙ rw front refl
 
 pub front_kept : (part piece : List ℕ) → bundle_prefix part ≡ part
     → bundle_prefix (part ++ taken bundle_goes part piece) ≡ part ++ taken bundle_goes part piece
-front_kept part piece front =
-    rw (sym (front_more part piece front)) (prefix_again (part ++ piece))
+front_kept part piece front = rw (sym (front_more part piece front)) (prefix_again (part ++ piece))
 
 -- before the last byte of a prefix, its bytes begin a bundle that goes on
 pub run_open : (limit : ℕ) (begun run : List ℕ) → bundle_prefix (begun ++ run) ≡ begun ++ run
@@ -73,16 +70,15 @@ verdict_none = refl
 
 pub whole_stops : (bundle : List ℕ) (info : BundleInfo) → verdict bundle ≡ Ok info
     → bundle_goes bundle ≡ false
-whole_stops bundle info is = ap (λ said. is_going (state_of said)) is
+whole_stops bundle info is = rw is refl
 
 pub faulty_stops : (front : List ℕ) (fault : BundleFault) (offset : ℕ)
     → verdict front ≡ Err (fault, offset) → lasts fault ≡ true → bundle_goes front ≡ false
-faulty_stops front fault offset is stays =
-    ap (λ said. is_going (state_of said)) is ∙ ap (λ test. is_going (if test then state.Failed fault offset else state.Going)) stays
+faulty_stops front fault offset is stays = rw (is, stays) refl
 
 -- before the first byte, more bytes are needed
 pub none_goes : bundle_goes [] ≡ true
-none_goes = ap (λ said. is_going (state_of said)) verdict_none
+none_goes = rw verdict_none refl
 
 pub none_open : (limit : ℕ) → IsOpen limit []
 none_open limit =
@@ -162,17 +158,22 @@ divided_front limit front (byte ∷ bytes) some is =
     (judged_front limit (bundle_prefix (byte ∷ bytes)))
     (enough_turns (length bytes) _ limit _ (fewer_left byte bytes) (omega arith)))
 
+-- their front is no longer than the peer takes
+divided_within : (limit : ℕ) (front bytes : List ℕ) → 0 < length bytes → bundle_prefix bytes ≡ front
+    → length front ≤ limit
+    → divided limit bytes ≡ divided_by (divided limit) front bytes (refused_by (verdict front))
+divided_within limit front bytes some is within =
+    divided_front limit front bytes some is ∙ rw (le-ltb limit (length front) within) refl
+
 -- if no more bytes are needed after the front, the others do not change how it is judged
 divided_stopped : (limit : ℕ) (front more : List ℕ) → bundle_prefix front ≡ front
-    → bundle_goes front ≡ false
+    → bundle_goes front ≡ false → length front ≤ limit
     → divided limit (front ++ more)
-    ≡ divided_by (divided limit) front (front ++ more) (judged_front limit front)
+    ≡ divided_by (divided limit) front (front ++ more) (refused_by (verdict front))
 divided_stopped limit front more is stops =
     let some = some_stopped front stops in
-    divided_front limit front (front ++ more) (omega (arith, length-append front more))
-    (front_more front more is
-    ∙ ap (λ (bytes : List ℕ). front ++ bytes) (taken-idle bundle_goes front more stops)
-    ∙ append-nil front)
+    divided_within limit front (front ++ more) (omega (arith, length-append front more))
+    (front_more front more is ∙ rw (taken-idle bundle_goes front more stops, append-nil) refl)
 
 -- the bytes begin with a bundle that the peer takes
 pub divided_whole : (limit : ℕ) (bundle more : List ℕ) (info : BundleInfo)
@@ -180,11 +181,8 @@ pub divided_whole : (limit : ℕ) (bundle more : List ℕ) (info : BundleInfo)
     → divided limit (bundle ++ more)
     ≡ with_bundle (record { bytes = bundle; info = info }) (divided limit more)
 divided_whole limit bundle more info front is within =
-    divided_stopped limit bundle more front (whole_stops bundle info is)
-    ∙ ap (divided_by (divided limit) bundle (bundle ++ more)) (within_limit limit bundle within ∙ ap refused_by is)
-    ∙ ap (λ (left : List ℕ).
-    with_bundle (record { bytes = bundle; info = info }) (divided limit left))
-    (drop-append_seam bundle more)
+    divided_stopped limit bundle more front (whole_stops bundle info is) within
+    ∙ rw (is, drop-append_seam) refl
 
 -- the bytes begin with more than the peer takes, and these are no bundle
 pub divided_longer : (limit : ℕ) (bytes more : List ℕ) → limit < length (bundle_prefix bytes)
@@ -199,10 +197,10 @@ divided_longer limit bytes more beyond =
     divided_front limit (front ++ run) (bytes ++ more)
     (omega (arith, size, length-append bytes more))
     (joins_pieces bundle_goes [] bytes more)
-    ∙ ap (divided_by (divided limit) (front ++ run) (bytes ++ more))
-    (beyond_limit limit (front ++ run) (omega arith))
-    ∙ ap (λ (accepted : List ℕ). refused_so [] accepted (Longer limit))
-    (take-append-le limit front run (omega arith))
+    ∙ rw (
+      lt-ltb limit (length (front ++ run)) (omega arith),
+      take-append-le limit front run (omega arith),
+    ) refl
 
 -- the last byte of the prefix shows a fault
 pub divided_faulty : (limit : ℕ) (front more : List ℕ) (fault : BundleFault) (offset : ℕ)
@@ -211,25 +209,16 @@ pub divided_faulty : (limit : ℕ) (front more : List ℕ) (fault : BundleFault)
     → divided limit (front ++ more)
     ≡ refused_so [] (take (length front - 1) front) (Faulty fault offset)
 divided_faulty limit front more fault offset is said stays within =
-    divided_stopped limit front more is (faulty_stops front fault offset said stays)
-    ∙ ap (divided_by (divided limit) front (front ++ more)) (within_limit limit front within ∙ ap refused_by said)
-    ∙ ap (λ test. refused_so [] (if test then take (length front - 1) front else front)
-    (Faulty fault offset)) stays
+    divided_stopped limit front more is (faulty_stops front fault offset said stays) within
+    ∙ rw (said, stays) refl
 
 -- the bytes end inside a bundle
 pub divided_open : (limit : ℕ) (part : List ℕ) (fault : BundleFault) (offset : ℕ)
     → IsOpen limit part → 0 < length part → verdict part ≡ Err (fault, offset)
     → (lasts fault ≡ false) × (divided limit part ≡ refused_so [] part (Faulty fault offset))
 divided_open limit part fault offset opened some said =
-    let mends = going_mends (lasts fault) fault offset
-    (ap (λ said. is_going (state_of said)) (sym said) ∙ opened.goes) in (
-      mends,
-      divided_front limit part part some opened.front
-          ∙ ap (divided_by (divided limit) part part)
-          (within_limit limit part opened.within ∙ ap refused_by said)
-          ∙ ap (λ test. refused_so [] (if test then take (length part - 1) part else part)
-          (Faulty fault offset)) mends,
-    )
+    let mends = going_mends (lasts fault) fault offset (rw said at opened.goes) in
+    (mends, divided_within limit part part some opened.front opened.within ∙ rw (said, mends) refl)
 
 -- ---- a byte past the limit
 
@@ -240,18 +229,16 @@ too_long limit number begun (byte ∷ bytes) opened some full =
     let run = byte ∷ [] in
     let size = length-append begun run in
     let front : bundle_prefix (begun ++ run) ≡ begun ++ run = front_more begun run opened.front
-    ∙ ap (λ (bytes : List ℕ). begun ++ bytes) (taken-cons bundle_goes begun byte [] opened.goes
-    ∙ ap (λ (bytes : List ℕ). byte ∷ bytes) (taken-nil bundle_goes (begun ++ run))) in
+    ∙ rw (taken-cons bundle_goes begun byte [] opened.goes, taken-nil) refl in
     let accepted : take limit (bundle_prefix (begun ++ run)) ≡ begun ++ [] =
-    ap (take limit) front ∙ ap (λ n. take n (begun ++ run)) (sym full)
-    ∙ take-append_seam begun run ∙ sym (append-nil begun) in
+    rw (front, sym full, take-append_seam, append-nil) refl in
     record {
       refusal = Longer limit;
       is = refl;
       lasts = refl;
       divides = λ more.
           divided_longer limit (begun ++ run) more (omega (arith, ap length front, size, full))
-          ∙ ap (λ (bytes : List ℕ). refused_so [] bytes (Longer limit)) accepted;
+          ∙ rw accepted refl;
       before = run_open limit begun run front (omega (arith, size, full));
     }
 
@@ -287,12 +274,7 @@ module _ (limit : ℕ) (current : Current) (begun run : List ℕ) (some : 0 < le
   }
   took_fault fault offset false lasting said = record {
     scanned = scanned;
-    opened = record {
-      front = front;
-      goes = ap (λ said. is_going (state_of said)) said
-          ∙ ap (λ test. is_going (if test then state.Failed fault offset else state.Going)) lasting;
-      within = within;
-    };
+    opened = record { front = front; goes = rw (said, lasting) refl; within = within };
   }
 
   took : (said : Result BundleInfo (BundleFault × ℕ)) → verdict (begun ++ run) ≡ said
@@ -319,5 +301,4 @@ judged limit current begun piece size count found counted some scanned kept with
     is ∙ ap (λ n. take n part) (sym counted) ∙ take-take count size piece few in
     let made = took limit current begun run (omega arith) scanned (front_kept begun part kept)
     (omega (arith, length-append begun run)) (verdict (begun ++ run)) refl in
-    subst (λ run. MakesOf limit current begun run found) same
-    (subst (MakesOf limit current begun run) (sym (shows (begun ++ run) scanned)) made)
+    rw (sym same, shows (begun ++ run) scanned) made

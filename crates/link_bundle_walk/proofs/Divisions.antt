@@ -1,5 +1,5 @@
 -- The parts of an input, whatever bytes follow it.
-use Rattle.std.proofs.Common.{◌≡◌, ℕ, zero, suc, ◌≤◌, ◌⊎◌, inl, inr, Bool, true, false, if◌then◌else◌, List, [], ◌∷◌, ◌++◌, length, take, drop, Result, Ok, Err, refl, ap, sym, ◌∙◌, ⊎_elim, append_assoc, length-drop, arith}
+use Rattle.std.proofs.Common.{◌≡◌, ℕ, zero, suc, ◌-◌, ◌≤◌, ◌⊎◌, inl, inr, Bool, true, false, if◌then◌else◌, List, [], ◌∷◌, ◌++◌, length, take, drop, Result, Ok, Err, refl, ap, sym, ◌∙◌, ⊎_elim, append_assoc, length-drop, arith}
 use Rattle.std.proofs.lemmas.Bool.{cases_Bool, cases_lt, false≢true}
 use Rattle.std.proofs.lemmas.List.{take-append-drop}
 use Rattle.link_cbor.specs.PieceLaws.{takes_shortest}
@@ -7,8 +7,8 @@ use Rattle.link_bundle_types.specs.Faults.{lasts}
 use Rattle.link_bundle_types.specs.declared.fault.BundleFault.{BundleFault}
 use Rattle.link_bundle_types.specs.declared.info.BundleInfo.{BundleInfo}
 use Rattle.link_bundle_types.specs.declared.fault.State.TheVariants as state
-use Rattle.link_bundle_blocks.specs.Bundle.{verdict, state_of, is_going, bundle_goes}
-use Rattle.link_bundle_walk.specs.Bundles.{Packed, Refusal, Longer, Faulty, IsOpen, bundle_prefix, with_bundle, divided, with_bundles}
+use Rattle.link_bundle_blocks.specs.Bundle.{verdict, is_going, bundle_goes}
+use Rattle.link_bundle_walk.specs.Bundles.{Packed, Refusal, Longer, Faulty, IsOpen, bundle_prefix, divided, with_bundles}
 use Rattle.link_bundle_walk.proofs.Dividing.{prefix_again, none_open, some_stopped, refused_so, divided_whole, divided_longer, divided_faulty}
 
 -- the bytes show why they begin with no bundle that the peer takes
@@ -33,10 +33,8 @@ stopped_lasts false fault place stops = absurd (cc)
 
 module _ (limit : ℕ) where
   -- no bundle comes first
-  none_first : (bytes : List ℕ) → IsRefused limit bytes ⊎ IsOpen limit bytes
-      → StaysDivided limit bytes
-  none_first bytes last =
-      record { bundles = []; begun = bytes; divides = λ more. refl; last = last }
+  none_first : (bytes : List ℕ) → IsRefused limit bytes ⊎ IsOpen limit bytes → StaysDivided limit bytes
+  none_first bytes last = record { bundles = []; begun = bytes; divides = λ more. refl; last = last }
 
   -- a prefix that needs no more bytes, by its verdict, and then the rest
   judged_so : (front rest : List ℕ) (said : Result BundleInfo (BundleFault × ℕ))
@@ -48,19 +46,20 @@ module _ (limit : ℕ) where
       record {
         bundles = first ∷ later.bundles;
         begun = later.begun;
-        divides = λ more. ap (divided limit) (append_assoc front rest more)
-            ∙ divided_whole limit front (rest ++ more) info all is within
-            ∙ ap (with_bundle first) (later.divides more);
+        divides = λ more. rw (
+          append_assoc,
+          divided_whole limit front (rest ++ more) info all is within,
+          later.divides more,
+        ) refl;
         last = later.last;
       }
   judged_so front rest (Err (fault, place)) is stops all within later =
-      let stays = stopped_lasts (lasts fault) fault place
-      (ap (λ said. is_going (state_of said)) (sym is) ∙ stops) in
+      let stays = stopped_lasts (lasts fault) fault place (rw is at stops) in
       none_first (front ++ rest) (inl (record {
-        accepted = _;
+        accepted = take (length front - 1) front;
         refusal = Faulty fault place;
-        divides = λ more. ap (divided limit) (append_assoc front rest more)
-            ∙ divided_faulty limit front (rest ++ more) fault place all is stays within;
+        divides = λ more. rw append_assoc
+            (divided_faulty limit front (rest ++ more) fault place all is stays within);
       }))
 
   divided_upto : (count : ℕ) (bytes : List ℕ) → length bytes ≤ count → StaysDivided limit bytes

@@ -10,7 +10,7 @@ use Rattle.link_wire.specs.declared.Source.{Source}
 use Rattle.link_io.proofs.Sources.{IsSourceAt-then}
 use Rattle.link_report.specs.declared.fault.Fault.{Fault}
 use Rattle.link_run.specs.Made.{Made, shows_fault, with_fault}
-use Rattle.link_run.specs.Run.{Texts, Outcome, ◌then◌, Looks, Devices, answer_of, progress_after}
+use Rattle.link_run.specs.Run.{Texts, ◌then◌, Looks, Devices, answer_of, progress_after}
 use Rattle.link_run.specs.Stages.{Stands, AfterStage, written_by}
 use Rattle.link_run.specs.Writers.{place_of, AfterLastWrite, on_report, Writes, WritesPart, AfterWrite}
 use Rattle.link_run.specs.declared.run.Progress.{Progress}
@@ -18,9 +18,9 @@ use Rattle.link_run.specs.declared.run.Status.{Status}
 use Rattle.link_run.specs.declared.writers.Writers.{Writers}
 use Rattle.link_run.proofs.Runs.{few_over, then_assoc, writes_then, part_of_more}
 use Rattle.link_run.proofs.Stands.{goes_on, loses, ends, last_step}
-use Rattle.link_bundle_walk.specs.Bundles.{Packed, divided, with_bundles, Divided, size_of}
-use Rattle.link_bundle_walk.specs.Telling.{SoFar, BundleTelling, Tells, told_of, with_run, refusal_fault, between, ComesAfter, IsAccepted, stop_by}
-use Rattle.link_bundle_walk.specs.BundleRun.{before_last, MakesOf, cut_at, Walks, ended_by, GoesOn, Ends, WritesFound, Comes, Refuses, fault_of}
+use Rattle.link_bundle_walk.specs.Bundles.{Packed, divided, with_bundles, size_of}
+use Rattle.link_bundle_walk.specs.Telling.{SoFar, BundleTelling, Tells, told_of, with_run, between, ComesAfter, IsAccepted}
+use Rattle.link_bundle_walk.specs.BundleRun.{before_last, MakesOf, cut_at, Walks, ended_by, GoesOn, Ends, WritesFound, Comes, Refuses}
 use Rattle.link_bundle_walk.specs.declared.current.Current.{Current}
 use Rattle.link_bundle_walk.specs.declared.current.Found.{Found}
 use Rattle.link_bundle_walk.specs.declared.current.Found.TheVariants as found
@@ -127,8 +127,7 @@ module _ {W E : Type 0} (out_look : W → Output) (report_look : E → Output) w
         ≡ with_fault why (telling.texts (with_run before (before_last run) None))
     line_said texts said =
         then_assoc (telling.texts before) texts (on_report (fault_text why))
-        ∙ ap (λ (t : Texts). t then on_report (fault_text why)) said ∙ then_fault why _
-        ∙ ap (λ (b : List ℕ). with_fault why (telling.texts (with_run before b None))) is
+        ∙ ap (λ (t : Texts). t then on_report (fault_text why)) said ∙ rw is (then_fault why _)
 
     pub lost : (fault : IoFault) → Said (Err fault) → Refused mid (Err fault)
     lost fault tells = record {
@@ -158,16 +157,9 @@ module _ {W E : Type 0} (out_look : W → Output) (report_look : E → Output) w
         → Ends out_look report_look telling old new now now
         (cut_at telling.limit number now.begun) (result_and result (Ok status))
     ended result tells =
-        let said : telling.texts now then tells.texts ≡ telling.ended now.bundles =
-        ap (λ (begun : List ℕ). telling.texts (record { bundles = now.bundles; begun = begun })
-        then tells.texts) none ∙ tells.said in
-        let why : cut_at telling.limit number now.begun ≡ None =
-        ap (cut_at telling.limit number) none
-        ∙ ap (λ (input : Divided). fault_of (stop_by number input.rest))
-        (divided_none telling.limit) in
-        rw why (record {
+        rw (none, divided_none telling.limit) (record {
           texts = tells.texts;
-          said = said;
+          said = rw (between_is now none) tells.said;
           gives = gives tells.texts result tells.wrote;
         })
       where
@@ -197,11 +189,11 @@ module _ {R W E : Type 0} {look : Looks R W E} {start : Devices R W E} {made : L
       knows most history (progress_after result)
   stepped knows (Ok done) tells had now unshown known some only =
       goes_on most old new before stood takes size few after tells.texts
-      (ap (λ (t : Texts). t then tells.texts) had ∙ tells.said ∙ now) unshown knows some
+      (rw had (tells.said ∙ now)) unshown knows some
       (known tells.known) tells.wrote only
   stepped knows (Err fault) tells had now unshown known some only =
       loses most old new before stood takes size few after tells.texts
-      (ap (λ (t : Texts). t then tells.texts) had ∙ tells.said ∙ now) unshown fault tells.wrote
+      (rw had (tells.said ∙ now)) unshown fault tells.wrote
 
 -- ---- a step that reads
 
@@ -224,9 +216,7 @@ module _ {R W E : Type 0} {look : Looks R W E} {start : Devices R W E} (telling 
       → divided telling.limit ((history ++ run) ++ rest)
       ≡ with_bundles at.so_far.bundles (divided telling.limit ((at.so_far.begun ++ run) ++ rest))
   divides run rest =
-      ap (divided telling.limit) (append_assoc history run rest) ∙ at.divides (run ++ rest)
-      ∙ ap (λ (bytes : List ℕ). with_bundles at.so_far.bundles (divided telling.limit bytes))
-      (sym (append_assoc at.so_far.begun run rest))
+      rw (append_assoc history run rest, append_assoc at.so_far.begun run rest) (at.divides (run ++ rest))
 
   -- these bytes are the last: the whole input was given, or they show a fault
   module _ {run : List ℕ} (takes : Takes look.input old new run) (size : length run ≤ most)
@@ -242,13 +232,9 @@ module _ {R W E : Type 0} {look : Looks R W E} {start : Devices R W E} (telling 
         → shows_fault (told_of telling (history ++ take count run)).stop ≡ false))
         → Gives (answer_of answer)
     ends_so answer gave over =
-        let P : ℕ → Type 0 = λ status.
-        AfterLastWrite look.output look.report before after gave.texts status answer in
         last_step (told_of telling) (place_of old before) (place_of new after) _ answer
         (ends most old new before stood takes size few after gave.texts
-        (ap (λ (t : Texts). t then gave.texts) texts_now ∙ gave.said
-        ∙ sym (ap (λ (o : Outcome). o.texts) is))
-        over answer (subst P (sym (ap (λ (o : Outcome). o.status) is)) gave.gives))
+        (rw (texts_now, is) gave.said) over answer (rw is gave.gives))
 
   -- the input has ended
   pub finished : Takes look.input old new [] → IsOver look.input new
@@ -258,15 +244,9 @@ module _ {R W E : Type 0} {look : Looks R W E} {start : Devices R W E} (telling 
       → Gives (answer_of answer)
   finished takes over answer gave =
       ends_so takes (omega arith) (few_over look.input new over) at.so_far _
-      (ap (λ (bytes : List ℕ). whole_of (told_of telling bytes)) (append-nil history)
-      ∙ whole_going telling history at.so_far at.divides at.holds.reading.opened
-      ∙ ap (λ n. ended_by telling at.so_far (cut_at telling.limit n at.so_far.begun))
-      (sym at.holds.number)) answer gave
-      (inl (
-        over,
-        ap (λ (bytes : List ℕ). shows_fault (told_of telling bytes).stop)
-            (append-nil history) ∙ stood.unshown,
-      ))
+      (rw (append-nil, at.holds.number)
+      (whole_going telling history at.so_far at.divides at.holds.reading.opened)) answer gave
+      (inl (over, rw append-nil stood.unshown))
 
   -- a run of bytes was given
   module _ (run : List ℕ) (takes : Takes look.input old new run) (live : IsLive look.input new)
@@ -312,12 +292,11 @@ module _ {R W E : Type 0} {look : Looks R W E} {start : Devices R W E} (telling 
         let bundles = at.so_far.bundles in
         let bundle : Packed = record { bytes = at.so_far.begun ++ run; info = gave.0 } in
         went (with_run at.so_far run (Some gave.0))
-        (λ rest. divides run rest ∙ ap (with_bundles bundles)
-        (divided_whole telling.limit bundle.bytes rest gave.0 took.front gave.1 took.within)
-        ∙ ap (λ (all : List Packed). record {
-          bundles = all;
-          rest = (divided telling.limit rest).rest;
-        }) (sym (append_assoc bundles (bundle ∷ []) (divided telling.limit rest).bundles)))
+        (λ rest. divides run rest
+        ∙ rw (
+          divided_whole telling.limit bundle.bytes rest gave.0 took.front gave.1 took.within,
+          append_assoc bundles (bundle ∷ []),
+        ) refl)
         (omega (arith, length-append bundles (bundle ∷ []), length-append history run))
         (omega (
           arith,
@@ -330,14 +309,12 @@ module _ {R W E : Type 0} {look : Looks R W E} {start : Devices R W E} (telling 
         let bytes = history ++ run in
         let now = with_bytes run in
         let made = told_refused telling bytes now (divides run) _ took.divides in
-        let line : fault ≡ refusal_fault (length at.so_far.bundles) took.refusal =
-        took.is ∙ ap (λ n. refusal_fault n took.refusal) (numbered ∙ at.holds.number) in
         let last = with_bytes (before_last run) in
         subst Gives (sym gave.1)
         (ends_so takes size (takes.window.less some) last (Some fault)
-        (ap whole_of made ∙ ap (λ f. ended_by telling last (Some f)) (sym line)) gave.0 gave.2
+        (rw (made, took.is, numbered, at.holds.number) refl) gave.0 gave.2
         (inr (
-          ap (λ (m : Made). shows_fault m.stop) made ∙ took.lasts,
+          rw made took.lasts,
           told_same telling bytes now (divides run) _ took.divides,
           λ count less. unshown_going telling (history ++ take count run)
               (with_bytes (take count run)) (divides (take count run)) (took.before count less),

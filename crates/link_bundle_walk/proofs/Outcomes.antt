@@ -41,24 +41,19 @@ module _ (limit : ℕ) (history : List ℕ) (bundles : List Packed) (begun : Lis
   divided_at : (more : List ℕ) (rest : Option Rest)
       → divided limit (begun ++ more) ≡ record { bundles = []; rest = rest }
       → divided limit (history ++ more) ≡ record { bundles = bundles; rest = rest }
-  divided_at more rest is =
-      divides more ∙ ap (with_bundles bundles) is
-      ∙ ap (λ (all : List Packed). record { bundles = all; rest = rest }) (append-nil bundles)
+  divided_at more rest is = divides more ∙ rw (is, append-nil) refl
 
   pub divided_now : (rest : Option Rest)
       → divided limit begun ≡ record { bundles = []; rest = rest }
       → divided limit history ≡ record { bundles = bundles; rest = rest }
-  divided_now rest is =
-      ap (divided limit) (sym (append-nil history))
-      ∙ divided_at [] rest (ap (divided limit) (append-nil begun) ∙ is)
+  divided_now rest is = rw append-nil at (divided_at [] rest (rw append-nil is))
 
   -- if more bytes do not change what follows the bundles, they change nothing
   pub divided_same : (rest : Option Rest)
       → ((more : List ℕ) → divided limit (begun ++ more) ≡ record { bundles = []; rest = rest })
       → (more : List ℕ) → divided limit (history ++ more) ≡ divided limit history
   divided_same rest all more =
-      divided_at more rest (all more) ∙ sym (divided_at [] rest (all []))
-      ∙ ap (divided limit) (append-nil history)
+      divided_at more rest (all more) ∙ sym (rw append-nil at (divided_at [] rest (all [])))
 
 -- the outcome of an input, from what is made of it
 abbrev pub whole_of : Made → Outcome
@@ -96,34 +91,27 @@ module _ (telling : BundleTelling) where
       pub texts_going : (told_of telling history).texts ≡ telling.texts now
       texts_going =
           let cut = cut_open telling.limit now.begun opened in
-          ap (λ (m : Made). m.texts) (told_now cut.rest cut.divides)
-          ∙ ap (λ (begun : List ℕ). telling.texts (record { bundles = now.bundles; begun = begun }))
-          cut.accepted
+          rw (told_now cut.rest cut.divides, cut.accepted) refl
 
       pub unshown_going : shows_fault (told_of telling history).stop ≡ false
       unshown_going =
           let cut = cut_open telling.limit now.begun opened in
-          ap (λ (m : Made). shows_fault m.stop) (told_now cut.rest cut.divides)
-          ∙ cut.unshown (length now.bundles)
+          rw (told_now cut.rest cut.divides) (cut.unshown (length now.bundles))
 
       -- the input ends here
       pub whole_going : whole_of (told_of telling history)
           ≡ ended_by telling now (cut_at telling.limit (length now.bundles) now.begun)
       whole_going =
           let cut = cut_open telling.limit now.begun opened in
-          let why = λ (rest : Option Rest). fault_of (stop_by (length now.bundles) rest) in
-          ap whole_of (told_now cut.rest cut.divides) ∙ ended_rest telling now.bundles cut.rest
-          ∙ ap (λ (begun : List ℕ). ended_by telling
-          (record { bundles = now.bundles; begun = begun }) (why cut.rest)) cut.accepted
-          ∙ ap (λ (input : Divided). ended_by telling now (why input.rest)) (sym cut.divides)
+          rw (told_now cut.rest cut.divides, cut.divides)
+          (ended_rest telling now.bundles cut.rest ∙ rw cut.accepted refl)
 
     -- more bytes do not change what follows the bundles
     module _ (rest : Option Rest) (all : (more : List ℕ)
         → divided telling.limit (now.begun ++ more) ≡ record { bundles = []; rest = rest }) where
       pub told_refused : told_of telling history
           ≡ told_by telling (record { bundles = now.bundles; rest = rest })
-      told_refused =
-          told_now rest (ap (divided telling.limit) (sym (append-nil now.begun)) ∙ all [])
+      told_refused = told_now rest (rw append-nil at (all []))
 
       pub told_same : (more : List ℕ) → told_of telling (history ++ more) ≡ told_of telling history
       unfolding told_of
@@ -137,16 +125,10 @@ module _ (telling : BundleTelling) where
       let now : SoFar = record { bundles = parts.bundles; begun = parts.begun } in
       ⊎_elim
       (λ refused.
-      ap (λ (m : Made). shows_fault m.stop)
-      (told_same bytes now parts.divides _ refused.divides more)
-      ∙ shown)
+      rw (told_same bytes now parts.divides _ refused.divides more) shown)
       (λ opened.
       absurd (false≢true (sym (unshown_going bytes now parts.divides opened) ∙ shown)))
       parts.last
 
   pub may_begin : MayBegin (told_of telling) false
-  may_begin = record {
-    texts = refl;
-    unshown = ap (λ (m : Made). shows_fault m.stop) told_none;
-    lasting = lasting_told;
-  }
+  may_begin = record { texts = refl; unshown = rw told_none refl; lasting = lasting_told }

@@ -87,8 +87,7 @@ module _ (options : PackOptions) where
       → (prelude_bytes options ++ transfer_bytes options 0 bundles ++ segments) ++ more
       ≡ prelude_bytes options ++ transfer_bytes options 0 bundles ++ all
   followed bundles segments more all is =
-      append_assoc (prelude_bytes options ++ transfer_bytes options 0 bundles) segments more
-      ∙ ap (λ (xs : List ℕ). prelude_bytes options ++ transfer_bytes options 0 bundles ++ xs) is
+      rw (append_assoc (prelude_bytes options ++ transfer_bytes options 0 bundles), is) refl
 
   -- the bundle goes on
   pub texts_grown : (bundles : List Packed) (begun run : List ℕ)
@@ -114,11 +113,12 @@ module _ (options : PackOptions) where
       let all = bundles ++ bundle ∷ [] in
       texts_as
       (followed bundles _ _ _ (grown n begun run true some ∙ ap segments (sym is))
-      ∙ append_assoc (prelude_bytes options) (transfer_bytes options 0 bundles) _
-      ∙ ap (λ (xs : List ℕ). prelude_bytes options ++ xs)
-      (sym (transfers_of_push 0 n bundles bundle (omega arith))) ∙ sym (append-nil _)
-      ∙ ap (λ (xs : List ℕ). prelude_bytes options ++ transfer_bytes options 0 all ++ xs)
-      (sym (segments_none (length all) (segment_size options) options.announce)))
+      ∙ rw (
+        segments_none (length all) (segment_size options) options.announce,
+        transfers_of_push 0 n bundles bundle (omega arith),
+        append-nil,
+        append_assoc (prelude_bytes options),
+      ) refl)
       (sym (lines_of_push 0 n bundles bundle (omega arith)))
 
 -- ---- how many bytes the cutter keeps between two steps
@@ -139,8 +139,7 @@ kept_few options cutter begun at =
     let count = due_of false segment options.announce (length begun) in
     let none : length cutter.held.given ≡ 0 = ap length at.chunk in
     let left : length cutter.held.bytes ≡ length begun - count * segment =
-    ap length at.held ∙ length-drop _ begun
-    ∙ ap (λ chunks. length begun - chunks * segment) (first_chunks-length segment count begun) in
+    ap length at.held ∙ rw (length-drop _ begun, first_chunks-length segment count begun) refl in
     omega (arith, none, left, left_few segment options.announce (length begun) at.some)
 
 -- ---- the line of a bundle

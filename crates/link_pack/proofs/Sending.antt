@@ -286,13 +286,9 @@ unfolding due
 one_sent out_look report_look id now cut chunk after old new result is same at quiet wrote =
     let rest = idle id after _ at (sym (next_cut-none after _ at quiet)) in
     let leaves = cut_leaves id now cut is in
-    let all : segment_bytes id cut chunk ≡ segments_left id now = sym (leaves.left
-    ∙ ap₂ (λ (chunk more : List ℕ). segment_bytes id cut chunk ++ more) same rest.0
-    ∙ append-nil (segment_bytes id cut chunk)) in
     record {
-      wrote = subst (λ (bytes : List ℕ).
-          AfterWrite out_look report_look old new (on_output bytes) result) all wrote;
-      after = holds_if result (subst (IsCutterAt after) (rest.1 ∙ leaves.ends) at);
+      wrote = rw (leaves.left, same, rest.0, append-nil) wrote;
+      after = holds_if result (rw (sym leaves.ends, sym rest.1) at);
     }
 
 -- the cutter took a whole run
@@ -301,13 +297,10 @@ pub run_pushed : (cutter : Cutter) (so_far : Cutting) (run : List ℕ) (count : 
     → IsCutterAt cutter (with_bytes (take count run) (last && count == length run) so_far)
     → IsCutterAt cutter (with_bytes run last so_far)
 run_pushed cutter so_far run count last counted pushed =
-    let all : take count run ≡ run = ap (λ n. take n run) counted ∙ take-length run in
-    subst (λ ends. IsCutterAt cutter (with_bytes run ends so_far)) (ends last)
-    (subst (λ bytes. IsCutterAt cutter (with_bytes bytes (last && count == length run) so_far)) all
-    pushed)
+    rw (counted, take-length, ends last) at pushed
   where
-    ends : (last : Bool) → (last && count == length run) ≡ last
-    ends true = eq-eqb count (length run) counted
+    ends : (last : Bool) → (last && length run == length run) ≡ last
+    ends true = eq-eqb (length run) (length run) refl
     ends false = refl
 
 -- ---- the cuts of a cutter, one after another
@@ -332,8 +325,7 @@ module _ {W E : Type 0} (out_look : W → Output) (report_look : E → Output) w
           ≡ segments_left id some.now
       left =
           let leaves = cut_leaves id some.now cut is in
-          ap (λ chunk. segment_bytes id cut chunk ++ segments_left id (after_cut some.now))
-          (same ∙ leaves.shows) ∙ sym leaves.left
+          rw (same, leaves.shows, leaves.left) refl
 
       abbrev Sends_of : Writers W E → Result (Unit {0}) IoFault → List ℕ → Type 0
       Sends_of last result bytes = AfterWrite out_look report_look mid last (on_output bytes) result

@@ -1,4 +1,3 @@
-use Rattle.std.proofs.Common.{ap, ◌∙◌, if◌then◌else◌, subst}
 use Rattle.link_report.specs.Fault.{fault_text}
 use Rattle.link_run.specs.Writers.{on_report}
 use Rattle.link_run.proofs.Sessions.{then_fault}
@@ -22,10 +21,8 @@ returns g c = λ now holds.
     let telling = g.C.BundleConsumer.telling options in
     let reading = holds.reading in
     let none = c.in_default.ensures telling.limit now.begun reading.scanned reading.opened in
-    let knows = g.C.BundleConsumer.knows options walker.consumer in
-    let known = subst knows (between_is now none) holds.known in
+    let known = rw (between_is now none) at holds.known in
     rw c.and.ensures (ended g.W.OutDevice.state g.E.OutDevice.state telling now none
     walker.current.number c.args.writers.now c.end.new.writers c.status-status.result
-    (c.status-status.ensures
-    ∙ ap (λ good. if good then 0 else 1) (c.is_good.ensures now.bundles known))
+    (rw (c.is_good.ensures now.bundles known) at c.status-status.ensures)
     c.end.result (c.end.ensures now.bundles known))

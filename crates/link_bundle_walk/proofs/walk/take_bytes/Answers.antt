@@ -1,14 +1,12 @@
-use Rattle.std.proofs.Common.{◌≡◌, ◌+◌, ◌<◌, ◌≤◌, ℕ, List, [], length, take, length-take, length-append, ⊎_elim, append-nil, ap, sym, ◌∙◌, refl, subst, arith}
+use Rattle.std.proofs.Common.{◌≡◌, ◌+◌, ◌<◌, ◌≤◌, [], length, take, length-take, length-append, ⊎_elim, append-nil, ap, sym, ◌∙◌, refl, arith}
 use Rattle.std.proofs.lemmas.Bool.Decides.{nat_tests}
 use Rattle.std.proofs.lemmas.List.{take-take}
-use Rattle.link_wire.specs.Source.{front_of, Takes}
+use Rattle.link_wire.specs.Source.{front_of}
 use Rattle.link_io.proofs.Sources.{Readies-takes, Readies-over, front_room}
-use Rattle.link_run.specs.Made.{shows_fault}
 use Rattle.link_run.specs.Reading.{inner_of}
 use Rattle.link_run.proofs.Stands.{settled, not_handed_on, read_fails}
 use Rattle.link_run.proofs.Waiting.{waits_then}
-use Rattle.link_bundle_walk.specs.BundleRun.{IsReading, MakesOf}
-use Rattle.link_bundle_walk.specs.Telling.{told_of}
+use Rattle.link_bundle_walk.specs.BundleRun.{IsReading}
 use Rattle.link_bundle_walk.proofs.Founds.{came, finished}
 use Rattle.link_bundle_walk.proofs.walk.take_bytes.Goals as goal
 
@@ -36,11 +34,9 @@ returns-in-Err-clause-gives g c = λ start history stood at.
     let new = inner_of c.ready_bytes.new.self in
     let before = c.args.writers.now in
     let writers = c.ready_bytes.new.writers in
-    let made = told_of (g.C.BundleConsumer.telling c.args.options.now) in
-    let same = sym (append-nil history) in
     ⊎_elim
     (λ stopped. read_fails c.args.most old new writers (settled old before writers stood stopped.0) [] writers c.in-Err.fault _ stopped.1 (omega arith)
-    (ap (λ bytes. (made bytes).texts) same) (ap (λ bytes. shows_fault (made bytes).stop) (append-nil history) ∙ stood.unshown) refl refl)
+    (rw append-nil refl) (rw append-nil stood.unshown) refl refl)
     (λ lost. rw lost.0 (not_handed_on old before writers stood c.args.most c.in-Err.fault lost.1 lost.2))
     (c.in-Err.ensures.gives at.live)
 
@@ -71,22 +67,20 @@ returns-clause-gives g c = λ start history stood at.
       at.source_at.given,
     ) in
     let short : length at.so_far.begun + length (take ready shown) < 9223372036854775808 = omega (arith, bound) in
-    let P : ℕ → Type 0 = λ limit. IsReading limit current at.so_far.begun in
-    let reading = subst P (sym c.limit.ensures) at.holds.reading in
+    let reading : IsReading c.limit.result current at.so_far.begun = rw c.limit.ensures at.holds.reading in
     let counted = c.judge-count.ensures.some at.so_far.begun reading short in
     let some : 0 < length run = omega (arith, counted, sizes, run_size) in
     let size : length run ≤ c.args.most = omega (arith, c.min-ready.ensures, sizes, run_size) in
     let same : take count (front_of look mid) ≡ run =
     sym (take-take count ready shown (omega (arith, sizes))
     ∙ ap (take count) c.front.ensures.front) in
-    let Q : ℕ → Type 0 = λ limit. MakesOf limit c.judge-count.new.self at.so_far.begun run c.judge-count.result.1 in
-    let took = subst Q c.limit.ensures (c.judge-count.ensures.took at.so_far.begun reading short) in
+    let took = rw c.limit.ensures at (c.judge-count.ensures.took at.so_far.begun reading short) in
     came telling (g.C.BundleConsumer.knows c.args.options.now c.args.walker.now.consumer)
     (g.C.BundleConsumer.knows c.args.options.now c.go_on-progress.new.consumer)
     c.args.most old new writers c.go_on-progress.new.writers current c.go_on-progress.new.current
     (settled old c.args.writers.now writers stood read.0) at run
     (Readies-takes look old mid new run read.1.readies
-    (subst (λ (bytes : List ℕ). Takes look mid new bytes) same c.give.ensures.takes) some)
+    (rw (sym same) c.give.ensures.takes) some)
     (c.give.ensures.live read.1.live) some size c.go_on-progress.result
     c.judge-count.new.self c.judge-count.ensures.number c.judge-count.result.1 took
     (c.go_on-progress.ensures.gives at.so_far at.holds.known (record {
@@ -108,5 +102,4 @@ returns-clause-gives g c = λ start history stood at.
     }) took)
 
 pub returns-clause-waits : goal.returns-clause-waits
-returns-clause-waits g c =
-    waits_then c.args.writers.now c.in-Ok.ensures.waits c.give.ensures.unread
+returns-clause-waits g c = waits_then c.args.writers.now c.in-Ok.ensures.waits c.give.ensures.unread

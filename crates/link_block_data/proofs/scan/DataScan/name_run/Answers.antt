@@ -1,5 +1,5 @@
-use Rattle.std.proofs.Common.{ℕ, ◌<◌, ◌+◌, length, refl, arith, rules}
-use Rattle.std.proofs.lemmas.List.Elements.{All-from_get_or}
+use Rattle.std.proofs.Common.{refl, rules, arith}
+use Rattle.link_bundle.proofs.Steps.{slice_bytes}
 use Rattle.link_block_data.proofs.Steps.{at_stage, grown_name}
 use Rattle.link_block_data.proofs.scan.DataScan.name_run.Goals as goal
 
@@ -7,12 +7,7 @@ pub returns : goal.returns
 returns c = record {
   size = search rules;
   seen = λ kind seen come.
-      let now = c.args.self.now in
-      let run = c.args.run.now in
-      grown_name kind c.args.owner c.args.left now.draft c.name-self.new.self c.name-self.result
-      now.head c.new-self.result now.offset now.count (now.count + length run) seen run
-      (at_stage kind now _ seen c.requires.stage come)
-      (All-from_get_or (λ (byte : ℕ). byte < 256) run 0
-      (λ k within. omega (arith, c.type_inv.run k)))
-      c.requires.some c.requires.within c.name-self.ensures.took refl c.new-self.ensures.seen;
+      grown_name c.args.run.now (at_stage c.args.self.now c.requires.stage come)
+      (slice_bytes c.args.run.now (λ k. omega (arith, c.type_inv.run k))) c.requires.some c.requires.within
+      c.name-self.ensures.took refl c.new-self.ensures.seen;
 }

@@ -2,5 +2,4 @@ use Rattle.link_block_data.proofs.Steps.{begun}
 use Rattle.link_block_data.proofs.scan.DataScan.new.Goals as goal
 
 pub returns-clause-seen : goal.returns-clause-seen
-returns-clause-seen c =
-    begun c.args.kind c.first.result c.new-2.result c.new.result c.first.ensures c.new.ensures.seen
+returns-clause-seen c = begun c.new-2.result c.first.ensures c.new.ensures.seen

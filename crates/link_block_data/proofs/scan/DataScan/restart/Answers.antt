@@ -2,6 +2,4 @@ use Rattle.link_block_data.proofs.Steps.{begun}
 use Rattle.link_block_data.proofs.scan.DataScan.restart.Goals as goal
 
 pub returns-clause-seen : goal.returns-clause-seen
-returns-clause-seen c =
-    begun c.args.kind c.first.result c.args.self.now.draft c.new-self.result c.first.ensures
-    c.new-self.ensures.seen
+returns-clause-seen c = begun c.args.self.now.draft c.first.ensures c.new-self.ensures.seen

@@ -7,26 +7,21 @@ use Rattle.link_block_data.proofs.scan.DataScan.view.Goals as goal
 
 pub returns-in-Read-clause-seen : goal.returns-in-Read-clause-seen
 returns-in-Read-clause-seen c = λ kind seen come.
-    let now = c.args.self.now in
-    ap Ok c.view.ensures.view
-    ∙ sym (result_read kind _ _ _ _ _ seen (at_stage kind now _ seen c.in-Read.is come))
+    ap Ok c.view.ensures.view ∙ sym (result_read (at_stage c.args.self.now c.in-Read.is come))
 
 pub returns-in-Failed-clause-seen : goal.returns-in-Failed-clause-seen
 returns-in-Failed-clause-seen c = λ kind seen come.
-    let now = c.args.self.now in
-    sym (result_failed kind _ _ _ _ _ seen (at_stage kind now _ seen c.in-Failed.is come))
+    sym (result_failed (at_stage c.args.self.now c.in-Failed.is come))
 
 pub returns-in-Failed-clause-lasts : goal.returns-in-Failed-clause-lasts
 returns-in-Failed-clause-lasts c = λ below kind seen come more.
-    let now = c.args.self.now in
-    lasts_failed kind c.in-Failed.offset now.draft now.head now.offset now.count seen more
-    (at_stage kind now _ seen c.in-Failed.is come)
+    lasts_failed more (at_stage c.args.self.now c.in-Failed.is come)
 
 pub returns-in-Head-clause-seen : goal.returns-in-Head-clause-seen
 returns-in-Head-clause-seen c = λ kind seen come.
     let now = c.args.self.now in
     ⊎_elim
-    (λ head. sym (result_head kind head.0 _ _ _ _ seen (at_stage kind now _ seen head.1 come)))
-    (λ name. sym (result_name kind name.0 name.1 _ _ _ _ seen (at_stage kind now _ seen name.2 come)
+    (λ head. sym (result_head (at_stage now head.1 come)))
+    (λ name. sym (result_name (at_stage now name.2 come)
     (some_left name.1 (name_fits now.draft.eid name.1) (fits_at now _ name.2))))
     c.in-Head.is

@@ -1,12 +1,10 @@
 use Rattle.std.proofs.Common.{◌∙◌, sym, refl, rules}
 use Rattle.link_bundle.specs.Left.{field_left, stage_left, block_flags_left}
-use Rattle.link_bundle_heads.specs.Rows.{unsigned}
-use Rattle.link_bundle_blocks.proofs.Heads.{row_at-accepted}
+use Rattle.link_bundle_blocks.specs.Reading.{row_at}
 use Rattle.link_bundle.proofs.Judgings.{as_judged}
 use Rattle.link_bundle.proofs.draft.Draft.block_flags.Goals as goal
 
 pub returns : goal.returns
-unfolding field_left stage_left block_flags_left
+unfolding field_left stage_left block_flags_left row_at
 returns c = as_judged (search rules) (search rules) (search rules) (λ next offset bytes outcome within.
-    rw (row_at-accepted unsigned bytes offset next c.args.head c.in_ok-self.field-0 outcome
-    (sym c.unsigned.ensures.judged ∙ c.in_ok-self.was)) refl)
+    rw (outcome, sym c.unsigned.ensures.judged ∙ c.in_ok-self.was) refl)

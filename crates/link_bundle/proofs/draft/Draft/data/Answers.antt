@@ -3,16 +3,14 @@ use Rattle.std.specs.Prelude.{◌==◌, is_none, nat_lt, length}
 use Rattle.link_bundle.specs.Left.{field_left, stage_left, data_left, read_alone, primary_of, current}
 use Rattle.link_bundle.specs.CheckKinds.{kind_of}
 use Rattle.link_bundle_blocks.specs.Bundle.{Bundle}
-use Rattle.link_bundle_blocks.specs.Reading.{Stop}
-use Rattle.link_bundle_heads.specs.Rows.{byte_string}
-use Rattle.link_bundle_blocks.proofs.Heads.{row_at-accepted}
+use Rattle.link_bundle_blocks.specs.Reading.{Stop, row_at}
 use Rattle.link_bundle.proofs.Heads.{data_read}
 use Rattle.link_bundle.proofs.Fields.{before_and}
 use Rattle.link_bundle.proofs.Judgings.{as_judged}
 use Rattle.link_bundle.proofs.draft.Draft.data.Goals as goal
 
 pub returns : goal.returns
-unfolding field_left stage_left data_left
+unfolding field_left stage_left data_left row_at
 returns c = as_judged (search rules) (search rules) (search rules) (λ offset bytes outcome within.
     let now = c.args.self.now in
     let size = c.in_ok-size.size in
@@ -20,8 +18,7 @@ returns c = as_judged (search rules) (search rules) (search rules) (λ offset by
       data_start = c.args.next;
       data_length = size;
     } in
-    rw (row_at-accepted byte_string bytes offset c.args.next c.args.head size outcome
-    (sym c.byte_string.ensures.judged ∙ c.in_ok-size.was))
+    rw (outcome, sym c.byte_string.ensures.judged ∙ c.in_ok-size.was)
     (ap (λ (r : Result Bundle Stop). read_alone bytes r)
     (data_read now.payload_span c.then_some-self.result (now.block.block_type == 1) now.numbers
     (primary_of now) block bytes

@@ -1,13 +1,11 @@
 use Rattle.std.proofs.Common.{◌∙◌, sym, refl, rules}
 use Rattle.link_bundle.specs.Left.{field_left, stage_left, scheme_left}
 use Rattle.link_bundle_blocks.specs.EndpointId.{eid_at}
-use Rattle.link_bundle_heads.specs.Rows.{pair}
-use Rattle.link_bundle_blocks.proofs.Heads.{row_at-accepted}
+use Rattle.link_bundle_blocks.specs.Reading.{row_at}
 use Rattle.link_bundle.proofs.Judgings.{as_judged}
 use Rattle.link_bundle.proofs.draft.Draft.eid.Goals as goal
 
 pub returns : goal.returns
-unfolding field_left stage_left eid_at scheme_left
+unfolding field_left stage_left eid_at scheme_left row_at
 returns c = as_judged (search rules) (search rules) (search rules) (λ next offset bytes outcome within.
-    rw (row_at-accepted pair bytes offset next c.args.head c.in_ok-pair.field-0 outcome
-    (sym c.pair.ensures.judged ∙ c.in_ok-pair.was)) refl)
+    rw (outcome, sym c.pair.ensures.judged ∙ c.in_ok-pair.was) refl)

@@ -1,17 +1,15 @@
 use Rattle.std.proofs.Common.{◌∙◌, sym, rules}
 use Rattle.link_bundle.specs.Left.{field_left, stage_left, node_left, service_left}
-use Rattle.link_bundle_heads.specs.Rows.{unsigned}
-use Rattle.link_bundle_blocks.proofs.Heads.{row_at-accepted}
+use Rattle.link_bundle_blocks.specs.Reading.{row_at}
 use Rattle.link_bundle.proofs.Names.{by_eid-numbered}
 use Rattle.link_bundle.proofs.Judgings.{as_judged}
 use Rattle.link_bundle.proofs.draft.Draft.node.Goals as goal
 
 pub returns : goal.returns
-unfolding field_left stage_left node_left
+unfolding field_left stage_left node_left row_at
 returns c = as_judged (search rules) (search rules) (search rules) (λ next offset bytes outcome within.
     let now = c.args.self.now in
     let node = c.in_ok-self.field-0 in
-    rw (row_at-accepted unsigned bytes offset next c.args.head node outcome
-    (sym c.unsigned.ensures.judged ∙ c.in_ok-self.was))
+    rw (outcome, sym c.unsigned.ensures.judged ∙ c.in_ok-self.was)
     (by_eid-numbered c.args.role now now.allocator node bytes
     (service_left now.allocator node bytes next)))

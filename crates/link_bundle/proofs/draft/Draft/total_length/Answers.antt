@@ -1,13 +1,11 @@
 use Rattle.std.proofs.Common.{◌∙◌, sym, rules}
 use Rattle.link_bundle.specs.Left.{field_left, stage_left, total_length_left}
-use Rattle.link_bundle_heads.specs.Rows.{unsigned}
-use Rattle.link_bundle_blocks.proofs.Heads.{row_at-accepted}
+use Rattle.link_bundle_blocks.specs.Reading.{row_at}
 use Rattle.link_bundle.proofs.Judgings.{as_judged}
 use Rattle.link_bundle.proofs.draft.Draft.total_length.Goals as goal
 
 pub returns : goal.returns
-unfolding field_left stage_left total_length_left
+unfolding field_left stage_left total_length_left row_at
 returns c = as_judged (search rules) (search rules) (search rules) (λ next offset bytes outcome within.
-    rw (row_at-accepted unsigned bytes offset next c.args.head c.in_ok-total_length.total_length
-    outcome (sym c.unsigned.ensures.judged ∙ c.in_ok-total_length.was))
+    rw (outcome, sym c.unsigned.ensures.judged ∙ c.in_ok-total_length.was)
     (c.after_fields.ensures.reads bytes next))

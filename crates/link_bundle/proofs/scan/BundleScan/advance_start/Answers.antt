@@ -1,11 +1,10 @@
-use Rattle.std.proofs.Common.{ℕ, ◌<◌, refl, ◌+◌, arith, rules}
-use Rattle.std.proofs.lemmas.List.Elements.{All-from_get_or}
+use Rattle.std.proofs.Common.{refl, ◌+◌, arith, rules}
 use Rattle.link_bundle.specs.Left.{bundle_of}
 use Rattle.link_bundle_blocks.specs.Bundle.{Bundle, bundle_at}
 use Rattle.link_bundle_blocks.proofs.Beginnings.{Begins, begins_bundle}
 use Rattle.link_bundle.proofs.Alone.{whole_come, goes_in_whole, first_taken}
 use Rattle.link_bundle.proofs.Feeding.{as_taken}
-use Rattle.link_bundle.proofs.Steps.{at_stage}
+use Rattle.link_bundle.proofs.Steps.{at_stage, slice_bytes}
 use Rattle.link_bundle.proofs.scan.BundleScan.advance_start.Goals as goal
 use Rattle.link_bundle.proofs.scan.BundleScan.advance_start.Goals.{In-Ok}
 
@@ -36,8 +35,7 @@ returns-in-Ok c =
       seen = λ seen come. record {
         before = c.in-Ok.ensures.read.0;
         come = whole_come (at_stage now c.requires.stage come.come)
-            (All-from_get_or (λ (byte : ℕ). byte < 256) piece 0
-            (λ k within. omega (arith, c.type_inv.piece k)))
+            (slice_bytes piece (λ k. omega (arith, c.type_inv.piece k)))
             begins_here refl refl;
       };
       goes = λ seen come count below.

@@ -1,15 +1,10 @@
-use Rattle.std.proofs.Common.{ℕ, ◌<◌, ◌&&◌, List, ◌++◌, length, sym, ap, subst, ◌∙◌, arith, rules}
+use Rattle.std.proofs.Common.{◌&&◌, length, sym, ◌∙◌, arith, rules}
 use Rattle.std.specs.Prelude.{is_none}
-use Rattle.std.proofs.lemmas.List.Elements.{All-from_get_or}
 use Rattle.link_cbor.specs.HeadScan.{may_scan_head}
-use Rattle.link_bundle.specs.declared.stage.Stage.{Stage}
-use Rattle.link_bundle_blocks.specs.Blocks.{Block}
 use Rattle.link_bundle.specs.CheckKinds.{is_unread}
-use Rattle.link_bundle.specs.Left.{stage_last}
-use Rattle.link_bundle.specs.Scan.{HasSeen}
 use Rattle.link_bundle_blocks.proofs.Beginnings.{data_begins}
 use Rattle.link_bundle.proofs.Fields.{before_and, after_and}
-use Rattle.link_bundle.proofs.Steps.{at_stage, fits_at}
+use Rattle.link_bundle.proofs.Steps.{at_stage, fits_at, slice_bytes}
 use Rattle.link_bundle.proofs.Taking.{takes_on, ends_here}
 use Rattle.link_bundle.proofs.Wholes.{canonical_come}
 use Rattle.link_bundle.proofs.scan.BundleScan.canonical_run.Goals as goal
@@ -34,13 +29,9 @@ returns c =
     takes_on (search rules)
     (ends_here stage draft c.pass.new.self (c.pass.ensures.offset ∙ sym c.pass.ensures.count))
     (λ before seen come.
-    subst (λ (last : List Block). HasSeen stage c.pass.new.self draft (before ++ last) (seen ++ c.args.run.now))
-    (sym (ap (λ (stage : Stage). stage_last stage now.draft now.cursor.offset) c.requires.stage))
+    rw c.requires.stage
     (canonical_come c.args.run.now c.args.block (at_stage now c.requires.stage come) c.requires.begins none
-    c.requires.numbers
-    (All-from_get_or (λ (byte : ℕ). byte < 256) c.args.run.now 0
-    (λ k within. omega (arith, c.type_inv.run k)))
-    c.requires.whole
+    c.requires.numbers (slice_bytes c.args.run.now (λ k. omega (arith, c.type_inv.run k))) c.requires.whole
     (rw c.moved.ensures at c.end_canonical-stage.ensures.reads)
     (rw c.moved.ensures at c.end_canonical-stage.ensures.start)
     c.requires.start c.end_canonical-stage.ensures.keeps c.pass.ensures))

@@ -1,8 +1,6 @@
-use Rattle.std.proofs.Common.{ℕ, ◌<◌, refl, sym, ◌∙◌, arith, rules}
-use Rattle.std.proofs.lemmas.Bool.{ltb-true}
-use Rattle.std.proofs.lemmas.List.Elements.{All-from_get_or}
+use Rattle.std.proofs.Common.{refl, sym, ◌∙◌, arith, rules}
 use Rattle.link_bundle.proofs.Contents.{grown_content, ended_content}
-use Rattle.link_bundle.proofs.Steps.{at_stage, fits_at}
+use Rattle.link_bundle.proofs.Steps.{at_stage, slice_bytes}
 use Rattle.link_bundle.proofs.Taking.{takes_plain, none_last, ends_here, ends_nowhere}
 use Rattle.link_bundle.proofs.scan.BundleScan.content_run.Goals as goal
 
@@ -13,8 +11,7 @@ returns-in-Content c =
     (ends_nowhere now.draft c.content_run.new.self)
     (λ before seen come.
     grown_content (at_stage now c.requires.stage come)
-    (All-from_get_or (λ (byte : ℕ). byte < 256) c.args.run.now 0
-    (λ k within. omega (arith, c.type_inv.run k))) c.content_run.ensures _ (omega arith) (omega arith))
+    (slice_bytes c.args.run.now (λ k. omega (arith, c.type_inv.run k))) c.content_run.ensures _ (omega arith) (omega arith))
 
 pub returns-else-rest-gt0 : goal.returns-else-rest-gt0
 returns-else-rest-gt0 c =
@@ -24,8 +21,6 @@ returns-else-rest-gt0 c =
     (c.enter.ensures.offset ∙ sym c.enter.ensures.count))
     (λ before seen come.
     ended_content (at_stage now c.requires.stage come)
-    (All-from_get_or (λ (byte : ℕ). byte < 256) c.args.run.now 0
-    (λ k within. omega (arith, c.type_inv.run k))) c.content_run.ensures
-    (ltb-true 0 c.args.left (fits_at now _ c.requires.stage)) (omega arith)
+    (slice_bytes c.args.run.now (λ k. omega (arith, c.type_inv.run k))) c.content_run.ensures (omega arith)
     c.after_fields-stage.ensures.reads c.after_fields-stage.ensures.start
     c.after_fields-stage.ensures.keeps c.enter.ensures)

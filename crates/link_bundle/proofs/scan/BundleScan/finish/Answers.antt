@@ -7,5 +7,4 @@ returns-in-Ok c = λ seen come.
     ap Ok c.of.ensures ∙ ap viewed_verdict (sym c.in-Ok.is) ∙ c.view.ensures.seen seen come
 
 pub returns-in-Err : goal.returns-in-Err
-returns-in-Err c = λ seen come.
-    ap viewed_verdict (sym c.in-Err.is) ∙ c.view.ensures.seen seen come
+returns-in-Err c = λ seen come. ap viewed_verdict (sym c.in-Err.is) ∙ c.view.ensures.seen seen come

@@ -1,7 +1,6 @@
-use Rattle.std.proofs.Common.{ℕ, ◌<◌, refl, sym, ◌∙◌, arith, rules}
-use Rattle.std.proofs.lemmas.List.Elements.{All-from_get_or}
+use Rattle.std.proofs.Common.{refl, sym, ◌∙◌, rules, arith}
 use Rattle.link_bundle.proofs.Contents.{grown_name}
-use Rattle.link_bundle.proofs.Steps.{at_stage}
+use Rattle.link_bundle.proofs.Steps.{at_stage, slice_bytes}
 use Rattle.link_bundle.proofs.Taking.{takes_plain, none_last, ends_here}
 use Rattle.link_bundle.proofs.scan.BundleScan.name_run.Goals as goal
 
@@ -13,7 +12,6 @@ returns c =
     (c.enter.ensures.offset ∙ sym c.enter.ensures.count))
     (λ before seen come.
     grown_name (at_stage now c.requires.stage come)
-    (All-from_get_or (λ (byte : ℕ). byte < 256) c.args.run.now 0
-    (λ k within. omega (arith, c.type_inv.run k))) c.content_run.ensures
+    (slice_bytes c.args.run.now (λ k. omega (arith, c.type_inv.run k))) c.content_run.ensures
     c.name_run-stage.ensures.reads c.name_run-stage.ensures.start c.name_run-stage.ensures.keeps
     c.enter.ensures)

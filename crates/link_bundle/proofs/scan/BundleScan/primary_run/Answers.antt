@@ -1,6 +1,5 @@
-use Rattle.std.proofs.Common.{ℕ, ◌<◌, sym, ◌∙◌, arith, rules}
-use Rattle.std.proofs.lemmas.List.Elements.{All-from_get_or}
-use Rattle.link_bundle.proofs.Steps.{at_stage, fits_at}
+use Rattle.std.proofs.Common.{sym, ◌∙◌, rules, arith}
+use Rattle.link_bundle.proofs.Steps.{at_stage, fits_at, slice_bytes}
 use Rattle.link_bundle.proofs.Taking.{takes_plain, none_last, ends_here}
 use Rattle.link_bundle.proofs.Wholes.{primary_come}
 use Rattle.link_bundle.proofs.scan.BundleScan.primary_run.Goals as goal
@@ -15,8 +14,6 @@ returns c =
     (ends_here stage draft c.pass.new.self (c.pass.ensures.offset ∙ sym c.pass.ensures.count))
     (λ before seen come.
     primary_come c.args.run.now c.args.check (at_stage now c.requires.stage come)
-    (fits_at now _ c.requires.stage)
-    (All-from_get_or (λ (byte : ℕ). byte < 256) c.args.run.now 0
-    (λ k within. omega (arith, c.type_inv.run k)))
-    c.requires.whole c.end_primary-stage.ensures.reads c.end_primary-stage.ensures.start
+    (fits_at now _ c.requires.stage) (slice_bytes c.args.run.now (λ k. omega (arith, c.type_inv.run k))) c.requires.whole
+    c.end_primary-stage.ensures.reads c.end_primary-stage.ensures.start
     c.end_primary-stage.ensures.keeps c.pass.ensures)

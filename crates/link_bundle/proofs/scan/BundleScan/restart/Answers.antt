@@ -1,24 +1,9 @@
-use Rattle.std.proofs.Common.{[], refl, sym, subst, ℕ}
-use Rattle.link_bundle.specs.declared.stage.CheckType.{CheckType}
-use Rattle.link_bundle.specs.Covers.{Covers}
-use Rattle.std.proofs.lemmas.List.Elements.{All-nil}
-use Rattle.std.specs.Prelude.{◌<◌}
-use Rattle.link_bundle.specs.Left.{stage_left}
-use Rattle.link_bundle_blocks.proofs.Blocks.{none_before}
+use Rattle.std.proofs.Common.{[]}
+use Rattle.link_bundle.proofs.Steps.{nothing_seen}
 use Rattle.link_bundle.proofs.scan.BundleScan.restart.Goals as goal
 
 pub returns-clause-seen : goal.returns-clause-seen
-unfolding stage_left
 returns-clause-seen c = record {
   before = [];
-  come = record {
-    all_bytes = All-nil (λ (byte : ℕ). byte < 256);
-    count = c.new-self.ensures.count;
-    reads = λ more. sym (none_before _);
-    stands = record {
-      nothing = refl;
-      checks = subst (λ (check : CheckType). Covers check c.new-self.result.checks [])
-          (sym c.restart.ensures.check) c.new-self.ensures.checks;
-    };
-  };
+  come = nothing_seen c.new-self.ensures.count c.restart.ensures.check c.new-self.ensures.checks;
 }

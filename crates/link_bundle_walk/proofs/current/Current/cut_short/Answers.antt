@@ -1,8 +1,5 @@
-use Rattle.std.proofs.Common.{sym, ap, ◌∙◌, arith}
+use Rattle.std.proofs.Common.{refl, sym, ap, ◌∙◌, arith}
 use Rattle.link_bundle_types.specs.BundleView.{viewed_verdict}
-use Rattle.link_bundle_walk.specs.Bundles.{Divided}
-use Rattle.link_bundle_walk.specs.BundleRun.{fault_of}
-use Rattle.link_bundle_walk.specs.Telling.{stop_by}
 use Rattle.link_bundle_walk.proofs.Dividing.{divided_open}
 use Rattle.link_bundle_walk.proofs.current.Current.cut_short.Goals as goal
 
@@ -12,4 +9,4 @@ returns-in-Err c = λ limit begun scanned opened.
     let some = c.if-count-eq0.false in
     let parts = divided_open limit begun c.in-Err.fault c.in-Err.offset opened
     (omega (arith, c.count.ensures.seen begun scanned, some)) said in
-    ap (λ (input : Divided). fault_of (stop_by c.args.self.now.number input.rest)) parts.1
+    rw parts.1 refl

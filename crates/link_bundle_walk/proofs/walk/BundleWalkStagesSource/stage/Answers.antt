@@ -1,10 +1,9 @@
 use Rattle.std.proofs.Common.{◌≡◌, ℕ, List, [], ◌++◌, length, refl, ap, sym, ◌∙◌, subst, append-nil, arith}
 use Rattle.std.proofs.lemmas.Bool.{false≢true}
 use Rattle.link_io.proofs.Sources.{Takes-none}
-use Rattle.link_run.specs.Made.{Made, shows_fault}
 use Rattle.link_run.specs.Reading.{inner_of}
 use Rattle.link_bundle_walk.specs.BundleRun.{Walks}
-use Rattle.link_bundle_walk.specs.Telling.{none_yet, told_of}
+use Rattle.link_bundle_walk.specs.Telling.{none_yet}
 use Rattle.link_bundle_walk.proofs.Founds.{stepped, no_size}
 use Rattle.link_bundle_walk.proofs.Outcomes.{told_none}
 use Rattle.link_bundle_walk.proofs.walk.BundleWalkStagesSource.stage.Goals as goal
@@ -14,7 +13,6 @@ returns-in-Begin-clause-gives g c = λ start history. rw c.in-Begin.is (λ stood
     let telling = g.C.BundleConsumer.telling c.args.self.now.options in
     let source = inner_of c.args.input.now in
     let none : history ++ [] ≡ [] = append-nil history ∙ at.nothing in
-    let made = ap (told_of telling) none ∙ told_none telling in
     let unread = ap length at.unread in
     let Stays : List ℕ → Type 0 = Walks g.R.InDevice.state telling
     (g.C.BundleConsumer.knows c.args.self.now.options c.begin.new.self)
@@ -22,8 +20,8 @@ returns-in-Begin-clause-gives g c = λ start history. rw c.in-Begin.is (λ stood
     rw c.after.ensures (stepped 0 source source c.args.writers.now c.begin.new.writers stood
     (Takes-none g.R.InDevice.state source) (omega arith) (omega (arith, unread)) Stays
     c.begin.result
-    (c.begin.ensures.gives at.holds.known) refl (sym (ap (λ (m : Made). m.texts) made))
-    (ap (λ (m : Made). shows_fault m.stop) made)
+    (c.begin.ensures.gives at.holds.known) refl (rw (none, told_none telling) refl)
+    (rw (none, told_none telling) refl)
     (λ known. subst Stays (sym none) (record {
       source_at = at.source_at;
       live = at.live;
