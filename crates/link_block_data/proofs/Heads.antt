@@ -29,8 +29,8 @@ use Rattle.link_block_data.specs.declared.due.Pair.TheVariants as pair_
 use Rattle.link_block_data.specs.declared.due.Due.{Due}
 use Rattle.link_block_data.specs.declared.due.Due.TheVariants as due
 use Rattle.link_block_data.specs.declared.due.Found.TheVariants as found
-use Rattle.link_block_data.specs.declared.due.Stage.{Stage}
-use Rattle.link_block_data.specs.declared.due.Stage.TheVariants.{Head as AtHead, Read}
+use Rattle.link_block_data.specs.declared.due.DataStage.{DataStage}
+use Rattle.link_block_data.specs.declared.due.DataStage.TheVariants.{Head as AtHead, Read}
 use Rattle.link_block_data.specs.declared.draft.Draft.{Draft}
 use Rattle.link_block_data.specs.BlockData.{BlockData, items_at, assertion_at, located}
 use Rattle.link_block_data.specs.DataRows.{integer, assertion, four_or_six, four_or_more, one_or_two}
@@ -41,7 +41,7 @@ use Rattle.link_block_data.proofs.Names.{then_then, same_then, owner_ends, by_ei
 -- ---- a row
 
 -- the rest at a stage, with the values there
-abbrev pub rest_at : Stage × Draft → List ℕ → ℕ → Result BlockData ℕ
+abbrev pub rest_at : DataStage × Draft → List ℕ → ℕ → Result BlockData ℕ
 rest_at turn bytes next = stage_left turn.0 turn.1 bytes next next
 
 row_at-whole : {A : Type 0} (row : Head → Result A BundleFault) (bytes : List ℕ)
@@ -51,7 +51,7 @@ unfolding row_at
 row_at-whole row bytes offset next head whole = rw whole refl
 
 -- the rest after the outcome of a row
-by_outcome : {A : Type 0} (rest : ReadAt A → Result BlockData Stop) (after : A → Stage × Draft)
+by_outcome : {A : Type 0} (rest : ReadAt A → Result BlockData Stop) (after : A → DataStage × Draft)
     (outcome : Result A BundleFault) (bytes : List ℕ) (offset next : ℕ)
     → ((value : A) → located (rest (Ok (value, next))) ≡ rest_at (after value) bytes next)
     → ((stop : Stop) → rest (Err stop) ≡ Err stop)
@@ -61,7 +61,7 @@ by_outcome rest after (Ok value) bytes offset next accepts refuses = accepts val
 by_outcome rest after (Err fault) bytes offset next accepts refuses =
     ap located (refuses (stopped fault offset))
 
-by_row : {A : Type 0} (rest : ReadAt A → Result BlockData Stop) (after : A → Stage × Draft)
+by_row : {A : Type 0} (rest : ReadAt A → Result BlockData Stop) (after : A → DataStage × Draft)
     (row : Head → Result A BundleFault) (bytes : List ℕ) (offset next : ℕ) (head : Head)
     → head_at bytes offset ≡ Ok (head, next)
     → ((value : A) → located (rest (Ok (value, next))) ≡ rest_at (after value) bytes next)

@@ -13,7 +13,7 @@ use Rattle.link_bundle_blocks.proofs.Runs.{bytes_at-none, run_within}
 use Rattle.link_bundle.proofs.Names.{name_left-run}
 use Rattle.link_block_data.specs.declared.due.Owner.{Owner}
 use Rattle.link_block_data.specs.declared.due.Owner.TheVariants as owner
-use Rattle.link_block_data.specs.declared.due.Stage.TheVariants.{Name}
+use Rattle.link_block_data.specs.declared.due.DataStage.TheVariants.{Name}
 use Rattle.link_block_data.specs.declared.draft.Draft.{Draft}
 use Rattle.link_block_data.specs.BlockData.{located}
 use Rattle.link_block_data.specs.Turns.{after_eid, name_due, with_eid}

@@ -12,8 +12,8 @@ use Rattle.link_block_data.specs.declared.kind.DataKind.{DataKind}
 use Rattle.link_block_data.specs.declared.due.Due.{Due}
 use Rattle.link_block_data.specs.declared.due.Owner.{Owner}
 use Rattle.link_block_data.specs.declared.due.Found.{Found}
-use Rattle.link_block_data.specs.declared.due.Stage.{Stage}
-use Rattle.link_block_data.specs.declared.due.Stage.TheVariants.{Head, Name, Read, Failed}
+use Rattle.link_block_data.specs.declared.due.DataStage.{DataStage}
+use Rattle.link_block_data.specs.declared.due.DataStage.TheVariants.{Head, Name, Read, Failed}
 use Rattle.link_block_data.specs.declared.draft.Draft.{Draft}
 use Rattle.link_block_data.specs.BlockData.{BlockData, alone, located, data_of}
 use Rattle.link_block_data.specs.Left.{data_from, may_follow, stage_left}
@@ -29,7 +29,7 @@ ended_there false found bytes offset stands = rw stands refl
 
 module _ {kind : DataKind} {draft : Draft} {head : HeadScan} {offset count : ℕ} {seen : List ℕ} where
   -- the reading of the bytes seen, if no more follow
-  read_now : {stage : Stage} → HasSeen kind stage draft head offset count seen
+  read_now : {stage : DataStage} → HasSeen kind stage draft head offset count seen
       → data_of kind seen ≡ stage_left stage draft seen offset (length seen)
   read_now come = rw append-nil at (come.reads [])
 

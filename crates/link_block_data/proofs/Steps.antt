@@ -18,8 +18,8 @@ use Rattle.link_block_data.specs.declared.kind.DataKind.{DataKind}
 use Rattle.link_block_data.specs.declared.due.Due.{Due}
 use Rattle.link_block_data.specs.declared.due.Owner.{Owner}
 use Rattle.link_block_data.specs.declared.due.Found.{Found}
-use Rattle.link_block_data.specs.declared.due.Stage.{Stage}
-use Rattle.link_block_data.specs.declared.due.Stage.TheVariants.{Head, Name, Read, Failed}
+use Rattle.link_block_data.specs.declared.due.DataStage.{DataStage}
+use Rattle.link_block_data.specs.declared.due.DataStage.TheVariants.{Head, Name, Read, Failed}
 use Rattle.link_block_data.specs.declared.draft.Draft.{Draft}
 use Rattle.link_block_data.specs.BlockData.{alone, located, data_of}
 use Rattle.link_block_data.specs.Turns.{first_due, took_run, judged}
@@ -34,19 +34,19 @@ use Rattle.link_block_data.proofs.Stops.{due_left-stopped}
 
 -- ---- a scan whose stage is known
 
-pub at_stage : {kind : DataKind} (scan : DataScan) {stage : Stage} {seen : List ℕ}
+pub at_stage : {kind : DataKind} (scan : DataScan) {stage : DataStage} {seen : List ℕ}
     → scan.stage ≡ stage → HasScanned kind scan seen
     → HasSeen kind stage scan.draft scan.head scan.offset scan.count seen
 at_stage scan is come = rw is at come
 
-pub fits_at : (scan : DataScan) (stage : Stage) → scan.stage ≡ stage
+pub fits_at : (scan : DataScan) (stage : DataStage) → scan.stage ≡ stage
     → IsTrue (scan_fits stage scan.head scan.draft)
 fits_at scan stage is = rw is at scan.fits
 
 -- ---- more bytes
 
 -- the rest, after a run of more bytes
-grown_reads : {kind : DataKind} {stage : Stage} {draft : Draft} {head : HeadScan} {offset count : ℕ}
+grown_reads : {kind : DataKind} {stage : DataStage} {draft : Draft} {head : HeadScan} {offset count : ℕ}
     {seen : List ℕ} → HasSeen kind stage draft head offset count seen → (run more : List ℕ)
     → data_of kind ((seen ++ run) ++ more)
     ≡ stage_left stage draft ((seen ++ run) ++ more) offset (length seen)
@@ -54,7 +54,7 @@ grown_reads {seen = seen} come run more = rw (append_assoc seen run more) (come.
 
 -- ---- a stage that is entered
 
-stands_entered : (stage : Stage) (head : HeadScan) (offset : ℕ) (seen : List ℕ)
+stands_entered : (stage : DataStage) (head : HeadScan) (offset : ℕ) (seen : List ℕ)
     → offset ≡ length seen → HasScannedHead head [] → IsAtStage stage head offset seen
 unfolding head_front
 stands_entered (Head which) head offset seen here fresh = record {
@@ -66,7 +66,7 @@ stands_entered (Read found) head offset seen here fresh =
     rw (eq-eqb offset (length seen) here, or-true (may_follow found)) refl
 stands_entered _ head offset seen here fresh = tt
 
-module _ {kind : DataKind} {stage : Stage} {draft : Draft} {head : HeadScan} where
+module _ {kind : DataKind} {stage : DataStage} {draft : Draft} {head : HeadScan} where
   pub entered : {offset count : ℕ} {seen : List ℕ}
       → AreBytes seen → count ≡ length seen → offset ≡ length seen → HasScannedHead head []
       → ((more : List ℕ) → data_of kind (seen ++ more)
@@ -149,7 +149,7 @@ module _ {kind : DataKind} {which : Due} {draft : Draft} {offset count : ℕ} {s
   module _ {item : HeadItem} {size : ℕ}
       (outcome : head_front (drop offset seen) ≡ Whole item (length (drop offset seen)))
       (sized : size ≡ length (drop offset seen)) where
-    turned_head : {result : Result (Stage × Draft) BundleFault}
+    turned_head : {result : Result (DataStage × Draft) BundleFault}
         → result ≡ judged which size item draft → (more : List ℕ)
         → data_of kind (seen ++ more) ≡ goes_on result (seen ++ more) offset (length seen)
     turned_head is more =
@@ -161,7 +161,7 @@ module _ {kind : DataKind} {which : Due} {draft : Draft} {offset count : ℕ} {s
         (omega (arith, length-append seen more))
         ∙ rw (same, is) refl
 
-    pub went_on : {stage : Stage} {new : Draft} {head : HeadScan}
+    pub went_on : {stage : DataStage} {new : Draft} {head : HeadScan}
         → Ok (stage, new) ≡ judged which size item draft → HasScannedHead head []
         → HasSeen kind stage new head count count seen
     went_on is fresh = entered come.all_bytes come.counted come.counted fresh (turned_head is)
@@ -173,7 +173,7 @@ module _ {kind : DataKind} {which : Due} {draft : Draft} {offset count : ℕ} {s
 
 -- ---- names
 
-pub grown_name : {kind : DataKind} {owner : Owner} {left : ℕ} {draft new : Draft} {stage : Stage}
+pub grown_name : {kind : DataKind} {owner : Owner} {left : ℕ} {draft new : Draft} {stage : DataStage}
     {old_head head : HeadScan} {offset old count : ℕ} {seen : List ℕ} (run : List ℕ)
     → HasSeen kind (Name owner left) draft old_head offset old seen → AreBytes run
     → 0 < length run → length run ≤ left → (stage, new) ≡ took_run owner left run draft
@@ -189,7 +189,7 @@ grown_name {owner = owner} {left = left} {draft = draft} {count = count} {seen =
     grown_reads come run more
     ∙ name_goes_on owner draft left bytes more run _ (length seen) (next_run seen more run)
     some fits
-    ∙ rw (length-append seen run) (ap (λ (turn : Stage × Draft).
+    ∙ rw (length-append seen run) (ap (λ (turn : DataStage × Draft).
     stage_left turn.0 turn.1 bytes (length seen + length run) (length seen + length run)) (sym is)))
 
 -- ---- bytes after the item, and after a fault

@@ -4,24 +4,24 @@ use Rattle.std.specs.Prelude.{ℕ, Bool, true, ◌&&◌, nat_lt, nat_le}
 use Rattle.link_cbor.specs.declared.head_scan.HeadScan.{HeadScan}
 use Rattle.link_cbor.specs.HeadScan.{may_scan_head}
 use Rattle.link_bundle_types.specs.KeptEid.{name_fits}
-use Rattle.link_block_data.specs.declared.due.Stage.{Stage}
-use Rattle.link_block_data.specs.declared.due.Stage.TheVariants.{Head, Name, Failed}
+use Rattle.link_block_data.specs.declared.due.DataStage.{DataStage}
+use Rattle.link_block_data.specs.declared.due.DataStage.TheVariants.{Head, Name, Failed}
 use Rattle.link_block_data.specs.declared.draft.Draft.{Draft}
 
 -- in a name, the endpoint ID has room for the bytes that are left
-abbrev pub stage_fits : Stage → Draft → Bool
+abbrev pub stage_fits : DataStage → Draft → Bool
 stage_fits (Name owner left) draft = nat_lt 0 left && name_fits draft.eid left
 stage_fits _ draft = true
 
 -- at a head, the head is not complete
-abbrev pub head_fits : Stage → HeadScan → Bool
+abbrev pub head_fits : DataStage → HeadScan → Bool
 head_fits (Head which) head = may_scan_head head
 head_fits _ head = true
 
-abbrev pub scan_fits : Stage → HeadScan → Draft → Bool
+abbrev pub scan_fits : DataStage → HeadScan → Draft → Bool
 scan_fits stage head draft = head_fits stage head && stage_fits stage draft
 
 -- data is malformed at an offset up to the end of the bytes seen
-abbrev pub failed_within : Stage → ℕ → Bool
+abbrev pub failed_within : DataStage → ℕ → Bool
 failed_within (Failed offset) count = nat_le offset count
 failed_within _ count = true

@@ -27,8 +27,8 @@ use Rattle.link_block_data.specs.declared.due.Due.{Due}
 use Rattle.link_block_data.specs.declared.due.Due.TheVariants as due
 use Rattle.link_block_data.specs.declared.due.Found.{Found}
 use Rattle.link_block_data.specs.declared.due.Found.TheVariants as found
-use Rattle.link_block_data.specs.declared.due.Stage.{Stage}
-use Rattle.link_block_data.specs.declared.due.Stage.TheVariants.{Head, Name, Read, Failed}
+use Rattle.link_block_data.specs.declared.due.DataStage.{DataStage}
+use Rattle.link_block_data.specs.declared.due.DataStage.TheVariants.{Head, Name, Read, Failed}
 use Rattle.link_block_data.specs.declared.draft.Draft.{Draft}
 use Rattle.link_block_data.specs.BlockData.{BlockData, PreviousNode, BundleAge, HopCount, Security, StatusReport, OtherRecord, alone, items_at, asserted_at, assertion_at, located}
 use Rattle.link_block_data.specs.DataRows.{integer, assertion, four_or_six, four_or_more}
@@ -262,7 +262,7 @@ due_left (due.Asserted status has_time) draft bytes offset =
 
 -- The rest at a stage. The current head is at `head`, or the item ended there, and `offset` bytes
 -- were seen.
-unfoldable pub stage_left : Stage → Draft → List ℕ → ℕ → ℕ → Result BlockData ℕ
+unfoldable pub stage_left : DataStage → Draft → List ℕ → ℕ → ℕ → Result BlockData ℕ
 stage_left (Head which) draft bytes head offset = located (due_left which draft bytes head)
 stage_left (Name owner left) draft bytes head offset =
     located (by_eid owner draft bytes (name_left (name_of draft.eid) left bytes offset))
@@ -270,6 +270,6 @@ stage_left (Read found) draft bytes head offset = located (ended found draft byt
 stage_left (Failed at) draft bytes head offset = Err at
 
 -- the rest after a complete head that begins at `offset` and ends before `next`
-abbrev pub goes_on : Result (Stage × Draft) BundleFault → List ℕ → ℕ → ℕ → Result BlockData ℕ
+abbrev pub goes_on : Result (DataStage × Draft) BundleFault → List ℕ → ℕ → ℕ → Result BlockData ℕ
 goes_on (Ok (stage, draft)) bytes offset next = stage_left stage draft bytes next next
 goes_on (Err fault) bytes offset next = Err offset

@@ -7,8 +7,8 @@ use Rattle.link_cbor.specs.Head.{AreBytes, Cut, head_front}
 use Rattle.link_cbor.specs.HeadScan.{HasScannedHead}
 use Rattle.link_block_data.specs.declared.kind.DataKind.{DataKind}
 use Rattle.link_block_data.specs.declared.due.Due.{Due}
-use Rattle.link_block_data.specs.declared.due.Stage.{Stage}
-use Rattle.link_block_data.specs.declared.due.Stage.TheVariants.{Head, Read}
+use Rattle.link_block_data.specs.declared.due.DataStage.{DataStage}
+use Rattle.link_block_data.specs.declared.due.DataStage.TheVariants.{Head, Read}
 use Rattle.link_block_data.specs.declared.draft.Draft.{Draft}
 use Rattle.link_block_data.specs.declared.scan.DataScan.{DataScan}
 use Rattle.link_block_data.specs.BlockData.{located, data_of}
@@ -21,14 +21,14 @@ pub record IsInHead (head : HeadScan) (offset : ℕ) (seen : List ℕ) : Type 0 
   pub cut : head_front (drop offset seen) ≡ Cut
 
 -- the state of the scan at each stage
-abbrev pub IsAtStage : Stage → HeadScan → ℕ → List ℕ → Type 0
+abbrev pub IsAtStage : DataStage → HeadScan → ℕ → List ℕ → Type 0
 IsAtStage (Head which) head offset seen = IsInHead head offset seen
 IsAtStage (Read found) head offset seen = IsTrue (may_follow found || (offset == length seen))
 IsAtStage _ head offset seen = Unit {0}
 
 -- Exactly these bytes were seen of data of this kind. Whatever bytes follow, the data is the rest
 -- that is read from this stage on.
-pub record HasSeen (kind : DataKind) (stage : Stage) (draft : Draft) (head : HeadScan)
+pub record HasSeen (kind : DataKind) (stage : DataStage) (draft : Draft) (head : HeadScan)
     (offset count : ℕ) (seen : List ℕ) : Type 0 where
   pub all_bytes : AreBytes seen
   pub counted : count ≡ length seen

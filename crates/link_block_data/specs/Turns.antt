@@ -27,8 +27,8 @@ use Rattle.link_block_data.specs.declared.due.Pair.TheVariants as pair_
 use Rattle.link_block_data.specs.declared.due.Due.{Due}
 use Rattle.link_block_data.specs.declared.due.Due.TheVariants as due
 use Rattle.link_block_data.specs.declared.due.Found.TheVariants as found
-use Rattle.link_block_data.specs.declared.due.Stage.{Stage}
-use Rattle.link_block_data.specs.declared.due.Stage.TheVariants.{Head, Name, Read}
+use Rattle.link_block_data.specs.declared.due.DataStage.{DataStage}
+use Rattle.link_block_data.specs.declared.due.DataStage.TheVariants.{Head, Name, Read}
 use Rattle.link_block_data.specs.declared.draft.Draft.{Draft}
 use Rattle.link_block_data.specs.DataRows.{integer, assertion, four_or_six, four_or_more, one_or_two}
 
@@ -39,15 +39,15 @@ first_due kind.HopCount = due.Pair pair_.HopCount
 first_due kind.Security = due.Targets
 first_due kind.Record = due.Pair pair_.Record
 
-abbrev pub after_eid : Owner → Stage
+abbrev pub after_eid : Owner → DataStage
 after_eid owner.PreviousNode = Read found.PreviousNode
 after_eid owner.Security = Read found.Security
 after_eid owner.Report = Head (due.Pair pair_.Timestamp)
 
-abbrev pub name_due : Owner → ℕ → Stage
+abbrev pub name_due : Owner → ℕ → DataStage
 name_due owner left = if left == 0 then after_eid owner else Name owner left
 
-abbrev pub after_type : ℕ → Stage
+abbrev pub after_type : ℕ → DataStage
 after_type type = if type == 1 then Head due.Report else Read (found.OtherRecord type)
 
 abbrev pub specific : Owner → Scheme → Due
@@ -112,14 +112,14 @@ with_eid eid draft = record draft { eid = eid }
 
 -- the stage after a head, and the values with that of the head
 
-abbrev pub took_eid : Owner → Eid → Draft → Stage × Draft
+abbrev pub took_eid : Owner → Eid → Draft → DataStage × Draft
 took_eid owner eid draft = (after_eid owner, with_eid eid draft)
 
-abbrev pub took_assertion : Status → Assertion → Draft → Stage × Draft
+abbrev pub took_assertion : Status → Assertion → Draft → DataStage × Draft
 took_assertion status assertion draft =
     (Head (after_status status draft.others), with_assertion status assertion draft)
 
-abbrev pub took_sequence : ℕ → Draft → Stage × Draft
+abbrev pub took_sequence : ℕ → Draft → DataStage × Draft
 took_sequence sequence draft =
     if draft.is_fragment
     then (
@@ -131,7 +131,7 @@ took_sequence sequence draft =
       record draft { report = record draft.report { sequence = sequence; fragment = None } },
     )
 
-abbrev pub took : Number → ℕ → Draft → Stage × Draft
+abbrev pub took : Number → ℕ → Draft → DataStage × Draft
 took number.Age age draft = (Read (found.BundleAge age), draft)
 took number.HopLimit limit draft = (Head (due.Number (number.HopCount limit)), draft)
 took (number.HopCount limit) count draft = (Read (found.HopCount limit count), draft)
@@ -160,25 +160,25 @@ took (number.Node owner allocator) node draft =
 took (number.Service owner allocator node) service draft =
     took_eid owner (numbered allocator node service) draft
 
-abbrev pub took_dtn : Owner → Option ℕ → Draft → Stage × Draft
+abbrev pub took_dtn : Owner → Option ℕ → Draft → DataStage × Draft
 took_dtn owner None draft = took_eid owner DtnNone draft
 took_dtn owner (Some size) draft =
     (name_due owner size, with_eid (Dtn (record { items = [] })) draft)
 
 -- bytes of a name that has `left` bytes left
-abbrev pub took_run : Owner → ℕ → List ℕ → Draft → Stage × Draft
+abbrev pub took_run : Owner → ℕ → List ℕ → Draft → DataStage × Draft
 took_run owner left run draft = (
   name_due owner (left - length run),
   with_eid (Dtn (record { items = name_of draft.eid ++ run })) draft,
 )
 
-abbrev pub took_asserted : Status → Bool → Bool → Draft → Stage × Draft
+abbrev pub took_asserted : Status → Bool → Bool → Draft → DataStage × Draft
 took_asserted status true asserted draft = (Head (due.Number (number.AssertedTime status)), draft)
 took_asserted status false asserted draft =
     took_assertion status (if asserted then Yes else No) draft
 
 -- a complete head of `size` bytes, judged by the row of what is due
-abbrev pub judged : Due → ℕ → HeadItem → Draft → Result (Stage × Draft) BundleFault
+abbrev pub judged : Due → ℕ → HeadItem → Draft → Result (DataStage × Draft) BundleFault
 judged (due.Number which) size head draft = unsigned head >>= λ value. Ok (took which value draft)
 judged (due.Pair which) size head draft = pair head >>= λ _. Ok (Head (first_of which), draft)
 judged (due.Scheme owner) size head draft =
@@ -203,6 +203,6 @@ judged (due.Asserted status has_time) size head draft =
     assertion has_time size head >>= λ asserted. Ok (took_asserted status has_time asserted draft)
 
 -- a function's result with the draft that it leaves
-abbrev pub turned : Result Stage BundleFault → Draft → Result (Stage × Draft) BundleFault
+abbrev pub turned : Result DataStage BundleFault → Draft → Result (DataStage × Draft) BundleFault
 turned (Ok stage) draft = Ok (stage, draft)
 turned (Err fault) draft = Err fault

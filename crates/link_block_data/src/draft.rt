@@ -1,7 +1,7 @@
 //! The values of the heads so far, and how each head changes them.
 ghost use Rattle.std.specs.Prelude.{◌≡◌, ◌≤◌, IfOk, IfSome, IsTrue, length};
 
-use crate::due::{Due, Found, Number, Owner, Pair, Stage, Status};
+use crate::due::{DataStage, Due, Found, Number, Owner, Pair, Status};
 use crate::row;
 use crate::values::{Assertion, DataView, Integer, Report, SecurityBlock};
 use link_bundle_heads::row as bundle_row;
@@ -78,7 +78,7 @@ impl Draft {
     /// Judges a complete head of `size` bytes, and returns the stage after it.
     ///
     /// If the head is not the one that is due, the fault is that of the row by which it is judged.
-    pub fn head(&mut self, due: Due, size: u64, head: Head) -> Result<Stage, BundleFault>
+    pub fn head(&mut self, due: Due, size: u64, head: Head) -> Result<DataStage, BundleFault>
         ensures judged { turned result self.new ≡ turns.judged due size head self.old }
         ensures fits { IfOk result (λ stage. IsTrue (stage_fits stage self.new)) }
     {
@@ -87,29 +87,29 @@ impl Draft {
             Due::Pair(pair) => self.pair(pair, head),
             Due::Scheme(owner) => {
                 let scheme = bundle_row::scheme(head)?;
-                Ok(Stage::Head(owner.specific(scheme)))
+                Ok(DataStage::Head(owner.specific(scheme)))
             }
             Due::DtnPart(owner) => Ok(self.dtn(owner, bundle_row::dtn_part(head)?)),
             Due::IpnPart(owner) => {
                 let count = bundle_row::ipn_part(head)?;
-                Ok(Stage::Head(owner.first_number(count)))
+                Ok(DataStage::Head(owner.first_number(count)))
             }
             Due::Targets => self.targets(head),
             Due::ContextId => {
                 self.security.context = row::integer(head)?;
-                Ok(Stage::Head(Due::Number(Number::ContextFlags)))
+                Ok(DataStage::Head(Due::Number(Number::ContextFlags)))
             }
             Due::Report => {
                 self.is_fragment = row::four_or_six(head)? == 6;
-                Ok(Stage::Head(Due::Assertions))
+                Ok(DataStage::Head(Due::Assertions))
             }
             Due::Assertions => {
                 self.others = row::four_or_more(head)? - 4;
-                Ok(Stage::Head(Due::Assertion(Status::Received)))
+                Ok(DataStage::Head(Due::Assertion(Status::Received)))
             }
             Due::Assertion(status) => {
                 let has_time = row::one_or_two(head)? == 2;
-                Ok(Stage::Head(Due::Asserted(status, has_time)))
+                Ok(DataStage::Head(Due::Asserted(status, has_time)))
             }
             Due::Asserted(status, has_time) => {
                 let asserted = row::assertion(has_time, size, head)?;
@@ -119,79 +119,79 @@ impl Draft {
     }
 
     /// Judges the array of two elements that is due.
-    fn pair(&mut self, pair: Pair, head: Head) -> Result<Stage, BundleFault>
+    fn pair(&mut self, pair: Pair, head: Head) -> Result<DataStage, BundleFault>
         ensures judged { turned result self.new ≡ turns.judged (Due.Pair pair) 0 head self.old }
         ensures fits { IfOk result (λ stage. IsTrue (stage_fits stage self.new)) }
     {
         bundle_row::pair(head)?;
-        Ok(Stage::Head(pair.first()))
+        Ok(DataStage::Head(pair.first()))
     }
 
     /// Judges the array of the targets of a security block.
-    fn targets(&mut self, head: Head) -> Result<Stage, BundleFault>
+    fn targets(&mut self, head: Head) -> Result<DataStage, BundleFault>
         ensures judged { turned result self.new ≡ turns.judged Due.Targets 0 head self.old }
         ensures fits { IfOk result (λ stage. IsTrue (stage_fits stage self.new)) }
     {
         let count = row::array(head)?;
         self.security.targets = count;
         self.security.targets_primary = false;
-        Ok(Stage::Head(Due::targets(count)))
+        Ok(DataStage::Head(Due::targets(count)))
     }
 
     /// Takes the unsigned integer that is due.
-    fn number(&mut self, number: Number, value: u64) -> Stage
+    fn number(&mut self, number: Number, value: u64) -> DataStage
         ensures took { (result, self.new) ≡ turns.took number value self.old }
         ensures fits { IsTrue (stage_fits result self.new) }
     {
         match number {
-            Number::Age => Stage::Read(Found::BundleAge(value)),
-            Number::HopLimit => Stage::Head(Due::Number(Number::HopCount(value))),
-            Number::HopCount(limit) => Stage::Read(Found::HopCount(limit, value)),
+            Number::Age => DataStage::Read(Found::BundleAge(value)),
+            Number::HopLimit => DataStage::Head(Due::Number(Number::HopCount(value))),
+            Number::HopCount(limit) => DataStage::Read(Found::HopCount(limit, value)),
             Number::Target(left) => self.target(left, value),
-            Number::ContextFlags => Stage::Head(Due::Pair(Pair::Eid(Owner::Security))),
-            Number::RecordType => Stage::after_type(value),
+            Number::ContextFlags => DataStage::Head(Due::Pair(Pair::Eid(Owner::Security))),
+            Number::RecordType => DataStage::after_type(value),
             Number::AssertedTime(status) => self.assertion(status, Assertion::YesAt(value)),
             Number::Reason => {
                 self.report.reason = value;
-                Stage::Head(Due::Pair(Pair::Eid(Owner::Report)))
+                DataStage::Head(Due::Pair(Pair::Eid(Owner::Report)))
             }
             Number::CreationTime => {
                 self.report.time = value;
-                Stage::Head(Due::Number(Number::Sequence))
+                DataStage::Head(Due::Number(Number::Sequence))
             }
             Number::Sequence => self.sequence(value),
-            Number::FragmentOffset => Stage::Head(Due::Number(Number::FragmentLength(value))),
+            Number::FragmentOffset => DataStage::Head(Due::Number(Number::FragmentLength(value))),
             Number::FragmentLength(offset) => {
                 self.report.fragment = Some((offset, value));
-                Stage::Read(Found::StatusReport)
+                DataStage::Read(Found::StatusReport)
             }
             Number::Allocator(owner) => {
-                Stage::Head(Due::Number(Number::Node(owner, Some(value))))
+                DataStage::Head(Due::Number(Number::Node(owner, Some(value))))
             }
             Number::Node(owner, allocator) => {
-                Stage::Head(Due::Number(Number::Service(owner, allocator, value)))
+                DataStage::Head(Due::Number(Number::Service(owner, allocator, value)))
             }
             Number::Service(owner, allocator, node) => self.service(owner, allocator, node, value),
         }
     }
 
     /// Takes a target of a security block, after which this many are left.
-    fn target(&mut self, left: u64, target: u64) -> Stage
+    fn target(&mut self, left: u64, target: u64) -> DataStage
         ensures took { (result, self.new) ≡ turns.took (Number.Target left) target self.old }
         ensures fits { IsTrue (stage_fits result self.new) }
     {
         self.security.targets_primary = self.security.targets_primary || target == 0;
-        Stage::Head(Due::targets(left))
+        DataStage::Head(Due::targets(left))
     }
 
     /// Takes the Boolean of a status assertion.
-    fn asserted(&mut self, status: Status, has_time: bool, asserted: bool) -> Stage
+    fn asserted(&mut self, status: Status, has_time: bool, asserted: bool) -> DataStage
         ensures took { (result, self.new)
             ≡ turns.took_asserted status has_time asserted self.old }
         ensures fits { IsTrue (stage_fits result self.new) }
     {
         if has_time {
-            return Stage::Head(Due::Number(Number::AssertedTime(status)));
+            return DataStage::Head(Due::Number(Number::AssertedTime(status)));
         }
         let assertion = if asserted {
             Assertion::Yes
@@ -202,7 +202,7 @@ impl Draft {
     }
 
     /// Keeps a status assertion, and returns the stage after it.
-    fn assertion(&mut self, status: Status, assertion: Assertion) -> Stage
+    fn assertion(&mut self, status: Status, assertion: Assertion) -> DataStage
         ensures took { (result, self.new) ≡ turns.took_assertion status assertion self.old }
         ensures fits { IsTrue (stage_fits result self.new) }
     {
@@ -213,24 +213,30 @@ impl Draft {
             Status::Deleted => self.report.deleted = assertion,
             Status::Other(_) => {}
         }
-        Stage::Head(status.next(self.others))
+        DataStage::Head(status.next(self.others))
     }
 
     /// Takes the sequence number of a status report, after which the fields of a fragment are due.
-    fn sequence(&mut self, sequence: u64) -> Stage
+    fn sequence(&mut self, sequence: u64) -> DataStage
         ensures took { (result, self.new) ≡ turns.took_sequence sequence self.old }
         ensures fits { IsTrue (stage_fits result self.new) }
     {
         self.report.sequence = sequence;
         if self.is_fragment {
-            return Stage::Head(Due::Number(Number::FragmentOffset));
+            return DataStage::Head(Due::Number(Number::FragmentOffset));
         }
         self.report.fragment = None;
-        Stage::Read(Found::StatusReport)
+        DataStage::Read(Found::StatusReport)
     }
 
     /// Takes the service number of an ipn endpoint ID.
-    fn service(&mut self, owner: Owner, allocator: Option<u64>, node: u64, service: u64) -> Stage
+    fn service(
+        &mut self,
+        owner: Owner,
+        allocator: Option<u64>,
+        node: u64,
+        service: u64,
+    ) -> DataStage
         ensures took { (result, self.new)
             ≡ turns.took (Number.Service owner allocator node) service self.old }
         ensures fits { IsTrue (stage_fits result self.new) }
@@ -243,7 +249,7 @@ impl Draft {
     }
 
     /// Takes the specific part of a dtn endpoint ID: the length of its name, or `None`.
-    fn dtn(&mut self, owner: Owner, part: Option<u64>) -> Stage
+    fn dtn(&mut self, owner: Owner, part: Option<u64>) -> DataStage
         requires { IfSome part (λ size. size ≤ 1024) }
         ensures took { (result, self.new) ≡ turns.took_dtn owner part self.old }
         ensures fits { IsTrue (stage_fits result self.new) }
@@ -261,8 +267,8 @@ impl Draft {
     }
 
     /// Takes bytes of a dtn name that has `left` bytes left.
-    pub fn name(&mut self, owner: Owner, left: u64, run: &[u8]) -> Stage
-        requires fits { IsTrue (stage_fits (Stage.Name owner left) self.old) }
+    pub fn name(&mut self, owner: Owner, left: u64, run: &[u8]) -> DataStage
+        requires fits { IsTrue (stage_fits (DataStage.Name owner left) self.old) }
         requires within { length run.now ≤ left }
         ensures took { (result, self.new) ≡ turns.took_run owner left run.now self.old }
         ensures fits { IsTrue (stage_fits result self.new) }

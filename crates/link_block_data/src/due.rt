@@ -100,7 +100,7 @@ pub(crate) enum Found {
 
 /// The position of a scan in the data.
 #[derive(Clone, Copy)]
-pub(crate) enum Stage {
+pub(crate) enum DataStage {
     /// At a head.
     Head(Due),
     /// In a dtn name that has this many bytes left.
@@ -132,24 +132,24 @@ impl Owner {
     ghost use Rattle.link_block_data.specs.Turns as turns;
 
     /// The stage after the endpoint ID.
-    pub fn after_eid(self) -> Stage
+    pub fn after_eid(self) -> DataStage
         ensures { result ≡ turns.after_eid self }
     {
         match self {
-            Owner::PreviousNode => Stage::Read(Found::PreviousNode),
-            Owner::Security => Stage::Read(Found::Security),
-            Owner::Report => Stage::Head(Due::Pair(Pair::Timestamp)),
+            Owner::PreviousNode => DataStage::Read(Found::PreviousNode),
+            Owner::Security => DataStage::Read(Found::Security),
+            Owner::Report => DataStage::Head(Due::Pair(Pair::Timestamp)),
         }
     }
 
     /// The stage in a dtn name that has this many bytes left.
-    pub fn name_due(self, left: u64) -> Stage
+    pub fn name_due(self, left: u64) -> DataStage
         ensures { result ≡ turns.name_due self left }
     {
         if left == 0 {
             return self.after_eid();
         }
-        Stage::Name(self, left)
+        DataStage::Name(self, left)
     }
 
     /// The head of the specific part in this scheme.
@@ -245,16 +245,16 @@ impl Due {
     }
 }
 
-impl Stage {
+impl DataStage {
     ghost use Rattle.link_block_data.specs.Turns as turns;
 
     /// The stage after the type code of an administrative record.
-    pub fn after_type(code: u64) -> Stage
+    pub fn after_type(code: u64) -> DataStage
         ensures { result ≡ turns.after_type code }
     {
         if code == STATUS_REPORT {
-            return Stage::Head(Due::Report);
+            return DataStage::Head(Due::Report);
         }
-        Stage::Read(Found::OtherRecord(code))
+        DataStage::Read(Found::OtherRecord(code))
     }
 }

@@ -5,7 +5,7 @@ ghost use Rattle.link_cbor.specs.HeadScan.{HasScannedHead};
 ghost use Rattle.link_block_data.specs.Fits.{scan_fits, failed_within};
 
 use crate::draft::Draft;
-use crate::due::{Due, Found, Owner, Stage};
+use crate::due::{DataStage, Due, Found, Owner};
 use crate::kind::DataKind;
 use crate::values::DataView;
 use link_cbor::{Head, HeadScan, HeadStep, Piecewise};
@@ -16,7 +16,7 @@ use std::fmt;
 /// It keeps what [`DataView`] shows, and no other bytes of the data.
 #[derive(Drop)]
 pub struct DataScan {
-    stage: Stage,
+    stage: DataStage,
     /// The number of bytes seen.
     count: u64,
     /// At a head, the offset of its first byte; after the item, the offset of the next byte.
@@ -49,7 +49,7 @@ impl DataScan {
         ensures size { scan_size result ≡ 0 }
     {
         DataScan {
-            stage: Stage::Head(kind.first()),
+            stage: DataStage::Head(kind.first()),
             count: 0,
             offset: 0,
             head: HeadScan::new(),
@@ -62,7 +62,7 @@ impl DataScan {
         ensures seen { HasScanned kind self.new [] }
         ensures size { scan_size self.new ≡ 0 }
     {
-        self.stage = Stage::Head(kind.first());
+        self.stage = DataStage::Head(kind.first());
         self.count = 0;
         self.offset = 0;
         self.head = HeadScan::new();
@@ -86,9 +86,9 @@ impl DataScan {
         ensures short { IfOk result (λ view. HasShortName (viewed_data view)) }
     {
         match self.stage {
-            Stage::Read(found) => Ok(self.draft.view(found)),
-            Stage::Failed(offset) => Err(offset),
-            Stage::Head(_) | Stage::Name(..) => Err(self.count),
+            DataStage::Read(found) => Ok(self.draft.view(found)),
+            DataStage::Failed(offset) => Err(offset),
+            DataStage::Head(_) | DataStage::Name(..) => Err(self.count),
         }
     }
 
@@ -112,17 +112,17 @@ impl DataScan {
         ensures taken { HasTaken self.old self.new (take result piece.now) }
     {
         match self.stage {
-            Stage::Head(due) => self.advance_head(due, piece),
-            Stage::Name(owner, left) => {
+            DataStage::Head(due) => self.advance_head(due, piece),
+            DataStage::Name(owner, left) => {
                 let run = first_of(piece, left);
                 self.name_run(owner, left, run);
                 run.len()
             }
-            Stage::Read(found) => {
+            DataStage::Read(found) => {
                 self.after_item(found, piece);
                 piece.len()
             }
-            Stage::Failed(_) => {
+            DataStage::Failed(_) => {
                 self.count += piece.len() as u64;
                 piece.len()
             }
@@ -131,7 +131,7 @@ impl DataScan {
 
     /// Takes the next bytes of a head: the whole head if the piece has it, or else one byte.
     fn advance_head(&mut self, due: Due, piece: &[u8]) -> usize
-        requires stage { self.old.stage ≡ Stage.Head due }
+        requires stage { self.old.stage ≡ DataStage.Head due }
         requires some { 0 < length piece.now }
         requires room { self.old.count + length piece.now ≤ 2 ^ 63 - 1 }
         ensures some { 0 < result }
@@ -150,7 +150,7 @@ impl DataScan {
 
     /// Takes a byte of the head that is due.
     fn head_byte(&mut self, due: Due, byte: u8)
-        requires stage { self.old.stage ≡ Stage.Head due }
+        requires stage { self.old.stage ≡ DataStage.Head due }
         requires room { self.old.count < 2 ^ 63 - 1 }
         ensures { HasTaken self.old self.new (byte ∷ []) }
     {
@@ -158,7 +158,7 @@ impl DataScan {
         self.head.step(byte);
         match self.head.outcome() {
             HeadStep::More => {}
-            HeadStep::Bad => self.stage = Stage::Failed(self.offset),
+            HeadStep::Bad => self.stage = DataStage::Failed(self.offset),
             HeadStep::Done(head) => {
                 let size = self.head.count();
                 self.head = HeadScan::new();
@@ -169,7 +169,7 @@ impl DataScan {
 
     /// Takes a head that lies whole in a piece.
     fn head_run(&mut self, due: Due, head: Head, run: &[u8])
-        requires stage { self.old.stage ≡ Stage.Head due }
+        requires stage { self.old.stage ≡ DataStage.Head due }
         requires begins { self.old.offset ≡ self.old.count }
         requires whole { head_front run.now ≡ Whole head (length run.now) }
         requires room { self.old.count + length run.now ≤ 2 ^ 63 - 1 }
@@ -181,7 +181,7 @@ impl DataScan {
 
     /// Judges a complete head of `size` bytes, the last bytes seen.
     fn take_head(&mut self, due: Due, size: u64, head: Head)
-        requires stage { self.old.stage ≡ Stage.Head due }
+        requires stage { self.old.stage ≡ DataStage.Head due }
         ensures size { scan_size self.new ≡ scan_size self.old }
         ensures seen { (kind : DataKind) (seen : List ℕ)
             → HasSeenHead kind due self.old.draft self.old.offset self.old.count seen
@@ -195,13 +195,13 @@ impl DataScan {
                 self.stage = stage;
                 self.offset = self.count;
             }
-            Err(_) => self.stage = Stage::Failed(self.offset),
+            Err(_) => self.stage = DataStage::Failed(self.offset),
         }
     }
 
     /// Takes bytes of a dtn name that has `left` bytes left.
     fn name_run(&mut self, owner: Owner, left: u64, run: &[u8])
-        requires stage { self.old.stage ≡ Stage.Name owner left }
+        requires stage { self.old.stage ≡ DataStage.Name owner left }
         requires some { 0 < length run.now }
         requires within { length run.now ≤ left }
         requires room { self.old.count + length run.now ≤ 2 ^ 63 - 1 }
@@ -215,7 +215,7 @@ impl DataScan {
 
     /// Takes bytes after the item, which are at fault if the item has to be the last.
     fn after_item(&mut self, found: Found, run: &[u8])
-        requires stage { self.old.stage ≡ Stage.Read found }
+        requires stage { self.old.stage ≡ DataStage.Read found }
         requires some { 0 < length run.now }
         requires room { self.old.count + length run.now ≤ 2 ^ 63 - 1 }
         ensures { HasTaken self.old self.new run.now }
@@ -224,7 +224,7 @@ impl DataScan {
         if found.may_follow() {
             return;
         }
-        self.stage = Stage::Failed(self.offset);
+        self.stage = DataStage::Failed(self.offset);
     }
 }
 

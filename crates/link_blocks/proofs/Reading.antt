@@ -12,8 +12,8 @@ use Rattle.link_bundle.specs.declared.draft.Draft.{Draft}
 use Rattle.link_bundle.specs.declared.scan.BundleScan.{BundleScan}
 use Rattle.link_bundle.specs.declared.stage.Field.{Field}
 use Rattle.link_bundle.specs.declared.stage.Field.TheVariants as field
-use Rattle.link_bundle.specs.declared.stage.Stage.{Stage}
-use Rattle.link_bundle.specs.declared.stage.Stage.TheVariants.{Start, Head, Name, Content, Stored, Ended, Failed}
+use Rattle.link_bundle.specs.declared.stage.ScanStage.{ScanStage}
+use Rattle.link_bundle.specs.declared.stage.ScanStage.TheVariants.{Start, Head, Name, Content, Stored, Ended, Failed}
 use Rattle.link_bundle_blocks.proofs.Lying.{BlocksWithin-holds}
 use Rattle.link_bundle_blocks.proofs.Showing.{BlocksEnd-holds, BlockPlaced-holds}
 use Rattle.link_bundle.proofs.Verdicts.{cut_block_of-seen}
@@ -32,7 +32,7 @@ field_uncut (field.Canonical which) draft follows = refl
 field_uncut (field.Check block kind) draft follows = absurd (false≢true follows)
 field_uncut field.Closing draft follows = refl
 
-stage_uncut : (stage : Stage) (draft : Draft) → stage_follows stage ≡ true
+stage_uncut : (stage : ScanStage) (draft : Draft) → stage_follows stage ≡ true
     → stage_block stage draft ≡ None
 stage_uncut Start draft follows = refl
 stage_uncut (Head which) draft follows = field_uncut which draft follows
@@ -48,7 +48,7 @@ if_some : {A : Type 0} (test : Bool) (xs : List A) (x : A) → (if test then xs 
 if_some true xs x is = (refl, is)
 if_some false xs x is = cc
 
-ends_uncut : (stage : Stage) (draft : Draft) (cursor : Cursor) (block : Block)
+ends_uncut : (stage : ScanStage) (draft : Draft) (cursor : Cursor) (block : Block)
     → ending_at stage draft cursor ≡ block ∷ [] → stage_block stage draft ≡ None
 ends_uncut stage draft cursor block ends =
     let last = if_some (cursor.offset == cursor.count) (stage_last stage draft cursor.offset) block ends in

@@ -11,7 +11,7 @@ use Rattle.link_bundle.specs.declared.draft.Draft.{Draft}
 use Rattle.link_bundle.specs.declared.scan.BundleScan.{BundleScan}
 use Rattle.link_bundle.specs.declared.stage.CheckType.{CheckType}
 use Rattle.link_bundle.specs.declared.stage.CheckType.TheVariants.{Unread, Is}
-use Rattle.link_bundle.specs.declared.stage.Stage.TheVariants.{Start, Ended}
+use Rattle.link_bundle.specs.declared.stage.ScanStage.TheVariants.{Start, Ended}
 use Rattle.link_bundle.specs.CheckKinds.{is_unread}
 use Rattle.link_bundle_blocks.specs.Bundle.{Bundle, with_blocks, bundle_at, bundle_goes, judged_bundle}
 use Rattle.link_bundle_blocks.specs.Blocks.{Block}

@@ -12,8 +12,8 @@ use Rattle.link_bundle.specs.declared.draft.Draft.{Draft}
 use Rattle.link_bundle_types.specs.declared.fault.BundleFault.TheVariants.{Trailing, CheckDiffers}
 use Rattle.link_bundle_types.specs.declared.info.BundleInfo.{BundleInfo}
 use Rattle.link_bundle.specs.declared.stage.Role.{Role}
-use Rattle.link_bundle.specs.declared.stage.Stage.{Stage}
-use Rattle.link_bundle.specs.declared.stage.Stage.TheVariants.{Name, Content, Stored, Ended, Failed}
+use Rattle.link_bundle.specs.declared.stage.ScanStage.{ScanStage}
+use Rattle.link_bundle.specs.declared.stage.ScanStage.TheVariants.{Name, Content, Stored, Ended, Failed}
 use Rattle.link_bundle.specs.declared.stage.CheckType.{CheckType}
 use Rattle.link_bundle.specs.declared.stage.CheckType.TheVariants.{Is}
 use Rattle.link_bundle.specs.CheckKinds.{kind_of}
@@ -79,7 +79,7 @@ module _ (draft : Draft) {old grown : Cursor} {seen run : List ℕ} (counted : o
   count_grown = omega (arith, takes.count, length-append seen run)
 
   -- a stage that is entered after the last bytes
-  ran_out : {new : Cursor} {after : Draft} {stage : Stage} {before : List Block}
+  ran_out : {new : Cursor} {after : Draft} {stage : ScanStage} {before : List Block}
       → AreBytes seen → AreBytes run → after.block.start ≡ draft.block.start
       → KeepsCheck draft.check stage after.check → Enters stage grown new
       → ((more : List ℕ) → judged_bundle ((seen ++ run) ++ more)
@@ -111,7 +111,7 @@ module _ {left : ℕ} {old grown : Cursor} {draft : Draft} {before : List Block}
   }
 
   -- the last bytes of data
-  pub ended_content : {new : Cursor} {after : Draft} {stage : Stage} → left ≡ length run
+  pub ended_content : {new : Cursor} {after : Draft} {stage : ScanStage} → left ≡ length run
       → FieldsEnd Canonical draft stage after → after.block.start ≡ draft.block.start
       → KeepsCheck draft.check stage after.check → Enters stage grown new
       → HasSeen stage new after before (seen ++ run)
@@ -127,7 +127,7 @@ module _ {left : ℕ} {old grown : Cursor} {draft : Draft} {before : List Block}
 
 -- bytes of a name
 pub grown_name : {role : Role} {left : ℕ} {old grown new : Cursor} {draft after : Draft}
-    {stage : Stage} {before : List Block} {seen run : List ℕ}
+    {stage : ScanStage} {before : List Block} {seen run : List ℕ}
     → HasSeen (Name role left) old draft before seen → AreBytes run
     → TakesRun draft.check old grown run
     → NameGoesOn role left run draft stage after → after.block.start ≡ draft.block.start
@@ -250,7 +250,7 @@ module _ {field left stored : ℕ} {block : BlockKind} {kind : CheckKind} {old g
         ∙ rw (is, longer) refl)
 
     -- the check is equal, and no more of the block is checked
-    pub equal_stored : {new : Cursor} {after : Draft} {stage : Stage}
+    pub equal_stored : {new : Cursor} {after : Draft} {stage : ScanStage}
         → (stored * 256 + byte == expected) ≡ true
         → BlockEnds block (Some kind) (record draft { check = Is None }) stage after
         → after.block.start ≡ draft.block.start

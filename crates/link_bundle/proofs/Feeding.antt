@@ -13,7 +13,7 @@ use Rattle.link_bundle.specs.declared.draft.Draft.{Draft}
 use Rattle.link_bundle_types.specs.declared.fault.BundleFault.TheVariants.{Cut}
 use Rattle.link_bundle.specs.declared.stage.Field.{Field}
 use Rattle.link_bundle.specs.declared.stage.Role.{Role}
-use Rattle.link_bundle.specs.declared.stage.Stage.TheVariants.{Head, Name, Content}
+use Rattle.link_bundle.specs.declared.stage.ScanStage.TheVariants.{Head, Name, Content}
 use Rattle.link_bundle_blocks.specs.Reading.{Stop, stopped}
 use Rattle.link_bundle.specs.CheckKinds.{kind_of}
 use Rattle.link_bundle_blocks.specs.Blocks.{Block}

@@ -3,11 +3,11 @@
 use Rattle.std.specs.Prelude.{Result, IfOk}
 use Rattle.link_bundle_types.specs.declared.fault.BundleFault.{BundleFault}
 use Rattle.link_bundle.specs.declared.draft.Draft.{Draft}
-use Rattle.link_bundle.specs.declared.stage.Stage.{Stage}
+use Rattle.link_bundle.specs.declared.stage.ScanStage.{ScanStage}
 use Rattle.link_bundle.specs.Fits.{Follows, KeepsCheck}
 use Rattle.link_bundle.specs.Judged.{IsJudged}
 
-pub as_judged : {reading place : Type 0} {old : Draft} {result : Result Stage BundleFault}
+pub as_judged : {reading place : Type 0} {old : Draft} {result : Result ScanStage BundleFault}
     {new : Draft}
     → Follows result new → IfOk result (λ stage. KeepsCheck old.check stage new.check) → place
     → reading → IsJudged reading place old result new

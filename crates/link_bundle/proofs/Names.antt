@@ -6,7 +6,7 @@ use Rattle.link_bundle_types.specs.declared.eid.Eid.{Eid}
 use Rattle.link_bundle_types.specs.declared.eid.Eid.TheVariants.{Dtn}
 use Rattle.link_bundle.specs.declared.stage.Role.{Role}
 use Rattle.link_bundle.specs.declared.stage.Role.TheVariants.{Destination}
-use Rattle.link_bundle.specs.declared.stage.Stage.TheVariants.{Name}
+use Rattle.link_bundle.specs.declared.stage.ScanStage.TheVariants.{Name}
 use Rattle.link_bundle_blocks.specs.Bundle.{Bundle}
 use Rattle.link_bundle_heads.specs.Rows.{◌>>=◌}
 use Rattle.link_bundle_blocks.specs.Reading.{ReadAt, Stop, bytes_at}

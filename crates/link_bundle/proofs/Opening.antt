@@ -9,7 +9,7 @@ use Rattle.link_bundle.specs.declared.draft.Draft.{Draft}
 use Rattle.link_bundle_types.specs.declared.fault.BundleFault.TheVariants.{NotABundle}
 use Rattle.link_bundle.specs.declared.stage.Field.TheVariants as field
 use Rattle.link_bundle.specs.declared.stage.PrimaryField.TheVariants as primary
-use Rattle.link_bundle.specs.declared.stage.Stage.TheVariants.{Start, Head, Failed}
+use Rattle.link_bundle.specs.declared.stage.ScanStage.TheVariants.{Start, Head, Failed}
 use Rattle.link_bundle.specs.CheckKinds.{is_unread}
 use Rattle.link_bundle.specs.Fits.{stage_fits}
 use Rattle.link_bundle.specs.declared.stage.CheckType.TheVariants.{Unread}

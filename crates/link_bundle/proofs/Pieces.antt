@@ -19,8 +19,8 @@ use Rattle.link_bundle.specs.Stages.{stage_state, takes_bytes}
 use Rattle.link_bundle.specs.declared.cursor.Cursor.{Cursor}
 use Rattle.link_bundle.specs.declared.draft.Draft.{Draft}
 use Rattle.link_bundle.specs.declared.scan.BundleScan.{BundleScan}
-use Rattle.link_bundle.specs.declared.stage.Stage.{Stage}
-use Rattle.link_bundle.specs.declared.stage.Stage.TheVariants.{Ended, Failed}
+use Rattle.link_bundle.specs.declared.stage.ScanStage.{ScanStage}
+use Rattle.link_bundle.specs.declared.stage.ScanStage.TheVariants.{Ended, Failed}
 use Rattle.link_bundle_blocks.proofs.Lengths.{TrailingLasts-holds}
 use Rattle.link_bundle_blocks.proofs.Payloads.{PayloadEnds-holds}
 use Rattle.link_bundle.proofs.Verdicts.{state_of-seen}
@@ -205,7 +205,7 @@ module _ (scan later : BundleScan) (content piece : List ℕ) (count : ℕ)
 -- ---- what is judged
 
 -- what it has seen determines the reading of all bytes
-stuck_reading : (stage : Stage) (cursor : Cursor) (draft : Draft) (before : List Block)
+stuck_reading : (stage : ScanStage) (cursor : Cursor) (draft : Draft) (before : List Block)
     (seen more : List ℕ)
     → HasSeen stage cursor draft before seen → takes_bytes (stage_state stage) ≡ false
     → judged_bundle (seen ++ more) ≡ judged_bundle seen

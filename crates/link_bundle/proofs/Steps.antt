@@ -22,8 +22,8 @@ use Rattle.link_bundle.specs.declared.stage.Field.{Field}
 use Rattle.link_bundle.specs.declared.stage.Field.TheVariants as field
 use Rattle.link_bundle.specs.declared.stage.PrimaryField.TheVariants as primary
 use Rattle.link_bundle.specs.declared.stage.CanonicalField.TheVariants as canonical
-use Rattle.link_bundle.specs.declared.stage.Stage.{Stage}
-use Rattle.link_bundle.specs.declared.stage.Stage.TheVariants.{Start, Head, Name, Content, Stored, Ended, Failed}
+use Rattle.link_bundle.specs.declared.stage.ScanStage.{ScanStage}
+use Rattle.link_bundle.specs.declared.stage.ScanStage.TheVariants.{Start, Head, Name, Content, Stored, Ended, Failed}
 use Rattle.link_cbor.specs.declared.check.CheckKind.TheVariants.{Crc16, Crc32}
 use Rattle.link_bundle.specs.CheckKinds.{is_unread}
 use Rattle.link_bundle.specs.Covers.{Covers}
@@ -42,15 +42,15 @@ use Rattle.link_bundle.specs.Scan.{HasSeen, HasSeenHead, IsAtStage, IsInHead}
 
 -- ---- a scan whose stage is known
 
-pub at_stage : (scan : BundleScan) {stage : Stage} {before : List Block} {seen : List ℕ}
+pub at_stage : (scan : BundleScan) {stage : ScanStage} {before : List Block} {seen : List ℕ}
     → scan.stage ≡ stage → HasSeen scan.stage scan.cursor scan.draft before seen
     → HasSeen stage scan.cursor scan.draft before seen
 at_stage scan is come = rw is at come
 
-pub fits_at : (scan : BundleScan) (stage : Stage) → scan.stage ≡ stage
+pub fits_at : (scan : BundleScan) (stage : ScanStage) → scan.stage ≡ stage
     → IsTrue (scan_fits stage scan.cursor scan.draft)
 fits_at scan stage is =
-    subst (λ (stage : Stage). IsTrue (scan_fits stage scan.cursor scan.draft)) is scan.fits
+    subst (λ (stage : ScanStage). IsTrue (scan_fits stage scan.cursor scan.draft)) is scan.fits
 
 -- ---- more bytes
 
@@ -134,7 +134,7 @@ module _ (old new : Cursor) (check after : CheckType) (start : ℕ) (seen : List
       (rw at (held (keeps.1 is) same)))
       (begins which start new.offset)
 
-  stands_entered : (stage : Stage) → KeepsCheck check stage after → Enters stage old new
+  stands_entered : (stage : ScanStage) → KeepsCheck check stage after → Enters stage old new
       → IsAtStage stage new after start seen
   stands_entered Start keeps enters = absurd (false≢true keeps.0)
   stands_entered (Head which) keeps enters = stands_head which keeps enters
@@ -158,7 +158,7 @@ module _ (old new : Cursor) (check after : CheckType) (start : ℕ) (seen : List
   stands_entered (Failed fault offset) keeps enters = tt
 
 -- with the rest from there on
-pub entered : {stage : Stage} {old new : Cursor} {draft : Draft} {start : ℕ} {before : List Block}
+pub entered : {stage : ScanStage} {old new : Cursor} {draft : Draft} {start : ℕ} {before : List Block}
     {seen : List ℕ} (check : CheckType)
     → AreBytes seen → old.count ≡ length seen → start ≤ length seen
     → Covers check old.checks (drop start seen) → draft.block.start ≡ start
@@ -177,7 +177,7 @@ entered {stage = stage} {old = old} {new = new} {draft = draft} {start = start} 
     }
 
 -- the rest, after a run of more bytes
-pub grown_reads : {stage : Stage} {cursor : Cursor} {draft : Draft} {before : List Block}
+pub grown_reads : {stage : ScanStage} {cursor : Cursor} {draft : Draft} {before : List Block}
     {seen : List ℕ} → HasSeen stage cursor draft before seen → (run more : List ℕ)
     → judged_bundle ((seen ++ run) ++ more)
     ≡ with_blocks before (stage_left stage draft cursor.offset ((seen ++ run) ++ more) (length seen))
@@ -356,7 +356,7 @@ module _ {which : Field} {cursor : Cursor} {draft : Draft} {before : List Block}
   module _ (new : Draft) {head : HeadItem}
       (outcome : head_front (drop cursor.offset seen)
       ≡ Whole head (length (drop cursor.offset seen))) where
-    judged_head : (result : Result Stage BundleFault)
+    judged_head : (result : Result ScanStage BundleFault)
         → AsReadFrom cursor.offset cursor.count which draft head result new
         → (more : List ℕ) → judged_bundle (seen ++ more)
         ≡ with_blocks all (goes_on result new cursor.offset (length seen) (seen ++ more))
@@ -371,7 +371,7 @@ module _ {which : Field} {cursor : Cursor} {draft : Draft} {before : List Block}
         (head_at-whole cursor.offset seen more head come.in_bytes outcome)
         (omega (arith, length-append seen more)))
 
-    pub went_on : {stage : Stage} {entered_cursor : Cursor}
+    pub went_on : {stage : ScanStage} {entered_cursor : Cursor}
         → AsReadFrom cursor.offset cursor.count which draft head (Ok stage) new
         → new.block.start ≡ block_start which draft.block.start cursor.offset
         → KeepsCheck draft.check stage new.check → Enters stage cursor entered_cursor

@@ -6,8 +6,8 @@ use Rattle.std.proofs.lemmas.Bool.{cases_lt, eq-eqb}
 use Rattle.link_bundle.specs.declared.cursor.Cursor.{Cursor}
 use Rattle.link_bundle.specs.declared.draft.Draft.{Draft}
 use Rattle.link_bundle.specs.declared.scan.BundleScan.{BundleScan}
-use Rattle.link_bundle.specs.declared.stage.Stage.{Stage}
-use Rattle.link_bundle.specs.declared.stage.Stage.TheVariants.{Ended}
+use Rattle.link_bundle.specs.declared.stage.ScanStage.{ScanStage}
+use Rattle.link_bundle.specs.declared.stage.ScanStage.TheVariants.{Ended}
 use Rattle.link_bundle_blocks.specs.Blocks.{Block}
 use Rattle.link_bundle_blocks.specs.Bundle.{blocks_in, bundle_goes}
 use Rattle.link_bundle.specs.Left.{block_of, stage_follows, stage_last}
@@ -81,13 +81,13 @@ takes_more {old = old} {new = new} {run = run} size same none goes = record {
 }
 
 -- no block ended before this stage
-pub none_last : (scan : BundleScan) (stage : Stage) → scan.stage ≡ stage
+pub none_last : (scan : BundleScan) (stage : ScanStage) → scan.stage ≡ stage
     → stage_last stage scan.draft scan.cursor.offset ≡ [] → last_of scan ≡ []
 none_last scan stage is none =
-    ap (λ (stage : Stage). stage_last stage scan.draft scan.cursor.offset) is ∙ none
+    ap (λ (stage : ScanStage). stage_last stage scan.draft scan.cursor.offset) is ∙ none
 
 -- a block that ended before a stage ends with the bytes seen, if no byte of its head was seen
-pub ends_here : (stage : Stage) (draft : Draft) (cursor : Cursor) → cursor.offset ≡ cursor.count
+pub ends_here : (stage : ScanStage) (draft : Draft) (cursor : Cursor) → cursor.offset ≡ cursor.count
     → ending_at stage draft cursor ≡ stage_last stage draft cursor.offset
 ends_here stage draft cursor here = rw (eq-eqb cursor.offset cursor.count here) refl
 

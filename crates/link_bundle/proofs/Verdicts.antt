@@ -9,8 +9,8 @@ use Rattle.link_bundle.specs.declared.draft.Draft.{Draft}
 use Rattle.link_bundle_types.specs.declared.fault.BundleFault.{BundleFault}
 use Rattle.link_bundle_types.specs.declared.fault.BundleFault.TheVariants.{Cut}
 use Rattle.link_bundle_types.specs.declared.fault.State.TheVariants as state
-use Rattle.link_bundle.specs.declared.stage.Stage.{Stage}
-use Rattle.link_bundle.specs.declared.stage.Stage.TheVariants.{Start, Head, Name, Content, Stored, Ended, Failed}
+use Rattle.link_bundle.specs.declared.stage.ScanStage.{ScanStage}
+use Rattle.link_bundle.specs.declared.stage.ScanStage.TheVariants.{Start, Head, Name, Content, Stored, Ended, Failed}
 use Rattle.link_bundle.specs.CheckKinds.{kind_of, is_kind}
 use Rattle.link_bundle.specs.Fits.{rest_fits, scan_fits}
 use Rattle.link_bundle_blocks.specs.Reading.{Stop, stopped, cut_short, head_at}
@@ -37,7 +37,7 @@ use Rattle.link_bundle_blocks.proofs.Runs.{bytes_at-cut}
 use Rattle.link_bundle.proofs.Stops.{stop_at-cut, field_left-stopped}
 
 -- the reading of the bytes seen, if no more follow
-read_now : {stage : Stage} {cursor : Cursor} {draft : Draft} {before : List Block} {seen : List ℕ}
+read_now : {stage : ScanStage} {cursor : Cursor} {draft : Draft} {before : List Block} {seen : List ℕ}
     → HasSeen stage cursor draft before seen
     → judged_bundle seen
     ≡ with_blocks before (stage_left stage draft cursor.offset seen (length seen))
@@ -49,7 +49,7 @@ unfolding head_at
 head_at-cut bytes offset cut = rw cut refl
 
 -- the stop of bytes that end at a stage
-abbrev pub cut_at : Stage → Draft → ℕ → Stop
+abbrev pub cut_at : ScanStage → Draft → ℕ → Stop
 cut_at stage draft offset = record (stopped Cut offset) { cut_block = stage_block stage draft }
 
 pub cut_name : (left : ℕ) (role : Role) (draft : Draft) (bytes : List ℕ) (offset : ℕ)
@@ -79,7 +79,7 @@ cut_field Primary draft kind bytes = read_alone-stopped draft.payload_span bytes
 cut_field Canonical draft kind bytes = read_alone-stopped draft.payload_span bytes _
 
 -- bytes that end inside a bundle
-going_cut : (stage : Stage) (cursor : Cursor) (draft : Draft) (before : List Block) (seen : List ℕ)
+going_cut : (stage : ScanStage) (cursor : Cursor) (draft : Draft) (before : List Block) (seen : List ℕ)
     → HasSeen stage cursor draft before seen
     → IsTrue (scan_fits stage cursor draft) → stage_state stage ≡ state.Going
     → judged_bundle seen
@@ -138,12 +138,12 @@ known_stop None fault at cut = refl
 known_stop (Some payload) fault at cut = refl
 
 -- the reading after the whole blocks
-abbrev seen_reading : Stage → ℕ → ℕ → Draft → Result Bundle Stop
+abbrev seen_reading : ScanStage → ℕ → ℕ → Draft → Result Bundle Stop
 seen_reading Ended offset count draft = Ok (bundle_of draft offset)
 seen_reading (Failed fault at) offset count draft = Err (stop_of draft fault at None)
 seen_reading stage offset count draft = Err (stop_of draft Cut count (stage_block stage draft))
 
-seen_is : (stage : Stage) (cursor : Cursor) (draft : Draft) (before : List Block) (seen : List ℕ)
+seen_is : (stage : ScanStage) (cursor : Cursor) (draft : Draft) (before : List Block) (seen : List ℕ)
     → HasSeen stage cursor draft before seen → IsTrue (scan_fits stage cursor draft)
     → judged_bundle seen
     ≡ with_blocks (before ++ stage_last stage draft cursor.offset)
@@ -166,14 +166,14 @@ stage_verdict state.Going offset count draft = Err (Cut, count)
 stage_verdict state.Ended offset count draft = Ok (bundle_of draft offset).info
 stage_verdict (state.Failed fault at) offset count draft = Err (fault, at)
 
-reading_verdict : (stage : Stage) (offset count : ℕ) (draft : Draft)
+reading_verdict : (stage : ScanStage) (offset count : ℕ) (draft : Draft)
     → verdict_by (seen_reading stage offset count draft)
     ≡ stage_verdict (stage_state stage) offset count draft
 reading_verdict Ended offset count draft = refl
 reading_verdict _ offset count draft = refl
 
 -- the state that a caller sees
-verdict_state : (stage : Stage) (cursor : Cursor) (draft : Draft)
+verdict_state : (stage : ScanStage) (cursor : Cursor) (draft : Draft)
     → IsTrue (scan_fits stage cursor draft)
     → stage_state stage
     ≡ state_of (stage_verdict (stage_state stage) cursor.offset cursor.count draft)
@@ -185,18 +185,18 @@ span_back : (payload : Option (ℕ × ℕ)) → is_some payload ≡ true → Som
 span_back None known = cc
 span_back (Some payload) known = refl
 
-reading_payload : (stage : Stage) (cursor : Cursor) (draft : Draft)
+reading_payload : (stage : ScanStage) (cursor : Cursor) (draft : Draft)
     → IsTrue (scan_fits stage cursor draft)
     → payload_of (seen_reading stage cursor.offset cursor.count draft) ≡ draft.payload_span
 reading_payload Ended cursor draft fits = span_back draft.payload_span fits
 reading_payload _ cursor draft fits = refl
 
-reading_blocks : (stage : Stage) (offset count : ℕ) (draft : Draft)
+reading_blocks : (stage : ScanStage) (offset count : ℕ) (draft : Draft)
     → blocks_of (seen_reading stage offset count draft) ≡ []
 reading_blocks Ended offset count draft = refl
 reading_blocks _ offset count draft = refl
 
-reading_in : (stage : Stage) (offset count : ℕ) (draft : Draft)
+reading_in : (stage : ScanStage) (offset count : ℕ) (draft : Draft)
     → cut_block_of (seen_reading stage offset count draft) ≡ stage_block stage draft
 reading_in Ended offset count draft = refl
 reading_in _ offset count draft = refl

@@ -14,8 +14,8 @@ use Rattle.link_bundle.specs.declared.stage.CheckType.TheVariants.{Is}
 use Rattle.link_bundle.specs.declared.stage.Field.{Field}
 use Rattle.link_bundle.specs.declared.stage.Field.TheVariants as field
 use Rattle.link_bundle.specs.declared.stage.CanonicalField.TheVariants as canonical
-use Rattle.link_bundle.specs.declared.stage.Stage.{Stage}
-use Rattle.link_bundle.specs.declared.stage.Stage.TheVariants.{Start, Head}
+use Rattle.link_bundle.specs.declared.stage.ScanStage.{ScanStage}
+use Rattle.link_bundle.specs.declared.stage.ScanStage.TheVariants.{Start, Head}
 use Rattle.link_bundle_blocks.specs.Reading.{Stop, ReadAt}
 use Rattle.link_bundle_blocks.specs.Canonical.{heads_at, content_at}
 use Rattle.link_bundle_blocks.specs.Blocks.{Primary, Block, CanonicalOf, ended}
@@ -146,7 +146,7 @@ lies_there numbers seen run more block size offset count here counted is =
       counted,
     ) refl
 
-pub canonical_come : {old new : Cursor} {draft after : Draft} {stage : Stage}
+pub canonical_come : {old new : Cursor} {draft after : Draft} {stage : ScanStage}
     {before : List Block} {seen : List ℕ} (run : List ℕ) (block : CanonicalBlock)
     → HasSeen (Head (field.Canonical canonical.Block)) old draft before seen
     → old.offset ≡ old.count → is_none draft.payload_span ≡ true → length draft.numbers < 64
@@ -202,7 +202,7 @@ goes_in_primary {piece = piece} count come begins sooner =
     (cut_on (whole_primary run) (after_primary run) (begins.cuts count sooner)))
 
 -- the rest of a bundle, which begins with its primary block
-known_primary : (draft after : Draft) (stage : Stage) (check : Option CheckKind)
+known_primary : (draft after : Draft) (stage : ScanStage) (check : Option CheckKind)
     (bytes : List ℕ) (next : ℕ)
     → draft.payload_span ≡ None → draft.numbers ≡ []
     → whole_primary bytes ≡ Ok ((primary_of draft, check), next)
@@ -212,7 +212,7 @@ unfolding judged_bundle
 known_primary draft after stage check bytes next none blank whole ends =
     rw (primary_read bytes (primary_of draft) check next whole) (rw (none, blank) at (ends bytes next))
 
-pub primary_come : {old new : Cursor} {draft after : Draft} {stage : Stage}
+pub primary_come : {old new : Cursor} {draft after : Draft} {stage : ScanStage}
     {before : List Block} {seen : List ℕ} (run : List ℕ) (check : Option CheckKind)
     → HasSeen Start old draft before seen → IsTrue (stage_fits Start draft) → AreBytes run
     → whole_primary run ≡ Ok ((primary_of draft, check), length run)

@@ -7,8 +7,8 @@ use Rattle.link_bundle.specs.declared.cursor.Cursor.{Cursor}
 use Rattle.link_bundle_types.specs.declared.fault.BundleFault.{BundleFault}
 use Rattle.link_bundle_types.specs.Faults.{lasts}
 use Rattle.link_bundle.specs.declared.draft.Draft.{Draft}
-use Rattle.link_bundle.specs.declared.stage.Stage.{Stage}
-use Rattle.link_bundle.specs.declared.stage.Stage.TheVariants.{Start, Head, Name, Content, Stored, Ended, Failed}
+use Rattle.link_bundle.specs.declared.stage.ScanStage.{ScanStage}
+use Rattle.link_bundle.specs.declared.stage.ScanStage.TheVariants.{Start, Head, Name, Content, Stored, Ended, Failed}
 use Rattle.link_bundle.specs.declared.stage.Field.{Field}
 use Rattle.link_bundle.specs.declared.stage.Field.TheVariants as field
 use Rattle.link_bundle.specs.declared.stage.PrimaryField.{PrimaryField}
@@ -51,7 +51,7 @@ rest_fits Destination draft left = name_fits draft.destination left
 rest_fits Source draft left = name_fits draft.source left
 rest_fits ReportTo draft left = name_fits draft.report_to left
 
-abbrev pub stage_fits : Stage → Draft → Bool
+abbrev pub stage_fits : ScanStage → Draft → Bool
 stage_fits Start draft =
     is_none draft.payload_span && (is_unread draft.check && length draft.numbers == 0)
 stage_fits (Head which) draft = field_fits which draft
@@ -64,30 +64,30 @@ stage_fits Ended draft = is_some draft.payload_span
 stage_fits (Failed fault offset) draft = lasts fault
 
 -- whether the stage is at the head of a block's array, where the block's checks begin
-abbrev pub is_block : Stage → Bool
+abbrev pub is_block : ScanStage → Bool
 is_block (Head (field.Primary primary.Block)) = true
 is_block (Head (field.Canonical canonical.Block)) = true
 is_block _ = false
 
-abbrev pub is_begun : Stage → Bool
+abbrev pub is_begun : ScanStage → Bool
 is_begun Start = false
 is_begun _ = true
 
 -- once the check type was read, what the checks cover stays covered until the end of the block
-abbrev pub KeepsCheck : CheckType → Stage → CheckType → Type 0
+abbrev pub KeepsCheck : CheckType → ScanStage → CheckType → Type 0
 KeepsCheck old stage new =
     IsTrue (is_begun stage)
     × (is_block stage ≡ false → is_unread old ≡ false → (checks : BlockChecks) (covered : List ℕ)
     → Covers old checks covered → Covers new checks covered)
 
 -- the stage after a head is within its bounds, and a fault lasts
-abbrev pub Follows : Result Stage BundleFault → Draft → Type 0
+abbrev pub Follows : Result ScanStage BundleFault → Draft → Type 0
 Follows result draft =
     MatchResult result (λ stage. IsTrue (stage_fits stage draft)) (λ fault. IsTrue (lasts fault))
 
-abbrev pub head_fits : Stage → HeadScan → Bool
+abbrev pub head_fits : ScanStage → HeadScan → Bool
 head_fits (Head which) head = may_scan_head head
 head_fits _ head = true
 
-abbrev pub scan_fits : Stage → Cursor → Draft → Bool
+abbrev pub scan_fits : ScanStage → Cursor → Draft → Bool
 scan_fits stage cursor draft = head_fits stage cursor.head && stage_fits stage draft

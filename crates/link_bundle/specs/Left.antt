@@ -11,8 +11,8 @@ use Rattle.link_cbor.specs.Crc.{crc}
 use Rattle.link_bundle_types.specs.declared.eid.Eid.{Eid}
 use Rattle.link_bundle_types.specs.declared.eid.Eid.TheVariants.{Dtn, Ipn, Ipn3}
 use Rattle.link_bundle.specs.declared.draft.Draft.{Draft}
-use Rattle.link_bundle.specs.declared.stage.Stage.{Stage}
-use Rattle.link_bundle.specs.declared.stage.Stage.TheVariants.{Start, Head, Name, Content, Stored, Ended, Failed}
+use Rattle.link_bundle.specs.declared.stage.ScanStage.{ScanStage}
+use Rattle.link_bundle.specs.declared.stage.ScanStage.TheVariants.{Start, Head, Name, Content, Stored, Ended, Failed}
 use Rattle.link_bundle.specs.declared.stage.Field.{Field}
 use Rattle.link_bundle.specs.declared.stage.Field.TheVariants as field
 use Rattle.link_bundle.specs.declared.stage.PrimaryField.{PrimaryField}
@@ -364,7 +364,7 @@ field_block (field.Check block kind) draft = kind_block block draft kind
 field_block _ draft = None
 
 -- the canonical block whose data or check field goes on at a stage
-abbrev pub stage_block : Stage → Draft → Option CanonicalBlock
+abbrev pub stage_block : ScanStage → Draft → Option CanonicalBlock
 stage_block (Head which) draft = field_block which draft
 stage_block (Content left) draft = Some (current draft (kind_of draft.check))
 stage_block (Stored head left stored block kind) draft = kind_block block draft kind
@@ -382,11 +382,11 @@ last_block which draft head =
     if follows_block which then block_of draft.last draft draft.block.check head ∷ [] else []
 
 -- whether a block ends before this stage
-abbrev pub stage_follows : Stage → Bool
+abbrev pub stage_follows : ScanStage → Bool
 stage_follows (Head which) = follows_block which
 stage_follows _ = false
 
-abbrev pub stage_last : Stage → Draft → ℕ → List Block
+abbrev pub stage_last : ScanStage → Draft → ℕ → List Block
 stage_last stage draft head =
     if stage_follows stage then block_of draft.last draft draft.block.check head ∷ [] else []
 
@@ -417,7 +417,7 @@ stored_left left stored expected head bytes offset = do
 
 -- The rest at a stage. The current head is at `head`, and `offset` bytes were seen. In a check
 -- field, the head is at `head` and the content at `content`.
-unfoldable pub stage_left : Stage → Draft → ℕ → List ℕ → ℕ → Result Bundle Stop
+unfoldable pub stage_left : ScanStage → Draft → ℕ → List ℕ → ℕ → Result Bundle Stop
 stage_left Start draft head bytes offset = judged_bundle bytes
 stage_left (Head which) draft head bytes offset =
     read_alone bytes (with_known_payload draft.payload_span
@@ -440,14 +440,14 @@ stage_left (Failed fault at) draft head bytes offset =
     with_known_payload draft.payload_span (Err (stopped fault at))
 
 -- the rest after a whole head that begins at `offset` and ends before `next`
-abbrev pub goes_on : Result Stage BundleFault → Draft → ℕ → ℕ → List ℕ → Result Bundle Stop
+abbrev pub goes_on : Result ScanStage BundleFault → Draft → ℕ → ℕ → List ℕ → Result Bundle Stop
 goes_on (Ok stage) draft offset next bytes = stage_left stage draft next bytes next
 goes_on (Err fault) draft offset next bytes =
     with_known_payload draft.payload_span (Err (stopped fault offset))
 
 -- The head that begins at `offset` and ends before `next` is judged as the reading of the bundle
 -- judges it. The stage and the draft after it determine the rest.
-abbrev pub AsReadFrom : ℕ → ℕ → Field → Draft → HeadItem → Result Stage BundleFault → Draft → Type 0
+abbrev pub AsReadFrom : ℕ → ℕ → Field → Draft → HeadItem → Result ScanStage BundleFault → Draft → Type 0
 AsReadFrom offset next which old head result new =
     (bytes : List ℕ) → head_at bytes offset ≡ Ok (head, next) → next ≤ length bytes →
     read_alone bytes (with_known_payload old.payload_span (field_left which old bytes offset))
@@ -455,7 +455,7 @@ AsReadFrom offset next which old head result new =
 
 -- the stage after a block, after its fields and after an endpoint ID
 
-abbrev pub BlockEnds : BlockKind → Option CheckKind → Draft → Stage → Draft → Type 0
+abbrev pub BlockEnds : BlockKind → Option CheckKind → Draft → ScanStage → Draft → Type 0
 BlockEnds block check old stage new =
     (bytes : List ℕ) (next : ℕ) →
     read_alone bytes (with_known_payload old.payload_span
@@ -464,7 +464,7 @@ BlockEnds block check old stage new =
     ≡ stage_left stage new next bytes next
 
 -- a canonical block that was read at once
-abbrev pub CanonicalEnds : CanonicalBlock → Draft → Stage → Draft → Type 0
+abbrev pub CanonicalEnds : CanonicalBlock → Draft → ScanStage → Draft → Type 0
 CanonicalEnds block old stage new =
     let payload = then_some (block.block_type == 1) (block.data_start, block.data_length) in
     (bytes : List ℕ) (next : ℕ) →
@@ -473,7 +473,7 @@ CanonicalEnds block old stage new =
     (block_end payload (old.numbers ++ block.number ∷ []) (primary_of old) bytes next)))
     ≡ stage_left stage new next bytes next
 
-abbrev pub FieldsEnd : BlockKind → Draft → Stage → Draft → Type 0
+abbrev pub FieldsEnd : BlockKind → Draft → ScanStage → Draft → Type 0
 FieldsEnd block old stage new =
     (bytes : List ℕ) (next : ℕ) →
     let check = kind_of old.check in
@@ -482,7 +482,7 @@ FieldsEnd block old stage new =
     ≡ stage_left stage new next bytes next
 
 -- the stage after the head of data of this size
-abbrev pub ContentBegins : ℕ → Draft → Stage → Draft → Type 0
+abbrev pub ContentBegins : ℕ → Draft → ScanStage → Draft → Type 0
 ContentBegins size old stage new =
     (bytes : List ℕ) (next : ℕ) → next ≤ length bytes →
     let check = kind_of old.check in
@@ -490,7 +490,7 @@ ContentBegins size old stage new =
     (after_field Canonical old check bytes (content_at size check old.block.start bytes next)))
     ≡ stage_left stage new next bytes next
 
-abbrev pub EidEnds : Role → Eid → Draft → Stage → Draft → Type 0
+abbrev pub EidEnds : Role → Eid → Draft → ScanStage → Draft → Type 0
 EidEnds role eid old stage new =
     (bytes : List ℕ) (next : ℕ) →
     read_alone bytes (with_known_payload old.payload_span
@@ -498,7 +498,7 @@ EidEnds role eid old stage new =
     ≡ stage_left stage new next bytes next
 
 -- the stage at the beginning of a name of this many bytes
-abbrev pub NameBegins : Role → ℕ → Draft → Stage → Draft → Type 0
+abbrev pub NameBegins : Role → ℕ → Draft → ScanStage → Draft → Type 0
 NameBegins role size old stage new =
     (bytes : List ℕ) (next : ℕ) → next ≤ length bytes →
     read_alone bytes (with_known_payload old.payload_span
@@ -507,7 +507,7 @@ NameBegins role size old stage new =
     ≡ stage_left stage new next bytes next
 
 -- the stage after more bytes of a name that had `left` bytes left
-abbrev pub NameGoesOn : Role → ℕ → List ℕ → Draft → Stage → Draft → Type 0
+abbrev pub NameGoesOn : Role → ℕ → List ℕ → Draft → ScanStage → Draft → Type 0
 NameGoesOn role left run old stage new =
     (bytes more : List ℕ) (head offset : ℕ) → drop offset bytes ≡ run ++ more →
     stage_left (Name role left) old head bytes offset

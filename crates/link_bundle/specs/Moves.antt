@@ -6,7 +6,7 @@ use Rattle.link_cbor.specs.HeadScan.{HasScannedHead, may_scan_head}
 use Rattle.link_bundle.specs.declared.cursor.Cursor.{Cursor}
 use Rattle.link_bundle.specs.declared.stage.CheckType.{CheckType}
 use Rattle.link_bundle.specs.declared.stage.CheckType.TheVariants.{Unread}
-use Rattle.link_bundle.specs.declared.stage.Stage.{Stage}
+use Rattle.link_bundle.specs.declared.stage.ScanStage.{ScanStage}
 use Rattle.link_bundle.specs.Covers.{Covers}
 use Rattle.link_bundle.specs.Fits.{is_block}
 
@@ -19,7 +19,7 @@ pub record TakesRun (check : CheckType) (old new : Cursor) (run : List ℕ) : Ty
 
 -- A stage begins here. The next head is new, and at the head of a block's array the checks are new
 -- too.
-pub record Enters (stage : Stage) (old new : Cursor) : Type 0 where
+pub record Enters (stage : ScanStage) (old new : Cursor) : Type 0 where
   pub count : new.count ≡ old.count
   pub offset : new.offset ≡ old.count
   pub head : HasScannedHead new.head []

@@ -9,8 +9,8 @@ use Rattle.link_bundle.specs.declared.draft.Draft.{Draft}
 use Rattle.link_bundle.specs.declared.scan.BundleScan.{BundleScan}
 use Rattle.link_bundle.specs.declared.stage.CheckType.{CheckType}
 use Rattle.link_bundle.specs.declared.stage.Field.{Field}
-use Rattle.link_bundle.specs.declared.stage.Stage.{Stage}
-use Rattle.link_bundle.specs.declared.stage.Stage.TheVariants.{Start, Head, Name, Content, Stored, Ended, Failed}
+use Rattle.link_bundle.specs.declared.stage.ScanStage.{ScanStage}
+use Rattle.link_bundle.specs.declared.stage.ScanStage.TheVariants.{Start, Head, Name, Content, Stored, Ended, Failed}
 use Rattle.link_bundle_blocks.specs.Blocks.{Block}
 use Rattle.link_bundle_blocks.specs.Bundle.{with_blocks, judged_bundle, bundle_goes, blocks_in}
 use Rattle.link_bundle.specs.Covers.{Covers}
@@ -50,7 +50,7 @@ pub record IsFresh (cursor : Cursor) (check : CheckType) (seen : List ℕ) : Typ
   pub checks : Covers check cursor.checks []
 
 -- the state of the cursor at each stage
-abbrev pub IsAtStage : Stage → Cursor → CheckType → ℕ → List ℕ → Type 0
+abbrev pub IsAtStage : ScanStage → Cursor → CheckType → ℕ → List ℕ → Type 0
 IsAtStage Start cursor check start seen = IsFresh cursor check seen
 IsAtStage (Head field) cursor check start seen = IsInHead field cursor check start seen
 IsAtStage (Name role left) cursor check start seen = IsInside cursor check start seen
@@ -62,7 +62,7 @@ IsAtStage (Failed fault offset) cursor check start seen = Unit {0}
 
 -- Exactly these bytes were seen. Whatever bytes follow, the bundle is the blocks before, and the
 -- rest that is read from this stage on.
-pub record HasSeen (stage : Stage) (cursor : Cursor) (draft : Draft) (before : List Block)
+pub record HasSeen (stage : ScanStage) (cursor : Cursor) (draft : Draft) (before : List Block)
     (seen : List ℕ) : Type 0 where
   pub all_bytes : AreBytes seen
   pub count : cursor.count ≡ length seen
@@ -86,7 +86,7 @@ pub record HasSeenHead (which : Field) (cursor : Cursor) (draft : Draft) (before
       (drop (block_start which draft.block.start cursor.offset) seen)
 
 -- the block that ends with the bytes seen, if one does
-abbrev pub ending_at : Stage → Draft → Cursor → List Block
+abbrev pub ending_at : ScanStage → Draft → Cursor → List Block
 ending_at stage draft cursor =
     if cursor.offset == cursor.count then stage_last stage draft cursor.offset else []
 

@@ -8,16 +8,16 @@ use Rattle.link_bundle.specs.declared.stage.Part.TheVariants as part
 use Rattle.link_bundle.specs.declared.stage.PrimaryField.TheVariants as primary
 use Rattle.link_bundle.specs.declared.stage.Role.{Role}
 use Rattle.link_bundle.specs.declared.stage.Role.TheVariants.{Destination, Source, ReportTo}
-use Rattle.link_bundle.specs.declared.stage.Stage.{Stage}
-use Rattle.link_bundle.specs.declared.stage.Stage.TheVariants.{Start, Head, Name, Content, Stored, Ended, Failed}
+use Rattle.link_bundle.specs.declared.stage.ScanStage.{ScanStage}
+use Rattle.link_bundle.specs.declared.stage.ScanStage.TheVariants.{Start, Head, Name, Content, Stored, Ended, Failed}
 
-abbrev pub stage_state : Stage → State
+abbrev pub stage_state : ScanStage → State
 stage_state Ended = state.Ended
 stage_state (Failed fault offset) = state.Failed fault offset
 stage_state _ = state.Going
 
 -- the stage at the head after an endpoint ID
-abbrev pub stage_after : Role → Stage
+abbrev pub stage_after : Role → ScanStage
 stage_after Destination = Head (field.Endpoint Source part.Array)
 stage_after Source = Head (field.Endpoint ReportTo part.Array)
 stage_after ReportTo = Head (field.Primary primary.Timestamp)

@@ -2,7 +2,7 @@
 ghost use Rattle.std.specs.Prelude.{◌≡◌, ℕ, ◌+◌, ◌-◌, ◌^◌, ◌<◌, ◌≤◌, Ok, ◌==◌, ◌&&◌, false, IsTrue, IfSome, List, [], ◌++◌, length, take};
 
 use crate::scan::BundleScan;
-use crate::stage::{CanonicalField, Field, Stage};
+use crate::stage::{CanonicalField, Field, ScanStage};
 use link_bundle_blocks::{BlockView, CanonicalBlock, whole_canonical};
 use link_cbor::{CheckKind, Piecewise};
 
@@ -45,8 +45,8 @@ impl BundleScan {
         ensures blocks { AddsBlock self.old self.new piece.now result }
     {
         match self.stage {
-            Stage::Start => self.advance_primary(piece),
-            Stage::Head(Field::Canonical(CanonicalField::Block))
+            ScanStage::Start => self.advance_primary(piece),
+            ScanStage::Head(Field::Canonical(CanonicalField::Block))
                 if self.cursor.offset == self.cursor.count => self.advance_canonical(piece),
             _ => self.advance_part(piece),
         }
@@ -56,7 +56,7 @@ impl BundleScan {
     /// of it, or else one byte.
     #[inline(never)]
     fn advance_primary(&mut self, piece: &[u8]) -> usize
-        requires stage { self.old.stage ≡ Stage.Start }
+        requires stage { self.old.stage ≡ ScanStage.Start }
         requires may_take { MayAdvance self.old piece.now }
         ensures advances { Advances self.old self.new piece.now result }
         ensures blocks { AddsBlock self.old self.new piece.now result }
@@ -78,7 +78,7 @@ impl BundleScan {
     /// The draft has the block's fields already.
     #[inline(always)]
     fn primary_run(&mut self, check: Option<CheckKind>, run: &[u8])
-        requires stage { self.old.stage ≡ Stage.Start }
+        requires stage { self.old.stage ≡ ScanStage.Start }
         requires whole { whole_primary run.now
             ≡ Ok ((primary_of self.old.draft, check), length run.now) }
         requires room { self.old.cursor.count + length run.now ≤ 2 ^ 63 - 1 }
@@ -93,7 +93,7 @@ impl BundleScan {
     /// `advance_head` does.
     #[inline(never)]
     fn advance_canonical(&mut self, piece: &[u8]) -> usize
-        requires stage { self.old.stage ≡ Stage.Head (Field.Canonical CanonicalField.Block) }
+        requires stage { self.old.stage ≡ ScanStage.Head (Field.Canonical CanonicalField.Block) }
         requires begins { self.old.cursor.offset ≡ self.old.cursor.count }
         requires may_take { MayAdvance self.old piece.now }
         ensures advances { Advances self.old self.new piece.now result }
@@ -114,7 +114,7 @@ impl BundleScan {
     /// from the first byte of `run`.
     #[inline(always)]
     fn canonical_run(&mut self, block: CanonicalBlock, run: &[u8])
-        requires stage { self.old.stage ≡ Stage.Head (Field.Canonical CanonicalField.Block) }
+        requires stage { self.old.stage ≡ ScanStage.Head (Field.Canonical CanonicalField.Block) }
         requires begins { self.old.cursor.offset ≡ self.old.cursor.count }
         requires numbers { length self.old.draft.numbers < 64 }
         requires whole { whole_canonical self.old.draft.numbers run.now 0

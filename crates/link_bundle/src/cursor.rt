@@ -6,7 +6,7 @@ ghost use Rattle.link_bundle.specs.Covers.{Covers};
 ghost use Rattle.link_bundle.specs.Moves.{TakesRun, Enters};
 
 use crate::checks::BlockChecks;
-use crate::stage::{CheckType, Stage};
+use crate::stage::{CheckType, ScanStage};
 use link_cbor::{HeadScan, HeadStep, Piecewise};
 
 /// The progress of a scan through its bytes.
@@ -65,7 +65,7 @@ impl Cursor {
     /// Prepares the cursor for the next stage.
     ///
     /// The next head is new, and at the head of a block's array the checks are new too.
-    pub fn enter(&mut self, stage: Stage)
+    pub fn enter(&mut self, stage: ScanStage)
         ensures { Enters stage self.old self.new }
     {
         self.offset = self.count;
@@ -77,7 +77,7 @@ impl Cursor {
 
     /// Passes over a block that was read at once, and prepares the cursor for the next stage.
     #[inline(always)]
-    pub fn pass(&mut self, size: usize, stage: Stage)
+    pub fn pass(&mut self, size: usize, stage: ScanStage)
         requires room { self.old.count + size ≤ 2 ^ 63 - 1 }
         ensures { Enters stage (record self.old { count = self.old.count + size }) self.new }
     {

@@ -1,7 +1,9 @@
 //! The parts of a bundle that a scan keeps, and how each head changes them.
 ghost use Rattle.std.specs.Prelude.{◌≡◌, ◌<◌, ◌≤◌, [], ◌++◌, IsTrue, None, length};
 
-use crate::stage::{BlockKind, CanonicalField, CheckType, Field, Part, PrimaryField, Role, Stage};
+use crate::stage::{
+    BlockKind, CanonicalField, CheckType, Field, Part, PrimaryField, Role, ScanStage,
+};
 use link_bundle_blocks::{BlockView, CanonicalBlock, PrimaryBlock};
 use link_bundle_heads::{Scheme, row};
 use link_bundle_types::{BlockNumbers, BundleFault, BundleView, EidForm, KeptEid};
@@ -50,7 +52,7 @@ impl Draft {
 
     /// The draft of a bundle before its first byte.
     pub fn new() -> Draft
-        ensures fits { IsTrue (stage_fits Stage.Start result) }
+        ensures fits { IsTrue (stage_fits ScanStage.Start result) }
         ensures check { result.check ≡ CheckType.Unread }
     {
         Draft {
@@ -87,7 +89,7 @@ impl Draft {
     ///
     /// A field keeps its value if the heads of the next bundle set it before it is read.
     pub fn restart(&mut self)
-        ensures fits { IsTrue (stage_fits Stage.Start self.new) }
+        ensures fits { IsTrue (stage_fits ScanStage.Start self.new) }
         ensures check { self.new.check ≡ CheckType.Unread }
     {
         self.check = CheckType::Unread;
@@ -131,13 +133,13 @@ impl Draft {
 
     /// The canonical block whose data or check field goes on at a stage.
     #[inline(always)]
-    pub fn block_at(&self, stage: Stage) -> Option<CanonicalBlock>
+    pub fn block_at(&self, stage: ScanStage) -> Option<CanonicalBlock>
         ensures { result ≡ stage_block stage self.now }
     {
         match stage {
-            Stage::Content(_) => Some(self.current(self.check.kind())),
-            Stage::Stored { block, kind, .. } => self.in_block(block, kind),
-            Stage::Head(Field::Check(block, kind)) => self.in_block(block, kind),
+            ScanStage::Content(_) => Some(self.current(self.check.kind())),
+            ScanStage::Stored { block, kind, .. } => self.in_block(block, kind),
+            ScanStage::Head(Field::Check(block, kind)) => self.in_block(block, kind),
             _ => None,
         }
     }
@@ -184,7 +186,7 @@ impl Draft {
     ///
     /// It is that of the next block, or that of the break after the payload block.
     #[tactic(auto, using(crate::proofs::Heads::closes, crate::proofs::Heads::goes_to_block), unfolding(crate::specs::Left::stage_left, crate::specs::Left::field_left))]
-    pub fn after_block(&mut self, block: BlockKind, check: Option<CheckKind>) -> Stage
+    pub fn after_block(&mut self, block: BlockKind, check: Option<CheckKind>) -> ScanStage
         ensures reads { BlockEnds block check self.old result self.new }
         ensures fits { IsTrue (stage_fits result self.new) }
         ensures keeps { KeepsCheck self.old.check result self.new.check }
@@ -193,14 +195,14 @@ impl Draft {
         self.last = block;
         self.block.check = check;
         if self.payload_span.is_some() {
-            return Stage::Head(Field::Closing);
+            return ScanStage::Head(Field::Closing);
         }
         self.check = CheckType::Unread;
-        Stage::Head(Field::Canonical(CanonicalField::Block))
+        ScanStage::Head(Field::Canonical(CanonicalField::Block))
     }
 
     /// The stage after the primary block, which was read at once, with its fields in the draft.
-    pub fn end_primary(&mut self, check: Option<CheckKind>) -> Stage
+    pub fn end_primary(&mut self, check: Option<CheckKind>) -> ScanStage
         ensures reads { BlockEnds BlockKind.Primary check self.old result self.new }
         ensures fits { IsTrue (stage_fits result self.new) }
         ensures keeps { KeepsCheck (CheckType.Is None) result self.new.check }
@@ -215,7 +217,7 @@ impl Draft {
     /// The stage after a canonical block, which was read at once.
     ///
     /// The draft keeps the block.
-    pub fn end_canonical(&mut self, block: CanonicalBlock) -> Stage
+    pub fn end_canonical(&mut self, block: CanonicalBlock) -> ScanStage
         requires room { length self.old.numbers < 64 }
         ensures reads { CanonicalEnds block self.old result self.new }
         ensures fits { IsTrue (stage_fits result self.new) }
@@ -235,14 +237,14 @@ impl Draft {
 
     /// The stage after those fields of a block of this kind that come before its check field.
     #[tactic(auto, unfolding(crate::specs::Left::stage_left, crate::specs::Left::field_left, link_bundle_blocks::specs::CheckField::field_at))]
-    pub fn after_fields(&mut self, block: BlockKind) -> Stage
+    pub fn after_fields(&mut self, block: BlockKind) -> ScanStage
         ensures reads { FieldsEnd block self.old result self.new }
         ensures fits { IsTrue (stage_fits result self.new) }
         ensures keeps { KeepsCheck self.old.check result self.new.check }
         ensures start { self.new.block.start ≡ self.old.block.start }
     {
         match self.check.kind() {
-            Some(kind) => Stage::Head(Field::Check(block, kind)),
+            Some(kind) => ScanStage::Head(Field::Check(block, kind)),
             None => self.after_block(block, None),
         }
     }
@@ -262,8 +264,8 @@ impl Draft {
         field: PrimaryField,
         head: Head,
         offset: u64,
-    ) -> Result<Stage, BundleFault>
-        requires { IsTrue (stage_fits (Stage.Head (Field.Primary field)) self.old) }
+    ) -> Result<ScanStage, BundleFault>
+        requires { IsTrue (stage_fits (ScanStage.Head (Field.Primary field)) self.old) }
         ensures { JudgedAfter offset (Field.Primary field) self.old head result self.new }
     {
         match field {
@@ -281,90 +283,90 @@ impl Draft {
     }
 
     #[tactic(auto, using(link_bundle_blocks::proofs::Heads::heads), unfolding(crate::specs::Left::field_left, crate::specs::Left::stage_left, crate::specs::Left::primary_block_left))]
-    fn primary_block(&mut self, head: Head, offset: u64) -> Result<Stage, BundleFault>
-        requires { IsTrue (stage_fits (Stage.Head (Field.Primary PrimaryField.Block)) self.old) }
+    fn primary_block(&mut self, head: Head, offset: u64) -> Result<ScanStage, BundleFault>
+        requires { IsTrue (stage_fits (ScanStage.Head (Field.Primary PrimaryField.Block)) self.old) }
         ensures { JudgedAfter offset (Field.Primary PrimaryField.Block)
             self.old head result self.new }
     {
         self.count = row::primary_block(head)?;
         self.block.start = offset;
-        Ok(Stage::Head(Field::Primary(PrimaryField::Version)))
+        Ok(ScanStage::Head(Field::Primary(PrimaryField::Version)))
     }
 
     #[tactic(auto, using(link_bundle_blocks::proofs::Heads::heads), unfolding(crate::specs::Left::field_left, crate::specs::Left::stage_left, crate::specs::Left::version_left))]
-    fn version(&mut self, head: Head) -> Result<Stage, BundleFault>
-        requires { IsTrue (stage_fits (Stage.Head (Field.Primary PrimaryField.Version)) self.old) }
+    fn version(&mut self, head: Head) -> Result<ScanStage, BundleFault>
+        requires { IsTrue (stage_fits (ScanStage.Head (Field.Primary PrimaryField.Version)) self.old) }
         ensures { Judged (Field.Primary PrimaryField.Version) self.old head result self.new }
     {
         row::version(head)?;
-        Ok(Stage::Head(Field::Primary(PrimaryField::Flags)))
+        Ok(ScanStage::Head(Field::Primary(PrimaryField::Flags)))
     }
 
     #[tactic(auto, using(link_bundle_blocks::proofs::Heads::heads), unfolding(crate::specs::Left::field_left, crate::specs::Left::stage_left, crate::specs::Left::flags_left))]
-    fn flags(&mut self, head: Head) -> Result<Stage, BundleFault>
-        requires { IsTrue (stage_fits (Stage.Head (Field.Primary PrimaryField.Flags)) self.old) }
+    fn flags(&mut self, head: Head) -> Result<ScanStage, BundleFault>
+        requires { IsTrue (stage_fits (ScanStage.Head (Field.Primary PrimaryField.Flags)) self.old) }
         ensures { Judged (Field.Primary PrimaryField.Flags) self.old head result self.new }
     {
         self.flags = row::unsigned(head)?;
-        Ok(Stage::Head(Field::Primary(PrimaryField::CheckType)))
+        Ok(ScanStage::Head(Field::Primary(PrimaryField::CheckType)))
     }
 
     #[tactic(auto, using(link_bundle_blocks::proofs::Heads::heads), unfolding(crate::specs::Left::field_left, crate::specs::Left::stage_left, crate::specs::Left::check_type_left, crate::specs::Left::destination_left))]
-    fn primary_check_type(&mut self, head: Head) -> Result<Stage, BundleFault>
-        requires { IsTrue (stage_fits (Stage.Head (Field.Primary PrimaryField.CheckType))
+    fn primary_check_type(&mut self, head: Head) -> Result<ScanStage, BundleFault>
+        requires { IsTrue (stage_fits (ScanStage.Head (Field.Primary PrimaryField.CheckType))
             self.old) }
         ensures { Judged (Field.Primary PrimaryField.CheckType) self.old head result self.new }
     {
         self.check = CheckType::Is(row::primary_check_type(self.count, self.flags, head)?);
-        Ok(Stage::Head(Field::Endpoint(Role::Destination, Part::Array)))
+        Ok(ScanStage::Head(Field::Endpoint(Role::Destination, Part::Array)))
     }
 
     #[tactic(auto, using(link_bundle_blocks::proofs::Heads::heads), unfolding(crate::specs::Left::field_left, crate::specs::Left::stage_left, crate::specs::Left::timestamp_left))]
-    fn timestamp(&mut self, head: Head) -> Result<Stage, BundleFault>
+    fn timestamp(&mut self, head: Head) -> Result<ScanStage, BundleFault>
         ensures { Judged (Field.Primary PrimaryField.Timestamp) self.old head result self.new }
     {
         row::pair(head)?;
-        Ok(Stage::Head(Field::Primary(PrimaryField::Time)))
+        Ok(ScanStage::Head(Field::Primary(PrimaryField::Time)))
     }
 
     #[tactic(auto, using(link_bundle_blocks::proofs::Heads::heads), unfolding(crate::specs::Left::field_left, crate::specs::Left::stage_left, crate::specs::Left::time_left))]
-    fn time(&mut self, head: Head) -> Result<Stage, BundleFault>
+    fn time(&mut self, head: Head) -> Result<ScanStage, BundleFault>
         ensures { Judged (Field.Primary PrimaryField.Time) self.old head result self.new }
     {
         self.time = row::unsigned(head)?;
-        Ok(Stage::Head(Field::Primary(PrimaryField::Sequence)))
+        Ok(ScanStage::Head(Field::Primary(PrimaryField::Sequence)))
     }
 
     #[tactic(auto, using(link_bundle_blocks::proofs::Heads::heads), unfolding(crate::specs::Left::field_left, crate::specs::Left::stage_left, crate::specs::Left::sequence_left))]
-    fn sequence(&mut self, head: Head) -> Result<Stage, BundleFault>
+    fn sequence(&mut self, head: Head) -> Result<ScanStage, BundleFault>
         ensures { Judged (Field.Primary PrimaryField.Sequence) self.old head result self.new }
     {
         self.sequence = row::unsigned(head)?;
-        Ok(Stage::Head(Field::Primary(PrimaryField::Lifetime)))
+        Ok(ScanStage::Head(Field::Primary(PrimaryField::Lifetime)))
     }
 
     #[tactic(auto, using(link_bundle_blocks::proofs::Heads::heads), unfolding(crate::specs::Left::field_left, crate::specs::Left::stage_left, crate::specs::Left::lifetime_left, crate::specs::Left::fragment_offset_left, link_bundle_blocks::specs::Primary::fragment_at))]
-    fn lifetime(&mut self, head: Head) -> Result<Stage, BundleFault>
+    fn lifetime(&mut self, head: Head) -> Result<ScanStage, BundleFault>
         ensures { Judged (Field.Primary PrimaryField.Lifetime) self.old head result self.new }
     {
         self.lifetime = row::unsigned(head)?;
         if row::is_fragment(self.flags) {
-            return Ok(Stage::Head(Field::Primary(PrimaryField::FragmentOffset)));
+            return Ok(ScanStage::Head(Field::Primary(PrimaryField::FragmentOffset)));
         }
         self.fragment = None;
         Ok(self.after_fields(BlockKind::Primary))
     }
 
     #[tactic(auto, using(link_bundle_blocks::proofs::Heads::heads), unfolding(crate::specs::Left::field_left, crate::specs::Left::stage_left, crate::specs::Left::fragment_offset_left, crate::specs::Left::total_length_left, link_bundle_blocks::specs::Primary::fragment_at))]
-    fn fragment_offset(&mut self, head: Head) -> Result<Stage, BundleFault>
+    fn fragment_offset(&mut self, head: Head) -> Result<ScanStage, BundleFault>
         ensures { Judged (Field.Primary PrimaryField.FragmentOffset) self.old head result self.new }
     {
         self.fragment_offset = row::unsigned(head)?;
-        Ok(Stage::Head(Field::Primary(PrimaryField::TotalLength)))
+        Ok(ScanStage::Head(Field::Primary(PrimaryField::TotalLength)))
     }
 
     #[tactic(auto, using(link_bundle_blocks::proofs::Heads::heads), unfolding(crate::specs::Left::field_left, crate::specs::Left::stage_left, crate::specs::Left::total_length_left))]
-    fn total_length(&mut self, head: Head) -> Result<Stage, BundleFault>
+    fn total_length(&mut self, head: Head) -> Result<ScanStage, BundleFault>
         ensures { Judged (Field.Primary PrimaryField.TotalLength) self.old head result self.new }
     {
         let total_length = row::unsigned(head)?;
@@ -386,7 +388,7 @@ impl Draft {
     ghost use Rattle.link_bundle_types.specs.declared.eid.Eid.TheVariants.{Dtn};
 
     /// Judges a head of an endpoint ID.
-    pub fn endpoint(&mut self, role: Role, part: Part, head: Head) -> Result<Stage, BundleFault>
+    pub fn endpoint(&mut self, role: Role, part: Part, head: Head) -> Result<ScanStage, BundleFault>
         ensures { Judged (Field.Endpoint role part) self.old head result self.new }
     {
         match part {
@@ -401,23 +403,23 @@ impl Draft {
     }
 
     #[tactic(auto, using(link_bundle_blocks::proofs::Heads::heads), unfolding(crate::specs::Left::field_left, crate::specs::Left::stage_left, link_bundle_blocks::specs::EndpointId::eid_at, crate::specs::Left::scheme_left))]
-    fn eid(&mut self, role: Role, head: Head) -> Result<Stage, BundleFault>
+    fn eid(&mut self, role: Role, head: Head) -> Result<ScanStage, BundleFault>
         ensures { Judged (Field.Endpoint role Part.Array) self.old head result self.new }
     {
         row::pair(head)?;
-        Ok(Stage::Head(Field::Endpoint(role, Part::Scheme)))
+        Ok(ScanStage::Head(Field::Endpoint(role, Part::Scheme)))
     }
 
     #[tactic(auto, using(link_bundle_blocks::proofs::Heads::heads), unfolding(crate::specs::Left::field_left, crate::specs::Left::stage_left, crate::specs::Left::scheme_left))]
-    fn scheme(&mut self, role: Role, head: Head) -> Result<Stage, BundleFault>
+    fn scheme(&mut self, role: Role, head: Head) -> Result<ScanStage, BundleFault>
         ensures { Judged (Field.Endpoint role Part.Scheme) self.old head result self.new }
     {
         let scheme = row::scheme(head)?;
-        Ok(Stage::Head(Field::Endpoint(role, Part::Specific(scheme))))
+        Ok(ScanStage::Head(Field::Endpoint(role, Part::Specific(scheme))))
     }
 
     #[tactic(auto, using(link_bundle_blocks::proofs::Heads::heads), unfolding(crate::specs::Left::field_left, crate::specs::Left::stage_left, link_bundle_blocks::specs::EndpointId::specific_at))]
-    fn dtn(&mut self, role: Role, head: Head) -> Result<Stage, BundleFault>
+    fn dtn(&mut self, role: Role, head: Head) -> Result<ScanStage, BundleFault>
         ensures { Judged (Field.Endpoint role (Part.Specific Scheme.Dtn))
             self.old head result self.new }
     {
@@ -428,7 +430,7 @@ impl Draft {
     }
 
     #[tactic(auto, using(link_bundle_blocks::proofs::Heads::heads), unfolding(crate::specs::Left::field_left, crate::specs::Left::stage_left, link_bundle_blocks::specs::EndpointId::specific_at, link_bundle_blocks::specs::EndpointId::ipn_at, crate::specs::Left::allocator_left, crate::specs::Left::node_left, crate::specs::Left::service_left))]
-    fn ipn(&mut self, role: Role, head: Head) -> Result<Stage, BundleFault>
+    fn ipn(&mut self, role: Role, head: Head) -> Result<ScanStage, BundleFault>
         ensures { Judged (Field.Endpoint role (Part.Specific Scheme.Ipn))
             self.old head result self.new }
     {
@@ -439,27 +441,27 @@ impl Draft {
                 Part::Node
             }
         };
-        Ok(Stage::Head(Field::Endpoint(role, part)))
+        Ok(ScanStage::Head(Field::Endpoint(role, part)))
     }
 
     #[tactic(auto, using(link_bundle_blocks::proofs::Heads::heads), unfolding(crate::specs::Left::field_left, crate::specs::Left::stage_left, crate::specs::Left::allocator_left))]
-    fn allocator(&mut self, role: Role, head: Head) -> Result<Stage, BundleFault>
+    fn allocator(&mut self, role: Role, head: Head) -> Result<ScanStage, BundleFault>
         ensures { Judged (Field.Endpoint role Part.Allocator) self.old head result self.new }
     {
         self.allocator = Some(row::unsigned(head)?);
-        Ok(Stage::Head(Field::Endpoint(role, Part::Node)))
+        Ok(ScanStage::Head(Field::Endpoint(role, Part::Node)))
     }
 
     #[tactic(auto, using(link_bundle_blocks::proofs::Heads::heads), unfolding(crate::specs::Left::field_left, crate::specs::Left::stage_left, crate::specs::Left::node_left))]
-    fn node(&mut self, role: Role, head: Head) -> Result<Stage, BundleFault>
+    fn node(&mut self, role: Role, head: Head) -> Result<ScanStage, BundleFault>
         ensures { Judged (Field.Endpoint role Part.Node) self.old head result self.new }
     {
         self.node = row::unsigned(head)?;
-        Ok(Stage::Head(Field::Endpoint(role, Part::Service)))
+        Ok(ScanStage::Head(Field::Endpoint(role, Part::Service)))
     }
 
     #[tactic(auto, using(link_bundle_blocks::proofs::Heads::heads), unfolding(crate::specs::Left::field_left, crate::specs::Left::stage_left, crate::specs::Left::service_left))]
-    fn service(&mut self, role: Role, head: Head) -> Result<Stage, BundleFault>
+    fn service(&mut self, role: Role, head: Head) -> Result<ScanStage, BundleFault>
         ensures { Judged (Field.Endpoint role Part.Service) self.old head result self.new }
     {
         let service = row::unsigned(head)?;
@@ -471,7 +473,7 @@ impl Draft {
     }
 
     /// Begins a dtn name of this many bytes.
-    fn name(&mut self, role: Role, size: u64) -> Stage
+    fn name(&mut self, role: Role, size: u64) -> ScanStage
         requires { size ≤ 1024 }
         ensures reads { NameBegins role size self.old result self.new }
         ensures fits { IsTrue (stage_fits result self.new) }
@@ -481,13 +483,13 @@ impl Draft {
         self.keep(role, EidForm::Dtn);
         match size {
             0 => role.stage_after(),
-            left => Stage::Name(role, left),
+            left => ScanStage::Name(role, left),
         }
     }
 
     /// Takes bytes of a dtn name that has `left` bytes left.
-    pub fn name_run(&mut self, role: Role, left: u64, run: &[u8]) -> Stage
-        requires fits { IsTrue (stage_fits (Stage.Name role left) self.old) }
+    pub fn name_run(&mut self, role: Role, left: u64, run: &[u8]) -> ScanStage
+        requires fits { IsTrue (stage_fits (ScanStage.Name role left) self.old) }
         requires within { length run.now ≤ left }
         ensures reads { NameGoesOn role left run.now self.old result self.new }
         ensures fits { IsTrue (stage_fits result self.new) }
@@ -497,12 +499,12 @@ impl Draft {
         self.keep_more(role, run);
         match left - run.len() as u64 {
             0 => role.stage_after(),
-            left => Stage::Name(role, left),
+            left => ScanStage::Name(role, left),
         }
     }
 
     /// Keeps an endpoint ID, and returns the stage after it.
-    fn after_eid(&mut self, role: Role, form: EidForm) -> Stage
+    fn after_eid(&mut self, role: Role, form: EidForm) -> ScanStage
         ensures reads { EidEnds role (formed form []) self.old result self.new }
         ensures fits { IsTrue (stage_fits result self.new) }
         ensures keeps { KeepsCheck self.old.check result self.new.check }
@@ -553,8 +555,8 @@ impl Draft {
         head: Head,
         offset: u64,
         next: u64,
-    ) -> Result<Stage, BundleFault>
-        requires { IsTrue (stage_fits (Stage.Head (Field.Canonical field)) self.old) }
+    ) -> Result<ScanStage, BundleFault>
+        requires { IsTrue (stage_fits (ScanStage.Head (Field.Canonical field)) self.old) }
         ensures { JudgedFrom offset next (Field.Canonical field) self.old head result self.new }
     {
         match field {
@@ -568,8 +570,8 @@ impl Draft {
     }
 
     #[tactic(auto, using(link_bundle_blocks::proofs::Heads::heads), unfolding(crate::specs::Left::field_left, crate::specs::Left::stage_left))]
-    fn block(&mut self, head: Head, offset: u64) -> Result<Stage, BundleFault>
-        requires { IsTrue (stage_fits (Stage.Head (Field.Canonical CanonicalField.Block))
+    fn block(&mut self, head: Head, offset: u64) -> Result<ScanStage, BundleFault>
+        requires { IsTrue (stage_fits (ScanStage.Head (Field.Canonical CanonicalField.Block))
             self.old) }
         ensures { JudgedAfter offset (Field.Canonical CanonicalField.Block)
             self.old head result self.new }
@@ -579,52 +581,52 @@ impl Draft {
             return Err(BundleFault::TooManyBlocks);
         }
         self.block.start = offset;
-        Ok(Stage::Head(Field::Canonical(CanonicalField::Type)))
+        Ok(ScanStage::Head(Field::Canonical(CanonicalField::Type)))
     }
 
     #[tactic(auto, using(link_bundle_blocks::proofs::Heads::heads), unfolding(crate::specs::Left::field_left, crate::specs::Left::stage_left, crate::specs::Left::type_left))]
-    fn block_type(&mut self, head: Head) -> Result<Stage, BundleFault>
-        requires { IsTrue (stage_fits (Stage.Head (Field.Canonical CanonicalField.Type)) self.old) }
+    fn block_type(&mut self, head: Head) -> Result<ScanStage, BundleFault>
+        requires { IsTrue (stage_fits (ScanStage.Head (Field.Canonical CanonicalField.Type)) self.old) }
         ensures { Judged (Field.Canonical CanonicalField.Type) self.old head result self.new }
     {
         self.block.block_type = row::unsigned(head)?;
-        Ok(Stage::Head(Field::Canonical(CanonicalField::Number)))
+        Ok(ScanStage::Head(Field::Canonical(CanonicalField::Number)))
     }
 
     #[tactic(auto, using(link_bundle_blocks::proofs::Heads::heads), unfolding(crate::specs::Left::field_left, crate::specs::Left::stage_left, crate::specs::Left::number_left))]
-    fn block_number(&mut self, head: Head) -> Result<Stage, BundleFault>
-        requires { IsTrue (stage_fits (Stage.Head (Field.Canonical CanonicalField.Number))
+    fn block_number(&mut self, head: Head) -> Result<ScanStage, BundleFault>
+        requires { IsTrue (stage_fits (ScanStage.Head (Field.Canonical CanonicalField.Number))
             self.old) }
         ensures { Judged (Field.Canonical CanonicalField.Number) self.old head result self.new }
     {
         let numbers = self.numbers.as_slice();
         self.block.number = row::block_number(self.block.block_type, numbers, head)?;
-        Ok(Stage::Head(Field::Canonical(CanonicalField::Flags)))
+        Ok(ScanStage::Head(Field::Canonical(CanonicalField::Flags)))
     }
 
     #[tactic(auto, using(link_bundle_blocks::proofs::Heads::heads), unfolding(crate::specs::Left::field_left, crate::specs::Left::stage_left, crate::specs::Left::block_flags_left))]
-    fn block_flags(&mut self, head: Head) -> Result<Stage, BundleFault>
-        requires { IsTrue (stage_fits (Stage.Head (Field.Canonical CanonicalField.Flags))
+    fn block_flags(&mut self, head: Head) -> Result<ScanStage, BundleFault>
+        requires { IsTrue (stage_fits (ScanStage.Head (Field.Canonical CanonicalField.Flags))
             self.old) }
         ensures { Judged (Field.Canonical CanonicalField.Flags) self.old head result self.new }
     {
         self.block.flags = row::unsigned(head)?;
-        Ok(Stage::Head(Field::Canonical(CanonicalField::CheckType)))
+        Ok(ScanStage::Head(Field::Canonical(CanonicalField::CheckType)))
     }
 
     #[tactic(auto, using(link_bundle_blocks::proofs::Heads::heads), unfolding(crate::specs::Left::field_left, crate::specs::Left::stage_left, crate::specs::Left::block_check_type_left))]
-    fn block_check_type(&mut self, head: Head) -> Result<Stage, BundleFault>
-        requires { IsTrue (stage_fits (Stage.Head (Field.Canonical CanonicalField.CheckType))
+    fn block_check_type(&mut self, head: Head) -> Result<ScanStage, BundleFault>
+        requires { IsTrue (stage_fits (ScanStage.Head (Field.Canonical CanonicalField.CheckType))
             self.old) }
         ensures { Judged (Field.Canonical CanonicalField.CheckType) self.old head result self.new }
     {
         self.check = CheckType::Is(row::block_check_type(self.count, head)?);
-        Ok(Stage::Head(Field::Canonical(CanonicalField::Data)))
+        Ok(ScanStage::Head(Field::Canonical(CanonicalField::Data)))
     }
 
     #[tactic(auto, using(link_bundle_blocks::proofs::Heads::heads), unfolding(crate::specs::Left::field_left, crate::specs::Left::stage_left, crate::specs::Left::data_left))]
-    fn data(&mut self, head: Head, next: u64) -> Result<Stage, BundleFault>
-        requires { IsTrue (stage_fits (Stage.Head (Field.Canonical CanonicalField.Data)) self.old) }
+    fn data(&mut self, head: Head, next: u64) -> Result<ScanStage, BundleFault>
+        requires { IsTrue (stage_fits (ScanStage.Head (Field.Canonical CanonicalField.Data)) self.old) }
         ensures { JudgedAt next (Field.Canonical CanonicalField.Data)
             self.old head result self.new }
     {
@@ -638,7 +640,7 @@ impl Draft {
 
     /// The stage after the head of data of this size.
     #[tactic(auto, using(crate::proofs::Heads::no_content), unfolding(crate::specs::Left::stage_left))]
-    fn content(&mut self, size: u64) -> Stage
+    fn content(&mut self, size: u64) -> ScanStage
         ensures reads { ContentBegins size self.old result self.new }
         ensures fits { IsTrue (stage_fits result self.new) }
         ensures keeps { KeepsCheck self.old.check result self.new.check }
@@ -646,7 +648,7 @@ impl Draft {
     {
         match size {
             0 => self.after_fields(BlockKind::Canonical),
-            left => Stage::Content(left),
+            left => ScanStage::Content(left),
         }
     }
 }

@@ -10,15 +10,20 @@ ghost use Rattle.link_bundle.specs.Scan.{HasSeen, HasSeenHead};
 
 use crate::cursor::Cursor;
 use crate::draft::Draft;
-use crate::stage::{Field, Stage};
+use crate::stage::{Field, ScanStage};
 use link_bundle_heads::row;
 use link_bundle_types::BundleFault;
 use link_cbor::Head;
 
 /// Judges a complete head at a field, and returns the next stage or the fault.
 #[tactic(auto, using(link_bundle_blocks::proofs::Heads::heads), unfolding(crate::specs::Left::field_left, crate::specs::Left::stage_left))]
-fn judge(draft: &mut Draft, cursor: &Cursor, field: Field, head: Head) -> Result<Stage, BundleFault>
-    requires { IsTrue (stage_fits (Stage.Head field) draft.old) }
+fn judge(
+    draft: &mut Draft,
+    cursor: &Cursor,
+    field: Field,
+    head: Head,
+) -> Result<ScanStage, BundleFault>
+    requires { IsTrue (stage_fits (ScanStage.Head field) draft.old) }
     ensures { JudgedFrom cursor.now.offset cursor.now.count field draft.old head result draft.new }
 {
     match field {
@@ -27,7 +32,7 @@ fn judge(draft: &mut Draft, cursor: &Cursor, field: Field, head: Head) -> Result
         Field::Canonical(which) => draft.canonical(which, head, cursor.offset, cursor.count),
         Field::Check(block, kind) => {
             row::check_field(kind, head)?;
-            Ok(Stage::Stored {
+            Ok(ScanStage::Stored {
                 offset: cursor.offset,
                 left: row::check_width(kind),
                 stored: 0,
@@ -37,14 +42,19 @@ fn judge(draft: &mut Draft, cursor: &Cursor, field: Field, head: Head) -> Result
         }
         Field::Closing => {
             row::closing(head)?;
-            Ok(Stage::Ended)
+            Ok(ScanStage::Ended)
         }
     }
 }
 
 /// Takes a complete head at a field, and returns the next stage, which is `Failed` after a fault.
-pub(crate) fn take_head(draft: &mut Draft, cursor: &mut Cursor, field: Field, head: Head) -> Stage
-    requires { IsTrue (stage_fits (Stage.Head field) draft.old) }
+pub(crate) fn take_head(
+    draft: &mut Draft,
+    cursor: &mut Cursor,
+    field: Field,
+    head: Head,
+) -> ScanStage
+    requires { IsTrue (stage_fits (ScanStage.Head field) draft.old) }
     ensures count { cursor.new.count ≡ cursor.old.count }
     ensures fits { IsTrue (scan_fits result cursor.new draft.new) }
     ensures seen { (before : List Block) (seen : List ℕ)
@@ -61,6 +71,6 @@ pub(crate) fn take_head(draft: &mut Draft, cursor: &mut Cursor, field: Field, he
             cursor.enter(stage);
             stage
         }
-        Err(fault) => Stage::Failed(fault, cursor.offset),
+        Err(fault) => ScanStage::Failed(fault, cursor.offset),
     }
 }

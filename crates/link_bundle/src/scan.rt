@@ -6,7 +6,7 @@ ghost use Rattle.link_cbor.specs.Head.{Whole, head_front};
 use crate::cursor::Cursor;
 use crate::draft::Draft;
 use crate::judging::take_head;
-use crate::stage::{BlockKind, CheckType, Field, PrimaryField, Role, Stage};
+use crate::stage::{BlockKind, CheckType, Field, PrimaryField, Role, ScanStage};
 use link_bundle_types::{BundleFault, BundleInfo, BundleView, State};
 use link_cbor::{CheckKind, Head, HeadStep, Piecewise};
 use std::fmt;
@@ -19,7 +19,7 @@ pub(crate) const OPENING: u8 = 0x9f;
 /// It keeps the fields of [`BundleInfo`], and no bytes of a block's data.
 #[derive(Drop)]
 pub struct BundleScan {
-    pub(crate) stage: Stage,
+    pub(crate) stage: ScanStage,
     pub(crate) cursor: Cursor,
     pub(crate) draft: Draft,
     ghost fits: { IsTrue (scan_fits stage cursor draft) },
@@ -49,7 +49,7 @@ impl BundleScan {
         ensures may_step { IsTrue (may_scan result) }
     {
         BundleScan {
-            stage: Stage::Start,
+            stage: ScanStage::Start,
             cursor: Cursor::new(),
             draft: Draft::new(),
         }
@@ -66,7 +66,7 @@ impl BundleScan {
     {
         self.draft.restart();
         self.cursor = Cursor::new();
-        self.stage = Stage::Start;
+        self.stage = ScanStage::Start;
     }
 
     /// The state of the scan, which follows from the verdict on the bytes seen.
@@ -120,29 +120,29 @@ impl BundleScan {
 
     /// Takes the first byte of a bundle.
     pub(crate) fn open(&mut self, byte: u8)
-        requires stage { self.old.stage ≡ Stage.Start }
+        requires stage { self.old.stage ≡ ScanStage.Start }
         requires room { self.old.cursor.count < 2 ^ 63 - 1 }
         ensures { HasTaken self.old self.new (byte ∷ []) }
     {
         self.cursor.count += 1;
         if byte == OPENING {
-            self.stage = Stage::Head(Field::Primary(PrimaryField::Block));
+            self.stage = ScanStage::Head(Field::Primary(PrimaryField::Block));
             self.cursor.enter(self.stage);
         } else {
-            self.stage = Stage::Failed(BundleFault::NotABundle, 0);
+            self.stage = ScanStage::Failed(BundleFault::NotABundle, 0);
         }
     }
 
     /// Takes a byte of a head.
     fn head_byte(&mut self, field: Field, byte: u8)
-        requires stage { self.old.stage ≡ Stage.Head field }
+        requires stage { self.old.stage ≡ ScanStage.Head field }
         requires room { self.old.cursor.count < 2 ^ 63 - 1 }
         ensures { HasTaken self.old self.new (byte ∷ []) }
     {
         match self.cursor.head_byte(self.draft.check, byte) {
             HeadStep::More => {}
             HeadStep::Bad => {
-                self.stage = Stage::Failed(BundleFault::BadHead, self.cursor.offset);
+                self.stage = ScanStage::Failed(BundleFault::BadHead, self.cursor.offset);
             }
             HeadStep::Done(head) => self.stage = take_head(
                 &mut self.draft,
@@ -155,7 +155,7 @@ impl BundleScan {
 
     /// Takes a head that lies whole in a piece.
     fn head_run(&mut self, field: Field, head: Head, run: &[u8])
-        requires stage { self.old.stage ≡ Stage.Head field }
+        requires stage { self.old.stage ≡ ScanStage.Head field }
         requires begins { self.old.cursor.offset ≡ self.old.cursor.count }
         requires whole { head_front run.now ≡ Whole head (length run.now) }
         requires room { self.old.cursor.count + length run.now ≤ 2 ^ 63 - 1 }
@@ -167,7 +167,7 @@ impl BundleScan {
 
     /// Takes bytes of a dtn name that has `left` bytes left.
     fn name_run(&mut self, role: Role, left: u64, run: &[u8])
-        requires stage { self.old.stage ≡ Stage.Name role left }
+        requires stage { self.old.stage ≡ ScanStage.Name role left }
         requires within { length run.now ≤ left }
         requires room { self.old.cursor.count + length run.now ≤ 2 ^ 63 - 1 }
         ensures { HasTaken self.old self.new run.now }
@@ -181,7 +181,7 @@ impl BundleScan {
     /// Takes bytes of a block's data, which has `left` bytes left.
     #[inline(always)]
     fn content_run(&mut self, left: u64, run: &[u8])
-        requires stage { self.old.stage ≡ Stage.Content left }
+        requires stage { self.old.stage ≡ ScanStage.Content left }
         requires within { length run.now ≤ left }
         requires room { self.old.cursor.count + length run.now ≤ 2 ^ 63 - 1 }
         ensures { HasTaken self.old self.new run.now }
@@ -190,7 +190,7 @@ impl BundleScan {
         let rest = left - run.len() as u64;
         if rest > 0 {
             // A new stage would be written whole, padding included, after each short piece.
-            if let Stage::Content(left) = &mut self.stage {
+            if let ScanStage::Content(left) = &mut self.stage {
                 *left = rest;
             }
         } else {
@@ -210,14 +210,14 @@ impl BundleScan {
         kind: CheckKind,
         byte: u8,
     )
-        requires stage { self.old.stage ≡ Stage.Stored offset left stored block kind }
+        requires stage { self.old.stage ≡ ScanStage.Stored offset left stored block kind }
         requires room { self.old.cursor.count < 2 ^ 63 - 1 }
         ensures { HasTaken self.old self.new (byte ∷ []) }
     {
         self.cursor.content_run(self.draft.check, &[0]);
         let stored = stored * 256 + u32::from(byte);
         if left > 1 {
-            self.stage = Stage::Stored {
+            self.stage = ScanStage::Stored {
                 offset,
                 left: left - 1,
                 stored,
@@ -231,17 +231,17 @@ impl BundleScan {
             self.cursor.enter(stage);
             self.stage = stage;
         } else {
-            self.stage = Stage::Failed(BundleFault::CheckDiffers, offset);
+            self.stage = ScanStage::Failed(BundleFault::CheckDiffers, offset);
         }
     }
 
     /// Takes a byte after the bundle.
     fn trailing_byte(&mut self, byte: u8)
-        requires stage { self.old.stage ≡ Stage.Ended }
+        requires stage { self.old.stage ≡ ScanStage.Ended }
         requires room { self.old.cursor.count < 2 ^ 63 - 1 }
         ensures { HasTaken self.old self.new (byte ∷ []) }
     {
-        self.stage = Stage::Failed(BundleFault::Trailing, self.cursor.offset);
+        self.stage = ScanStage::Failed(BundleFault::Trailing, self.cursor.offset);
         self.cursor.count += 1;
     }
 
@@ -252,19 +252,19 @@ impl BundleScan {
         ensures { HasTaken self.old self.new (byte ∷ []) }
     {
         match self.stage {
-            Stage::Start => self.open(byte),
-            Stage::Head(field) => self.head_byte(field, byte),
-            Stage::Name(role, left) => self.name_run(role, left, &[byte]),
-            Stage::Content(left) => self.content_run(left, &[byte]),
-            Stage::Stored {
+            ScanStage::Start => self.open(byte),
+            ScanStage::Head(field) => self.head_byte(field, byte),
+            ScanStage::Name(role, left) => self.name_run(role, left, &[byte]),
+            ScanStage::Content(left) => self.content_run(left, &[byte]),
+            ScanStage::Stored {
                 offset,
                 left,
                 stored,
                 block,
                 kind,
             } => self.stored_byte(offset, left, stored, block, kind, byte),
-            Stage::Ended => self.trailing_byte(byte),
-            Stage::Failed(..) => unreachable!(),
+            ScanStage::Ended => self.trailing_byte(byte),
+            ScanStage::Failed(..) => unreachable!(),
         }
     }
 }
@@ -302,7 +302,7 @@ impl BundleScan {
         ensures { Advances self.old self.new piece.now result }
     {
         match self.stage {
-            Stage::Start => self.advance_start(piece),
+            ScanStage::Start => self.advance_start(piece),
             _ => self.advance_part(piece),
         }
     }
@@ -319,17 +319,17 @@ impl BundleScan {
         ensures blocks { AddsBlock self.old self.new piece.now result }
     {
         match self.stage {
-            Stage::Name(role, left) => {
+            ScanStage::Name(role, left) => {
                 let run = first_of(piece, left);
                 self.name_run(role, left, run);
                 run.len()
             }
-            Stage::Content(left) => {
+            ScanStage::Content(left) => {
                 let run = first_of(piece, left);
                 self.content_run(left, run);
                 run.len()
             }
-            Stage::Head(field) if self.cursor.offset == self.cursor.count => {
+            ScanStage::Head(field) if self.cursor.offset == self.cursor.count => {
                 self.advance_head(field, piece)
             }
             _ => {
@@ -342,7 +342,7 @@ impl BundleScan {
     /// Takes the first bytes of a bundle: the whole bundle if the piece has it, or else one byte.
     #[inline(never)]
     fn advance_start(&mut self, piece: &[u8]) -> usize
-        requires stage { self.old.stage ≡ Stage.Start }
+        requires stage { self.old.stage ≡ ScanStage.Start }
         requires may_take { MayAdvance self.old piece.now }
         ensures { Advances self.old self.new piece.now result }
     {
@@ -350,7 +350,7 @@ impl BundleScan {
             Ok(size) => {
                 self.cursor.count += size as u64;
                 self.cursor.offset = self.cursor.count;
-                self.stage = Stage::Ended;
+                self.stage = ScanStage::Ended;
                 size
             }
             Err(_) => {
@@ -364,7 +364,7 @@ impl BundleScan {
     /// Takes the first bytes of a head: the whole head if the piece has it, or else one byte.
     #[inline(never)]
     pub(crate) fn advance_head(&mut self, field: Field, piece: &[u8]) -> usize
-        requires stage { self.old.stage ≡ Stage.Head field }
+        requires stage { self.old.stage ≡ ScanStage.Head field }
         requires begins { self.old.cursor.offset ≡ self.old.cursor.count }
         requires may_take { MayAdvance self.old piece.now }
         ensures advances { Advances self.old self.new piece.now result }
@@ -437,7 +437,7 @@ impl Piecewise for BundleScan {
     fn feed(&mut self, bytes: &[u8]) -> usize {
         match self.stage {
             // Most short pieces lie inside a block's data.
-            Stage::Content(left) if left > bytes.len() as u64 => {
+            ScanStage::Content(left) if left > bytes.len() as u64 => {
                 self.content_run(left, bytes);
                 bytes.len()
             }

@@ -17,13 +17,13 @@ impl Role {
     ghost use Rattle.link_bundle.specs.Stages.{stage_after};
 
     /// The stage at the head after this endpoint ID.
-    pub fn stage_after(self) -> Stage
+    pub fn stage_after(self) -> ScanStage
         ensures { result ≡ stage_after self }
     {
         match self {
-            Role::Destination => Stage::Head(Field::Endpoint(Role::Source, Part::Array)),
-            Role::Source => Stage::Head(Field::Endpoint(Role::ReportTo, Part::Array)),
-            Role::ReportTo => Stage::Head(Field::Primary(PrimaryField::Timestamp)),
+            Role::Destination => ScanStage::Head(Field::Endpoint(Role::Source, Part::Array)),
+            Role::Source => ScanStage::Head(Field::Endpoint(Role::ReportTo, Part::Array)),
+            Role::ReportTo => ScanStage::Head(Field::Primary(PrimaryField::Timestamp)),
         }
     }
 }
@@ -93,7 +93,7 @@ pub(crate) enum Field {
 
 /// The position of a scan in its bundle.
 #[derive(Clone, Copy)]
-pub(crate) enum Stage {
+pub(crate) enum ScanStage {
     /// Before the first byte.
     Start,
     /// At a head.
@@ -118,7 +118,7 @@ pub(crate) enum Stage {
     Failed(BundleFault, u64),
 }
 
-impl Stage {
+impl ScanStage {
     ghost use Rattle.link_bundle.specs.Fits.{is_block};
     ghost use Rattle.link_bundle.specs.Left.{stage_follows};
     ghost use Rattle.link_bundle.specs.Stages.{stage_state};
@@ -128,8 +128,8 @@ impl Stage {
         ensures { result ≡ stage_state self }
     {
         match self {
-            Stage::Ended => State::Ended,
-            Stage::Failed(fault, offset) => State::Failed(fault, offset),
+            ScanStage::Ended => State::Ended,
+            ScanStage::Failed(fault, offset) => State::Failed(fault, offset),
             _ => State::Going,
         }
     }
@@ -139,8 +139,8 @@ impl Stage {
         ensures { result ≡ is_block self }
     {
         match self {
-            Stage::Head(Field::Primary(PrimaryField::Block)) => true,
-            Stage::Head(Field::Canonical(CanonicalField::Block)) => true,
+            ScanStage::Head(Field::Primary(PrimaryField::Block)) => true,
+            ScanStage::Head(Field::Canonical(CanonicalField::Block)) => true,
             _ => false,
         }
     }
@@ -150,8 +150,8 @@ impl Stage {
         ensures { result ≡ stage_follows self }
     {
         match self {
-            Stage::Head(Field::Canonical(CanonicalField::Block)) => true,
-            Stage::Head(Field::Closing) => true,
+            ScanStage::Head(Field::Canonical(CanonicalField::Block)) => true,
+            ScanStage::Head(Field::Closing) => true,
             _ => false,
         }
     }

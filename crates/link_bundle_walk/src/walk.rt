@@ -3,7 +3,7 @@
 ghost use Rattle.std.specs.Prelude.{◌≡◌, ◌<◌, ◌≤◌, false, true, [], if◌then◌else◌, IsTrue, List, length, ℕ};
 ghost use Rattle.link_wire.specs.Source.{at_hand};
 ghost use Rattle.link_run.specs.Made.{tool_of};
-ghost use Rattle.link_run.specs.Reading.{inner_of, CallWaits};
+ghost use Rattle.link_run.specs.Reading.{feed_of, CallWaits};
 ghost use Rattle.link_run.specs.Run.{Devices, devices_at, looks};
 ghost use Rattle.link_run.specs.Stages.{AfterStage, IsMore, Stands};
 ghost use Rattle.link_run.specs.Writers.{place_of};
@@ -101,15 +101,15 @@ fn take_bytes<R: InDevice, W: OutDevice, E: OutDevice, C: BundleConsumer>(
     ensures fits { IsMore result → IsTrue (C.fits walker.new.consumer) }
     ensures gives { (start : Devices R W E) (history : List ℕ)
         → Stands (looks R.state W.state E.state) (told_of (C.telling options.now)) start true
-        (place_of (inner_of input.old) writers.old) history
+        (place_of (feed_of input.old) writers.old) history
         → Walks R.state (C.telling options.now) (C.knows options.now walker.old.consumer)
-        walker.old.current (inner_of input.old) history
+        walker.old.current (feed_of input.old) history
         → AfterStage (looks R.state W.state E.state) (told_of (C.telling options.now)) start true
-        (place_of (inner_of input.old) writers.old) (place_of (inner_of input.new) writers.new)
+        (place_of (feed_of input.old) writers.old) (place_of (feed_of input.new) writers.new)
         (Walks R.state (C.telling options.now) (C.knows options.now walker.new.consumer)
-        walker.new.current (inner_of input.new)) most history result }
+        walker.new.current (feed_of input.new)) most history result }
     ensures waits { CallWaits (looks R.state W.state E.state) (λ source. source)
-        (0 < length (at_hand R.state (inner_of input.old))) input.old input.new writers.old }
+        (0 < length (at_hand R.state (feed_of input.old))) input.old input.new writers.old }
 {
     let ready = match input.ready_bytes(writers) {
         Ok(0) => return Progress::ended(finish(options, writers, walker)),

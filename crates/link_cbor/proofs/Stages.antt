@@ -7,8 +7,8 @@ use Rattle.std.proofs.Math.Nat.{pow-suc, pow-le-pow_right, one-le-pow}
 use Rattle.std.proofs.Math.Pow.{pow_mono}
 use Rattle.std.proofs.lemmas.Nat.{and_mask}
 use Rattle.std.specs.Int.Bits.{bit_and}
-use Rattle.link_cbor.specs.declared.head_scan.Stage.{Stage}
-use Rattle.link_cbor.specs.declared.head_scan.Stage.TheVariants.{Start, Argument, Simple, Whole as WholeHead, IllFormed as NoHead}
+use Rattle.link_cbor.specs.declared.head_scan.HeadStage.{HeadStage}
+use Rattle.link_cbor.specs.declared.head_scan.HeadStage.TheVariants.{Start, Argument, Simple, Whole as WholeHead, IllFormed as NoHead}
 use Rattle.link_cbor.specs.declared.head.HeadStep.{HeadStep}
 use Rattle.link_cbor.specs.declared.head.HeadStep.TheVariants.{More, Done, Bad}
 use Rattle.link_cbor.specs.Head.{Cut, Whole, big_endian, head_front, front_by_step, step_at, step_of, argument_front, with_argument, no_argument, front_by}
@@ -52,7 +52,7 @@ stage_fits-argument count major left value facts =
     ) refl
 
 -- the outcome of a scan is the head that the bytes seen begin with
-outcome_from : (count : ℕ) (stage : Stage) → head_stage_fits count stage ≡ true
+outcome_from : (count : ℕ) (stage : HeadStage) → head_stage_fits count stage ≡ true
     → front_from count stage [] ≡ front_by_step (stage_step stage) count
 unfolding front_from head_front argument_front
 outcome_from count Start fits = refl
@@ -67,7 +67,7 @@ step_at_front More size = refl
 step_at_front (Done head) size = refl
 step_at_front Bad size = refl
 
-pub outcome_front : (count : ℕ) (stage : Stage) (seen : List ℕ) → count ≡ length seen
+pub outcome_front : (count : ℕ) (stage : HeadStage) (seen : List ℕ) → count ≡ length seen
     → DeterminesHead count stage (λ more. head_front (seen ++ more))
     → head_front seen ≡ front_by_step (stage_step stage) (length seen)
 outcome_front count stage seen size stands =
@@ -75,7 +75,7 @@ outcome_front count stage seen size stands =
     ∙ ap (front_by_step (stage_step stage)) size
 
 -- the outcome at a stage is that of a scan of these bytes
-pub outcome_step : (stage : Stage) (seen : List ℕ)
+pub outcome_step : (stage : HeadStage) (seen : List ℕ)
     → head_front seen ≡ front_by_step (stage_step stage) (length seen) → stage_step stage ≡ step_of seen
 outcome_step stage seen front =
     sym (ap step_at front ∙ step_at_front (stage_step stage) (length seen))
@@ -275,7 +275,7 @@ stands-reserved major information least below = record {
   reads = λ more. front_by-reserved major information more least below;
 }
 
-stands-unargued : (stage : Stage) (major information : ℕ) → 31 ≤ information
+stands-unargued : (stage : HeadStage) (major information : ℕ) → 31 ≤ information
     → DeterminesHead 1 stage (λ _. no_argument major)
     → DeterminesHead 1 stage (front_by major information)
 stands-unargued stage major information least stands = record {
@@ -351,7 +351,7 @@ stands-argued major information left least below other is =
     }
 
 -- the first byte's major type and additional information determine the stage after it
-first_reads : (first : ℕ) (stage : Stage)
+first_reads : (first : ℕ) (stage : HeadStage)
     → DeterminesHead 1 stage (front_by (first / 32) (bit_and first 31))
     → DeterminesHead 1 stage (λ more. head_front (first ∷ more))
 unfolding head_front
@@ -387,14 +387,14 @@ pub begins-reserved : (first : ℕ) → 28 ≤ bit_and first 31 → bit_and firs
 begins-reserved first least below =
     first_reads first NoHead (stands-reserved (first / 32) (bit_and first 31) least below)
 
-pub begins-unargued : (first : ℕ) (stage : Stage) → bit_and first 31 ≡ 31
+pub begins-unargued : (first : ℕ) (stage : HeadStage) → bit_and first 31 ≡ 31
     → DeterminesHead 1 stage (λ _. no_argument (first / 32))
     → DeterminesHead 1 stage (λ more. head_front (first ∷ more))
 begins-unargued first stage is stands =
     first_reads first stage (stands-unargued stage (first / 32) (bit_and first 31)
     (omega arith) stands)
 
-pub begins-start : (count : ℕ) (stage : Stage) (byte : ℕ) → head_stage_fits count Start ≡ true
+pub begins-start : (count : ℕ) (stage : HeadStage) (byte : ℕ) → head_stage_fits count Start ≡ true
     → DeterminesHead 1 stage (λ more. head_front (byte ∷ more))
     → DeterminesHead (count + 1) stage (λ more. front_from count Start (byte ∷ more))
 unfolding head_stage_fits front_from
@@ -416,7 +416,7 @@ stands-right major two not_six =
 
 -- ---- the history, with one more byte
 
-pub scanned_more : (count : ℕ) (stage next : Stage) (seen : List ℕ) (byte : ℕ)
+pub scanned_more : (count : ℕ) (stage next : HeadStage) (seen : List ℕ) (byte : ℕ)
     → DeterminesHead count stage (λ more. head_front (seen ++ more))
     → DeterminesHead (count + 1) next (λ more. front_from count stage (byte ∷ more))
     → DeterminesHead (count + 1) next (λ more. head_front ((seen ++ byte ∷ []) ++ more))
@@ -432,7 +432,7 @@ scanned_none = record { fits = refl; reads = λ more. refl }
 
 -- ---- how many bytes
 
-pub count_fits : (count : ℕ) (stage : Stage) → head_stage_fits count stage ≡ true → count ≤ 9
+pub count_fits : (count : ℕ) (stage : HeadStage) → head_stage_fits count stage ≡ true → count ≤ 9
 unfolding head_stage_fits
 count_fits count Start fits = omega (arith, eqb-true count 0 fits)
 count_fits count (Argument major left value) fits =

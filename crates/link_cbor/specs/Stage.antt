@@ -3,12 +3,12 @@
 use Rattle.std.specs.Prelude.{◌≡◌, IsTrue, ℕ, ◌+◌, ◌-◌, ◌*◌, ◌^◌, Bool, true, false, ◌&&◌, ◌==◌, nat_lt, nat_le, List, length, take, Some, if◌then◌else◌}
 use Rattle.link_cbor.specs.declared.head.HeadStep.{HeadStep}
 use Rattle.link_cbor.specs.declared.head.HeadStep.TheVariants.{More, Done, Bad}
-use Rattle.link_cbor.specs.declared.head_scan.Stage.{Stage}
-use Rattle.link_cbor.specs.declared.head_scan.Stage.TheVariants.{Start, Argument, Simple, Whole as WholeHead, IllFormed as NoHead}
+use Rattle.link_cbor.specs.declared.head_scan.HeadStage.{HeadStage}
+use Rattle.link_cbor.specs.declared.head_scan.HeadStage.TheVariants.{Start, Argument, Simple, Whole as WholeHead, IllFormed as NoHead}
 use Rattle.link_cbor.specs.Head.{HeadFront, Cut, IllFormed, Whole, big_endian, head_front, argument_front}
 
 -- the head at this stage after `count` bytes, if the bytes `more` follow
-unfoldable pub front_from : ℕ → Stage → List ℕ → HeadFront
+unfoldable pub front_from : ℕ → HeadStage → List ℕ → HeadFront
 front_from count Start more = head_front more
 front_from count (Argument major left value) more =
     if nat_lt (length more) left then Cut else
@@ -21,13 +21,13 @@ front_from count (WholeHead head) more = Whole head count
 front_from count NoHead more = IllFormed
 
 -- the stage in an argument whose bytes seen encode `value`, if `left` more are needed
-abbrev pub in_argument : ℕ → ℕ → ℕ → Stage
+abbrev pub in_argument : ℕ → ℕ → ℕ → HeadStage
 in_argument major left value =
     if nat_lt 0 left then Argument major left value
     else WholeHead (record { major = major; value = Some value })
 
 -- whether more bytes are needed
-abbrev pub wants_more : Stage → Bool
+abbrev pub wants_more : HeadStage → Bool
 wants_more Start = true
 wants_more (Argument major left value) = true
 wants_more Simple = true
@@ -35,7 +35,7 @@ wants_more (WholeHead head) = false
 wants_more NoHead = false
 
 -- the outcome at this stage
-abbrev pub stage_step : Stage → HeadStep
+abbrev pub stage_step : HeadStage → HeadStep
 stage_step Start = More
 stage_step (Argument major left value) = More
 stage_step Simple = More
@@ -44,7 +44,7 @@ stage_step NoHead = Bad
 
 -- The bounds that keep the argument in 64 bits. An argument has at most eight bytes, and those seen
 -- encode `value`.
-unfoldable pub head_stage_fits : ℕ → Stage → Bool
+unfoldable pub head_stage_fits : ℕ → HeadStage → Bool
 head_stage_fits count Start = count == 0
 head_stage_fits count (Argument major left value) =
     nat_lt 0 left && (nat_le left 8 && (nat_le (count + left) 9 && nat_lt value (256 ^ (8 - left))))
@@ -54,6 +54,6 @@ head_stage_fits count NoHead = nat_le count 9
 
 -- The stage is that of a scan which has seen `count` bytes. For all bytes that follow, `reading` is
 -- the head that the stage determines.
-pub record DeterminesHead (count : ℕ) (stage : Stage) (reading : List ℕ → HeadFront) : Type 0 where
+pub record DeterminesHead (count : ℕ) (stage : HeadStage) (reading : List ℕ → HeadFront) : Type 0 where
   pub fits : IsTrue (head_stage_fits count stage)
   pub reads : (more : List ℕ) → reading more ≡ front_from count stage more

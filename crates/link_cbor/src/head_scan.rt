@@ -7,7 +7,7 @@ use crate::piecewise::Piecewise;
 
 /// How far a scan has read its head.
 #[derive(Clone, Copy, PartialEq, Eq, Debug)]
-enum Stage {
+enum HeadStage {
     /// No byte has been seen.
     Start,
     /// The argument bytes seen encode `value`, and `left` more are needed.
@@ -24,7 +24,7 @@ const SIMPLE_IN_NEXT_BYTE: u8 = 0xf8;
 /// The least simple value that two bytes may encode (RFC 8949 section 3.3).
 const LEAST_IN_NEXT_BYTE: u8 = 32;
 
-impl Stage {
+impl HeadStage {
     ghost use Rattle.link_cbor.specs.Head.{head_front, no_argument};
     ghost use Rattle.link_cbor.specs.Stage.{stage_step, in_argument, DeterminesHead};
 
@@ -33,8 +33,8 @@ impl Stage {
         ensures { result ≡ stage_step self }
     {
         match self {
-            Stage::Whole(head) => HeadStep::Done(head),
-            Stage::IllFormed => HeadStep::Bad,
+            HeadStage::Whole(head) => HeadStep::Done(head),
+            HeadStage::IllFormed => HeadStep::Bad,
             _ => HeadStep::More,
         }
     }
@@ -42,50 +42,50 @@ impl Stage {
     /// The stage after the first byte of a head.
     ///
     /// The top three bits are the major type, and the low five bits are the additional information.
-    fn begin(first: u8) -> Stage
+    fn begin(first: u8) -> HeadStage
         ensures { DeterminesHead 1 result (λ more. head_front (first ∷ more)) }
     {
         let major = first >> 5;
         let information = first & 0x1f;
         match information {
-            0..=23 => Stage::Whole(Head {
+            0..=23 => HeadStage::Whole(Head {
                 major,
                 value: Some(u64::from(information)),
             }),
-            24..=27 if first == SIMPLE_IN_NEXT_BYTE => Stage::Simple,
-            24..=27 => Stage::Argument {
+            24..=27 if first == SIMPLE_IN_NEXT_BYTE => HeadStage::Simple,
+            24..=27 => HeadStage::Argument {
                 major,
                 left: 1 << (information - 24),
                 value: 0,
             },
-            31 => Stage::without_argument(major),
-            _ => Stage::IllFormed,
+            31 => HeadStage::without_argument(major),
+            _ => HeadStage::IllFormed,
         }
     }
 
     /// The stage in an argument whose bytes seen encode `value`; `left` more are needed.
     #[inline(always)]
-    fn in_argument(major: u8, left: u8, value: u64) -> Stage
+    fn in_argument(major: u8, left: u8, value: u64) -> HeadStage
         ensures { result ≡ in_argument major left value }
     {
         if left > 0 {
-            return Stage::Argument { major, left, value };
+            return HeadStage::Argument { major, left, value };
         }
         let value = Some(value);
-        Stage::Whole(Head { major, value })
+        HeadStage::Whole(Head { major, value })
     }
 
     /// The stage after a first byte with additional information 31.
     ///
     /// The head has an indefinite length or is the break. For major types 0, 1 and 6 it is
     /// ill-formed.
-    fn without_argument(major: u8) -> Stage
+    fn without_argument(major: u8) -> HeadStage
         ensures { DeterminesHead 1 result (λ _. no_argument major) }
     {
         if major < 2 || major == 6 {
-            Stage::IllFormed
+            HeadStage::IllFormed
         } else {
-            Stage::Whole(Head { major, value: None })
+            HeadStage::Whole(Head { major, value: None })
         }
     }
 }
@@ -97,7 +97,7 @@ impl Stage {
 #[derive(Clone, Copy, Debug)]
 pub struct HeadScan {
     count: u8,
-    stage: Stage,
+    stage: HeadStage,
     ghost fits: { IsTrue (head_stage_fits count stage) },
 }
 
@@ -115,7 +115,7 @@ impl HeadScan {
     {
         HeadScan {
             count: 0,
-            stage: Stage::Start,
+            stage: HeadStage::Start,
         }
     }
 
@@ -129,19 +129,19 @@ impl HeadScan {
         self.stage.outcome()
     }
 
-    fn next_stage(&self, byte: u8) -> Stage
+    fn next_stage(&self, byte: u8) -> HeadStage
         requires { IsTrue (may_scan_head self.now) }
         ensures { DeterminesHead (self.now.count + 1) result
             (λ more. front_from self.now.count self.now.stage (byte ∷ more)) }
     {
         match self.stage {
-            Stage::Start => Stage::begin(byte),
-            Stage::Argument { major, left, value } => {
+            HeadStage::Start => HeadStage::begin(byte),
+            HeadStage::Argument { major, left, value } => {
                 let value = value * 256 + u64::from(byte);
-                Stage::in_argument(major, left - 1, value)
+                HeadStage::in_argument(major, left - 1, value)
             }
-            Stage::Simple if byte < LEAST_IN_NEXT_BYTE => Stage::IllFormed,
-            Stage::Simple => Stage::in_argument(7, 0, u64::from(byte)),
+            HeadStage::Simple if byte < LEAST_IN_NEXT_BYTE => HeadStage::IllFormed,
+            HeadStage::Simple => HeadStage::in_argument(7, 0, u64::from(byte)),
             ended => ended,
         }
     }

@@ -3,7 +3,7 @@
 ghost use Rattle.std.specs.Prelude.{◌≡◌, ◌<◌, ◌≤◌, true, false, [], IsTrue, List, ℕ};
 ghost use Rattle.link_wire.specs.Session.{may_open, may_read, is_opened, left_of, source_of, IsSessionAt};
 ghost use Rattle.link_wire.specs.Source.{given_by};
-ghost use Rattle.link_run.specs.Reading.{inner_of, SessionWaits, Unread};
+ghost use Rattle.link_run.specs.Reading.{feed_of, SessionWaits, Unread};
 ghost use Rattle.link_run.specs.Run.{Texts, Devices, devices_at, looks, AfterRun};
 ghost use Rattle.link_run.specs.Stages.{Stands, AfterStage, IsMore};
 ghost use Rattle.link_run.specs.Writers.{AfterWrite, on_output, place_of};
@@ -99,21 +99,21 @@ fn step<R: InDevice, W: OutDevice, E: OutDevice>(
     input: &mut Input<Session<R>, W, E>,
     writers: &mut Writers<W, E>,
 ) -> Result<Progress, IoFault>
-    requires fits { IsTrue (may_go_on tool.old.stage (inner_of input.old)) }
+    requires fits { IsTrue (may_go_on tool.old.stage (feed_of input.old)) }
     requires piece { 0 < piece }
-    ensures fits { IsMore result → IsTrue (may_go_on tool.new.stage (inner_of input.new)) }
+    ensures fits { IsMore result → IsTrue (may_go_on tool.new.stage (feed_of input.new)) }
     ensures gives { (start : Devices R W E) (history : List ℕ)
         → Stands (looks R.state W.state E.state) listing_of start true
-        (place_of (source_of (inner_of input.old)) writers.old) history
-        → IsListing R.state tool.old.stage (latest_line tool.old.latest) (inner_of input.old)
+        (place_of (source_of (feed_of input.old)) writers.old) history
+        → IsListing R.state tool.old.stage (latest_line tool.old.latest) (feed_of input.old)
         history
         → AfterStepOrStride (looks R.state W.state E.state) start piece far tool.old.stage
-        (place_of (source_of (inner_of input.old)) writers.old)
-        (place_of (source_of (inner_of input.new)) writers.new)
-        (IsListing R.state tool.new.stage (latest_line tool.new.latest) (inner_of input.new))
+        (place_of (source_of (feed_of input.old)) writers.old)
+        (place_of (source_of (feed_of input.new)) writers.new)
+        (IsListing R.state tool.new.stage (latest_line tool.new.latest) (feed_of input.new))
         history result }
     ensures waits { (history : List ℕ)
-        → IsListing R.state tool.old.stage (latest_line tool.old.latest) (inner_of input.old)
+        → IsListing R.state tool.old.stage (latest_line tool.old.latest) (feed_of input.old)
         history
         → SessionWaits (looks R.state W.state E.state) input.old input.new writers.old }
 {
@@ -136,20 +136,20 @@ fn read_on<R: InDevice, W: OutDevice, E: OutDevice>(
     latest: &mut Latest,
 ) -> Next
     requires going { stage ≡ Stage.Contact → ⊥ }
-    requires fits { IsTrue (may_go_on stage (inner_of input.old)) }
+    requires fits { IsTrue (may_go_on stage (feed_of input.old)) }
     requires piece { 0 < piece }
-    ensures fits { IsTrue (may_follow result (inner_of input.new)) }
+    ensures fits { IsTrue (may_follow result (feed_of input.new)) }
     ensures gives { (start : Devices R W E) (history : List ℕ)
         → Stands (looks R.state W.state E.state) listing_of start true
-        (place_of (source_of (inner_of input.old)) writers.old) history
-        → IsListing R.state stage (latest_line latest.old) (inner_of input.old) history
+        (place_of (source_of (feed_of input.old)) writers.old) history
+        → IsListing R.state stage (latest_line latest.old) (feed_of input.old) history
         → AfterStepOrStride (looks R.state W.state E.state) start piece far stage
-        (place_of (source_of (inner_of input.old)) writers.old)
-        (place_of (source_of (inner_of input.new)) writers.new)
+        (place_of (source_of (feed_of input.old)) writers.old)
+        (place_of (source_of (feed_of input.new)) writers.new)
         (IsListing R.state (stage_after stage result) (latest_line latest.new)
-        (inner_of input.new)) history (progress_of result) }
+        (feed_of input.new)) history (progress_of result) }
     ensures waits { (history : List ℕ)
-        → IsListing R.state stage (latest_line latest.old) (inner_of input.old) history
+        → IsListing R.state stage (latest_line latest.old) (feed_of input.old) history
         → SessionWaits (looks R.state W.state E.state) input.old input.new writers.old }
 {
     let next = advance(stage, piece, input, writers, latest);
@@ -183,16 +183,16 @@ fn list_contact<R: InDevice, W: OutDevice, E: OutDevice>(
     input: &mut Input<Session<R>, W, E>,
     writers: &mut Writers<W, E>,
 ) -> Result<Progress, IoFault>
-    requires { IsTrue (may_open (inner_of input.old)) }
-    ensures fits { IsMore result → IsTrue (may_read (inner_of input.new)) }
+    requires { IsTrue (may_open (feed_of input.old)) }
+    ensures fits { IsMore result → IsTrue (may_read (feed_of input.new)) }
     ensures gives { (start : Devices R W E) (line history : List ℕ)
         → Stands (looks R.state W.state E.state) listing_of start true
-        (place_of (source_of (inner_of input.old)) writers.old) history
-        → Begins R.state (inner_of input.old) history
+        (place_of (source_of (feed_of input.old)) writers.old) history
+        → Begins R.state (feed_of input.old) history
         → AfterStage (looks R.state W.state E.state) listing_of start true
-        (place_of (source_of (inner_of input.old)) writers.old)
-        (place_of (source_of (inner_of input.new)) writers.new)
-        (Lists R.state Stage.Message line (inner_of input.new)) 6 history result }
+        (place_of (source_of (feed_of input.old)) writers.old)
+        (place_of (source_of (feed_of input.new)) writers.new)
+        (Lists R.state Stage.Message line (feed_of input.new)) 6 history result }
     ensures waits { SessionWaits (looks R.state W.state E.state) input.old input.new writers.old }
 {
     match input.open() {
@@ -216,17 +216,17 @@ fn advance<R: InDevice, W: OutDevice, E: OutDevice>(
     latest: &mut Latest,
 ) -> Next
     requires going { stage ≡ Stage.Contact → ⊥ }
-    requires fits { IsTrue (may_go_on stage (inner_of input.old)) }
+    requires fits { IsTrue (may_go_on stage (feed_of input.old)) }
     requires piece { 0 < piece }
-    ensures fits { IsTrue (may_follow result (inner_of input.new)) }
+    ensures fits { IsTrue (may_follow result (feed_of input.new)) }
     ensures gives { (start : Devices R W E) (history : List ℕ)
         → Stands (looks R.state W.state E.state) listing_of start true
-        (place_of (source_of (inner_of input.old)) writers.old) history
-        → IsListing R.state stage (latest_line latest.old) (inner_of input.old) history
-        → AfterRead (looks R.state W.state E.state) start piece stage (inner_of input.old)
-        (inner_of input.new) writers.new (latest_line latest.new) history result }
+        (place_of (source_of (feed_of input.old)) writers.old) history
+        → IsListing R.state stage (latest_line latest.old) (feed_of input.old) history
+        → AfterRead (looks R.state W.state E.state) start piece stage (feed_of input.old)
+        (feed_of input.new) writers.new (latest_line latest.new) history result }
     ensures waits { (history : List ℕ)
-        → IsListing R.state stage (latest_line latest.old) (inner_of input.old) history
+        → IsListing R.state stage (latest_line latest.old) (feed_of input.old) history
         → SessionWaits (looks R.state W.state E.state) input.old input.new writers.old }
 {
     match stage {
@@ -242,16 +242,16 @@ fn read_message<R: InDevice, W: OutDevice, E: OutDevice>(
     writers: &mut Writers<W, E>,
     latest: &mut Latest,
 ) -> Next
-    requires { IsTrue (may_read (inner_of input.old)) }
-    ensures fits { IsTrue (may_follow result (inner_of input.new)) }
+    requires { IsTrue (may_read (feed_of input.old)) }
+    ensures fits { IsTrue (may_follow result (feed_of input.new)) }
     ensures gives { (start : Devices R W E) (piece : ℕ) (history : List ℕ)
         → Stands (looks R.state W.state E.state) listing_of start true
-        (place_of (source_of (inner_of input.old)) writers.old) history
-        → Lists R.state Stage.Message (latest_line latest.old) (inner_of input.old) history
-        → AfterRead (looks R.state W.state E.state) start piece Stage.Message (inner_of input.old)
-        (inner_of input.new) writers.new (latest_line latest.new) history result }
+        (place_of (source_of (feed_of input.old)) writers.old) history
+        → Lists R.state Stage.Message (latest_line latest.old) (feed_of input.old) history
+        → AfterRead (looks R.state W.state E.state) start piece Stage.Message (feed_of input.old)
+        (feed_of input.new) writers.new (latest_line latest.new) history result }
     ensures waits { (history : List ℕ)
-        → Lists R.state Stage.Message (latest_line latest.old) (inner_of input.old) history
+        → Lists R.state Stage.Message (latest_line latest.old) (feed_of input.old) history
         → SessionWaits (looks R.state W.state E.state) input.old input.new writers.old }
 {
     match input.next_message(writers, &mut latest.message) {
@@ -271,17 +271,17 @@ fn pass_data<R: InDevice, W: OutDevice, E: OutDevice>(
     input: &mut Input<Session<R>, W, E>,
     writers: &mut Writers<W, E>,
 ) -> Next
-    requires opened { IsTrue (is_opened (inner_of input.old)) }
+    requires opened { IsTrue (is_opened (feed_of input.old)) }
     requires piece { 0 < piece }
-    ensures fits { IsTrue (may_follow result (inner_of input.new)) }
+    ensures fits { IsTrue (may_follow result (feed_of input.new)) }
     ensures gives { (start : Devices R W E) (line history : List ℕ)
         → Stands (looks R.state W.state E.state) listing_of start true
-        (place_of (source_of (inner_of input.old)) writers.old) history
-        → Lists R.state Stage.Data line (inner_of input.old) history
-        → AfterRead (looks R.state W.state E.state) start piece Stage.Data (inner_of input.old)
-        (inner_of input.new) writers.new line history result }
+        (place_of (source_of (feed_of input.old)) writers.old) history
+        → Lists R.state Stage.Data line (feed_of input.old) history
+        → AfterRead (looks R.state W.state E.state) start piece Stage.Data (feed_of input.old)
+        (feed_of input.new) writers.new line history result }
     ensures waits { (line history : List ℕ)
-        → Lists R.state Stage.Data line (inner_of input.old) history
+        → Lists R.state Stage.Data line (feed_of input.old) history
         → SessionWaits (looks R.state W.state E.state) input.old input.new writers.old }
 {
     match input.load_data(writers) {
@@ -296,9 +296,9 @@ fn pass_data<R: InDevice, W: OutDevice, E: OutDevice>(
 /// Returns the stage that comes next: that of data if more of the message's data is to come.
 #[inline(always)]
 fn go_on<R: InDevice, W: OutDevice, E: OutDevice>(input: &Input<Session<R>, W, E>) -> Next
-    requires { IsTrue (is_opened (inner_of input.now)) }
-    ensures fits { IsTrue (may_follow result (inner_of input.now)) }
-    ensures goes { WaitsForData (left_of (inner_of input.now)) result }
+    requires { IsTrue (is_opened (feed_of input.now)) }
+    ensures fits { IsTrue (may_follow result (feed_of input.now)) }
+    ensures goes { WaitsForData (left_of (feed_of input.now)) result }
 {
     if input.left() > 0 {
         return Next::Stage(Stage::Data);
@@ -317,13 +317,13 @@ fn write_lines<R: InDevice, W: OutDevice, E: OutDevice>(
     writers: &mut Writers<W, E>,
     latest: &mut Latest,
 ) -> Next
-    requires { IsTrue (may_read (inner_of input.old)) }
-    ensures fits { IsTrue (may_follow result (inner_of input.new)) }
+    requires { IsTrue (may_read (feed_of input.old)) }
+    ensures fits { IsTrue (may_follow result (feed_of input.new)) }
     ensures near { far ≡ false → input.new ≡ input.old }
     ensures gives { (first : Texts) (history : List ℕ)
-        → IsListedTo R.state first (inner_of input.old) (latest_line latest.old) history
-        → AfterLines (looks R.state W.state E.state) first (inner_of input.old)
-        (inner_of input.new) writers.old writers.new (latest_line latest.new) history result }
+        → IsListedTo R.state first (feed_of input.old) (latest_line latest.old) history
+        → AfterLines (looks R.state W.state E.state) first (feed_of input.old)
+        (feed_of input.new) writers.old writers.new (latest_line latest.new) history result }
     ensures unread { Unread R.state source_of input.old input.new }
 {
     'lines: loop {
@@ -348,15 +348,15 @@ fn write_lines<R: InDevice, W: OutDevice, E: OutDevice>(
 /// to come.
 #[inline(always)]
 fn pass_here<R: InDevice, W: OutDevice, E: OutDevice>(input: &mut Input<Session<R>, W, E>) -> bool
-    requires { IsTrue (is_opened (inner_of input.old)) }
-    ensures opened { IsTrue (is_opened (inner_of input.new)) }
-    ensures may_read { result ≡ true → IsTrue (may_read (inner_of input.new)) }
-    ensures whole { result ≡ true → left_of (inner_of input.new) ≡ 0 }
-    ensures part { result ≡ false → 0 < left_of (inner_of input.new) }
-    ensures gives { (history : List ℕ) → IsSessionAt R.state (inner_of input.old) history
-        → PassesHere R.state (inner_of input.old) (inner_of input.new) history }
-    ensures count { given_by (source_of (inner_of input.old))
-        ≤ given_by (source_of (inner_of input.new)) }
+    requires { IsTrue (is_opened (feed_of input.old)) }
+    ensures opened { IsTrue (is_opened (feed_of input.new)) }
+    ensures may_read { result ≡ true → IsTrue (may_read (feed_of input.new)) }
+    ensures whole { result ≡ true → left_of (feed_of input.new) ≡ 0 }
+    ensures part { result ≡ false → 0 < left_of (feed_of input.new) }
+    ensures gives { (history : List ℕ) → IsSessionAt R.state (feed_of input.old) history
+        → PassesHere R.state (feed_of input.old) (feed_of input.new) history }
+    ensures count { given_by (source_of (feed_of input.old))
+        ≤ given_by (source_of (feed_of input.new)) }
     ensures unread { Unread R.state source_of input.old input.new }
 {
     if input.left() == 0 {

@@ -8,7 +8,7 @@ use Rattle.link_cbor.specs.declared.{head.Head.Head as HeadItem, head_scan.HeadS
 use Rattle.link_cbor.specs.Head.{Cut, IllFormed, Whole, head_front, whole_of}
 use Rattle.link_cbor.specs.HeadScan.{HasScannedHead}
 use Rattle.link_cbor.proofs.HeadLaws.{head_alone, whole_stays, ill_formed_stays}
-use Rattle.link_rules.specs.declared.heads.{Stage.Stage, Stage.TheVariants.{Inside, Head, Ended}}
+use Rattle.link_rules.specs.declared.heads.{WalkStage.WalkStage, WalkStage.TheVariants.{Inside, Head, Ended}}
 use Rattle.link_rules.specs.declared.heads.{Found.Found, HeadWalk.HeadWalk}
 use Rattle.link_rules.specs.Heads.{content_size, is_long, is_indefinite, first_from}
 use Rattle.link_rules.specs.HeadWalk.{first_left, HasSought, HasFound, HasNoted, IsAtStage, HasSeen, HasWalked, HasTaken}
@@ -74,7 +74,7 @@ first_or None true offset rest = refl
 first_or None false offset rest = refl
 
 -- the same of both kinds of heads
-both : {found : Found} {stage after : Stage} {seen bytes : List ℕ} → HasFound found stage seen
+both : {found : Found} {stage after : WalkStage} {seen bytes : List ℕ} → HasFound found stage seen
     → ((sought : HeadItem → ℕ → Bool) (first : Option ℕ) → HasSought sought first stage seen
     → HasSought sought first after bytes)
     → HasFound found after bytes
@@ -155,10 +155,10 @@ found_next old new offset seen run head size come here whole sized noted =
 -- ---- the walk
 
 -- a walk whose stage is known
-pub at_stage : (walk : HeadWalk) (stage : Stage) (seen : List ℕ) → walk.stage ≡ stage
+pub at_stage : (walk : HeadWalk) (stage : WalkStage) (seen : List ℕ) → walk.stage ≡ stage
     → HasWalked walk seen → HasSeen stage walk.found walk.head walk.count seen
 at_stage walk stage seen is come =
-    subst (λ (stage : Stage). HasSeen stage walk.found walk.head walk.count seen) is come
+    subst (λ (stage : WalkStage). HasSeen stage walk.found walk.head walk.count seen) is come
 
 -- a count that does not wrap
 counted_more : (count size : ℕ) (seen run : List ℕ) → count ≡ length seen → size ≡ length run
@@ -311,7 +311,7 @@ taken_then old middle new run more first second = record {
 
 -- ---- what is found in the bytes seen
 
-none_left : (sought : HeadItem → ℕ → Bool) (stage : Stage) (head : HeadScan) (seen : List ℕ)
+none_left : (sought : HeadItem → ℕ → Bool) (stage : WalkStage) (head : HeadScan) (seen : List ℕ)
     → IsAtStage stage head seen → first_left sought stage seen [] ≡ None
 unfolding first_from
 none_left sought (Inside left) head seen stands = refl
@@ -323,7 +323,7 @@ or_none : (found : Option ℕ) → option_or found None ≡ found
 or_none None = refl
 or_none (Some at) = refl
 
-pub sought_now : (sought : HeadItem → ℕ → Bool) (found : Option ℕ) (stage : Stage)
+pub sought_now : (sought : HeadItem → ℕ → Bool) (found : Option ℕ) (stage : WalkStage)
     (head : HeadScan) (seen : List ℕ) → HasSought sought found stage seen
     → IsAtStage stage head seen → found ≡ first_from sought 1 0 seen
 sought_now sought found stage head seen come stands =

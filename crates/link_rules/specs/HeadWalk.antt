@@ -6,25 +6,25 @@ use Rattle.std.specs.{Bool.then_some, Option.option_or}
 use Rattle.link_cbor.specs.declared.{head.Head.Head as HeadItem, head_scan.HeadScan.HeadScan}
 use Rattle.link_cbor.specs.Head.{Cut, head_front}
 use Rattle.link_cbor.specs.HeadScan.{HasScannedHead}
-use Rattle.link_rules.specs.declared.heads.{Stage.Stage, Stage.TheVariants.{Inside, Head, Ended}}
+use Rattle.link_rules.specs.declared.heads.{WalkStage.WalkStage, WalkStage.TheVariants.{Inside, Head, Ended}}
 use Rattle.link_rules.specs.declared.heads.{Found.Found, HeadWalk.HeadWalk}
 use Rattle.link_rules.specs.Heads.{is_long, is_indefinite, first_from}
 
 -- the first head that is sought from this stage on, if `more` bytes follow those seen
-abbrev pub first_left : (HeadItem → ℕ → Bool) → Stage → (seen more : List ℕ) → Option ℕ
+abbrev pub first_left : (HeadItem → ℕ → Bool) → WalkStage → (seen more : List ℕ) → Option ℕ
 first_left sought (Inside left) seen more = first_from sought left (length seen) more
 first_left sought (Head offset) seen more = first_from sought 0 offset (drop offset seen ++ more)
 first_left sought Ended seen more = None
 
 -- Whatever bytes follow, the first head that is sought is the one found, or else the first from
 -- this stage on.
-pub record HasSought (sought : HeadItem → ℕ → Bool) (found : Option ℕ) (stage : Stage)
+pub record HasSought (sought : HeadItem → ℕ → Bool) (found : Option ℕ) (stage : WalkStage)
     (seen : List ℕ) : Type 0 where
   pub reads : (more : List ℕ)
       → first_from sought 1 0 (seen ++ more) ≡ option_or found (first_left sought stage seen more)
 
 -- what is found of both kinds of heads
-pub record HasFound (found : Found) (stage : Stage) (seen : List ℕ) : Type 0 where
+pub record HasFound (found : Found) (stage : WalkStage) (seen : List ℕ) : Type 0 where
   pub long : HasSought is_long found.long stage seen
   pub indefinite : HasSought is_indefinite found.indefinite stage seen
 
@@ -41,13 +41,13 @@ pub record IsInHead (head : HeadScan) (offset : ℕ) (seen : List ℕ) : Type 0 
   pub cut : head_front (drop offset seen) ≡ Cut
 
 -- the scan of a head at each stage
-abbrev pub IsAtStage : Stage → HeadScan → List ℕ → Type 0
+abbrev pub IsAtStage : WalkStage → HeadScan → List ℕ → Type 0
 IsAtStage (Inside left) head seen = HasScannedHead head []
 IsAtStage (Head offset) head seen = IsInHead head offset seen
 IsAtStage Ended head seen = Unit {0}
 
 -- exactly these bytes were seen
-pub record HasSeen (stage : Stage) (found : Found) (head : HeadScan) (count : ℕ)
+pub record HasSeen (stage : WalkStage) (found : Found) (head : HeadScan) (count : ℕ)
     (seen : List ℕ) : Type 0 where
   pub counted : count ≡ length seen
   pub sought : HasFound found stage seen

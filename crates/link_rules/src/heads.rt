@@ -63,7 +63,7 @@ struct Found {
 
 impl Found {
     ghost use Rattle.link_rules.specs.HeadWalk.{HasFound, HasNoted};
-    ghost use Rattle.link_rules.specs.declared.heads.Stage.TheVariants.{Inside};
+    ghost use Rattle.link_rules.specs.declared.heads.WalkStage.TheVariants.{Inside};
 
     /// Keeps the offset of a head of `size` bytes, if it is the first of its kind.
     // Inlined: most heads are one byte with a number, and such a head should cost no call.
@@ -120,7 +120,7 @@ impl Found {
 
 /// The position of a walk over the heads of a bundle.
 #[derive(Clone, Copy, Debug)]
-enum Stage {
+enum WalkStage {
     /// This many more bytes belong to the last head and to its string. Then a head begins.
     Inside(u64),
     /// The bytes seen end inside the head that begins at this offset.
@@ -138,7 +138,7 @@ enum Stage {
 /// It keeps numbers, and no bytes of the bundle.
 #[derive(Clone, Copy, Debug)]
 pub struct HeadWalk {
-    stage: Stage,
+    stage: WalkStage,
     /// The number of bytes seen.
     count: u64,
     found: Found,
@@ -156,7 +156,7 @@ impl HeadWalk {
     {
         HeadWalk {
             // The bundle's own array head is one byte.
-            stage: Stage::Inside(1),
+            stage: WalkStage::Inside(1),
             count: 0,
             found: Found {
                 long: None,
@@ -197,7 +197,7 @@ impl HeadWalk {
         ensures { (seen : List ℕ) → length (seen ++ piece.now) < 2 ^ 63 → HasWalked self.old seen
             → HasWalked self.new (seen ++ piece.now) }
     {
-        if let Stage::Inside(left) = self.stage {
+        if let WalkStage::Inside(left) = self.stage {
             if piece.len() as u64 <= left {
                 self.pass(left, piece);
                 return;
@@ -225,13 +225,13 @@ impl HeadWalk {
         ensures taken { HasTaken self.old self.new (take result piece.now) }
     {
         match self.stage {
-            Stage::Inside(0) => self.next_heads(piece),
-            Stage::Inside(left) => self.pass_first(left, piece),
-            Stage::Head(offset) => {
+            WalkStage::Inside(0) => self.next_heads(piece),
+            WalkStage::Inside(left) => self.pass_first(left, piece),
+            WalkStage::Head(offset) => {
                 self.head_byte(offset, piece[0]);
                 1
             }
-            Stage::Ended => {
+            WalkStage::Ended => {
                 self.count = self.count.wrapping_add(piece.len() as u64);
                 piece.len()
             }
@@ -241,7 +241,7 @@ impl HeadWalk {
     /// Takes the next bytes, where a head begins.
     #[inline(always)]
     fn next_heads(&mut self, piece: &[u8]) -> usize
-        requires stage { self.old.stage ≡ Stage.Inside 0 }
+        requires stage { self.old.stage ≡ WalkStage.Inside 0 }
         requires some { 0 < length piece.now }
         ensures some { 0 < result }
         ensures within { result ≤ length piece.now }
@@ -250,11 +250,11 @@ impl HeadWalk {
         let offset = self.count;
         let (taken, left) = self.found.take_heads(offset, piece);
         if taken == 0 {
-            self.stage = Stage::Head(offset);
+            self.stage = WalkStage::Head(offset);
             self.head_byte(offset, piece[0]);
             return 1;
         }
-        self.stage = Stage::Inside(left);
+        self.stage = WalkStage::Inside(left);
         self.count = offset.wrapping_add(taken as u64);
         taken
     }
@@ -262,7 +262,7 @@ impl HeadWalk {
     /// Passes over the first bytes of a piece, which belong to the last head and its string: the
     /// `left` bytes that these have more, or all.
     fn pass_first(&mut self, left: u64, piece: &[u8]) -> usize
-        requires stage { self.old.stage ≡ Stage.Inside left }
+        requires stage { self.old.stage ≡ WalkStage.Inside left }
         requires left { 0 < left }
         requires some { 0 < length piece.now }
         ensures some { 0 < result }
@@ -277,12 +277,12 @@ impl HeadWalk {
     /// Passes over a run of the last head and its string, which have `left` more bytes.
     #[inline(always)]
     fn pass(&mut self, left: u64, run: &[u8])
-        requires stage { self.old.stage ≡ Stage.Inside left }
+        requires stage { self.old.stage ≡ WalkStage.Inside left }
         requires within { length run.now ≤ left }
         ensures { HasTaken self.old self.new run.now }
     {
         let size = run.len() as u64;
-        self.stage = Stage::Inside(left - size);
+        self.stage = WalkStage::Inside(left - size);
         self.count = self.count.wrapping_add(size);
     }
 
@@ -290,7 +290,7 @@ impl HeadWalk {
     #[cold]
     #[inline(never)]
     fn head_byte(&mut self, offset: u64, byte: u8)
-        requires { self.old.stage ≡ Stage.Head offset }
+        requires { self.old.stage ≡ WalkStage.Head offset }
         ensures { HasTaken self.old self.new (byte ∷ []) }
     {
         self.count = self.count.wrapping_add(1);
@@ -298,11 +298,11 @@ impl HeadWalk {
         scan.step(byte);
         match scan.outcome() {
             HeadStep::More => self.head = scan,
-            HeadStep::Bad => self.stage = Stage::Ended,
+            HeadStep::Bad => self.stage = WalkStage::Ended,
             HeadStep::Done(head) => {
                 self.head = HeadScan::new();
                 self.found.note(offset, head, scan.count() as usize);
-                self.stage = Stage::Inside(content_size(head));
+                self.stage = WalkStage::Inside(content_size(head));
             }
         }
     }

@@ -37,8 +37,8 @@ module _ {R W E : Type 0} (look : Looks R W E)
   data_given (Err why) gives = inl (writes, gives)
 
 -- inputs are equal if what they read and their waits are
-pub input_as : {S W E : Type 0} {p q : Input S W E} → p.inner ≡ q.inner → p.waits ≡ q.waits → p ≡ q
-input_as {S} {W} {E} {p} {q} inner waits =
-    let of_inner : S → Input S W E = λ is. record { inner = is; waits = p.waits } in
-    let of_waits : Log Position (Writers W E) → Input S W E = λ are. record { inner = q.inner; waits = are } in
-    ap of_inner inner ∙ ap of_waits waits
+pub input_as : {S W E : Type 0} {p q : Input S W E} → p.feed ≡ q.feed → p.waits ≡ q.waits → p ≡ q
+input_as {S} {W} {E} {p} {q} feed waits =
+    let of_feed : S → Input S W E = λ is. record { feed = is; waits = p.waits } in
+    let of_waits : Log Position (Writers W E) → Input S W E = λ are. record { feed = q.feed; waits = are } in
+    ap of_feed feed ∙ ap of_waits waits

@@ -21,8 +21,8 @@ use Rattle.link_run.specs.declared.writers.Writers.{Writers}
 
 module _ {S W E : Type 0} where
   -- the session or the source inside an input
-  abbrev pub inner_of : Input S W E → S
-  inner_of input = input.inner
+  abbrev pub feed_of : Input S W E → S
+  feed_of input = input.feed
 
   -- when the run had to wait for this input
   abbrev pub waits_of : Input S W E → List (Wait W E)
@@ -80,7 +80,7 @@ ReadsBytes look old new before after (Err fault) =
 -- a call read nothing, and did not wait
 pub record Unread {S R W E : Type 0} (look : R → Seen) (source : S → Source R)
     (old new : Input S W E) : Type 0 where
-  pub reach : reach look (source (inner_of new)) ≡ reach look (source (inner_of old))
+  pub reach : reach look (source (feed_of new)) ≡ reach look (source (feed_of old))
   pub waits : waits_of new ≡ waits_of old
 
 -- A call waits at most once, before it reads, and after all that was written was handed on. No wait
@@ -88,47 +88,47 @@ pub record Unread {S R W E : Type 0} (look : R → Seen) (source : S → Source 
 abbrev pub CallWaits : {S R W E : Type 0} → Looks R W E → (source : S → Source R)
     → (enough : Type 0) → (old new : Input S W E) → (before : Writers W E) → Type 0
 CallWaits look source enough old new before =
-    WaitsOnce (IsSpared look.input enough (source (inner_of old)) (source (inner_of new)))
-    (waits_of old) (waits_of new) (IsWaitAt look (place_of (source (inner_of old)) before))
+    WaitsOnce (IsSpared look.input enough (source (feed_of old)) (source (feed_of new)))
+    (waits_of old) (waits_of new) (IsWaitAt look (place_of (source (feed_of old)) before))
 
 -- the same for a call of a session
 abbrev pub SessionWaits : {R W E : Type 0} → Looks R W E → (old new : Input (Session R) W E)
     → (before : Writers W E) → Type 0
 SessionWaits look old new before =
-    CallWaits look source_of (HasEnough look.input (inner_of old)) old new before
+    CallWaits look source_of (HasEnough look.input (feed_of old)) old new before
 
 -- what holds after a call that reads the head of the next message into `message`
 pub record GetsMessage {R W E : Type 0} (look : Looks R W E)
     (old new : Input (Session R) W E) (before after : Writers W E)
     (message : MessageBuffer) (result : Result (Option ℕ) Stop) : Type 0 where
-  pub opened : IsTrue (is_opened (inner_of new))
-  pub gives : (history : List ℕ) → IsSessionAt look.input (inner_of old) history
-      → ReadsMessage look (inner_of old) (inner_of new) before after history
+  pub opened : IsTrue (is_opened (feed_of new))
+  pub gives : (history : List ℕ) → IsSessionAt look.input (feed_of old) history
+      → ReadsMessage look (feed_of old) (feed_of new) before after history
       (with_message_read (message_of message) result)
-  pub waits : (history : List ℕ) → IsSessionAt look.input (inner_of old) history
+  pub waits : (history : List ℕ) → IsSessionAt look.input (feed_of old) history
       → SessionWaits look old new before
   -- the items of a segment have their totals
   pub totals : IfOk result (λ got. IfSome got (λ offset. SegmentHasTotals message))
-  pub left : IfErr result (λ why. left_of (inner_of new) ≡ left_of (inner_of old))
+  pub left : IfErr result (λ why. left_of (feed_of new) ≡ left_of (feed_of old))
   pub line : next_line after ≡ next_line before
-  pub stopped : (why : Stop) → HasStopped (inner_of old) why
+  pub stopped : (why : Stop) → HasStopped (feed_of old) why
       → (new ≡ old) × (after ≡ before) × (result ≡ Err why)
 
 -- what holds after a call that makes data of the segment ready
 pub record GetsData {R W E : Type 0} (look : Looks R W E)
     (old new : Input (Session R) W E) (before after : Writers W E)
     (result : Result ℕ Stop) : Type 0 where
-  pub size : IfOk result (λ n. n ≡ length (data_in look.input (inner_of new)))
+  pub size : IfOk result (λ n. n ≡ length (data_in look.input (feed_of new)))
   -- if data is at hand already, nothing is handed on
-  pub here : 0 < length (data_in look.input (inner_of old)) → after ≡ before
-  pub opened : IsTrue (is_opened (inner_of old)) → IsTrue (is_opened (inner_of new))
-  pub gives : (history : List ℕ) → IsSessionAt look.input (inner_of old) history
-      → ReadsData look (inner_of old) (inner_of new) before after history result
-  pub waits : (history : List ℕ) → IsSessionAt look.input (inner_of old) history
+  pub here : 0 < length (data_in look.input (feed_of old)) → after ≡ before
+  pub opened : IsTrue (is_opened (feed_of old)) → IsTrue (is_opened (feed_of new))
+  pub gives : (history : List ℕ) → IsSessionAt look.input (feed_of old) history
+      → ReadsData look (feed_of old) (feed_of new) before after history result
+  pub waits : (history : List ℕ) → IsSessionAt look.input (feed_of old) history
       → SessionWaits look old new before
-  pub left : IfErr result (λ why. left_of (inner_of new) ≡ left_of (inner_of old))
+  pub left : IfErr result (λ why. left_of (feed_of new) ≡ left_of (feed_of old))
   pub line : next_line after ≡ next_line before
-  pub stopped : (why : Stop) → HasStopped (inner_of old) why
+  pub stopped : (why : Stop) → HasStopped (feed_of old) why
       → (new ≡ old) × (after ≡ before) × (result ≡ Err why)
 
 -- A source that has ended or failed returns this again. Or a writer failed to hand on what was
@@ -143,16 +143,16 @@ EndsAgain look before after again result =
 pub record GetsBytes {R W E : Type 0} (look : Looks R W E)
     (old new : Input (Source R) W E) (before after : Writers W E)
     (result : Result ℕ IoFault) : Type 0 where
-  pub size : IfOk result (λ n. n ≡ length (front_of look.input (inner_of new)))
+  pub size : IfOk result (λ n. n ≡ length (front_of look.input (feed_of new)))
   -- if bytes are at hand, nothing is handed on or read
-  pub here : 0 < length (front_of look.input (inner_of old))
-      → (new ≡ old) × (after ≡ before) × (result ≡ Ok (length (front_of look.input (inner_of old))))
-  pub gives : IsLive look.input (inner_of old)
-      → ReadsBytes look (inner_of old) (inner_of new) before after result
-  pub waits : CallWaits look (λ source. source) (0 < length (at_hand look.input (inner_of old)))
+  pub here : 0 < length (front_of look.input (feed_of old))
+      → (new ≡ old) × (after ≡ before) × (result ≡ Ok (length (front_of look.input (feed_of old))))
+  pub gives : IsLive look.input (feed_of old)
+      → ReadsBytes look (feed_of old) (feed_of new) before after result
+  pub waits : CallWaits look (λ source. source) (0 < length (at_hand look.input (feed_of old)))
       old new before
   pub line : next_line after ≡ next_line before
-  pub ended : HasEnded (inner_of old)
-      → (inner_of new ≡ inner_of old) × EndsAgain look before after (Ok 0) result
-  pub failed : (fault : IoFault) → HasFailed (inner_of old) fault
-      → (inner_of new ≡ inner_of old) × EndsAgain look before after (Err fault) result
+  pub ended : HasEnded (feed_of old)
+      → (feed_of new ≡ feed_of old) × EndsAgain look before after (Ok 0) result
+  pub failed : (fault : IoFault) → HasFailed (feed_of old) fault
+      → (feed_of new ≡ feed_of old) × EndsAgain look before after (Err fault) result

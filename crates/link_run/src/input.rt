@@ -10,7 +10,7 @@ ghost use Rattle.link_wire.specs.Session.{source_of, may_read, is_opened, data_i
 ghost use Rattle.link_wire.specs.Limits.{window_size};
 ghost use Rattle.link_wire.specs.Source.{window_of, at_hand, front_of, IsLive};
 ghost use Rattle.link_run.specs.Run.{looks, IsWaitAt, WaitsOnce};
-ghost use Rattle.link_run.specs.Reading.{inner_of, waits_of, GetsBytes, GetsData, GetsMessage, HasEnough, NotHandedOn, Unread};
+ghost use Rattle.link_run.specs.Reading.{feed_of, waits_of, GetsBytes, GetsData, GetsMessage, HasEnough, NotHandedOn, Unread};
 ghost use Rattle.link_run.specs.Writers.{place_of, on_output, next_line, Writes, Unsettled};
 
 use crate::log::Log;
@@ -76,28 +76,28 @@ pub type Waits<W, E> = Log<Position, Writers<W, E>>;
 /// The fields are private, so a stage can read only by the calls below, and these note each wait.
 #[derive(Drop)]
 pub struct Input<S, W, E> {
-    inner: S,
+    feed: S,
     waits: Waits<W, E>,
 }
 
 impl<S, W, E> Input<S, W, E> {
-    pub(crate) fn new(inner: S) -> Input<S, W, E>
-        ensures inner { inner_of result ≡ inner }
+    pub(crate) fn new(feed: S) -> Input<S, W, E>
+        ensures feed { feed_of result ≡ feed }
         ensures waits { waits_of result ≡ [] }
     {
         Input {
-            inner,
+            feed,
             waits: Log::new(),
         }
     }
 
     /// Returns the session or the source, and the waits.
     pub(crate) fn into_parts(self) -> (S, Waits<W, E>)
-        ensures inner { result.0 ≡ inner_of self }
+        ensures feed { result.0 ≡ feed_of self }
         ensures waits { result.1.items ≡ waits_of self }
     {
-        let Input { inner, waits } = self;
-        (inner, waits)
+        let Input { feed, waits } = self;
+        (feed, waits)
     }
 }
 
@@ -113,16 +113,16 @@ impl<R: InDevice, W: OutDevice, E: OutDevice> Input<Session<R>, W, E> {
     /// This call hands nothing on, since a run has written nothing before it.
     #[inline(always)]
     pub fn open(&mut self) -> Result<Contact, Stop>
-        requires { IsTrue (may_open (inner_of self.old)) }
-        ensures gives { AfterOpen R.state (inner_of self.old) (inner_of self.new) result }
-        ensures opened { IsTrue (is_opened (inner_of self.new)) }
-        ensures may_read { IsTrue (may_read (inner_of self.new)) }
+        requires { IsTrue (may_open (feed_of self.old)) }
+        ensures gives { AfterOpen R.state (feed_of self.old) (feed_of self.new) result }
+        ensures opened { IsTrue (is_opened (feed_of self.new)) }
+        ensures may_read { IsTrue (may_read (feed_of self.new)) }
         ensures left { IfErr result
-            (λ _. left_of (inner_of self.new) ≡ left_of (inner_of self.old)) }
-        ensures settles { IfErr result (HasStopped (inner_of self.new)) }
+            (λ _. left_of (feed_of self.new) ≡ left_of (feed_of self.old)) }
+        ensures settles { IfErr result (HasStopped (feed_of self.new)) }
         ensures waits { waits_of self.new ≡ waits_of self.old }
     {
-        self.inner.open()
+        self.feed.open()
     }
 
     /// Reads the head of the next message, as [`Session::next`] does.
@@ -137,11 +137,11 @@ impl<R: InDevice, W: OutDevice, E: OutDevice> Input<Session<R>, W, E> {
         writers: &mut Writers<W, E>,
         message: &mut MessageBuffer,
     ) -> Result<Option<u64>, Stop>
-        requires { IsTrue (may_read (inner_of self.old)) }
+        requires { IsTrue (may_read (feed_of self.old)) }
         ensures { GetsMessage (looks R.state W.state E.state)
             self.old self.new writers.old writers.new message.new result }
     {
-        match self.inner.next_here(message) {
+        match self.feed.next_here(message) {
             Some(offset) => Ok(Some(offset)),
             None => read_message(self, writers, message),
         }
@@ -153,22 +153,22 @@ impl<R: InDevice, W: OutDevice, E: OutDevice> Input<Session<R>, W, E> {
     /// It reads nothing, so it hands nothing on.
     #[inline(always)]
     pub fn next_here(&mut self, message: &mut MessageBuffer) -> Option<u64>
-        requires { IsTrue (may_read (inner_of self.old)) }
+        requires { IsTrue (may_read (feed_of self.old)) }
         ensures none { result ≡ None → (self.new ≡ self.old) × (message.new ≡ message.old) }
-        ensures reader { reader_of (source_of (inner_of self.new))
-            ≡ reader_of (source_of (inner_of self.old)) }
-        ensures gives { (history : List ℕ) → IsSessionAt R.state (inner_of self.old) history
-            → IfSome result (λ offset. ReadMessage R.state (inner_of self.old) (inner_of self.new)
+        ensures reader { reader_of (source_of (feed_of self.new))
+            ≡ reader_of (source_of (feed_of self.old)) }
+        ensures gives { (history : List ℕ) → IsSessionAt R.state (feed_of self.old) history
+            → IfSome result (λ offset. ReadMessage R.state (feed_of self.old) (feed_of self.new)
             history offset (message_of message.new)) }
         ensures totals { IfSome result (λ offset. SegmentHasTotals message.new) }
-        ensures opened { IsTrue (is_opened (inner_of self.new)) }
-        ensures again { HasEndedBetween (inner_of self.old) → result ≡ None }
-        ensures stopped { (stop : _) → HasStopped (inner_of self.old) stop → result ≡ None }
+        ensures opened { IsTrue (is_opened (feed_of self.new)) }
+        ensures again { HasEndedBetween (feed_of self.old) → result ≡ None }
+        ensures stopped { (stop : _) → HasStopped (feed_of self.old) stop → result ≡ None }
         ensures some { IfSome result (λ offset.
-            given_by (source_of (inner_of self.old)) < given_by (source_of (inner_of self.new))) }
+            given_by (source_of (feed_of self.old)) < given_by (source_of (feed_of self.new))) }
         ensures unread { Unread R.state source_of self.old self.new }
     {
-        self.inner.next_here(message)
+        self.feed.next_here(message)
     }
 
     /// Passes over the quiet messages that lie whole in the window, as [`Session::pass_quiet`]
@@ -177,16 +177,16 @@ impl<R: InDevice, W: OutDevice, E: OutDevice> Input<Session<R>, W, E> {
     /// It reads nothing, so it hands nothing on.
     #[inline(always)]
     pub fn pass_quiet(&mut self) -> usize
-        requires { IsTrue (may_read (inner_of self.old)) }
+        requires { IsTrue (may_read (feed_of self.old)) }
         ensures none { result ≡ 0 → self.new ≡ self.old }
-        ensures may_read { IsTrue (may_read (inner_of self.new)) }
-        ensures gives { (history : List ℕ) → IsSessionAt R.state (inner_of self.old) history
-            → PassedQuiet R.state (inner_of self.old) (inner_of self.new) history result }
-        ensures opened { IsTrue (is_opened (inner_of self.new)) }
-        ensures stopped { (stop : _) → HasStopped (inner_of self.old) stop → result ≡ 0 }
+        ensures may_read { IsTrue (may_read (feed_of self.new)) }
+        ensures gives { (history : List ℕ) → IsSessionAt R.state (feed_of self.old) history
+            → PassedQuiet R.state (feed_of self.old) (feed_of self.new) history result }
+        ensures opened { IsTrue (is_opened (feed_of self.new)) }
+        ensures stopped { (stop : _) → HasStopped (feed_of self.old) stop → result ≡ 0 }
         ensures unread { Unread R.state source_of self.old self.new }
     {
-        self.inner.pass_quiet()
+        self.feed.pass_quiet()
     }
 
     /// Makes data of the segment ready, as [`Session::load`] does, and returns how many bytes of it
@@ -200,46 +200,46 @@ impl<R: InDevice, W: OutDevice, E: OutDevice> Input<Session<R>, W, E> {
         ensures { GetsData (looks R.state W.state E.state)
             self.old self.new writers.old writers.new result }
     {
-        if self.inner.loaded().is_empty() {
+        if self.feed.loaded().is_empty() {
             return load_on(self, writers);
         }
-        self.inner.load()
+        self.feed.load()
     }
 
     /// The segment's data that is at hand.
     #[inline(always)]
     pub fn loaded(&self) -> &[u8]
-        ensures { result.now ≡ data_in R.state (inner_of self.now) }
+        ensures { result.now ≡ data_in R.state (feed_of self.now) }
     {
-        self.inner.loaded()
+        self.feed.loaded()
     }
 
     /// Gives the first `count` bytes of [`Input::loaded`].
     #[inline(always)]
     pub fn pass(&mut self, count: usize)
-        requires { count ≤ length (data_in R.state (inner_of self.old)) }
-        ensures opened { is_opened (inner_of self.new) ≡ is_opened (inner_of self.old) }
-        ensures gives { (history : List ℕ) → IsSessionAt R.state (inner_of self.old) history
-            → PassedBytes R.state (inner_of self.old) (inner_of self.new) history
-            (take count (data_in R.state (inner_of self.old))) }
+        requires { count ≤ length (data_in R.state (feed_of self.old)) }
+        ensures opened { is_opened (feed_of self.new) ≡ is_opened (feed_of self.old) }
+        ensures gives { (history : List ℕ) → IsSessionAt R.state (feed_of self.old) history
+            → PassedBytes R.state (feed_of self.old) (feed_of self.new) history
+            (take count (data_in R.state (feed_of self.old))) }
         ensures none { count ≡ 0 → self.new ≡ self.old }
-        ensures stopped { (stop : _) → HasStopped (inner_of self.old) stop
-            → HasStopped (inner_of self.new) stop }
-        ensures count { given_by (source_of (inner_of self.new))
-            ≡ given_by (source_of (inner_of self.old)) + count }
+        ensures stopped { (stop : _) → HasStopped (feed_of self.old) stop
+            → HasStopped (feed_of self.new) stop }
+        ensures count { given_by (source_of (feed_of self.new))
+            ≡ given_by (source_of (feed_of self.old)) + count }
         ensures unread { Unread R.state source_of self.old self.new }
     {
-        self.inner.pass(count);
+        self.feed.pass(count);
     }
 
     /// The number of bytes of the segment's data that are not given yet.
     #[inline(always)]
     pub fn left(&self) -> u64
-        ensures left { result ≡ left_of (inner_of self.now) }
-        ensures may_read { IsTrue (is_opened (inner_of self.now)) → result ≡ 0
-            → IsTrue (may_read (inner_of self.now)) }
+        ensures left { result ≡ left_of (feed_of self.now) }
+        ensures may_read { IsTrue (is_opened (feed_of self.now)) → result ≡ 0
+            → IsTrue (may_read (feed_of self.now)) }
     {
-        self.inner.left()
+        self.feed.left()
     }
 }
 
@@ -260,32 +260,32 @@ impl<R: InDevice, W: OutDevice, E: OutDevice> Input<Source<R>, W, E> {
         ensures { GetsBytes (looks R.state W.state E.state)
             self.old self.new writers.old writers.new result }
     {
-        if self.inner.front().is_empty() {
+        if self.feed.front().is_empty() {
             return read_bytes(self, writers);
         }
-        self.inner.ready_front()
+        self.feed.ready_front()
     }
 
     /// The bytes at hand, as [`Source::front`] shows them.
     #[inline(always)]
     pub fn front(&self) -> &[u8]
-        ensures front { result.now ≡ front_of R.state (inner_of self.now) }
+        ensures front { result.now ≡ front_of R.state (feed_of self.now) }
         ensures bytes { AreBytes result.now }
     {
-        self.inner.front()
+        self.feed.front()
     }
 
     /// Gives the first `count` bytes at hand.
     #[inline(always)]
     pub fn give(&mut self, count: usize)
-        requires { count ≤ length (front_of R.state (inner_of self.old)) }
-        ensures takes { Takes R.state (inner_of self.old) (inner_of self.new)
-            (take count (front_of R.state (inner_of self.old))) }
-        ensures live { IsLive R.state (inner_of self.old) → IsLive R.state (inner_of self.new) }
+        requires { count ≤ length (front_of R.state (feed_of self.old)) }
+        ensures takes { Takes R.state (feed_of self.old) (feed_of self.new)
+            (take count (front_of R.state (feed_of self.old))) }
+        ensures live { IsLive R.state (feed_of self.old) → IsLive R.state (feed_of self.new) }
         ensures none { count ≡ 0 → self.new ≡ self.old }
         ensures unread { Unread R.state (λ source. source) self.old self.new }
     {
-        self.inner.give_front(count);
+        self.feed.give_front(count);
     }
 }
 
@@ -297,12 +297,12 @@ fn read_message<R: InDevice, W: OutDevice, E: OutDevice>(
     writers: &mut Writers<W, E>,
     message: &mut MessageBuffer,
 ) -> Result<Option<u64>, Stop>
-    requires { IsTrue (may_read (inner_of input.old)) }
+    requires { IsTrue (may_read (feed_of input.old)) }
     ensures { GetsMessage (looks R.state W.state E.state)
         input.old input.new writers.old writers.new message.new result }
 {
-    settle_before(&input.inner, writers, &mut input.waits)?;
-    input.inner.next(message)
+    settle_before(&input.feed, writers, &mut input.waits)?;
+    input.feed.next(message)
 }
 
 /// Makes data of the segment ready if none is at hand.
@@ -312,12 +312,12 @@ fn load_on<R: InDevice, W: OutDevice, E: OutDevice>(
     input: &mut Input<Session<R>, W, E>,
     writers: &mut Writers<W, E>,
 ) -> Result<usize, Stop>
-    requires { data_in R.state (inner_of input.old) ≡ [] }
+    requires { data_in R.state (feed_of input.old) ≡ [] }
     ensures { GetsData (looks R.state W.state E.state)
         input.old input.new writers.old writers.new result }
 {
-    settle_before(&input.inner, writers, &mut input.waits)?;
-    input.inner.load()
+    settle_before(&input.feed, writers, &mut input.waits)?;
+    input.feed.load()
 }
 
 /// Makes bytes ready if none is at hand.
@@ -327,12 +327,12 @@ fn read_bytes<R: InDevice, W: OutDevice, E: OutDevice>(
     input: &mut Input<Source<R>, W, E>,
     writers: &mut Writers<W, E>,
 ) -> Result<usize, IoFault>
-    requires { front_of R.state (inner_of input.old) ≡ [] }
+    requires { front_of R.state (feed_of input.old) ≡ [] }
     ensures { GetsBytes (looks R.state W.state E.state)
         input.old input.new writers.old writers.new result }
 {
-    settle_before_bytes(&input.inner, writers, &mut input.waits)?;
-    input.inner.ready_front()
+    settle_before_bytes(&input.feed, writers, &mut input.waits)?;
+    input.feed.ready_front()
 }
 
 /// Hands on what was written, if the next call of the session may have to wait. Then it notes the

@@ -4,7 +4,7 @@ ghost use Rattle.std.specs.Prelude.{◌≡◌, ◌<◌, ℕ, Bool, false, List, 
 ghost use Rattle.link_wire.specs.declared.IoFault.{IoFault};
 ghost use Rattle.link_run.specs.Run.{Devices, looks, EndsRun};
 ghost use Rattle.link_run.specs.Made.{Made, tool_of};
-ghost use Rattle.link_run.specs.Reading.{inner_of, waits_of, CallWaits};
+ghost use Rattle.link_run.specs.Reading.{feed_of, waits_of, CallWaits};
 ghost use Rattle.link_run.specs.Stages.{Stands, AfterStage, AfterStageStride, IsMore, RunHasEnded};
 ghost use Rattle.link_run.specs.Writers.{place_of};
 
@@ -39,21 +39,21 @@ pub trait Stages<S: Feed, W: OutDevice, E: OutDevice>: Sized {
         input: &mut Input<S, W, E>,
         writers: &mut Writers<W, E>,
     ) -> Result<Progress, IoFault>
-        requires { IsTrue (fits self.old (inner_of input.old)) }
+        requires { IsTrue (fits self.old (feed_of input.old)) }
         ensures made { made self.new ≡ made self.old }
-        ensures fits { IsMore result → IsTrue (fits self.new (inner_of input.new)) }
+        ensures fits { IsMore result → IsTrue (fits self.new (feed_of input.new)) }
         ensures gives { (start : Devices S.Reader W E) (history : List ℕ)
             → Stands (looks S.Reader.state W.state E.state) (made self.old) start
-            (begun self.old) (place_of (S.source (inner_of input.old)) writers.old) history
-            → knows self.old (inner_of input.old) history
+            (begun self.old) (place_of (S.source (feed_of input.old)) writers.old) history
+            → knows self.old (feed_of input.old) history
             → AfterStage (looks S.Reader.state W.state E.state) (made self.old) start
-            (begun self.new) (place_of (S.source (inner_of input.old)) writers.old)
-            (place_of (S.source (inner_of input.new)) writers.new)
-            (knows self.new (inner_of input.new)) (most self.old) history result }
+            (begun self.new) (place_of (S.source (feed_of input.old)) writers.old)
+            (place_of (S.source (feed_of input.new)) writers.new)
+            (knows self.new (feed_of input.new)) (most self.old) history result }
         ensures goes_on { most self.new ≡ 0 → EndsRun result }
-        ensures waits { (history : List ℕ) → knows self.old (inner_of input.old) history
+        ensures waits { (history : List ℕ) → knows self.old (feed_of input.old) history
             → CallWaits (looks S.Reader.state W.state E.state) S.source
-            (S.has_next (inner_of input.old)) input.old input.new writers.old }
+            (S.has_next (feed_of input.old)) input.old input.new writers.old }
         ensures begins { begun self.old ≡ false → waits_of input.new ≡ waits_of input.old };
 
     /// Does at least one step, and as many more as the bytes at hand allow.
@@ -65,21 +65,21 @@ pub trait Stages<S: Feed, W: OutDevice, E: OutDevice>: Sized {
         input: &mut Input<S, W, E>,
         writers: &mut Writers<W, E>,
     ) -> Result<Progress, IoFault>
-        requires { IsTrue (fits self.old (inner_of input.old)) }
+        requires { IsTrue (fits self.old (feed_of input.old)) }
         ensures made { made self.new ≡ made self.old }
-        ensures fits { IsMore result → IsTrue (fits self.new (inner_of input.new)) }
+        ensures fits { IsMore result → IsTrue (fits self.new (feed_of input.new)) }
         ensures gives { (start : Devices S.Reader W E) (history : List ℕ)
             → Stands (looks S.Reader.state W.state E.state) (made self.old) start
-            (begun self.old) (place_of (S.source (inner_of input.old)) writers.old) history
-            → knows self.old (inner_of input.old) history
+            (begun self.old) (place_of (S.source (feed_of input.old)) writers.old) history
+            → knows self.old (feed_of input.old) history
             → AfterStageStride (looks S.Reader.state W.state E.state) (made self.old) start
-            (begun self.new) (place_of (S.source (inner_of input.old)) writers.old)
-            (place_of (S.source (inner_of input.new)) writers.new)
-            (knows self.new (inner_of input.new)) (most self.old) history result }
+            (begun self.new) (place_of (S.source (feed_of input.old)) writers.old)
+            (place_of (S.source (feed_of input.new)) writers.new)
+            (knows self.new (feed_of input.new)) (most self.old) history result }
         ensures goes_on { most self.new ≡ 0 → EndsRun result }
-        ensures waits { (history : List ℕ) → knows self.old (inner_of input.old) history
+        ensures waits { (history : List ℕ) → knows self.old (feed_of input.old) history
             → CallWaits (looks S.Reader.state W.state E.state) S.source
-            (S.has_next (inner_of input.old)) input.old input.new writers.old }
+            (S.has_next (feed_of input.old)) input.old input.new writers.old }
         ensures begins { begun self.old ≡ false → waits_of input.new ≡ waits_of input.old }
     {
         self.stage(input, writers)
@@ -93,7 +93,7 @@ pub struct ToolRun<S: Feed, W: OutDevice, E: OutDevice, T: Stages<S, W, E>> {
     writers: Writers<W, E>,
     tool: T,
     answer: Option<Result<Status, IoFault>>,
-    ghost fits: { answer ≡ None → IsTrue (T.fits tool input.inner) },
+    ghost fits: { answer ≡ None → IsTrue (T.fits tool input.feed) },
 }
 
 impl<S: Feed, W: OutDevice, E: OutDevice, T: Stages<S, W, E> + Drop> ToolRun<S, W, E, T> {
@@ -102,24 +102,24 @@ impl<S: Feed, W: OutDevice, E: OutDevice, T: Stages<S, W, E> + Drop> ToolRun<S, 
     ghost use Rattle.link_run.specs.Stages.{MayBegin};
 
     /// Makes a run that has read and written nothing.
-    pub fn new(tool: T, inner: S, output: W, report: E) -> ToolRun<S, W, E, T>
-        requires fits { IsTrue (T.fits tool inner) }
-        requires knows { T.knows tool inner [] }
+    pub fn new(tool: T, feed: S, output: W, report: E) -> ToolRun<S, W, E, T>
+        requires fits { IsTrue (T.fits tool feed) }
+        requires knows { T.knows tool feed [] }
         requires begins { MayBegin (T.made tool) (T.begun tool) }
-        requires fresh { IsTrue (is_fresh (S.source inner)) }
-        requires reader { (S.Reader.state (reader_of (S.source inner))).failed ≡ false }
+        requires fresh { IsTrue (is_fresh (S.source feed)) }
+        requires reader { (S.Reader.state (reader_of (S.source feed))).failed ≡ false }
         requires output { (W.state output).failed ≡ false }
         requires report { (E.state report).failed ≡ false }
         ensures tool { ⟦<ToolRun<S, W, E, T> as Run<S::Reader, W, E>>⟧.tool result
             ≡ tool_of (T.made tool) }
         ensures devices { devices_at (⟦<ToolRun<S, W, E, T> as Run<S::Reader, W, E>>⟧.place result)
-            ≡ record { reader = reader_of (S.source inner); output = output; report = report } }
+            ≡ record { reader = reader_of (S.source feed); output = output; report = report } }
         ensures stands { ⟦<ToolRun<S, W, E, T> as Run<S::Reader, W, E>>⟧.stands result
-            (record { reader = reader_of (S.source inner); output = output; report = report }) [] }
+            (record { reader = reader_of (S.source feed); output = output; report = report }) [] }
         ensures waits { ⟦<ToolRun<S, W, E, T> as Run<S::Reader, W, E>>⟧.waits result ≡ [] }
     {
         ToolRun {
-            input: Input::new(inner),
+            input: Input::new(feed),
             writers: Writers::new(output, report),
             tool,
             answer: None,
@@ -149,18 +149,18 @@ impl<S: Feed, W: OutDevice, E: OutDevice, T: Stages<S, W, E> + Drop> Run<S::Read
 
     ghost tool = { λ run. tool_of (T.made run.tool) };
 
-    ghost place = { λ run. place_of (S.source (inner_of run.input)) run.writers };
+    ghost place = { λ run. place_of (S.source (feed_of run.input)) run.writers };
 
     ghost stands = { λ run start history. (run.answer ≡ None)
         × (Stands (looks S.Reader.state W.state E.state) (T.made run.tool) start
-        (T.begun run.tool) (place_of (S.source (inner_of run.input)) run.writers) history
-        × T.knows run.tool (inner_of run.input) history) };
+        (T.begun run.tool) (place_of (S.source (feed_of run.input)) run.writers) history
+        × T.knows run.tool (feed_of run.input) history) };
 
     ghost most = { λ run. most_unless_ended run.answer (T.most run.tool) };
 
     ghost waits = { λ run. waits_of run.input };
 
-    ghost has_next = { λ run. S.has_next (inner_of run.input) };
+    ghost has_next = { λ run. S.has_next (feed_of run.input) };
 
     ghost has_ended = { λ run. RunHasEnded run.answer };
 
@@ -191,10 +191,10 @@ impl<S: Feed, W: OutDevice, E: OutDevice, T: Stages<S, W, E> + Drop> Run<S::Read
             tool: _,
             answer: _,
         } = self;
-        let (inner, waits) = input.into_parts();
+        let (feed, waits) = input.into_parts();
         let (output, report) = writers.into_parts();
         RunEnd {
-            reader: inner.into_source().into_reader(),
+            reader: feed.into_source().into_reader(),
             output,
             report,
             answer,

@@ -19,7 +19,7 @@ use Rattle.link_report.specs.Fault.{fault_text}
 use Rattle.link_report.specs.declared.fault.Fault.TheVariants.{Order}
 use Rattle.link_run.specs.Made.{tool_of}
 use Rattle.link_run.specs.Run.{Texts, ◌then◌, Looks, Devices, devices_at, EndedRun, EndsAtFault, WentOn, LastStep, AfterStep, answer_of}
-use Rattle.link_run.specs.Reading.{inner_of, SessionWaits}
+use Rattle.link_run.specs.Reading.{feed_of, SessionWaits}
 use Rattle.link_run.specs.Stages.{Stands}
 use Rattle.link_run.specs.Writers.{place_of, on_report, AfterLastWrite}
 use Rattle.link_run.specs.declared.input.Input.{Input}
@@ -256,30 +256,30 @@ module _ {R W E C : Type 0} (look : Looks R W E) (telling : Telling)
   abbrev pub ComesTo : (start : Devices R W E) → (now : Stage) → At R W E C → (history : List ℕ)
       → (after : Type 0) → Type 0
   ComesTo start now old history after =
-      WalkStands look start telling (inner_of old.input) old.writers history
+      WalkStands look start telling (feed_of old.input) old.writers history
       → IsWalking look.input telling knows now old.walker.joiner old.walker.consumer
-      (inner_of old.input) history
+      (feed_of old.input) history
       → after
 
   -- a step at the stage `now`
   abbrev pub Steps : (piece : ℕ) → (now : Stage) → (old new : At R W E C) → Next → Type 0
   Steps piece now old new result =
       (start : Devices R W E) (history : List ℕ) → ComesTo start now old history
-      (AfterWalkStep look start telling knows piece now (inner_of old.input) (inner_of new.input)
+      (AfterWalkStep look start telling knows piece now (feed_of old.input) (feed_of new.input)
       new.writers new.walker.joiner new.walker.consumer history result)
 
   -- a stride that begins at the stage `now`
   abbrev pub Strides : (now : Stage) → (old new : At R W E C) → Next → Type 0
   Strides now old new result =
       (start : Devices R W E) (history : List ℕ) → ComesTo start now old history
-      (AfterWalkStride look start telling knows (inner_of old.input) (inner_of new.input)
+      (AfterWalkStride look start telling knows (feed_of old.input) (feed_of new.input)
       old.writers new.writers new.walker.joiner new.walker.consumer history result)
 
   -- inner segments are taken
   abbrev pub TakesAll : (old new : At R W E C) → Next → Type 0
   TakesAll old new result =
       (start : Devices R W E) (history : List ℕ) → ComesTo start stage.Message old history
-      (TakesInner look start telling knows (inner_of old.input) (inner_of new.input) new.writers
+      (TakesInner look start telling knows (feed_of old.input) (feed_of new.input) new.writers
       new.walker.joiner new.walker.consumer history result)
 
   -- a step or a stride waits at most once
@@ -287,7 +287,7 @@ module _ {R W E C : Type 0} (look : Looks R W E) (telling : Telling)
   WalkWaits now old new =
       (history : List ℕ)
       → IsWalking look.input telling knows now old.walker.joiner old.walker.consumer
-      (inner_of old.input) history
+      (feed_of old.input) history
       → SessionWaits look old.input new.input old.writers
 
 -- quiet messages were passed over, or nothing was given

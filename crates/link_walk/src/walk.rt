@@ -6,7 +6,7 @@ ghost use Rattle.link_wire.specs.Session.{source_of, may_open, may_read, is_open
 ghost use Rattle.link_transfer.specs.Event.{event_of};
 ghost use Rattle.link_transfer.specs.Joiner.{IsJoinerAt};
 ghost use Rattle.link_transfer.specs.Order.{refusal, open_of, with_taken};
-ghost use Rattle.link_run.specs.Reading.{inner_of, waits_of, SessionWaits, Unread};
+ghost use Rattle.link_run.specs.Reading.{feed_of, waits_of, SessionWaits, Unread};
 ghost use Rattle.link_run.specs.Made.{tool_of};
 ghost use Rattle.link_run.specs.Run.{Devices, no_texts, devices_at, looks};
 ghost use Rattle.link_wire.specs.declared.message.Message.{Message};
@@ -156,8 +156,8 @@ fn stride_from<R: InDevice, W: OutDevice, E: OutDevice, C: Consumer>(
     message: &mut MessageBuffer,
     walker: &mut Walker<C>,
 ) -> Next
-    requires { IsTrue (may_go_on stage (inner_of input.old)) }
-    ensures fits { IsTrue (may_follow result (inner_of input.new)) }
+    requires { IsTrue (may_go_on stage (feed_of input.old)) }
+    ensures fits { IsTrue (may_follow result (feed_of input.new)) }
     ensures gives { Strides (looks R.state W.state E.state) (C.telling options.now)
         (C.knows options.now) stage
         (at input.old writers.old walker.old) (at input.new writers.new walker.new) result }
@@ -182,8 +182,8 @@ fn stride_message<R: InDevice, W: OutDevice, E: OutDevice, C: Consumer>(
     message: &mut MessageBuffer,
     walker: &mut Walker<C>,
 ) -> Next
-    requires { IsTrue (may_read (inner_of input.old)) }
-    ensures fits { IsTrue (may_follow result (inner_of input.new)) }
+    requires { IsTrue (may_read (feed_of input.old)) }
+    ensures fits { IsTrue (may_follow result (feed_of input.new)) }
     ensures gives { Strides (looks R.state W.state E.state) (C.telling options.now)
         (C.knows options.now) Stage.Message
         (at input.old writers.old walker.old) (at input.new writers.new walker.new) result }
@@ -211,13 +211,13 @@ fn pass_quiet<R: InDevice, W: OutDevice, E: OutDevice>(
     next: Next,
     input: &mut Input<Session<R>, W, E>,
 ) -> Next
-    requires { IsTrue (may_follow next (inner_of input.old)) }
-    ensures fits { IsTrue (may_follow result (inner_of input.new)) }
+    requires { IsTrue (may_follow next (feed_of input.old)) }
+    ensures fits { IsTrue (may_follow result (feed_of input.new)) }
     ensures same { result ≡ next }
     ensures other { (next ≡ Next.Stage Stage.Message → ⊥)
-        → inner_of input.new ≡ inner_of input.old }
-    ensures passed { (history : List ℕ) → IsSessionAt R.state (inner_of input.old) history
-        → PassesQuiet R.state (inner_of input.old) (inner_of input.new) history }
+        → feed_of input.new ≡ feed_of input.old }
+    ensures passed { (history : List ℕ) → IsSessionAt R.state (feed_of input.old) history
+        → PassesQuiet R.state (feed_of input.old) (feed_of input.new) history }
     ensures unread { Unread R.state source_of input.old input.new }
 {
     if let Next::Stage(Stage::Message) = next {
@@ -238,9 +238,9 @@ fn advance<R: InDevice, W: OutDevice, E: OutDevice, C: Consumer>(
     message: &mut MessageBuffer,
     walker: &mut Walker<C>,
 ) -> Next
-    requires fits { IsTrue (may_go_on stage (inner_of input.old)) }
+    requires fits { IsTrue (may_go_on stage (feed_of input.old)) }
     requires piece { 0 < piece }
-    ensures fits { IsTrue (may_follow result (inner_of input.new)) }
+    ensures fits { IsTrue (may_follow result (feed_of input.new)) }
     ensures gives { Steps (looks R.state W.state E.state) (C.telling options.now)
         (C.knows options.now) piece stage
         (at input.old writers.old walker.old) (at input.new writers.new walker.new) result }
@@ -263,8 +263,8 @@ fn open<R: InDevice, W: OutDevice, E: OutDevice, C: Consumer>(
     writers: &mut Writers<W, E>,
     walker: &mut Walker<C>,
 ) -> Next
-    requires { IsTrue (may_open (inner_of input.old)) }
-    ensures fits { IsTrue (may_follow result (inner_of input.new)) }
+    requires { IsTrue (may_open (feed_of input.old)) }
+    ensures fits { IsTrue (may_follow result (feed_of input.new)) }
     ensures gives { Steps (looks R.state W.state E.state) (C.telling options.now)
         (C.knows options.now) 4096 Stage.Contact
         (at input.old writers.old walker.old) (at input.new writers.new walker.new) result }
@@ -290,8 +290,8 @@ fn take_message<R: InDevice, W: OutDevice, E: OutDevice, C: Consumer>(
     message: &mut MessageBuffer,
     walker: &mut Walker<C>,
 ) -> Next
-    requires { IsTrue (may_read (inner_of input.old)) }
-    ensures fits { IsTrue (may_follow result (inner_of input.new)) }
+    requires { IsTrue (may_read (feed_of input.old)) }
+    ensures fits { IsTrue (may_follow result (feed_of input.new)) }
     ensures gives { Steps (looks R.state W.state E.state) (C.telling options.now)
         (C.knows options.now) 4096 Stage.Message
         (at input.old writers.old walker.old) (at input.new writers.new walker.new) result }
@@ -331,8 +331,8 @@ fn take_refused<R: InDevice, W: OutDevice, E: OutDevice, C: Consumer>(
     walker: &mut Walker<C>,
 ) -> Next
     requires totals { SegmentHasTotals message.now }
-    requires opened { IsTrue (is_opened (inner_of input.now)) }
-    ensures fits { IsTrue (may_follow result (inner_of input.now)) }
+    requires opened { IsTrue (is_opened (feed_of input.now)) }
+    ensures fits { IsTrue (may_follow result (feed_of input.now)) }
     ensures stops { (C.telling options.now).manner.goes_on ≡ false
         → EndsAtHead W.state E.state offset fault writers.old writers.new result }
     ensures goes_on { (taken : List Message) (events : List WalkEvent)
@@ -343,7 +343,7 @@ fn take_refused<R: InDevice, W: OutDevice, E: OutDevice, C: Consumer>(
         → IsJoinerAt walker.new.joiner (with_taken taken (message_of message.now))
         × TellsHead W.state E.state (C.telling options.now)
         (C.knows options.now walker.new.consumer) events
-        (head_at taken offset (message_of message.now)) (left_of (inner_of input.now)) writers.old
+        (head_at taken offset (message_of message.now)) (left_of (feed_of input.now)) writers.old
         writers.new result }
 {
     if !C::manner(options).goes_on {
@@ -369,12 +369,12 @@ fn tell_head<R: InDevice, W: OutDevice, E: OutDevice, C: Consumer>(
     consumer: &mut C,
 ) -> Next
     requires totals { SegmentHasTotals head.now.message.now }
-    requires opened { IsTrue (is_opened (inner_of input.now)) }
-    ensures fits { IsTrue (may_follow result (inner_of input.now)) }
+    requires opened { IsTrue (is_opened (feed_of input.now)) }
+    ensures fits { IsTrue (may_follow result (feed_of input.now)) }
     ensures gives { (before : List WalkEvent) → C.knows options.now consumer.old before
         → ComesAfter before (viewed_head head.now)
         → TellsHead W.state E.state (C.telling options.now) (C.knows options.now consumer.new)
-        before (viewed_head head.now) (left_of (inner_of input.now)) writers.old writers.new result }
+        before (viewed_head head.now) (left_of (feed_of input.now)) writers.old writers.new result }
 {
     match tell(options, head, writers, consumer) {
         Ok(()) => Next::Stage(stage_by(head.turn, input.left())),
@@ -427,13 +427,13 @@ fn pass_stray<R: InDevice, W: OutDevice, E: OutDevice, C: Consumer>(
     input: &mut Input<Session<R>, W, E>,
     writers: &mut Writers<W, E>,
 ) -> Next
-    requires opened { IsTrue (is_opened (inner_of input.old)) }
+    requires opened { IsTrue (is_opened (feed_of input.old)) }
     requires piece { 0 < piece }
-    ensures fits { IsTrue (may_follow result (inner_of input.new)) }
+    ensures fits { IsTrue (may_follow result (feed_of input.new)) }
     ensures gives { (options : C.Options) (walker : Walker C)
         → Steps (looks R.state W.state E.state) (C.telling options) (C.knows options) piece
         Stage.Stray (at input.old writers.old walker) (at input.new writers.new walker) result }
-    ensures waits { (history : List ℕ) → IsSessionAt R.state (inner_of input.old) history
+    ensures waits { (history : List ℕ) → IsSessionAt R.state (feed_of input.old) history
         → SessionWaits (looks R.state W.state E.state) input.old input.new writers.old }
 {
     let size = match input.load_data(writers) {
@@ -454,9 +454,9 @@ fn take_data<R: InDevice, W: OutDevice, E: OutDevice, C: Consumer>(
     writers: &mut Writers<W, E>,
     walker: &mut Walker<C>,
 ) -> Next
-    requires opened { IsTrue (is_opened (inner_of input.old)) }
+    requires opened { IsTrue (is_opened (feed_of input.old)) }
     requires piece { 0 < piece }
-    ensures fits { IsTrue (may_follow result (inner_of input.new)) }
+    ensures fits { IsTrue (may_follow result (feed_of input.new)) }
     ensures gives { Steps (looks R.state W.state E.state) (C.telling options.now)
         (C.knows options.now) piece (Stage.Data last)
         (at input.old writers.old walker.old) (at input.new writers.new walker.new) result }
@@ -480,9 +480,9 @@ fn take_loaded<R: InDevice, W: OutDevice, E: OutDevice, C: Consumer>(
     writers: &mut Writers<W, E>,
     walker: &mut Walker<C>,
 ) -> Next
-    requires opened { IsTrue (is_opened (inner_of input.old)) }
-    requires size { size ≤ length (data_in R.state (inner_of input.old)) }
-    ensures fits { IsTrue (may_follow result (inner_of input.new)) }
+    requires opened { IsTrue (is_opened (feed_of input.old)) }
+    requires size { size ≤ length (data_in R.state (feed_of input.old)) }
+    ensures fits { IsTrue (may_follow result (feed_of input.new)) }
     ensures gives { 0 < size → Steps (looks R.state W.state E.state) (C.telling options.now)
         (C.knows options.now) size (Stage.Data last)
         (at input.old writers.old walker.old) (at input.new writers.new walker.new) result }

@@ -8,14 +8,14 @@ impl<R: InDevice, W: OutDevice, E: OutDevice> Input<Session<R>, W, E> {
     ghost use Rattle.link_wire.specs.Inner.{IsInner, inner_bytes, PassedInner};
     ghost use Rattle.link_wire.specs.Session.{source_of, may_read, is_opened, HasStopped, IsSessionAt};
     ghost use Rattle.link_wire.specs.Source.{given_by, window_of};
-    ghost use Rattle.link_run.specs.Reading.{inner_of, Unread};
+    ghost use Rattle.link_run.specs.Reading.{feed_of, Unread};
 
     /// The number of bytes given, which is the offset of the next byte.
     #[inline(always)]
     pub fn given(&self) -> u64
-        ensures { result ≡ given_by (source_of (inner_of self.now)) }
+        ensures { result ≡ given_by (source_of (feed_of self.now)) }
     {
-        self.inner.given()
+        self.feed.given()
     }
 
     /// The data of the next message, if this is an inner segment of this transfer that has data,
@@ -23,12 +23,12 @@ impl<R: InDevice, W: OutDevice, E: OutDevice> Input<Session<R>, W, E> {
     #[inline(always)]
     pub fn inner_data(&self, id: u64) -> Option<&[u8]>
         ensures is { IfSome result (λ bytes.
-            IsInner id (window_of (source_of (inner_of self.now))) (length bytes.now)) }
+            IsInner id (window_of (source_of (feed_of self.now))) (length bytes.now)) }
         ensures bytes { IfSome result (λ bytes.
-            bytes.now ≡ inner_bytes (window_of (source_of (inner_of self.now))) (length bytes.now)) }
-        ensures stopped { (stop : _) → HasStopped (inner_of self.now) stop → result ≡ None }
+            bytes.now ≡ inner_bytes (window_of (source_of (feed_of self.now))) (length bytes.now)) }
+        ensures stopped { (stop : _) → HasStopped (feed_of self.now) stop → result ≡ None }
     {
-        self.inner.inner_data(id)
+        self.feed.inner_data(id)
     }
 
     /// Gives that inner segment, as [`Session::pass_inner`] does.
@@ -36,18 +36,18 @@ impl<R: InDevice, W: OutDevice, E: OutDevice> Input<Session<R>, W, E> {
     /// It reads nothing, so it hands nothing on.
     #[inline(always)]
     pub fn pass_inner(&mut self, size: usize)
-        requires may_read { IsTrue (may_read (inner_of self.old)) }
-        requires inner { (id : ℕ) × IsInner id (window_of (source_of (inner_of self.old))) size }
-        ensures may_read { IsTrue (may_read (inner_of self.new)) }
-        ensures opened { IsTrue (is_opened (inner_of self.new)) }
-        ensures gives { (id : ℕ) (history : List ℕ) → IsSessionAt R.state (inner_of self.old) history
-            → IsInner id (window_of (source_of (inner_of self.old))) size
-            → PassedInner R.state (inner_of self.old) (inner_of self.new) history id
-            (inner_bytes (window_of (source_of (inner_of self.old))) size) }
-        ensures shrinks { length (window_of (source_of (inner_of self.new)))
-            < length (window_of (source_of (inner_of self.old))) }
+        requires may_read { IsTrue (may_read (feed_of self.old)) }
+        requires inner { (id : ℕ) × IsInner id (window_of (source_of (feed_of self.old))) size }
+        ensures may_read { IsTrue (may_read (feed_of self.new)) }
+        ensures opened { IsTrue (is_opened (feed_of self.new)) }
+        ensures gives { (id : ℕ) (history : List ℕ) → IsSessionAt R.state (feed_of self.old) history
+            → IsInner id (window_of (source_of (feed_of self.old))) size
+            → PassedInner R.state (feed_of self.old) (feed_of self.new) history id
+            (inner_bytes (window_of (source_of (feed_of self.old))) size) }
+        ensures shrinks { length (window_of (source_of (feed_of self.new)))
+            < length (window_of (source_of (feed_of self.old))) }
         ensures unread { Unread R.state source_of self.old self.new }
     {
-        self.inner.pass_inner(size);
+        self.feed.pass_inner(size);
     }
 }

@@ -7,7 +7,7 @@ ghost use Rattle.std.specs.Prelude.{◌≡◌, ◌+◌, ◌^◌, ◌<◌, ◌≤
 ghost use Rattle.link_wire.specs.Inner.{inner_segment};
 ghost use Rattle.link_wire.specs.MessageBuffer.{SegmentHasTotals, message_of};
 ghost use Rattle.link_wire.specs.Session.{source_of, may_read, is_opened, data_in};
-ghost use Rattle.link_run.specs.Reading.{inner_of, Unread};
+ghost use Rattle.link_run.specs.Reading.{feed_of, Unread};
 ghost use Rattle.link_run.specs.Run.{looks};
 ghost use Rattle.link_walk.specs.Telling.{ComesAfter, Tells, inner_events, inner_head};
 ghost use Rattle.link_walk.specs.Walk.{WalkEvent, data_size, has_open};
@@ -32,9 +32,9 @@ pub(super) fn take_on<R: InDevice, W: OutDevice, E: OutDevice, C: Consumer>(
     message: &mut MessageBuffer,
     walker: &mut Walker<C>,
 ) -> Next
-    requires opened { IsTrue (is_opened (inner_of input.old)) }
-    requires size { size ≤ length (data_in R.state (inner_of input.old)) }
-    ensures fits { IsTrue (may_follow result (inner_of input.new)) }
+    requires opened { IsTrue (is_opened (feed_of input.old)) }
+    requires size { size ≤ length (data_in R.state (feed_of input.old)) }
+    ensures fits { IsTrue (may_follow result (feed_of input.new)) }
     ensures gives { 0 < size → Strides (looks R.state W.state E.state) (C.telling options.now)
         (C.knows options.now) (Stage.Data last)
         (at input.old writers.old walker.old) (at input.new writers.new walker.new) result }
@@ -56,8 +56,8 @@ fn take_inner<R: InDevice, W: OutDevice, E: OutDevice, C: Consumer>(
     message: &mut MessageBuffer,
     walker: &mut Walker<C>,
 ) -> Next
-    requires { IsTrue (may_read (inner_of input.old)) }
-    ensures fits { IsTrue (may_follow result (inner_of input.new)) }
+    requires { IsTrue (may_read (feed_of input.old)) }
+    ensures fits { IsTrue (may_follow result (feed_of input.new)) }
     ensures gives { TakesAll (looks R.state W.state E.state) (C.telling options.now)
         (C.knows options.now)
         (at input.old writers.old walker.old) (at input.new writers.new walker.new) result }

@@ -3,7 +3,7 @@ use Rattle.std.proofs.lemmas.Bool.Decides.{nat_tests}
 use Rattle.std.proofs.lemmas.List.{take-take}
 use Rattle.link_wire.specs.Source.{front_of}
 use Rattle.link_io.proofs.Sources.{Readies-takes, Readies-over, front_room}
-use Rattle.link_run.specs.Reading.{inner_of}
+use Rattle.link_run.specs.Reading.{feed_of}
 use Rattle.link_run.proofs.Stands.{settled, not_handed_on, read_fails}
 use Rattle.link_run.proofs.Waiting.{waits_then}
 use Rattle.link_bundle_walk.specs.BundleRun.{IsReading}
@@ -12,8 +12,8 @@ use Rattle.link_bundle_walk.proofs.walk.take_bytes.Goals as goal
 
 pub returns-in-Ok-eq0-clause-gives : goal.returns-in-Ok-eq0-clause-gives
 returns-in-Ok-eq0-clause-gives g c = λ start history stood at.
-    let old = inner_of c.args.input.now in
-    let new = inner_of c.ready_bytes.new.self in
+    let old = feed_of c.args.input.now in
+    let new = feed_of c.ready_bytes.new.self in
     let before = c.args.writers.now in
     let writers = c.ready_bytes.new.writers in
     let walker = c.args.walker.now in
@@ -30,8 +30,8 @@ returns-in-Ok-eq0-clause-gives g c = λ start history stood at.
 
 pub returns-in-Err-clause-gives : goal.returns-in-Err-clause-gives
 returns-in-Err-clause-gives g c = λ start history stood at.
-    let old = inner_of c.args.input.now in
-    let new = inner_of c.ready_bytes.new.self in
+    let old = feed_of c.args.input.now in
+    let new = feed_of c.ready_bytes.new.self in
     let before = c.args.writers.now in
     let writers = c.ready_bytes.new.writers in
     ⊎_elim
@@ -44,9 +44,9 @@ pub returns-clause-gives : goal.returns-clause-gives
 returns-clause-gives g c = λ start history stood at.
     let look = g.R.InDevice.state in
     let telling = g.C.BundleConsumer.telling c.args.options.now in
-    let old = inner_of c.args.input.now in
-    let mid = inner_of c.ready_bytes.new.self in
-    let new = inner_of c.give.new.self in
+    let old = feed_of c.args.input.now in
+    let mid = feed_of c.ready_bytes.new.self in
+    let new = feed_of c.give.new.self in
     let writers = c.ready_bytes.new.writers in
     let current = c.args.walker.now.current in
     let read = c.in-Ok.ensures.gives at.live in

@@ -1,5 +1,5 @@
 use Rattle.std.proofs.Common.{refl, ap, sym, ◌∙◌}
-use Rattle.link_run.specs.Reading.{inner_of}
+use Rattle.link_run.specs.Reading.{feed_of}
 use Rattle.link_run.specs.Run.{looks}
 use Rattle.link_run.proofs.Waiting.{waits_then}
 use Rattle.link_list.specs.ListRun.{latest_line}
@@ -9,9 +9,9 @@ use Rattle.link_list.proofs.listing.read_on.Goals as goal
 
 pub returns-in-Stage-Message-clause-gives : goal.returns-in-Stage-Message-clause-gives
 returns-in-Stage-Message-clause-gives g c = λ start history at lists.
-    let old = inner_of c.args.input.now in
-    let mid = inner_of c.advance-next.new.input in
-    let new = inner_of c.write_lines.new.input in
+    let old = feed_of c.args.input.now in
+    let mid = feed_of c.advance-next.new.input in
+    let new = feed_of c.write_lines.new.input in
     let before = c.advance-next.new.writers in
     let after = c.write_lines.new.writers in
     let comes = rw c.in-Stage-Message.is at c.in-Stage-Message.field-0-is in
@@ -30,8 +30,8 @@ pub returns-in-Stage-Contact-clause-gives : goal.returns-in-Stage-Contact-clause
 returns-in-Stage-Contact-clause-gives g c = λ start history at lists.
     let look = looks g.R.InDevice.state g.W.OutDevice.state g.E.OutDevice.state in
     let comes = rw c.in-Stage-Contact.is at c.in-Stage-Contact.field-0-is in
-    read_only look start c.args.piece c.args.far c.args.stage (inner_of c.args.input.now)
-    (inner_of c.advance-next.new.input) c.args.writers.now c.advance-next.new.writers
+    read_only look start c.args.piece c.args.far c.args.stage (feed_of c.args.input.now)
+    (feed_of c.advance-next.new.input) c.args.writers.now c.advance-next.new.writers
     (latest_line c.advance-next.new.latest) history c.advance-next.result c.requires.piece
     (not_due _ _ c.in-Stage-Contact.is (λ is. contact_not (sym comes ∙ is)))
     (c.advance-next.ensures.gives start history at lists)
@@ -40,8 +40,8 @@ pub returns-in-Stage-Data-clause-gives : goal.returns-in-Stage-Data-clause-gives
 returns-in-Stage-Data-clause-gives g c = λ start history at lists.
     let look = looks g.R.InDevice.state g.W.OutDevice.state g.E.OutDevice.state in
     let comes = rw c.in-Stage-Data.is at c.in-Stage-Data.field-0-is in
-    read_only look start c.args.piece c.args.far c.args.stage (inner_of c.args.input.now)
-    (inner_of c.advance-next.new.input) c.args.writers.now c.advance-next.new.writers
+    read_only look start c.args.piece c.args.far c.args.stage (feed_of c.args.input.now)
+    (feed_of c.advance-next.new.input) c.args.writers.now c.advance-next.new.writers
     (latest_line c.advance-next.new.latest) history c.advance-next.result c.requires.piece
     (not_due _ _ c.in-Stage-Data.is (λ is. data_not (sym comes ∙ is)))
     (c.advance-next.ensures.gives start history at lists)
@@ -49,8 +49,8 @@ returns-in-Stage-Data-clause-gives g c = λ start history at lists.
 pub returns-in-Ended-clause-gives : goal.returns-in-Ended-clause-gives
 returns-in-Ended-clause-gives g c = λ start history at lists.
     let look = looks g.R.InDevice.state g.W.OutDevice.state g.E.OutDevice.state in
-    read_only look start c.args.piece c.args.far c.args.stage (inner_of c.args.input.now)
-    (inner_of c.advance-next.new.input) c.args.writers.now c.advance-next.new.writers
+    read_only look start c.args.piece c.args.far c.args.stage (feed_of c.args.input.now)
+    (feed_of c.advance-next.new.input) c.args.writers.now c.advance-next.new.writers
     (latest_line c.advance-next.new.latest) history c.advance-next.result c.requires.piece
     (ended_not _ _ c.in-Ended.is)
     (c.advance-next.ensures.gives start history at lists)

@@ -1,5 +1,5 @@
 use Rattle.link_wire.specs.Session.{source_of}
-use Rattle.link_run.specs.Reading.{inner_of}
+use Rattle.link_run.specs.Reading.{feed_of}
 use Rattle.link_run.specs.Run.{looks}
 use Rattle.link_run.specs.Writers.{place_of}
 use Rattle.link_list.specs.ListRun.{latest_line, Lists}
@@ -11,8 +11,8 @@ pub returns-in-Contact-clause-gives : goal.returns-in-Contact-clause-gives
 returns-in-Contact-clause-gives g c = λ start history at.
     let look = looks g.R.InDevice.state g.W.OutDevice.state g.E.OutDevice.state in
     let latest = latest_line c.args.tool.now.latest in
-    let input = inner_of c.list_contact.new.input in
-    let old = place_of (source_of (inner_of c.args.input.now)) c.args.writers.now in
+    let input = feed_of c.list_contact.new.input in
+    let old = place_of (source_of (feed_of c.args.input.now)) c.args.writers.now in
     let new = place_of (source_of input) c.list_contact.new.writers in
     rw c.in-Contact.is (λ begins.
     not_far look start c.args.piece c.args.far stage.Contact old new
@@ -22,7 +22,7 @@ returns-in-Contact-clause-gives g c = λ start history at.
 pub returns : goal.returns
 returns g c = record {
   fits = rw (c.keep.ensures.progress, c.keep.ensures.kept)
-      (fits_kept c.args.tool.now.stage c.read_on-next.result (inner_of c.read_on-next.new.input) c.read_on-next.ensures.fits);
+      (fits_kept c.args.tool.now.stage c.read_on-next.result (feed_of c.read_on-next.new.input) c.read_on-next.ensures.fits);
   gives = λ start history at lists.
       rw (c.keep.ensures.progress, c.keep.ensures.kept)
       (c.read_on-next.ensures.gives start history at lists);

@@ -2,7 +2,7 @@ use Rattle.std.proofs.Common.{ℕ, refl, ◌++◌, [], Ok, Err, Result, sym, ap,
 use Rattle.std.proofs.lemmas.Bool.{false≢true}
 use Rattle.link_io.specs.declared.source.Flow.{Flow}
 use Rattle.link_wire.specs.declared.IoFault.{IoFault}
-use Rattle.link_run.specs.Reading.{inner_of}
+use Rattle.link_run.specs.Reading.{feed_of}
 use Rattle.link_run.specs.Writers.{on_output, AfterWrite}
 use Rattle.link_run.proofs.Runs.{writes_none, outputs_then}
 use Rattle.link_run.proofs.Waiting.{unread_none, unread_then}
@@ -17,7 +17,7 @@ lines-init g c = record {
   unread = unread_none _;
   lines = [];
   writes = writes_none g.W.OutDevice.state g.E.OutDevice.state c.args.writers.now;
-  listed = λ first history is. listed_none g.R.InDevice.state first (inner_of c.args.input.now) (latest_line c.args.latest.now) is;
+  listed = λ first history is. listed_none g.R.InDevice.state first (feed_of c.args.input.now) (latest_line c.args.latest.now) is;
 }
 
 pub returns-in-Err : goal.returns-in-Err
@@ -44,7 +44,7 @@ returns-then-not-far g c =
       fits = kept.fits;
       near = kept.near;
       gives = λ first history is.
-          (kept.lines ++ line, writes, listed_here g.R.InDevice.state first (inner_of c.args.input.now) (inner_of c.lines.input) (kept.lines ++ line) _ (kept.listed first history is));
+          (kept.lines ++ line, writes, listed_here g.R.InDevice.state first (feed_of c.args.input.now) (feed_of c.lines.input) (kept.lines ++ line) _ (kept.listed first history is));
       unread = kept.unread;
     }
 
@@ -58,7 +58,7 @@ returns-in-None g c =
       fits = kept.fits;
       near = kept.near;
       gives = λ first history is.
-          (kept.lines ++ line, writes, listed_here g.R.InDevice.state first (inner_of c.args.input.now) (inner_of c.lines.input) (kept.lines ++ line) _ (kept.listed first history is));
+          (kept.lines ++ line, writes, listed_here g.R.InDevice.state first (feed_of c.args.input.now) (feed_of c.lines.input) (kept.lines ++ line) _ (kept.listed first history is));
       unread = kept.unread;
     })
 
@@ -77,7 +77,7 @@ returns-then-not-pass_here g c =
           let got = c.in-Some.ensures.gives _ on.listed.session_at in (
             kept.lines ++ line,
             writes,
-            listed_part g.R.InDevice.state first (inner_of c.args.input.now) (inner_of c.lines.input) (inner_of c.next_here.new.self) (inner_of c.pass_here.new.input) (kept.lines ++ line) c.in-Some.offset _ on got (c.pass_here.ensures.gives _ got.at) (c.pass_here.ensures.part c.if-not-pass_here.true),
+            listed_part g.R.InDevice.state first (feed_of c.args.input.now) (feed_of c.lines.input) (feed_of c.next_here.new.self) (feed_of c.pass_here.new.input) (kept.lines ++ line) c.in-Some.offset _ on got (c.pass_here.ensures.gives _ got.at) (c.pass_here.ensures.part c.if-not-pass_here.true),
           );
     }
 
@@ -96,7 +96,7 @@ lines-preserved g c =
       listed = λ first history is.
           let on = kept.listed first history is in
           let got = c.in-Some.ensures.gives _ on.listed.session_at in
-          listed_more g.R.InDevice.state first (inner_of c.args.input.now) (inner_of c.lines.input) (inner_of c.next_here.new.self) (inner_of c.pass_here.new.input) (kept.lines ++ line) c.in-Some.offset _ on got (c.pass_here.ensures.gives _ got.at) (c.pass_here.ensures.whole c.if-not-pass_here.false);
+          listed_more g.R.InDevice.state first (feed_of c.args.input.now) (feed_of c.lines.input) (feed_of c.next_here.new.self) (feed_of c.pass_here.new.input) (kept.lines ++ line) c.in-Some.offset _ on got (c.pass_here.ensures.gives _ got.at) (c.pass_here.ensures.whole c.if-not-pass_here.false);
     }
 
 -- a head has bytes, and how far the input is at hand stays the same

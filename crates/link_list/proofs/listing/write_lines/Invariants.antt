@@ -2,7 +2,7 @@ use Rattle.std.proofs.Common.{◌≡◌, List, ℕ, ◌+◌, length, ◌++◌}
 use Rattle.std.specs.Prelude.{IsTrue, false}
 use Rattle.link_wire.specs.Session.{source_of, may_read}
 use Rattle.link_wire.specs.Source.{reader_of, window_of}
-use Rattle.link_run.specs.Reading.{inner_of, Unread}
+use Rattle.link_run.specs.Reading.{feed_of, Unread}
 use Rattle.link_run.specs.Run.{Texts}
 use Rattle.link_run.specs.Writers.{on_output, Writes}
 use Rattle.link_list.specs.ListRun.{latest_line, IsListedTo, ListedOn}
@@ -13,18 +13,18 @@ abbrev pub invariant-lines : goal.invariant-lines
 invariant-lines g l =
     let look = g.R.InDevice.state in
     record {
-      fits : IsTrue (may_read (inner_of l.input));
+      fits : IsTrue (may_read (feed_of l.input));
       near : l.far ≡ false → l.input ≡ l.fn.input;
       unread : Unread look source_of l.fn.input l.input;
       lines : List ℕ;
       writes : Writes g.W.OutDevice.state g.E.OutDevice.state l.fn.writers l.writers (on_output lines);
       listed : (first : Texts) (history : List ℕ)
-          → IsListedTo look first (inner_of l.fn.input) (latest_line l.fn.latest) history
-          → ListedOn look first (inner_of l.fn.input) (inner_of l.input) (lines ++ latest_line l.latest) history;
+          → IsListedTo look first (feed_of l.fn.input) (latest_line l.fn.latest) history
+          → ListedOn look first (feed_of l.fn.input) (feed_of l.input) (lines ++ latest_line l.latest) history;
     }
 
 -- the bytes at hand
 abbrev pub decreases-lines : goal.decreases-lines
 decreases-lines g l =
-    length (window_of (source_of (inner_of l.input)))
-    + length (g.R.InDevice.state (reader_of (source_of (inner_of l.input)))).held
+    length (window_of (source_of (feed_of l.input)))
+    + length (g.R.InDevice.state (reader_of (source_of (feed_of l.input)))).held

@@ -31,7 +31,7 @@ returns g c =
       here = λ some. absurd (omega (arith, some, ap length c.requires));
       opened = load.opened;
       gives = λ history at.
-          data_given look c.args.input.now.inner c.load.new.self c.args.writers.now
+          data_given look c.args.input.now.feed c.load.new.self c.args.writers.now
           c.settle_before.new.writers history settled.gives _ (load.gives history at);
       waits = λ history at. waits_enough (settled.waits history at);
       left = load.left;

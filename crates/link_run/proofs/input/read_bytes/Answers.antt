@@ -5,4 +5,4 @@ use Rattle.link_run.proofs.input.read_bytes.Goals as goal
 -- no byte is at hand, so the window is empty
 pub settle_before_bytes-requires : goal.settle_before_bytes-requires
 settle_before_bytes-requires g c =
-    none_ahead g.R.InDevice.state c.args.input.now.inner (ap length c.requires)
+    none_ahead g.R.InDevice.state c.args.input.now.feed (ap length c.requires)

@@ -8,7 +8,7 @@ use Rattle.link_run.proofs.input.read_message.Goals as goal
 
 pub returns-in_err-settle_before : goal.returns-in_err-settle_before
 returns-in_err-settle_before g c =
-    let session = c.args.input.now.inner in
+    let session = c.args.input.now.feed in
     let settled = c.in_err-settle_before.ensures in
     let exit = err_from_is_err_and c.from_residual.result c.from_residual.ensures.1 in
     rw (exit.1, exit.2) (record {
@@ -29,7 +29,7 @@ returns g c =
     record {
       opened = read.opened;
       gives = λ history at.
-          message_given look c.args.input.now.inner c.next.new.self c.args.writers.now
+          message_given look c.args.input.now.feed c.next.new.self c.args.writers.now
           c.settle_before.new.writers history settled.gives _ (read.gives history at);
       waits = λ history at. waits_enough (settled.waits history at);
       totals = read.totals;

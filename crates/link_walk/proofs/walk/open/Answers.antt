@@ -1,5 +1,5 @@
 use Rattle.std.proofs.Common.{[], refl, arith}
-use Rattle.link_run.specs.Reading.{inner_of}
+use Rattle.link_run.specs.Reading.{feed_of}
 use Rattle.link_run.proofs.Sessions.{contact_ended}
 use Rattle.link_walk.specs.declared.walk.Stage.TheVariants as stage
 use Rattle.link_walk.proofs.Steps.{contact_grows, told_step}
@@ -11,7 +11,7 @@ returns-in-Ok-clause-gives g c = λ start history at begins.
     let got = c.in-Ok.ensures.gives in
     let size = got.size in
     rw (begins.nothing, c.of.ensures)
-    (told_step (g.C.Consumer.knows c.args.options.now) (inner_of c.args.input.now)
+    (told_step (g.C.Consumer.knows c.args.options.now) (feed_of c.args.input.now)
     c.args.writers.now (rw (← begins.nothing) at) got.takes (omega arith)
     (contact_grows begins.judges got) c.event.new.writers c.event.new.self 4096 stage.Contact
     (omega arith) tt c.event.result (c.event.ensures [] begins.known refl))
@@ -20,6 +20,6 @@ pub returns-in-Err-clause-gives : goal.returns-in-Err-clause-gives
 returns-in-Err-clause-gives g c = λ start history at begins.
     let telling = g.C.Consumer.telling c.args.options.now in
     rw begins.nothing
-    (contact_ended (by_reading telling) (made_is telling) (inner_of c.args.input.now)
-    (inner_of c.open.new.self) c.args.writers.now c.end.new.self (rw (← begins.nothing) at)
+    (contact_ended (by_reading telling) (made_is telling) (feed_of c.args.input.now)
+    (feed_of c.open.new.self) c.args.writers.now c.end.new.self (rw (← begins.nothing) at)
     (before_all telling) c.in-Err.stop _ c.in-Err.ensures.gives c.end.ensures)

@@ -1,7 +1,7 @@
 use Rattle.std.proofs.Common.{◌≡◌, ◌<◌, List, ℕ, [], length, take, None, Ok, refl, arith, length-take}
 use Rattle.link_wire.specs.Session.{source_of, left_of, data_in}
 use Rattle.link_wire.specs.Stream.{reading_of}
-use Rattle.link_run.specs.Reading.{inner_of}
+use Rattle.link_run.specs.Reading.{feed_of}
 use Rattle.link_run.proofs.Sessions.{data_ended}
 use Rattle.link_run.proofs.Stands.{settled}
 use Rattle.link_run.proofs.Waiting.{waits_then}
@@ -17,8 +17,8 @@ use Rattle.link_walk.proofs.walk.pass_stray.Goals as goal
 pub returns-in-Err-clause-gives : goal.returns-in-Err-clause-gives
 returns-in-Err-clause-gives g c = λ options walker start history at walks.
     let telling = g.C.Consumer.telling options in
-    data_ended (by_reading telling) (made_is telling) (inner_of c.args.input.now)
-    (inner_of c.load_data.new.self) c.args.writers.now c.load_data.new.writers c.end.new.self at
+    data_ended (by_reading telling) (made_is telling) (feed_of c.args.input.now)
+    (feed_of c.load_data.new.self) c.args.writers.now c.load_data.new.writers c.end.new.self at
     walks.session_at c.args.piece (stop_is telling (reading_of history) walks.at.unrefused)
     c.in-Err.stop _ (c.in-Err.ensures.gives history walks.session_at) c.end.ensures
 
@@ -27,7 +27,7 @@ returns-clause-gives g c = λ options walker start history at walks.
     let look = g.R.InDevice.state in
     let telling = g.C.Consumer.telling options in
     let knows = g.C.Consumer.knows options in
-    let mid = inner_of c.load_data.new.self in
+    let mid = feed_of c.load_data.new.self in
     let writers = c.load_data.new.writers in
     let both = c.in-Ok.ensures.gives history walks.session_at in
     let got = both.1 in
@@ -45,12 +45,12 @@ returns-clause-gives g c = λ options walker start history at walks.
     let gave = c.pass.ensures.gives history got.at in
     rw (c.stage_by.ensures, c.left.ensures.left)
     (ready_step writers
-    (settled (source_of (inner_of c.args.input.now)) c.args.writers.now writers at both.0) walks got
+    (settled (source_of (feed_of c.args.input.now)) c.args.writers.now writers at both.0) walks got
     (length bytes) c.args.piece _ writers _ _ (next.Stage _) some
     (omega (arith, size, c.min-size.ensures))
     (λ stands loaded.
     told_step knows mid writers stands gave.takes some
-    (data_grows loaded gave some (λ e. cc) (stage_by None (left_of (inner_of c.pass.new.self)))
+    (data_grows loaded gave some (λ e. cc) (stage_by None (left_of (feed_of c.pass.new.self)))
     (stage_some None _) (λ none. rw none refl))
     writers walker.consumer (length bytes) stage.Stray (omega arith) tt (Ok tt)
     (tells_none g.W.OutDevice.state g.E.OutDevice.state telling (knows walker.consumer)

@@ -1,6 +1,6 @@
 use Rattle.std.proofs.Common.{◌++◌, ap, sym, ◌∙◌, arith}
 use Rattle.link_wire.specs.Limits.{longest_head}
-use Rattle.link_run.specs.Reading.{inner_of}
+use Rattle.link_run.specs.Reading.{feed_of}
 use Rattle.link_run.specs.Run.{looks}
 use Rattle.link_run.proofs.Waiting.{waits_then}
 use Rattle.link_walk.specs.declared.walk.Next.TheVariants as next
@@ -15,7 +15,7 @@ returns-clause-gives g c = λ start history at walks.
     let comes = rw c.in-Stage-Data.is at c.in-Stage-Data.field-0-is in
     let went = rw (c.in-Stage-Data.is ∙ ap next.Stage comes) at
     (c.take_message-next.ensures.gives start history at walks) in
-    far_later look start _ _ (inner_of c.args.input.now) (inner_of c.take_message-next.new.input) _
+    far_later look start _ _ (feed_of c.args.input.now) (feed_of c.take_message-next.new.input) _
     c.args.writers.now c.take_message-next.new.writers c.take_on.new.writers _ _ _
     longest_head history c.take_on.result went
     (c.take_on.ensures.gives (omega (arith, c.if-ready-eq0.false)) start (history ++ went.given)
@@ -31,7 +31,7 @@ returns-clause-waits g c = λ history walks.
 pub returns-then-ready-eq0-clause-gives : goal.returns-then-ready-eq0-clause-gives
 returns-then-ready-eq0-clause-gives g c = λ start history at walks.
     let look = looks g.R.InDevice.state g.W.OutDevice.state g.E.OutDevice.state in
-    far_step look start _ _ (inner_of c.args.input.now) _ c.args.writers.now
+    far_step look start _ _ (feed_of c.args.input.now) _ c.args.writers.now
     c.take_message-next.new.writers _ _ history 4096 stage.Message
     c.take_message-next.result (omega arith)
     (c.take_message-next.ensures.gives start history at walks)
@@ -39,7 +39,7 @@ returns-then-ready-eq0-clause-gives g c = λ start history at walks.
 pub returns-then-manner-clause-gives : goal.returns-then-manner-clause-gives
 returns-then-manner-clause-gives g c = λ start history at walks.
     let look = looks g.R.InDevice.state g.W.OutDevice.state g.E.OutDevice.state in
-    far_step look start _ _ (inner_of c.args.input.now) _ c.args.writers.now
+    far_step look start _ _ (feed_of c.args.input.now) _ c.args.writers.now
     c.take_message-next.new.writers _ _ history 4096 stage.Message
     c.take_message-next.result (omega arith)
     (c.take_message-next.ensures.gives start history at walks)
@@ -50,8 +50,8 @@ returns-in_default-clause-gives g c = λ start history at walks.
     let telling = g.C.Consumer.telling c.args.options.now in
     let knows = g.C.Consumer.knows c.args.options.now in
     rw c.pass_quiet.ensures.same
-    (far_quiet look start telling knows (inner_of c.args.input.now)
-    (inner_of c.take_message-next.new.input) (inner_of c.pass_quiet.new.input) c.args.writers.now
+    (far_quiet look start telling knows (feed_of c.args.input.now)
+    (feed_of c.take_message-next.new.input) (feed_of c.pass_quiet.new.input) c.args.writers.now
     c.take_message-next.new.writers _ _ history
     (ap (λ (m : Manner). m.all_heads) (sym c.manner.ensures) ∙ c.if-manner.false) 4096
     stage.Message c.take_message-next.result (omega arith) c.pass_quiet.ensures.other

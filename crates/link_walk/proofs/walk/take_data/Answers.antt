@@ -1,7 +1,7 @@
 use Rattle.std.proofs.Common.{◌<◌, arith}
 use Rattle.link_wire.specs.Session.{source_of}
 use Rattle.link_wire.specs.Stream.{reading_of}
-use Rattle.link_run.specs.Reading.{inner_of}
+use Rattle.link_run.specs.Reading.{feed_of}
 use Rattle.link_run.proofs.Sessions.{data_ended}
 use Rattle.link_run.proofs.Stands.{settled}
 use Rattle.link_run.proofs.Waiting.{waits_then}
@@ -12,8 +12,8 @@ use Rattle.link_walk.proofs.walk.take_data.Goals as goal
 pub returns-in-Err-clause-gives : goal.returns-in-Err-clause-gives
 returns-in-Err-clause-gives g c = λ start history at walks.
     let telling = g.C.Consumer.telling c.args.options.now in
-    data_ended (by_reading telling) (made_is telling) (inner_of c.args.input.now)
-    (inner_of c.load_data.new.self) c.args.writers.now c.load_data.new.writers c.end.new.self at
+    data_ended (by_reading telling) (made_is telling) (feed_of c.args.input.now)
+    (feed_of c.load_data.new.self) c.args.writers.now c.load_data.new.writers c.end.new.self at
     walks.session_at c.args.piece (stop_is telling (reading_of history) walks.at.unrefused)
     c.in-Err.stop _ (c.in-Err.ensures.gives history walks.session_at) c.end.ensures
 
@@ -23,7 +23,7 @@ returns-in-Ok-clause-gives g c = λ start history at walks.
     let both = c.in-Ok.ensures.gives history walks.session_at in
     let ready = both.1.some (some_to_come walks (λ e. cc)) in
     let some : 0 < c.min.result = omega (arith, ready, c.requires.piece, c.min.ensures) in
-    ready_step mid (settled (source_of (inner_of c.args.input.now)) c.args.writers.now mid at both.0)
+    ready_step mid (settled (source_of (feed_of c.args.input.now)) c.args.writers.now mid at both.0)
     walks both.1 c.min.result c.args.piece _ c.take_loaded.new.writers _ _ c.take_loaded.result some
     (omega (arith, c.min.ensures)) (c.take_loaded.ensures.gives some start history)
 

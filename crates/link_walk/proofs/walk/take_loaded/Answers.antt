@@ -3,7 +3,7 @@ use Rattle.link_wire.specs.Session.{source_of, left_of, data_in, IsSessionAt, Pa
 use Rattle.link_wire.specs.Stream.{reading_of}
 use Rattle.link_wire.specs.declared.session.Session.{Session}
 use Rattle.link_transfer.specs.declared.joiner.Turn.TheVariants as turn
-use Rattle.link_run.specs.Reading.{inner_of}
+use Rattle.link_run.specs.Reading.{feed_of}
 use Rattle.link_run.specs.declared.input.Input.{Input}
 use Rattle.link_run.specs.Run.{looks}
 use Rattle.link_walk.specs.Walk.{WalkEvent, walked}
@@ -26,9 +26,9 @@ more_to_come (suc left) last some = refl
 
 -- the data was told, and then given
 gave_data : (g : Over) (c : After-event g) (given : Input (Session g.row.R.Denot) g.row.W.Denot g.row.E.Denot)
-    → ((history : List ℕ) → IsSessionAt g.R.InDevice.state (inner_of c.args.input.now) history
-    → PassedBytes g.R.InDevice.state (inner_of c.args.input.now) (inner_of given) history
-    (take c.args.size (data_in g.R.InDevice.state (inner_of c.args.input.now))))
+    → ((history : List ℕ) → IsSessionAt g.R.InDevice.state (feed_of c.args.input.now) history
+    → PassedBytes g.R.InDevice.state (feed_of c.args.input.now) (feed_of given) history
+    (take c.args.size (data_in g.R.InDevice.state (feed_of c.args.input.now))))
     → 0 < c.args.size
     → Steps (looks g.R.InDevice.state g.W.OutDevice.state g.E.OutDevice.state)
     (g.C.Consumer.telling c.args.options.now) (g.C.Consumer.knows c.args.options.now) c.args.size
@@ -36,13 +36,13 @@ gave_data : (g : Over) (c : After-event g) (given : Input (Session g.row.R.Denot
     (at c.args.input.now c.args.writers.now c.args.walker.now)
     (at given c.event.new.writers
     (record { joiner = c.args.walker.now.joiner; consumer = c.event.new.self }))
-    (next_of (later (left_of (inner_of given)) c.args.last) c.event.result)
+    (next_of (later (left_of (feed_of given)) c.args.last) c.event.result)
 gave_data g c given passed = λ some start history at walks.
     let look = g.R.InDevice.state in
     let telling = g.C.Consumer.telling c.args.options.now in
     let knows = g.C.Consumer.knows c.args.options.now in
-    let old = inner_of c.args.input.now in
-    let new = inner_of given in
+    let old = feed_of c.args.input.now in
+    let new = feed_of given in
     let bytes : List ℕ = take c.args.size (data_in look old) in
     let size : length bytes ≡ c.args.size =
     omega (arith, c.requires.size, length-take c.args.size (data_in look old)) in

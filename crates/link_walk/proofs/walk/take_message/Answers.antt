@@ -8,7 +8,7 @@ use Rattle.link_wire.specs.declared.message.Message.{Message}
 use Rattle.link_transfer.specs.Event.{event_of}
 use Rattle.link_transfer.specs.Joiner.{IsJoinerAt}
 use Rattle.link_transfer.specs.Order.{effect_of, judged_message}
-use Rattle.link_run.specs.Reading.{inner_of}
+use Rattle.link_run.specs.Reading.{feed_of}
 use Rattle.link_run.proofs.Sessions.{message_ended}
 use Rattle.link_run.proofs.Stands.{settled}
 use Rattle.link_walk.specs.Telling.{Tells}
@@ -24,12 +24,12 @@ use Rattle.link_walk.proofs.walk.take_message.Goals as goal
 pub returns-in-Ok-None-clause-gives : goal.returns-in-Ok-None-clause-gives
 returns-in-Ok-None-clause-gives g c = λ start history at walks.
     let telling = g.C.Consumer.telling c.args.options.now in
-    let old = inner_of c.args.input.now in
+    let old = feed_of c.args.input.now in
     let mid = c.next_message.new.writers in
     let had = walked telling.manner (reading_of history) in
     let both = rw c.in-Ok-None.field-0-is at
     (c.in-Ok-None.ensures.gives history walks.session_at) in
-    finished telling old (inner_of c.next_message.new.self) mid
+    finished telling old (feed_of c.next_message.new.self) mid
     (settled (source_of old) c.args.writers.now mid at both.0) c.finish.new.writers
     walks.at.unrefused both.1 c.finish.result
     (c.finish.ensures.gives had.taken had.events walks.at.judges walks.at.known walks.at.opened)
@@ -37,8 +37,8 @@ returns-in-Ok-None-clause-gives g c = λ start history at walks.
 pub returns-in-Err-clause-gives : goal.returns-in-Err-clause-gives
 returns-in-Err-clause-gives g c = λ start history at walks.
     let telling = g.C.Consumer.telling c.args.options.now in
-    message_ended (by_reading telling) (made_is telling) (inner_of c.args.input.now)
-    (inner_of c.next_message.new.self) c.args.writers.now c.next_message.new.writers c.end.new.self
+    message_ended (by_reading telling) (made_is telling) (feed_of c.args.input.now)
+    (feed_of c.next_message.new.self) c.args.writers.now c.next_message.new.writers c.end.new.self
     at walks.session_at
     (same_texts telling (reading_of history) walks.at.unrefused
     (ap cut_heads (at_clean (told_at walks.at))))
@@ -55,7 +55,7 @@ pub returns-in-Ok-clause-gives : goal.returns-in-Ok-clause-gives
 returns-in-Ok-clause-gives g c = λ start history at walks.
     let telling = g.C.Consumer.telling c.args.options.now in
     let knows = g.C.Consumer.knows c.args.options.now in
-    let old = inner_of c.args.input.now in
+    let old = feed_of c.args.input.now in
     let mid = c.next_message.new.writers in
     let message = c.next_message.new.message in
     let sent = message_of message in
@@ -95,7 +95,7 @@ pub returns-in-Err-event-clause-gives : goal.returns-in-Err-event-clause-gives
 returns-in-Err-event-clause-gives g c = λ start history at walks.
     let telling = g.C.Consumer.telling c.args.options.now in
     let knows = g.C.Consumer.knows c.args.options.now in
-    let old = inner_of c.args.input.now in
+    let old = feed_of c.args.input.now in
     let mid = c.next_message.new.writers in
     let message = c.next_message.new.message in
     let sent = message_of message in
@@ -129,7 +129,7 @@ returns-in-Err-event-clause-gives g c = λ start history at walks.
     fault stops why in
     let ended = c.take_refused.ensures.stops stops in
     rw ended.1
-    (refused telling old (inner_of c.next_message.new.self) mid stood c.take_refused.new.writers
+    (refused telling old (feed_of c.next_message.new.self) mid stood c.take_refused.new.writers
     walks.at.unrefused got (ap cut_heads (at_clean (told_at walks.at))) fault is
     (λ more. told_stays telling (history ++ got.given) more c.in-Ok-Some.offset fault
     (ap (λ (w : Walked). w.refused) is))

@@ -4,7 +4,7 @@ use Rattle.link_wire.specs.MessageBuffer.{message_of}
 use Rattle.link_wire.specs.Session.{left_of}
 use Rattle.link_transfer.specs.Event.{event_of}
 use Rattle.link_transfer.specs.Order.{effect_of}
-use Rattle.link_run.specs.Reading.{inner_of}
+use Rattle.link_run.specs.Reading.{feed_of}
 use Rattle.link_walk.specs.Walk.{Head, head_at}
 use Rattle.link_walk.specs.WalkRun.{TellsHead}
 use Rattle.link_walk.specs.declared.consumer.Manner.{Manner}
@@ -40,7 +40,7 @@ returns-clause-goes_on g c = λ taken events goes at why known opened.
     let T : Head → Type 0 = λ h.
     TellsHead g.W.OutDevice.state g.E.OutDevice.state (g.C.Consumer.telling c.args.options.now)
     (g.C.Consumer.knows c.args.options.now c.tell_head.new.consumer) events h
-    (left_of (inner_of c.args.input.now)) c.args.writers.now c.tell_head.new.writers
+    (left_of (feed_of c.args.input.now)) c.args.writers.now c.tell_head.new.writers
     c.tell_head.result in (
       c.take-taken.ensures.taken taken sent (sym event) at,
       subst T is (c.tell_head.ensures.gives events known

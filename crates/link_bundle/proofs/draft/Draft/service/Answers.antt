@@ -2,7 +2,7 @@ use Rattle.std.proofs.Common.{ℕ, ◌≡◌, Option, Ok, ap, ◌∙◌, sym, ru
 use Rattle.link_bundle.specs.declared.draft.Draft.{Draft}
 use Rattle.link_bundle.specs.declared.stage.Field.TheVariants as field
 use Rattle.link_bundle.specs.declared.stage.Part.TheVariants as part
-use Rattle.link_bundle.specs.declared.stage.Stage.{Stage}
+use Rattle.link_bundle.specs.declared.stage.ScanStage.{ScanStage}
 use Rattle.link_bundle.specs.Left.{field_left, stage_left, service_left, numbered, AsReadFrom, EidEnds}
 use Rattle.link_bundle_heads.specs.Rows.{unsigned}
 use Rattle.link_bundle_blocks.proofs.Heads.{row_at-accepted}
@@ -12,7 +12,7 @@ use Rattle.link_bundle.proofs.draft.Draft.service.Goals as goal
 use Rattle.link_bundle.proofs.draft.Draft.service.Goals.{In_ok-service}
 
 -- the endpoint ID ends with its service number, whether it has an allocator identifier or not
-ended : (c : In_ok-service) (allocator : Option ℕ) (stage : Stage) (new : Draft)
+ended : (c : In_ok-service) (allocator : Option ℕ) (stage : ScanStage) (new : Draft)
     → c.args.self.now.allocator ≡ allocator
     → EidEnds c.args.role (numbered allocator c.args.self.now.node c.in_ok-service.service)
     c.args.self.now stage new

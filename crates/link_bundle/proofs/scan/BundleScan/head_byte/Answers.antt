@@ -3,8 +3,8 @@ use Rattle.std.proofs.lemmas.Bool.{ne_eqb}
 use Rattle.link_cbor.specs.HeadScan.{HasScannedHead}
 use Rattle.link_bundle_types.specs.declared.fault.BundleFault.TheVariants.{BadHead}
 use Rattle.link_bundle_blocks.specs.Blocks.{Block}
-use Rattle.link_bundle.specs.declared.stage.Stage.{Stage}
-use Rattle.link_bundle.specs.declared.stage.Stage.TheVariants.{Failed}
+use Rattle.link_bundle.specs.declared.stage.ScanStage.{ScanStage}
+use Rattle.link_bundle.specs.declared.stage.ScanStage.TheVariants.{Failed}
 use Rattle.link_bundle.specs.Left.{last_block, stage_last}
 use Rattle.link_bundle.specs.Scan.{HasSeen, HasSeenHead}
 use Rattle.link_bundle.proofs.Steps.{at_stage, one_byte, grown_head, grown_bytes, more_head, bad_head}
@@ -38,7 +38,7 @@ same_last : (c : After-head_byte)
 same_last c =
     let now = c.args.self.now in
     ap (λ (offset : ℕ). last_block c.args.field now.draft offset) c.head_byte.ensures.takes.offset
-    ∙ ap (λ (stage : Stage). stage_last stage now.draft now.cursor.offset) (sym c.requires.stage)
+    ∙ ap (λ (stage : ScanStage). stage_last stage now.draft now.cursor.offset) (sym c.requires.stage)
 
 pub returns-in-More : goal.returns-in-More
 returns-in-More c =
@@ -60,7 +60,7 @@ returns-in-More c =
     (λ before seen come.
     let bytes = seen ++ c.args.byte ∷ [] in
     let head = scanned at before seen come in
-    subst (λ (stage : Stage). HasSeen stage new now.draft before bytes) (sym c.requires.stage)
+    subst (λ (stage : ScanStage). HasSeen stage new now.draft before bytes) (sym c.requires.stage)
     (more_head (grown at before seen come) head
     (c.in-More.ensures.front (drop new.offset bytes) head)))
 

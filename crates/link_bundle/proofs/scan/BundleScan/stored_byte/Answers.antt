@@ -6,7 +6,7 @@ use Rattle.link_bundle.specs.declared.scan.BundleScan.{BundleScan}
 use Rattle.link_bundle.specs.declared.stage.BlockKind.{BlockKind}
 use Rattle.link_bundle.specs.declared.stage.CheckType.{CheckType}
 use Rattle.link_bundle.specs.declared.stage.CheckType.TheVariants.{Is}
-use Rattle.link_bundle.specs.declared.stage.Stage.TheVariants.{Stored}
+use Rattle.link_bundle.specs.declared.stage.ScanStage.TheVariants.{Stored}
 use Rattle.link_bundle.proofs.Fields.{HasRoom, same_check, has_room, room, before_and}
 use Rattle.link_bundle.proofs.Contents.{grown_stored, equal_stored, other_stored}
 use Rattle.link_bundle.proofs.Steps.{at_stage, fits_at}

@@ -1,7 +1,7 @@
 use Rattle.std.proofs.Common.{◌≡◌, ℕ, List, [], ◌++◌, length, refl, ap, sym, ◌∙◌, subst, append-nil, arith}
 use Rattle.std.proofs.lemmas.Bool.{false≢true}
 use Rattle.link_io.proofs.Sources.{Takes-none}
-use Rattle.link_run.specs.Reading.{inner_of}
+use Rattle.link_run.specs.Reading.{feed_of}
 use Rattle.link_bundle_walk.specs.BundleRun.{Walks}
 use Rattle.link_bundle_walk.specs.Telling.{none_yet}
 use Rattle.link_bundle_walk.proofs.Founds.{stepped, no_size}
@@ -11,7 +11,7 @@ use Rattle.link_bundle_walk.proofs.walk.BundleWalkStagesSource.stage.Goals as go
 pub returns-in-Begin-clause-gives : goal.returns-in-Begin-clause-gives
 returns-in-Begin-clause-gives g c = λ start history. rw c.in-Begin.is (λ stood at.
     let telling = g.C.BundleConsumer.telling c.args.self.now.options in
-    let source = inner_of c.args.input.now in
+    let source = feed_of c.args.input.now in
     let none : history ++ [] ≡ [] = append-nil history ∙ at.nothing in
     let unread = ap length at.unread in
     let Stays : List ℕ → Type 0 = Walks g.R.InDevice.state telling

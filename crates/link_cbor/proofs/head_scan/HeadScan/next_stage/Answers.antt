@@ -1,6 +1,6 @@
 use Rattle.std.proofs.Common.{◌≡◌, ◌+◌, ◌*◌, ◌^◌, ◌<◌, true, arith}
 use Rattle.link_cbor.specs.Stage.{head_stage_fits}
-use Rattle.link_cbor.specs.declared.head_scan.Stage.TheVariants.{Argument}
+use Rattle.link_cbor.specs.declared.head_scan.HeadStage.TheVariants.{Argument}
 use Rattle.link_cbor.proofs.Stages.{value_fits, argument_fits, begins-start, stands-next, stands-low, stands-high}
 use Rattle.link_cbor.proofs.head_scan.HeadScan.next_stage.Goals as goal
 use Rattle.link_cbor.proofs.head_scan.HeadScan.next_stage.Goals.{In-Argument}

@@ -1,5 +1,5 @@
 use Rattle.std.proofs.Common.{◌≡◌, ℕ, ◌+◌, ◌-◌, ◌^◌, ◌<◌, ◌≤◌, List, ◌++◌, length, take, drop, sym, subst, ◌∙◌, length-drop, arith}
-use Rattle.link_rules.specs.{HeadWalk.HasFound, declared.heads.Stage.TheVariants.Inside}
+use Rattle.link_rules.specs.{HeadWalk.HasFound, declared.heads.WalkStage.TheVariants.Inside}
 use Rattle.link_rules.proofs.Walks.{the_rest, fewer, found_head, found_content}
 use Rattle.link_rules.proofs.heads.Found.take_heads.Goals as goal
 use Rattle.link_rules.proofs.heads.Found.take_heads.Goals.{After-content_size-content}

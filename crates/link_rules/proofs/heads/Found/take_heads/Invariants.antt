@@ -1,5 +1,5 @@
 use Rattle.std.proofs.Common.{◌≡◌, ℕ, ◌-◌, ◌^◌, ◌<◌, ◌≤◌, List, ◌++◌, length, take}
-use Rattle.link_rules.specs.{HeadWalk.HasFound, declared.heads.Stage.TheVariants.Inside}
+use Rattle.link_rules.specs.{HeadWalk.HasFound, declared.heads.WalkStage.TheVariants.Inside}
 use Rattle.link_rules.proofs.heads.Found.take_heads.Given as goal
 
 abbrev pub invariant-loop-head : goal.invariant-loop-head

@@ -1,6 +1,6 @@
 use Rattle.std.proofs.Common.{ℕ, ◌^◌, ◌<◌, List, ◌++◌, length, take, subst, arith}
 use Rattle.link_rules.specs.HeadWalk.{HasFound, HasWalked}
-use Rattle.link_rules.specs.declared.heads.Stage.TheVariants.{Inside}
+use Rattle.link_rules.specs.declared.heads.WalkStage.TheVariants.{Inside}
 use Rattle.link_rules.proofs.Walks.{at_stage, fewer, first_byte, found_none, head_begun}
 use Rattle.link_rules.proofs.heads.HeadWalk.next_heads.Goals as goal
 

@@ -1,6 +1,6 @@
 use Rattle.std.proofs.Common.{◌<◌, ◌∙◌, Option, Result, subst}
 use Rattle.link_wire.specs.declared.IoFault.{IoFault}
-use Rattle.link_run.specs.Reading.{inner_of}
+use Rattle.link_run.specs.Reading.{feed_of}
 use Rattle.link_run.specs.Stages.{most_unless_ended}
 use Rattle.link_run.specs.Writers.{place_of}
 use Rattle.link_run.specs.declared.run.Status.{Status}
@@ -16,8 +16,8 @@ returns-clause-gives g c = λ start history at.
     let next = c.stride-progress.new in (
       strode.0,
       λ some. strode.1 (subst P at.0 some),
-      stage_kept _ _ _ start _ (place_of (S (inner_of c.args.self.now.input)) c.args.self.now.writers)
-          (place_of (S (inner_of next.input)) next.writers) (g.T.Stages.knows next.self (inner_of next.input))
+      stage_kept _ _ _ start _ (place_of (S (feed_of c.args.self.now.input)) c.args.self.now.writers)
+          (place_of (S (feed_of next.input)) next.writers) (g.T.Stages.knows next.self (feed_of next.input))
           strode.0 history _ _ c.stride-progress.ensures.made (λ more. c.keep.ensures.more more ∙ at.0) strode.2,
     )
 

@@ -1,4 +1,4 @@
-use Rattle.link_run.specs.Reading.{inner_of}
+use Rattle.link_run.specs.Reading.{feed_of}
 use Rattle.link_walk.proofs.Strides.{never_none, fits_kept, stride_kept}
 use Rattle.link_walk.proofs.walk.WalkStagesSession.stride.Goals as goal
 
@@ -6,13 +6,13 @@ pub returns-clause-fits : goal.returns-clause-fits
 returns-clause-fits g c =
     rw (c.keep.ensures.progress, c.keep.ensures.kept)
     (fits_kept c.args.self.now.stage c.stride_from-next.result
-    (inner_of c.stride_from-next.new.input)
+    (feed_of c.stride_from-next.new.input)
     c.stride_from-next.ensures.fits)
 
 pub returns-clause-gives : goal.returns-clause-gives
 returns-clause-gives g c = λ start history at knows.
     rw (c.keep.ensures.progress, c.keep.ensures.kept)
-    (stride_kept _ start _ _ (inner_of c.args.input.now) _ c.args.writers.now
+    (stride_kept _ start _ _ (feed_of c.args.input.now) _ c.args.writers.now
     c.stride_from-next.new.writers _ _ history c.args.self.now.stage c.stride_from-next.result
     (c.stride_from-next.ensures.gives start history at knows))
 

@@ -2,7 +2,7 @@ use Rattle.std.proofs.Common.{◌≡◌, [], length}
 use Rattle.std.specs.Prelude.{IsTrue}
 use Rattle.link_wire.specs.Session.{source_of, may_read}
 use Rattle.link_wire.specs.Source.{window_of}
-use Rattle.link_run.specs.Reading.{inner_of, Unread}
+use Rattle.link_run.specs.Reading.{feed_of, Unread}
 use Rattle.link_run.specs.Run.{looks}
 use Rattle.link_walk.specs.declared.walk.Next.TheVariants as next
 use Rattle.link_walk.specs.declared.walk.Stage.TheVariants as stage
@@ -14,15 +14,15 @@ abbrev pub invariant-segments : goal.invariant-segments
 invariant-segments g l =
     let look = looks g.R.InDevice.state g.W.OutDevice.state g.E.OutDevice.state in
     record {
-      fits : IsTrue (may_read (inner_of l.input));
+      fits : IsTrue (may_read (feed_of l.input));
       items : l.message.items.items ≡ [];
       joiner : l.walker.joiner ≡ l.fn.walker.joiner;
       unread : Unread look.input source_of l.fn.input l.input;
       taken : HasTaken look (g.C.Consumer.telling l.fn.options)
-          (g.C.Consumer.knows l.fn.options) (inner_of l.fn.input) l.fn.writers
-          l.fn.walker.joiner l.fn.walker.consumer (inner_of l.input) l.writers l.walker.consumer
+          (g.C.Consumer.knows l.fn.options) (feed_of l.fn.input) l.fn.writers
+          l.fn.walker.joiner l.fn.walker.consumer (feed_of l.input) l.writers l.walker.consumer
           (next.Stage stage.Message);
     }
 
 abbrev pub decreases-segments : goal.decreases-segments
-decreases-segments g l = length (window_of (source_of (inner_of l.input)))
+decreases-segments g l = length (window_of (source_of (feed_of l.input)))

@@ -1,7 +1,7 @@
 use Rattle.std.proofs.Common.{arith, ◌<◌, ◌≤◌, bit_and}
 use Rattle.std.proofs.lemmas.Nat.{and_le_r}
 use Rattle.link_cbor.proofs.Stages.{begins-whole, begins-simple, begins-argument, begins-reserved, begins-unargued}
-use Rattle.link_cbor.proofs.head_scan.Stage.begin.Goals as goal
+use Rattle.link_cbor.proofs.head_scan.HeadStage.begin.Goals as goal
 
 pub returns-in-31 : goal.returns-in-31
 returns-in-31 c = begins-unargued c.args.first _ c.in-31.is c.without_argument.ensures

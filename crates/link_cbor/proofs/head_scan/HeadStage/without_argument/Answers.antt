@@ -1,7 +1,7 @@
 use Rattle.std.proofs.Common.{◌≤◌, arith, refl, ⊎_elim}
 use Rattle.std.proofs.lemmas.Bool.{lt-ltb}
 use Rattle.link_cbor.proofs.Stages.{stands-wrong, stands-right}
-use Rattle.link_cbor.proofs.head_scan.Stage.without_argument.Goals as goal
+use Rattle.link_cbor.proofs.head_scan.HeadStage.without_argument.Goals as goal
 
 pub returns-then-major-eq6 : goal.returns-then-major-eq6
 returns-then-major-eq6 c =
