@@ -1,10 +1,8 @@
 -- The rest after a complete head, by what is due.
 
 use Rattle.std.proofs.Common.{◌≡◌, ℕ, zero, suc, ◌-◌, ◌≤◌, Bool, true, false, List, [], ◌∷◌, length, Option, Some, None, Result, Ok, Err, refl, sym, ap, ◌∙◌, arith}
-use Rattle.std.specs.Prelude.{◌==◌, ◌||◌, if◌then◌else◌}
-use Rattle.std.specs.List.{list_any}
-use Rattle.std.proofs.lemmas.Bool.{ne_eqb}
-use Rattle.std.proofs.Math.Bool.{or-false, or_assoc}
+use Rattle.std.specs.{Prelude.{◌==◌, ◌||◌, if◌then◌else◌}, List.list_any}
+use Rattle.std.proofs.{lemmas.Bool.ne_eqb, Math.Bool.{or-false, or_assoc}}
 use Rattle.link_cbor.specs.declared.head.Head.{Head}
 use Rattle.link_bundle_types.specs.declared.eid.Eid.TheVariants.{DtnNone}
 use Rattle.link_bundle_types.specs.declared.fault.BundleFault.{BundleFault}
@@ -17,8 +15,7 @@ use Rattle.link_bundle_blocks.specs.Primary.{fragment_at}
 use Rattle.link_bundle.specs.Left.{numbered, scheme_left, node_left, service_left, name_left}
 use Rattle.link_block_data.specs.declared.values.Assertion.{Assertion}
 use Rattle.link_block_data.specs.declared.values.Assertion.TheVariants.{No, Yes, YesAt}
-use Rattle.link_block_data.specs.declared.values.Integer.{Integer}
-use Rattle.link_block_data.specs.declared.due.Owner.{Owner}
+use Rattle.link_block_data.specs.declared.{values.Integer.Integer, due.Owner.Owner}
 use Rattle.link_block_data.specs.declared.due.Owner.TheVariants as owner
 use Rattle.link_block_data.specs.declared.due.Status.{Status}
 use Rattle.link_block_data.specs.declared.due.Status.TheVariants as status

@@ -3,8 +3,7 @@
 use Rattle.std.proofs.Common.{◌≡◌, ℕ, ◌+◌, ◌-◌, ◌<◌, ◌≤◌, Bool, true, false, List, [], ◌++◌, length, drop, Result, Ok, Err, refl, ap, ◌∙◌, append-nil}
 use Rattle.std.specs.Prelude.{◌==◌, if◌then◌else◌}
 use Rattle.std.proofs.lemmas.Bool.{eqb-true}
-use Rattle.link_bundle_types.specs.declared.eid.Eid.{Eid}
-use Rattle.link_bundle_types.specs.declared.eid.Eid.TheVariants.{Dtn}
+use Rattle.link_bundle_types.specs.declared.eid.{Eid.Eid, Eid.TheVariants.Dtn}
 use Rattle.link_bundle_types.specs.KeptEid.{name_of}
 use Rattle.link_bundle_heads.specs.Rows.{◌>>=◌}
 use Rattle.link_bundle_blocks.specs.Reading.{ReadAt, Stop, bytes_at}
@@ -13,10 +12,8 @@ use Rattle.link_bundle_blocks.proofs.Runs.{bytes_at-none, run_within}
 use Rattle.link_bundle.proofs.Names.{name_left-run}
 use Rattle.link_block_data.specs.declared.due.Owner.{Owner}
 use Rattle.link_block_data.specs.declared.due.Owner.TheVariants as owner
-use Rattle.link_block_data.specs.declared.due.DataStage.TheVariants.{Name}
-use Rattle.link_block_data.specs.declared.draft.Draft.{Draft}
-use Rattle.link_block_data.specs.BlockData.{located}
-use Rattle.link_block_data.specs.Turns.{after_eid, name_due, with_eid}
+use Rattle.link_block_data.specs.declared.{due.DataStage.TheVariants.Name, draft.Draft.Draft}
+use Rattle.link_block_data.specs.{BlockData.located, Turns.{after_eid, name_due, with_eid}}
 use Rattle.link_block_data.specs.Left.{owner_left, by_eid, timestamp_left, due_left, stage_left}
 
 -- ---- one reading after another

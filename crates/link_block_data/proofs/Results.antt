@@ -8,16 +8,12 @@ use Rattle.link_bundle_blocks.specs.Reading.{stopped}
 use Rattle.link_bundle.specs.Left.{name_left}
 use Rattle.link_bundle_blocks.proofs.Runs.{bytes_at-cut}
 use Rattle.link_bundle.proofs.Verdicts.{head_at-cut}
-use Rattle.link_block_data.specs.declared.kind.DataKind.{DataKind}
-use Rattle.link_block_data.specs.declared.due.Due.{Due}
-use Rattle.link_block_data.specs.declared.due.Owner.{Owner}
-use Rattle.link_block_data.specs.declared.due.Found.{Found}
-use Rattle.link_block_data.specs.declared.due.DataStage.{DataStage}
+use Rattle.link_block_data.specs.declared.{kind.DataKind.DataKind, due.Due.Due, due.Owner.Owner}
+use Rattle.link_block_data.specs.declared.due.{Found.Found, DataStage.DataStage}
 use Rattle.link_block_data.specs.declared.due.DataStage.TheVariants.{Head, Name, Read, Failed}
 use Rattle.link_block_data.specs.declared.draft.Draft.{Draft}
 use Rattle.link_block_data.specs.BlockData.{BlockData, alone, located, data_of}
-use Rattle.link_block_data.specs.Left.{data_from, may_follow, stage_left}
-use Rattle.link_block_data.specs.Scan.{HasSeen}
+use Rattle.link_block_data.specs.{Left.{data_from, may_follow, stage_left}, Scan.HasSeen}
 use Rattle.link_block_data.proofs.Stops.{due_left-stopped}
 
 ended_there : (follow : Bool) (found : BlockData) (bytes : List ℕ) (offset : ℕ)

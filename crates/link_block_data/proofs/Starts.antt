@@ -6,8 +6,7 @@ use Rattle.link_block_data.specs.declared.kind.DataKind.TheVariants as kind
 use Rattle.link_block_data.specs.declared.due.Owner.TheVariants as owner
 use Rattle.link_block_data.specs.declared.draft.Draft.{Draft}
 use Rattle.link_bundle_heads.specs.Rows.{pair}
-use Rattle.link_bundle_blocks.specs.Reading.{row_at}
-use Rattle.link_bundle_blocks.specs.EndpointId.{eid_at}
+use Rattle.link_bundle_blocks.specs.{Reading.row_at, EndpointId.eid_at}
 use Rattle.link_bundle.specs.Left.{scheme_left}
 use Rattle.link_block_data.specs.BlockData.{previous_node, bundle_age, hop_count, security, report_at, administrative_record, reading_of}
 use Rattle.link_block_data.specs.Turns.{first_due}

@@ -2,34 +2,24 @@
 
 use Rattle.std.proofs.Common.{◌≡◌, ℕ, ◌+◌, ◌-◌, ◌<◌, ◌≤◌, Bool, true, false, List, [], ◌++◌, length, drop, Result, Ok, Err, refl, sym, ap, ◌∙◌, append_assoc, length-append, length-drop, arith}
 use Rattle.std.specs.Prelude.{◌==◌, ◌||◌, IsTrue}
-use Rattle.std.proofs.lemmas.Bool.{eq-eqb, eqb-true, ne_eqb}
-use Rattle.std.proofs.lemmas.List.{drop-append-le}
-use Rattle.std.proofs.Math.Bool.{or-true}
-use Rattle.std.proofs.lemmas.List.Elements.{All-nil}
-use Rattle.link_cbor.specs.declared.head.Head.{Head as HeadItem}
-use Rattle.link_cbor.specs.declared.head_scan.HeadScan.{HeadScan}
+use Rattle.std.proofs.lemmas.{Bool.{eq-eqb, eqb-true, ne_eqb}, List.drop-append-le}
+use Rattle.std.proofs.{Math.Bool.or-true, lemmas.List.Elements.All-nil}
+use Rattle.link_cbor.specs.declared.{head.Head.Head as HeadItem, head_scan.HeadScan.HeadScan}
 use Rattle.link_cbor.specs.Head.{AreBytes, Cut as CutHead, IllFormed, Whole, head_front}
 use Rattle.link_cbor.specs.HeadScan.{HasScannedHead}
 use Rattle.link_bundle.proofs.Steps.{next_run, nothing_yet, all_grown, head_at-whole, head_at-bad}
 use Rattle.link_bundle_types.specs.declared.fault.BundleFault.{BundleFault}
 use Rattle.link_bundle_types.specs.declared.fault.BundleFault.TheVariants.{BadHead}
 use Rattle.link_bundle_blocks.specs.Reading.{stopped}
-use Rattle.link_block_data.specs.declared.kind.DataKind.{DataKind}
-use Rattle.link_block_data.specs.declared.due.Due.{Due}
-use Rattle.link_block_data.specs.declared.due.Owner.{Owner}
-use Rattle.link_block_data.specs.declared.due.Found.{Found}
-use Rattle.link_block_data.specs.declared.due.DataStage.{DataStage}
+use Rattle.link_block_data.specs.declared.{kind.DataKind.DataKind, due.Due.Due, due.Owner.Owner}
+use Rattle.link_block_data.specs.declared.due.{Found.Found, DataStage.DataStage}
 use Rattle.link_block_data.specs.declared.due.DataStage.TheVariants.{Head, Name, Read, Failed}
-use Rattle.link_block_data.specs.declared.draft.Draft.{Draft}
-use Rattle.link_block_data.specs.BlockData.{alone, located, data_of}
+use Rattle.link_block_data.specs.{declared.draft.Draft.Draft, BlockData.{alone, located, data_of}}
 use Rattle.link_block_data.specs.Turns.{first_due, took_run, judged}
 use Rattle.link_block_data.specs.Left.{may_follow, stage_left, goes_on}
-use Rattle.link_block_data.specs.declared.scan.DataScan.{DataScan}
-use Rattle.link_block_data.specs.Fits.{scan_fits}
+use Rattle.link_block_data.specs.{declared.scan.DataScan.DataScan, Fits.scan_fits}
 use Rattle.link_block_data.specs.Scan.{HasSeen, HasScanned, HasSeenHead, HasTaken, IsAtStage}
-use Rattle.link_block_data.proofs.Heads.{head_turn}
-use Rattle.link_block_data.proofs.Names.{name_goes_on}
-use Rattle.link_block_data.proofs.Starts.{starts}
+use Rattle.link_block_data.proofs.{Heads.head_turn, Names.name_goes_on, Starts.starts}
 use Rattle.link_block_data.proofs.Stops.{due_left-stopped}
 
 -- ---- a scan whose stage is known

@@ -3,8 +3,7 @@
 
 use Rattle.std.specs.Prelude.{ℕ, zero, suc, ◌-◌, ◌==◌, List, [], ◌∷◌, length, Result, Ok, Err, if◌then◌else◌}
 use Rattle.std.specs.List.{list_any}
-use Rattle.link_bundle_types.specs.declared.eid.Eid.{Eid}
-use Rattle.link_bundle_types.specs.declared.fault.BundleFault.TheVariants.{Trailing}
+use Rattle.link_bundle_types.specs.declared.{eid.Eid.Eid, fault.BundleFault.TheVariants.Trailing}
 use Rattle.link_bundle_heads.specs.Rows.{◌>>=◌, unsigned, array, pair}
 use Rattle.link_bundle_blocks.specs.Reading.{ReadAt, Stop, stopped, head_at, outcome_at, row_at}
 use Rattle.link_bundle_blocks.specs.EndpointId.{eid_at}
@@ -13,8 +12,7 @@ use Rattle.link_block_data.specs.declared.kind.DataKind.{DataKind}
 use Rattle.link_block_data.specs.declared.kind.DataKind.TheVariants as kind
 use Rattle.link_block_data.specs.declared.values.Assertion.{Assertion}
 use Rattle.link_block_data.specs.declared.values.Assertion.TheVariants.{No, Yes, YesAt}
-use Rattle.link_block_data.specs.declared.values.SecurityBlock.{SecurityBlock}
-use Rattle.link_block_data.specs.declared.values.Report.{Report}
+use Rattle.link_block_data.specs.declared.values.{SecurityBlock.SecurityBlock, Report.Report}
 use Rattle.link_block_data.specs.DataRows.{integer, assertion, four_or_six, four_or_more, one_or_two}
 
 -- what the data of a block says

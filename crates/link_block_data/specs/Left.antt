@@ -4,8 +4,7 @@
 
 use Rattle.std.specs.Prelude.{ℕ, ◌-◌, ◌==◌, Bool, true, false, List, Option, Some, Result, Ok, Err, if◌then◌else◌}
 use Rattle.std.specs.List.{list_any}
-use Rattle.link_bundle_types.specs.declared.eid.Eid.{Eid}
-use Rattle.link_bundle_types.specs.declared.fault.BundleFault.{BundleFault}
+use Rattle.link_bundle_types.specs.declared.{eid.Eid.Eid, fault.BundleFault.BundleFault}
 use Rattle.link_bundle_types.specs.KeptEid.{name_of}
 use Rattle.link_bundle_heads.specs.declared.endpoint.Scheme.TheVariants.{Dtn, Ipn}
 use Rattle.link_bundle_heads.specs.Rows.{◌>>=◌, unsigned, array, pair}

@@ -5,12 +5,10 @@ use Rattle.std.specs.Prelude.{◌≡◌, ℕ, ◌+◌, ◌≤◌, ◌||◌, ◌=
 use Rattle.link_cbor.specs.declared.head_scan.HeadScan.{HeadScan}
 use Rattle.link_cbor.specs.Head.{AreBytes, Cut, head_front}
 use Rattle.link_cbor.specs.HeadScan.{HasScannedHead}
-use Rattle.link_block_data.specs.declared.kind.DataKind.{DataKind}
-use Rattle.link_block_data.specs.declared.due.Due.{Due}
+use Rattle.link_block_data.specs.declared.{kind.DataKind.DataKind, due.Due.Due}
 use Rattle.link_block_data.specs.declared.due.DataStage.{DataStage}
 use Rattle.link_block_data.specs.declared.due.DataStage.TheVariants.{Head, Read}
-use Rattle.link_block_data.specs.declared.draft.Draft.{Draft}
-use Rattle.link_block_data.specs.declared.scan.DataScan.{DataScan}
+use Rattle.link_block_data.specs.declared.{draft.Draft.Draft, scan.DataScan.DataScan}
 use Rattle.link_block_data.specs.BlockData.{located, data_of}
 use Rattle.link_block_data.specs.Left.{may_follow, due_left, stage_left}
 

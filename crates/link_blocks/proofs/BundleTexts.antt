@@ -1,20 +1,16 @@
 -- The texts of bundles, when more bytes come.
 use Rattle.std.proofs.Common.{◌≡◌, ℕ, suc, ◌+◌, List, [], ◌∷◌, ◌++◌, length, None, OnOk, Result, Ok, Err, refl, ap, sym, ◌∙◌, append-nil, append_assoc, arith}
-use Rattle.link_wire.specs.Device.{Output}
-use Rattle.link_wire.specs.declared.IoFault.{IoFault}
+use Rattle.link_wire.specs.{Device.Output, declared.IoFault.IoFault}
 use Rattle.link_report.specs.declared.judgement.Judgement.TheVariants.{Good}
 use Rattle.link_block_report.specs.Blocks.{end_text}
-use Rattle.link_run.specs.Run.{no_texts, ◌then◌}
-use Rattle.link_run.specs.Writers.{on_output, AfterWrite}
+use Rattle.link_run.specs.{Run.{no_texts, ◌then◌}, Writers.{on_output, AfterWrite}}
 use Rattle.link_run.specs.declared.writers.Writers.{Writers}
 use Rattle.link_run.proofs.Runs.{texts_as, writes_none, outputs_then, part_of_more}
 use Rattle.link_bundle_walk.specs.Bundles.{Packed}
 use Rattle.link_bundle_walk.specs.Telling.{SoFar, none_yet, between, with_run, Tells}
-use Rattle.link_blocks.specs.BlockLines.{block_lines}
-use Rattle.link_blocks.specs.BundleLister.{IsListing}
+use Rattle.link_blocks.specs.{BlockLines.block_lines, BundleLister.IsListing}
 use Rattle.link_blocks.specs.Bundles.{whole_lines, bundle_lines, bundle_blocks_telling}
-use Rattle.link_blocks.specs.Piece.{ShowsMore}
-use Rattle.link_blocks.specs.declared.bundles.BundleLister.{BundleLister}
+use Rattle.link_blocks.specs.{Piece.ShowsMore, declared.bundles.BundleLister.BundleLister}
 use Rattle.link_blocks.proofs.Lines.{no_lines}
 
 -- one more bundle, which has the number `n`

@@ -1,18 +1,14 @@
 -- The lines of the transfers, when one begins, has more data, or is over.
 use Rattle.std.proofs.Common.{◌≡◌, ℕ, Bool, true, false, not, ◌&&◌, ◌==◌, List, [], ◌∷◌, ◌++◌, Option, refl, ap, sym, ◌∙◌, append-nil, append_assoc, if◌then◌else◌}
-use Rattle.link_wire.specs.Codes.{is_end}
-use Rattle.link_wire.specs.Message.{data_length}
-use Rattle.link_wire.specs.declared.message.Message.{Message}
+use Rattle.link_wire.specs.{Codes.is_end, Message.data_length, declared.message.Message.Message}
 use Rattle.link_wire.specs.declared.message.SegmentHead.{SegmentHead}
 use Rattle.link_transfer.specs.declared.joiner.Turn.{Turn}
 use Rattle.link_walk.specs.Walk.{abandons, is_last, open_with}
-use Rattle.link_unpack.specs.Transfers.{Transfer, closes, continued}
-use Rattle.link_unpack.specs.TransferJudge.{begun, grown}
+use Rattle.link_unpack.specs.{Transfers.{Transfer, closes, continued}, TransferJudge.{begun, grown}}
 use Rattle.link_unpack.specs.Unpacking.{is_selected, transfers_at}
 use Rattle.link_unpack.proofs.Effects.{Does, Strays, Passes, Begins, Continues}
 use Rattle.link_unpack.proofs.Heads.{transfers_same, transfer_begins, transfer_continues}
-use Rattle.link_blocks.specs.BlockLines.{block_lines}
-use Rattle.link_blocks.specs.Showing.{end_line, transfer_lines, lines_of}
+use Rattle.link_blocks.specs.{BlockLines.block_lines, Showing.{end_line, transfer_lines, lines_of}}
 use Rattle.link_blocks.specs.Lister.{end_due}
 use Rattle.link_blocks.proofs.Lines.{no_lines}
 

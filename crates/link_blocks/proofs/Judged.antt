@@ -1,7 +1,6 @@
 -- A piece of a bundle, of which some bytes were scanned.
 use Rattle.std.proofs.Common.{◌≡◌, ℕ, ◌⊎◌, false, List, [], ◌++◌, take, drop, Result, IsTrue, ap, sym, ◌∙◌, subst, ⊎_elim, append-nil, append_assoc, fold}
-use Rattle.std.proofs.lemmas.Bool.{false≢true}
-use Rattle.std.proofs.lemmas.List.{take-append-drop}
+use Rattle.std.proofs.lemmas.{Bool.false≢true, List.take-append-drop}
 use Rattle.link_bundle_types.specs.declared.fault.BundleFault.{BundleFault}
 use Rattle.link_bundle_types.specs.declared.info.BundleInfo.{BundleInfo}
 use Rattle.link_bundle_blocks.specs.Blocks.{Block}
@@ -10,10 +9,8 @@ use Rattle.link_bundle.specs.Scan.{HasScanned, HasJudged, may_scan}
 use Rattle.link_bundle.specs.declared.scan.BundleScan.{BundleScan}
 use Rattle.link_bundle.proofs.Pieces.{verdict_judged}
 use Rattle.link_blocks.specs.BlockLines.{flags_after, lines_from, block_lines}
-use Rattle.link_blocks.specs.DataReader.{IsReading}
-use Rattle.link_blocks.specs.declared.data.DataReader.{DataReader}
-use Rattle.link_blocks.proofs.Lines.{lines_more, lines_end}
-use Rattle.link_blocks.proofs.Reading.{read_end}
+use Rattle.link_blocks.specs.{DataReader.IsReading, declared.data.DataReader.DataReader}
+use Rattle.link_blocks.proofs.{Lines.{lines_more, lines_end}, Reading.read_end}
 
 -- ---- a scan that has judged some bytes
 

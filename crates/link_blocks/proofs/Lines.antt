@@ -1,7 +1,6 @@
 -- The lines of blocks, when more bytes follow.
 use Rattle.std.proofs.Common.{◌≡◌, ℕ, suc, ◌+◌, ◌≤◌, false, true, List, [], ◌∷◌, ◌++◌, length, take, drop, Result, Ok, Err, fold, All, refl, ap, sym, ◌∙◌, append-nil, append_assoc, length-drop, if◌then◌else◌, arith}
-use Rattle.std.proofs.lemmas.Bool.{false≢true}
-use Rattle.std.proofs.lemmas.List.{take-append-le, drop-append-le}
+use Rattle.std.proofs.lemmas.{Bool.false≢true, List.{take-append-le, drop-append-le}}
 use Rattle.link_bundle_types.specs.declared.fault.BundleFault.{BundleFault}
 use Rattle.link_bundle_types.specs.declared.info.BundleInfo.{BundleInfo}
 use Rattle.link_bundle_types.specs.declared.fault.State.TheVariants as state
@@ -13,8 +12,7 @@ use Rattle.link_bundle_blocks.proofs.Lengths.{FaultLasts-holds, TrailingLasts-ho
 use Rattle.link_bundle_blocks.proofs.Lying.{BlocksWithin-holds}
 use Rattle.link_bundle_blocks.proofs.Showing.{BlocksGrow-holds, BlocksEnd-holds}
 use Rattle.link_block_data.specs.BlockData.{data_of}
-use Rattle.link_block_report.specs.Blocks.{block_text}
-use Rattle.link_block_report.specs.Kinds.{kind_of}
+use Rattle.link_block_report.specs.{Blocks.block_text, Kinds.kind_of}
 use Rattle.std.specs.Prelude.{option_map}
 use Rattle.link_blocks.specs.BlockLines.{data_in, block_line, flags_after, lines_from, block_lines}
 

@@ -1,24 +1,20 @@
 -- What a reader of block data has read after more bytes.
 use Rattle.std.proofs.Common.{◌≡◌, ℕ, ◌+◌, ◌<◌, ◌≤◌, false, true, Bool, ◌==◌, List, [], ◌∷◌, ◌++◌, length, Option, Some, None, fold, All, refl, ap, sym, ◌∙◌, ⊎_elim, if◌then◌else◌, arith}
-use Rattle.std.proofs.lemmas.Bool.{false≢true}
-use Rattle.std.proofs.lemmas.Grind.{fold-append}
+use Rattle.std.proofs.lemmas.{Bool.false≢true, Grind.fold-append}
 use Rattle.link_bundle_blocks.specs.Blocks.{Block, CanonicalOf, LiesWithin, next_of}
 use Rattle.link_bundle_blocks.specs.Bundle.{judged_bundle, bundle_at, opening_at, bundle_goes, blocks_in, cut_block_in}
 use Rattle.link_bundle.specs.Left.{field_block, follows_block, stage_block, stage_follows, stage_last}
 use Rattle.link_bundle.specs.Scan.{HasScanned, ending_at, ending}
 use Rattle.link_bundle_blocks.specs.declared.block.CanonicalBlock.{CanonicalBlock}
-use Rattle.link_bundle.specs.declared.cursor.Cursor.{Cursor}
-use Rattle.link_bundle.specs.declared.draft.Draft.{Draft}
-use Rattle.link_bundle.specs.declared.scan.BundleScan.{BundleScan}
-use Rattle.link_bundle.specs.declared.stage.Field.{Field}
+use Rattle.link_bundle.specs.declared.{cursor.Cursor.Cursor, draft.Draft.Draft}
+use Rattle.link_bundle.specs.declared.{scan.BundleScan.BundleScan, stage.Field.Field}
 use Rattle.link_bundle.specs.declared.stage.Field.TheVariants as field
 use Rattle.link_bundle.specs.declared.stage.ScanStage.{ScanStage}
 use Rattle.link_bundle.specs.declared.stage.ScanStage.TheVariants.{Start, Head, Name, Content, Stored, Ended, Failed}
 use Rattle.link_bundle_blocks.proofs.Lying.{BlocksWithin-holds}
 use Rattle.link_bundle_blocks.proofs.Showing.{BlocksEnd-holds, BlockPlaced-holds}
 use Rattle.link_bundle.proofs.Verdicts.{cut_block_of-seen}
-use Rattle.link_blocks.specs.BlockLines.{flags_after}
-use Rattle.link_blocks.specs.DataReader.{IsReading, IsReadingBlock}
+use Rattle.link_blocks.specs.{BlockLines.flags_after, DataReader.{IsReading, IsReadingBlock}}
 use Rattle.link_blocks.specs.declared.data.DataReader.{DataReader}
 use Rattle.link_blocks.proofs.Lines.{all_first, all_rest, goes_stops, no_blocks}
 

@@ -1,7 +1,6 @@
 -- The data of a block that a run of the bundle has.
 use Rattle.std.proofs.Common.{◌≡◌, ℕ, ◌+◌, ◌-◌, min, ◌≤◌, List, [], ◌++◌, length, take, drop, ap, ◌∙◌, length-append, length-take, length-drop, arith}
-use Rattle.std.proofs.Math.ListN.{drop_of_length-le}
-use Rattle.std.proofs.Math.Seq.{take-nil}
+use Rattle.std.proofs.Math.{ListN.drop_of_length-le, Seq.take-nil}
 use Rattle.link_bundle_blocks.specs.declared.block.CanonicalBlock.{CanonicalBlock}
 use Rattle.link_unpack.specs.Pieces.{part_in}
 use Rattle.link_unpack.proofs.Parts.{part_more}

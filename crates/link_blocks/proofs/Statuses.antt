@@ -5,10 +5,8 @@ use Rattle.link_run.specs.Made.{StreamStop, Made, whole_by}
 use Rattle.link_walk.specs.Walk.{WalkEvent, ContactHeader, MessageHead, Data, Whole, LeftOpen, end_events, stop_by, walked, told_of}
 use Rattle.link_walk.specs.declared.consumer.Manner.{Manner}
 use Rattle.link_unpack.specs.Unpacking.{Told, none_told, transfers_at, told_event, told_after}
-use Rattle.link_unpack.specs.Transfers.{continued}
-use Rattle.link_unpack.specs.declared.wanted.Wanted.{Wanted}
-use Rattle.link_blocks.specs.Laws.{HasStatusOfUnpack}
-use Rattle.link_blocks.specs.Showing.{unpacking_by}
+use Rattle.link_unpack.specs.{Transfers.continued, declared.wanted.Wanted.Wanted}
+use Rattle.link_blocks.specs.{Laws.HasStatusOfUnpack, Showing.unpacking_by}
 
 -- what was told has the same transfers, and is good or not alike
 record Alike (one other : Told) : Type 0 where

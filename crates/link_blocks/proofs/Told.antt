@@ -1,12 +1,8 @@
 -- What is kept after one more event, and what is written for it.
 use Rattle.std.proofs.Common.{◌≡◌, ℕ, ◌+◌, ◌≤◌, Bool, true, false, not, ◌&&◌, ◌==◌, is_some, List, [], ◌∷◌, ◌++◌, length, Option, Result, OnOk, flat_map, refl, ap, sym, ◌∙◌, append-nil, append_assoc, arith}
-use Rattle.std.proofs.Math.Bool.{and-true}
-use Rattle.std.proofs.lemmas.Grind.{flat_map-append}
-use Rattle.link_wire.specs.Codes.{is_start, is_end}
-use Rattle.link_wire.specs.Device.{Output}
-use Rattle.link_wire.specs.Message.{data_length}
-use Rattle.link_wire.specs.declared.IoFault.{IoFault}
-use Rattle.link_wire.specs.declared.message.Message.{Message}
+use Rattle.std.proofs.{Math.Bool.and-true, lemmas.Grind.flat_map-append}
+use Rattle.link_wire.specs.{Codes.{is_start, is_end}, Device.Output, Message.data_length}
+use Rattle.link_wire.specs.declared.{IoFault.IoFault, message.Message.Message}
 use Rattle.link_wire.specs.declared.message.Message.TheVariants as message
 use Rattle.link_wire.specs.declared.message.SegmentHead.{SegmentHead}
 use Rattle.link_transfer.specs.declared.joiner.Turn.{Turn}
@@ -16,8 +12,7 @@ use Rattle.link_run.specs.declared.writers.Writers.{Writers}
 use Rattle.link_run.proofs.Runs.{texts_as}
 use Rattle.link_walk.specs.Walk.{Head, WalkEvent, MessageHead, closes as closes_head, is_last, is_beginning, open_with, open_after_event, data_size, has_open, abandons}
 use Rattle.link_walk.specs.Telling.{ComesAfter, Tells, data_ends}
-use Rattle.link_unpack.specs.Transfers.{Transfer, closes, continued}
-use Rattle.link_unpack.specs.TransferJudge.{begun, grown}
+use Rattle.link_unpack.specs.{Transfers.{Transfer, closes, continued}, TransferJudge.{begun, grown}}
 use Rattle.link_unpack.specs.Unpacking.{order_line, Told, good_due, transfers_at, told_event, told_after}
 use Rattle.link_unpack.proofs.Effects.{zero_eq, Does, Strays, Passes, Begins, Continues, comes_does}
 use Rattle.link_unpack.proofs.Events.{open_is, told_push, data_after, whole_if}
@@ -26,8 +21,7 @@ use Rattle.link_unpack.proofs.Told.{size_then, open_then, size_with_data, open_w
 use Rattle.link_unpack.proofs.Transfers.{judging_same}
 use Rattle.link_blocks.specs.Lister.{IsAtLatest, KnowsShown, end_due}
 use Rattle.link_blocks.specs.Showing.{transfer_lines, lines_of, order_line_of, unpacking_by, blocks_telling}
-use Rattle.link_blocks.specs.TransferBlocks.{IsShowing}
-use Rattle.link_blocks.specs.declared.lister.BlockLister.{BlockLister}
+use Rattle.link_blocks.specs.{TransferBlocks.IsShowing, declared.lister.BlockLister.BlockLister}
 use Rattle.link_blocks.specs.declared.options.BlockOptions.{BlockOptions}
 use Rattle.link_blocks.specs.declared.transfer.TransferBlocks.{TransferBlocks}
 use Rattle.link_blocks.proofs.Ended.{lines_of-more, ended_lines, head_lines}

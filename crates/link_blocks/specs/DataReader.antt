@@ -1,11 +1,9 @@
 -- Relations: what a reader of block data has read.
-use Rattle.std.specs.Prelude.{◌≡◌, ℕ, true, List, Option, Some, None}
-use Rattle.std.specs.List.{fold}
+use Rattle.std.specs.{Prelude.{◌≡◌, ℕ, true, List, Option, Some, None}, List.fold}
 use Rattle.link_bundle_blocks.specs.Bundle.{blocks_in, cut_block_in, bundle_goes}
 use Rattle.link_bundle_blocks.specs.declared.block.CanonicalBlock.{CanonicalBlock}
 use Rattle.link_block_data.specs.Scan.{HasScanned, scan_size}
-use Rattle.link_block_data.specs.declared.kind.DataKind.{DataKind}
-use Rattle.link_block_data.specs.declared.scan.DataScan.{DataScan}
+use Rattle.link_block_data.specs.declared.{kind.DataKind.DataKind, scan.DataScan.DataScan}
 use Rattle.link_block_report.specs.Kinds.{kind_of}
 use Rattle.link_blocks.specs.BlockLines.{data_in, flags_after}
 use Rattle.link_blocks.specs.declared.data.DataReader.{DataReader}

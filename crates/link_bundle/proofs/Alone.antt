@@ -2,25 +2,19 @@
 
 use Rattle.std.proofs.Common.{◌≡◌, ℕ, ◌+◌, ◌<◌, ◌&&◌, Bool, true, false, List, [], ◌∷◌, ◌++◌, length, get_or, take, Ok, Err, refl, sym, ap, subst, ◌∙◌, length-append, append-nil, arith}
 use Rattle.std.specs.Prelude.{◌==◌, is_none, if◌then◌else◌}
-use Rattle.std.proofs.lemmas.List.{length-take-le, take_more}
-use Rattle.std.proofs.lemmas.List.Elements.{All-take}
+use Rattle.std.proofs.lemmas.{List.{length-take-le, take_more}, List.Elements.All-take}
 use Rattle.link_cbor.specs.Head.{AreBytes}
 use Rattle.link_bundle_blocks.specs.Reading.{Stop}
-use Rattle.link_bundle.specs.declared.cursor.Cursor.{Cursor}
-use Rattle.link_bundle.specs.declared.draft.Draft.{Draft}
-use Rattle.link_bundle.specs.declared.scan.BundleScan.{BundleScan}
-use Rattle.link_bundle.specs.declared.stage.CheckType.{CheckType}
+use Rattle.link_bundle.specs.declared.{cursor.Cursor.Cursor, draft.Draft.Draft}
+use Rattle.link_bundle.specs.declared.{scan.BundleScan.BundleScan, stage.CheckType.CheckType}
 use Rattle.link_bundle.specs.declared.stage.CheckType.TheVariants.{Unread, Is}
 use Rattle.link_bundle.specs.declared.stage.ScanStage.TheVariants.{Start, Ended}
 use Rattle.link_bundle.specs.CheckKinds.{is_unread}
 use Rattle.link_bundle_blocks.specs.Bundle.{Bundle, with_blocks, bundle_at, bundle_goes, judged_bundle}
 use Rattle.link_bundle_blocks.specs.Blocks.{Block}
-use Rattle.link_bundle.specs.Left.{bundle_of, stage_left}
-use Rattle.link_bundle.specs.Scan.{HasSeen, HasScanned, HasTaken}
-use Rattle.link_bundle_blocks.proofs.Beginnings.{Begins}
-use Rattle.link_bundle_blocks.proofs.Payloads.{cut_goes-on}
-use Rattle.link_bundle.proofs.Fields.{before_and, after_and}
-use Rattle.link_bundle.proofs.Steps.{all_grown, at_stage, fits_at}
+use Rattle.link_bundle.specs.{Left.{bundle_of, stage_left}, Scan.{HasSeen, HasScanned, HasTaken}}
+use Rattle.link_bundle_blocks.proofs.{Beginnings.Begins, Payloads.cut_goes-on}
+use Rattle.link_bundle.proofs.{Fields.{before_and, after_and}, Steps.{all_grown, at_stage, fits_at}}
 
 alone_after : (test : Bool) (bundle : Bundle) (stop : Stop) (blocks : List Block)
     → bundle.blocks ≡ [] → stop.blocks ≡ []

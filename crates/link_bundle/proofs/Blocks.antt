@@ -2,11 +2,8 @@
 
 use Rattle.std.proofs.Common.{◌≡◌, ℕ, Bool, true, false, List, [], ◌∷◌, ◌++◌, length, Option, None, Some, Result, Ok, Err, refl}
 use Rattle.std.specs.Prelude.{◌==◌, if◌then◌else◌}
-use Rattle.link_bundle.specs.declared.draft.Draft.{Draft}
-use Rattle.link_bundle.specs.declared.stage.Field.{Field}
-use Rattle.link_bundle_blocks.specs.Blocks.{Block}
-use Rattle.link_bundle_blocks.specs.Reading.{Stop}
-use Rattle.link_bundle_blocks.specs.Bundle.{Bundle, with_blocks}
+use Rattle.link_bundle.specs.declared.{draft.Draft.Draft, stage.Field.Field}
+use Rattle.link_bundle_blocks.specs.{Blocks.Block, Reading.Stop, Bundle.{Bundle, with_blocks}}
 use Rattle.link_bundle.specs.Left.{read_alone, with_known_payload, follows_block, last_block, block_of, with_last}
 
 chosen : (test : Bool) (blocks : List Block) (bundle : Bundle) (stop : Stop)

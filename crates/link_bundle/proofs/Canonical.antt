@@ -8,9 +8,7 @@ use Rattle.link_bundle.specs.declared.draft.Draft.{Draft}
 use Rattle.link_bundle_types.specs.declared.fault.BundleFault.{BundleFault}
 use Rattle.link_bundle_types.specs.declared.fault.BundleFault.TheVariants.{TooManyBlocks}
 use Rattle.link_bundle_heads.specs.Rows.{block, block_too_many}
-use Rattle.link_bundle_blocks.specs.Reading.{stopped, head_at}
-use Rattle.link_bundle_blocks.specs.Blocks.{Primary}
-use Rattle.link_bundle_blocks.specs.Bundle.{blocks_at}
+use Rattle.link_bundle_blocks.specs.{Reading.{stopped, head_at}, Blocks.Primary, Bundle.blocks_at}
 use Rattle.link_bundle_blocks.specs.Canonical.{heads_at}
 use Rattle.link_bundle.specs.Left.{primary_of, begun, after_heads, type_left, number_left, block_flags_left, block_check_type_left, data_left}
 use Rattle.link_bundle_blocks.proofs.Heads.{row_at-accepted, row_at-refused}

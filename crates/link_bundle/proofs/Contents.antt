@@ -2,27 +2,18 @@
 
 use Rattle.std.proofs.Common.{◌≡◌, ℕ, ◌+◌, ◌-◌, ◌*◌, ◌<◌, ◌≤◌, Bool, true, false, List, [], ◌∷◌, ◌++◌, length, replicate, take, drop, Option, None, Some, Result, Ok, Err, refl, sym, ap, subst, ◌∙◌, append_assoc, length-append, length-drop, arith}
 use Rattle.std.specs.Prelude.{is_some, ◌==◌, slice_range, if◌then◌else◌}
-use Rattle.std.proofs.lemmas.Bool.{ne_eqb}
-use Rattle.std.proofs.lemmas.List.{drop-append-le, take-append-le, replicate_more}
-use Rattle.link_cbor.specs.declared.check.CheckKind.{CheckKind}
-use Rattle.link_cbor.specs.Crc.{crc}
-use Rattle.link_cbor.specs.Head.{AreBytes}
-use Rattle.link_bundle.specs.declared.cursor.Cursor.{Cursor}
-use Rattle.link_bundle.specs.declared.draft.Draft.{Draft}
+use Rattle.std.proofs.lemmas.{Bool.ne_eqb, List.{drop-append-le, take-append-le, replicate_more}}
+use Rattle.link_cbor.specs.{declared.check.CheckKind.CheckKind, Crc.crc, Head.AreBytes}
+use Rattle.link_bundle.specs.declared.{cursor.Cursor.Cursor, draft.Draft.Draft}
 use Rattle.link_bundle_types.specs.declared.fault.BundleFault.TheVariants.{Trailing, CheckDiffers}
 use Rattle.link_bundle_types.specs.declared.info.BundleInfo.{BundleInfo}
-use Rattle.link_bundle.specs.declared.stage.Role.{Role}
-use Rattle.link_bundle.specs.declared.stage.ScanStage.{ScanStage}
+use Rattle.link_bundle.specs.declared.stage.{Role.Role, ScanStage.ScanStage}
 use Rattle.link_bundle.specs.declared.stage.ScanStage.TheVariants.{Name, Content, Stored, Ended, Failed}
-use Rattle.link_bundle.specs.declared.stage.CheckType.{CheckType}
-use Rattle.link_bundle.specs.declared.stage.CheckType.TheVariants.{Is}
-use Rattle.link_bundle.specs.CheckKinds.{kind_of}
-use Rattle.link_bundle.specs.Covers.{Covers}
-use Rattle.link_bundle.specs.Moves.{TakesRun, Enters}
+use Rattle.link_bundle.specs.declared.stage.{CheckType.CheckType, CheckType.TheVariants.Is}
+use Rattle.link_bundle.specs.{CheckKinds.kind_of, Covers.Covers, Moves.{TakesRun, Enters}}
 use Rattle.link_bundle.specs.Fits.{KeepsCheck}
 use Rattle.link_bundle_heads.specs.Rows.{◌>>=◌}
-use Rattle.link_bundle_blocks.specs.Reading.{Stop, stopped, ReadAt, bytes_at}
-use Rattle.link_bundle_blocks.specs.CheckField.{field_at}
+use Rattle.link_bundle_blocks.specs.{Reading.{Stop, stopped, ReadAt, bytes_at}, CheckField.field_at}
 use Rattle.link_bundle_blocks.specs.Canonical.{content_at}
 use Rattle.link_bundle.specs.declared.stage.BlockKind.{BlockKind}
 use Rattle.link_bundle.specs.declared.stage.BlockKind.TheVariants.{Primary, Canonical}

@@ -1,21 +1,17 @@
 -- The block that ends with the last byte taken. No block ends before it.
 
 use Rattle.std.proofs.Common.{◌≡◌, ℕ, suc, ◌+◌, ◌-◌, ◌<◌, ◌≤◌, Bool, true, false, List, [], ◌∷◌, ◌++◌, length, take, drop, Option, Some, refl, sym, ap, ◌∙◌, subst, append-nil, append_assoc, length-append, length-take-le, arith}
-use Rattle.std.specs.Prelude.{◌==◌, IfSome, if◌then◌else◌}
-use Rattle.std.specs.List.{All}
-use Rattle.std.proofs.lemmas.Bool.{eqb-true}
-use Rattle.std.proofs.lemmas.List.{append_cancel_left}
+use Rattle.std.specs.{Prelude.{◌==◌, IfSome, if◌then◌else◌}, List.All}
+use Rattle.std.proofs.lemmas.{Bool.eqb-true, List.append_cancel_left}
 use Rattle.link_cbor.specs.declared.check.CheckKind.{CheckKind}
-use Rattle.link_bundle.specs.declared.draft.Draft.{Draft}
-use Rattle.link_bundle.specs.declared.scan.BundleScan.{BundleScan}
+use Rattle.link_bundle.specs.declared.{draft.Draft.Draft, scan.BundleScan.BundleScan}
 use Rattle.link_bundle.specs.declared.stage.BlockKind.{BlockKind}
 use Rattle.link_bundle.specs.declared.stage.BlockKind.TheVariants.{Primary as PrimaryKind, Canonical}
 use Rattle.link_bundle_blocks.specs.Blocks.{Block, PrimaryOf, CanonicalOf, LiesWithin}
 use Rattle.link_bundle_blocks.specs.Bundle.{blocks_in}
 use Rattle.link_bundle.specs.Left.{block_of, stage_follows}
 use Rattle.link_bundle.specs.Scan.{HasScanned, Advances, AddsBlock, ending, scan_size}
-use Rattle.link_bundle_blocks.proofs.Rests.{joined_run}
-use Rattle.link_bundle_blocks.proofs.Lying.{BlocksWithin-holds}
+use Rattle.link_bundle_blocks.proofs.{Rests.joined_run, Lying.BlocksWithin-holds}
 use Rattle.link_bundle_blocks.proofs.Showing.{BlocksGrow-holds}
 
 -- the block ends at this offset

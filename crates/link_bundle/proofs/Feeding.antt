@@ -6,25 +6,20 @@ use Rattle.std.proofs.Math.Seq.{take-add}
 use Rattle.link_cbor.specs.declared.head.Head.{Head as HeadItem}
 use Rattle.link_cbor.specs.Head.{HeadFront, Cut as CutHead, IllFormed, Whole, head_front}
 use Rattle.link_cbor.proofs.HeadLaws.{whole_stays, ill_formed_stays, whole-within}
-use Rattle.link_cbor.specs.Pieces.{taken}
-use Rattle.link_cbor.specs.PieceLaws.{taken-cons, taken-nil, taken-idle}
-use Rattle.link_bundle.specs.declared.cursor.Cursor.{Cursor}
-use Rattle.link_bundle.specs.declared.draft.Draft.{Draft}
+use Rattle.link_cbor.specs.{Pieces.taken, PieceLaws.{taken-cons, taken-nil, taken-idle}}
+use Rattle.link_bundle.specs.declared.{cursor.Cursor.Cursor, draft.Draft.Draft}
 use Rattle.link_bundle_types.specs.declared.fault.BundleFault.TheVariants.{Cut}
-use Rattle.link_bundle.specs.declared.stage.Field.{Field}
-use Rattle.link_bundle.specs.declared.stage.Role.{Role}
+use Rattle.link_bundle.specs.declared.stage.{Field.Field, Role.Role}
 use Rattle.link_bundle.specs.declared.stage.ScanStage.TheVariants.{Head, Name, Content}
 use Rattle.link_bundle_blocks.specs.Reading.{Stop, stopped}
 use Rattle.link_bundle.specs.CheckKinds.{kind_of}
 use Rattle.link_bundle_blocks.specs.Blocks.{Block}
 use Rattle.link_bundle_blocks.specs.Bundle.{with_blocks, judged_bundle, verdict_by, verdict, state_of, is_going, bundle_goes}
 use Rattle.link_bundle.specs.Left.{last_block, with_known_payload, stage_left}
-use Rattle.link_bundle_blocks.proofs.Blocks.{verdict_by-blocks}
-use Rattle.link_bundle_blocks.proofs.Rests.{joined_run}
+use Rattle.link_bundle_blocks.proofs.{Blocks.verdict_by-blocks, Rests.joined_run}
 use Rattle.link_bundle.specs.Scan.{HasSeen, HasScanned, Advances, scan_size}
 use Rattle.link_bundle.specs.declared.scan.BundleScan.{BundleScan}
-use Rattle.link_bundle.proofs.Heads.{read_alone-stopped}
-use Rattle.link_bundle.proofs.Steps.{at_head, after_seen}
+use Rattle.link_bundle.proofs.{Heads.read_alone-stopped, Steps.{at_head, after_seen}}
 use Rattle.link_bundle.proofs.Stops.{stop_at, stop_at-cut, field_left-stopped}
 use Rattle.link_bundle.proofs.Verdicts.{head_at-cut, cut_at, cut_name, cut_content}
 

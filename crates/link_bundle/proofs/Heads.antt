@@ -1,21 +1,17 @@
 -- The stage after a head or after a block.
 
 use Rattle.std.proofs.Common.{◌≡◌, ℕ, ◌+◌, ◌-◌, ◌≤◌, Bool, true, false, List, [], ◌∷◌, ◌++◌, length, length-append, arith, Option, None, Some, Ok, Err, refl, is_some}
-use Rattle.std.specs.Prelude.{is_none, if◌then◌else◌}
-use Rattle.std.specs.Bool.{then_some}
+use Rattle.std.specs.{Prelude.{is_none, if◌then◌else◌}, Bool.then_some}
 use Rattle.link_bundle_blocks.proofs.Runs.{bytes_at-none}
 use Rattle.link_cbor.specs.declared.check.CheckKind.{CheckKind}
 use Rattle.link_bundle_types.specs.declared.fault.BundleFault.{BundleFault}
 use Rattle.link_bundle_heads.specs.Rows.{◌>>=◌, closing}
-use Rattle.link_bundle_blocks.specs.Reading.{Stop, stopped, row_at}
-use Rattle.link_bundle_blocks.specs.CheckField.{field_at}
+use Rattle.link_bundle_blocks.specs.{Reading.{Stop, stopped, row_at}, CheckField.field_at}
 use Rattle.link_bundle_blocks.specs.declared.block.CanonicalBlock.{CanonicalBlock}
-use Rattle.link_bundle_blocks.specs.Blocks.{Primary, CanonicalOf, ended}
-use Rattle.link_bundle_blocks.specs.Canonical.{content_at}
+use Rattle.link_bundle_blocks.specs.{Blocks.{Primary, CanonicalOf, ended}, Canonical.content_at}
 use Rattle.link_bundle_blocks.specs.Bundle.{info_of, with_blocks, rest_of, payload_at, blocks_at}
 use Rattle.link_bundle_types.specs.Faults.{lasts}
-use Rattle.link_bundle.specs.declared.draft.Draft.{Draft}
-use Rattle.link_bundle.specs.declared.stage.BlockKind.{BlockKind}
+use Rattle.link_bundle.specs.declared.{draft.Draft.Draft, stage.BlockKind.BlockKind}
 use Rattle.link_bundle.specs.declared.stage.BlockKind.TheVariants.{Primary as PrimaryKind, Canonical}
 use Rattle.link_bundle.specs.Left.{read_alone, with_known_payload, after_field, block_end, span_of}
 

@@ -2,10 +2,8 @@
 
 use Rattle.std.specs.Prelude.{Result, IfOk}
 use Rattle.link_bundle_types.specs.declared.fault.BundleFault.{BundleFault}
-use Rattle.link_bundle.specs.declared.draft.Draft.{Draft}
-use Rattle.link_bundle.specs.declared.stage.ScanStage.{ScanStage}
-use Rattle.link_bundle.specs.Fits.{Follows, KeepsCheck}
-use Rattle.link_bundle.specs.Judged.{IsJudged}
+use Rattle.link_bundle.specs.declared.{draft.Draft.Draft, stage.ScanStage.ScanStage}
+use Rattle.link_bundle.specs.{Fits.{Follows, KeepsCheck}, Judged.IsJudged}
 
 pub as_judged : {reading place : Type 0} {old : Draft} {result : Result ScanStage BundleFault}
     {new : Draft}

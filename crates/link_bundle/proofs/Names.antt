@@ -2,10 +2,8 @@
 
 use Rattle.std.proofs.Common.{◌≡◌, ℕ, ◌+◌, ◌-◌, ◌<◌, ◌≤◌, List, Option, ◌++◌, length, drop, Result, Ok, Err, refl, sym, ap, ◌∙◌, append_assoc, append-nil, arith}
 use Rattle.link_bundle.specs.declared.draft.Draft.{Draft}
-use Rattle.link_bundle_types.specs.declared.eid.Eid.{Eid}
-use Rattle.link_bundle_types.specs.declared.eid.Eid.TheVariants.{Dtn}
-use Rattle.link_bundle.specs.declared.stage.Role.{Role}
-use Rattle.link_bundle.specs.declared.stage.Role.TheVariants.{Destination}
+use Rattle.link_bundle_types.specs.declared.eid.{Eid.Eid, Eid.TheVariants.Dtn}
+use Rattle.link_bundle.specs.declared.stage.{Role.Role, Role.TheVariants.Destination}
 use Rattle.link_bundle.specs.declared.stage.ScanStage.TheVariants.{Name}
 use Rattle.link_bundle_blocks.specs.Bundle.{Bundle}
 use Rattle.link_bundle_heads.specs.Rows.{◌>>=◌}

@@ -2,22 +2,16 @@
 
 use Rattle.std.proofs.Common.{◌≡◌, ◌≢◌, ℕ, ◌+◌, ◌<◌, ◌&&◌, List, [], ◌∷◌, ◌++◌, length, Option, None, Some, Result, Err, refl, sym, ap, ◌∙◌, arith}
 use Rattle.std.specs.Prelude.{IsTrue, is_none, ◌==◌}
-use Rattle.std.proofs.lemmas.Bool.{ne_eqb, false≢true}
-use Rattle.std.proofs.lemmas.Bool.Decides.{nat_tests}
-use Rattle.link_bundle.specs.declared.cursor.Cursor.{Cursor}
-use Rattle.link_bundle.specs.declared.draft.Draft.{Draft}
+use Rattle.std.proofs.lemmas.{Bool.{ne_eqb, false≢true}, Bool.Decides.nat_tests}
+use Rattle.link_bundle.specs.declared.{cursor.Cursor.Cursor, draft.Draft.Draft}
 use Rattle.link_bundle_types.specs.declared.fault.BundleFault.TheVariants.{NotABundle}
 use Rattle.link_bundle.specs.declared.stage.Field.TheVariants as field
 use Rattle.link_bundle.specs.declared.stage.PrimaryField.TheVariants as primary
 use Rattle.link_bundle.specs.declared.stage.ScanStage.TheVariants.{Start, Head, Failed}
-use Rattle.link_bundle.specs.CheckKinds.{is_unread}
-use Rattle.link_bundle.specs.Fits.{stage_fits}
-use Rattle.link_bundle.specs.declared.stage.CheckType.TheVariants.{Unread}
-use Rattle.link_bundle.specs.Covers.{Covers}
+use Rattle.link_bundle.specs.{CheckKinds.is_unread, Fits.stage_fits}
+use Rattle.link_bundle.specs.{declared.stage.CheckType.TheVariants.Unread, Covers.Covers}
 use Rattle.link_cbor.specs.HeadScan.{HasScannedHead}
-use Rattle.link_bundle_blocks.specs.Blocks.{Block}
-use Rattle.link_bundle_blocks.specs.Reading.{Stop, stopped}
-use Rattle.link_bundle_blocks.specs.Primary.{primary_at}
+use Rattle.link_bundle_blocks.specs.{Blocks.Block, Reading.{Stop, stopped}, Primary.primary_at}
 use Rattle.link_bundle_blocks.specs.Bundle.{Bundle, with_blocks, opening_at, bundle_at, judged_bundle}
 use Rattle.link_bundle.specs.Left.{field_left, stage_left, with_known_payload, primary_block_left, version_left, flags_left, check_type_left, destination_left, source_left, report_to_left, timestamp_left, time_left, sequence_left, lifetime_left}
 use Rattle.link_bundle.specs.Scan.{HasSeen}

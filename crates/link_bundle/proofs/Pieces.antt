@@ -4,25 +4,18 @@ use Rattle.std.proofs.Common.{◌≡◌, ℕ, ◌+◌, ◌<◌, ◌≤◌, inl, 
 use Rattle.std.specs.Prelude.{if◌then◌else◌}
 use Rattle.std.proofs.lemmas.Bool.{cases_lt, false≢true}
 use Rattle.std.proofs.lemmas.List.{take-append-drop, drop_all, drop_more}
-use Rattle.link_cbor.specs.Pieces.{taken, IsShortestFront}
-use Rattle.link_cbor.specs.PieceLaws.{takes_shortest, taken-idle}
-use Rattle.link_bundle_types.specs.declared.fault.BundleFault.{BundleFault}
-use Rattle.link_bundle_types.specs.declared.fault.State.{State}
+use Rattle.link_cbor.specs.{Pieces.{taken, IsShortestFront}, PieceLaws.{takes_shortest, taken-idle}}
+use Rattle.link_bundle_types.specs.declared.fault.{BundleFault.BundleFault, State.State}
 use Rattle.link_bundle_types.specs.declared.fault.State.TheVariants as state
-use Rattle.link_bundle_types.specs.declared.info.BundleInfo.{BundleInfo}
-use Rattle.link_bundle_types.specs.Faults.{lasts}
+use Rattle.link_bundle_types.specs.{declared.info.BundleInfo.BundleInfo, Faults.lasts}
 use Rattle.link_bundle_blocks.specs.Bundle.{judged_bundle, verdict_by, verdict, payload_in, payload_seen, state_of, is_going, bundle_goes}
 use Rattle.link_bundle_blocks.specs.Blocks.{Block}
-use Rattle.link_bundle.specs.Left.{stage_left}
-use Rattle.link_bundle.specs.Scan.{HasSeen, HasScanned, HasJudged, may_scan}
-use Rattle.link_bundle.specs.Stages.{stage_state, takes_bytes}
-use Rattle.link_bundle.specs.declared.cursor.Cursor.{Cursor}
-use Rattle.link_bundle.specs.declared.draft.Draft.{Draft}
-use Rattle.link_bundle.specs.declared.scan.BundleScan.{BundleScan}
+use Rattle.link_bundle.specs.{Left.stage_left, Scan.{HasSeen, HasScanned, HasJudged, may_scan}}
+use Rattle.link_bundle.specs.{Stages.{stage_state, takes_bytes}, declared.cursor.Cursor.Cursor}
+use Rattle.link_bundle.specs.declared.{draft.Draft.Draft, scan.BundleScan.BundleScan}
 use Rattle.link_bundle.specs.declared.stage.ScanStage.{ScanStage}
 use Rattle.link_bundle.specs.declared.stage.ScanStage.TheVariants.{Ended, Failed}
-use Rattle.link_bundle_blocks.proofs.Lengths.{TrailingLasts-holds}
-use Rattle.link_bundle_blocks.proofs.Payloads.{PayloadEnds-holds}
+use Rattle.link_bundle_blocks.proofs.{Lengths.TrailingLasts-holds, Payloads.PayloadEnds-holds}
 use Rattle.link_bundle.proofs.Verdicts.{state_of-seen}
 
 -- ---- the state

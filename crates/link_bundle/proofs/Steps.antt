@@ -3,39 +3,32 @@
 use Rattle.std.proofs.Common.{◌≡◌, ℕ, ◌+◌, ◌<◌, ◌≤◌, true, false, List, [], ◌∷◌, ◌++◌, length, get_or, take, drop, None, Some, Result, Ok, Err, refl, sym, ap, subst, ◌∙◌, append_assoc, append-nil, length-append, length-drop, ◌⊎◌, inl, inr, ⊎_elim, arith}
 use Rattle.std.proofs.lemmas.Bool.{false≢true}
 use Rattle.std.specs.Prelude.{IsTrue, slice_range}
-use Rattle.std.proofs.lemmas.List.{drop-append-le}
-use Rattle.std.proofs.Math.Nat.{sub_self}
+use Rattle.std.proofs.{lemmas.List.drop-append-le, Math.Nat.sub_self}
 use Rattle.std.proofs.Math.Seq.{drop-append_seam, drop-length, take-length}
 use Rattle.std.proofs.lemmas.List.Elements.{All-nil, All-push, All-append, All-from_get_or}
 use Rattle.link_cbor.specs.declared.head.Head.{Head as HeadItem}
 use Rattle.link_cbor.specs.Head.{AreBytes, Cut as CutHead, IllFormed, Whole, head_front}
 use Rattle.link_cbor.proofs.HeadLaws.{whole_stays, ill_formed_stays}
 use Rattle.link_cbor.specs.HeadScan.{HasScannedHead}
-use Rattle.link_bundle.specs.declared.checks.BlockChecks.{BlockChecks}
-use Rattle.link_bundle.specs.declared.cursor.Cursor.{Cursor}
+use Rattle.link_bundle.specs.declared.{checks.BlockChecks.BlockChecks, cursor.Cursor.Cursor}
 use Rattle.link_bundle.specs.declared.draft.Draft.{Draft}
 use Rattle.link_bundle_types.specs.declared.fault.BundleFault.{BundleFault}
 use Rattle.link_bundle_types.specs.declared.fault.BundleFault.TheVariants.{BadHead}
 use Rattle.link_bundle.specs.declared.stage.CheckType.{CheckType}
-use Rattle.link_bundle.specs.declared.stage.CheckType.TheVariants.{Unread, Is}
-use Rattle.link_bundle.specs.declared.stage.Field.{Field}
+use Rattle.link_bundle.specs.declared.stage.{CheckType.TheVariants.{Unread, Is}, Field.Field}
 use Rattle.link_bundle.specs.declared.stage.Field.TheVariants as field
 use Rattle.link_bundle.specs.declared.stage.PrimaryField.TheVariants as primary
 use Rattle.link_bundle.specs.declared.stage.CanonicalField.TheVariants as canonical
 use Rattle.link_bundle.specs.declared.stage.ScanStage.{ScanStage}
 use Rattle.link_bundle.specs.declared.stage.ScanStage.TheVariants.{Start, Head, Name, Content, Stored, Ended, Failed}
 use Rattle.link_cbor.specs.declared.check.CheckKind.TheVariants.{Crc16, Crc32}
-use Rattle.link_bundle.specs.CheckKinds.{is_unread}
-use Rattle.link_bundle.specs.Covers.{Covers}
-use Rattle.link_bundle.specs.Fits.{is_block, scan_fits, KeepsCheck}
-use Rattle.link_bundle.specs.Moves.{TakesRun, Enters}
-use Rattle.link_bundle_blocks.specs.Blocks.{Block}
-use Rattle.link_bundle_blocks.specs.Bundle.{Bundle, with_blocks, judged_bundle}
+use Rattle.link_bundle.specs.{CheckKinds.is_unread, Covers.Covers}
+use Rattle.link_bundle.specs.{Fits.{is_block, scan_fits, KeepsCheck}, Moves.{TakesRun, Enters}}
+use Rattle.link_bundle_blocks.specs.{Blocks.Block, Bundle.{Bundle, with_blocks, judged_bundle}}
 use Rattle.link_bundle_blocks.specs.Reading.{Stop, stopped, head_at}
 use Rattle.link_bundle.specs.Left.{block_start, field_left, last_block, with_last, read_alone, with_known_payload, stage_left, goes_on, AsReadFrom}
 use Rattle.link_bundle_blocks.proofs.Blocks.{both_before, none_before}
-use Rattle.link_bundle.proofs.Blocks.{read_alone-blocks, with_last-is}
-use Rattle.link_bundle.proofs.Heads.{read_alone-stopped}
+use Rattle.link_bundle.proofs.{Blocks.{read_alone-blocks, with_last-is}, Heads.read_alone-stopped}
 use Rattle.link_bundle.proofs.Stops.{stop_at-bad, field_left-stopped}
 use Rattle.link_bundle.specs.declared.scan.BundleScan.{BundleScan}
 use Rattle.link_bundle.specs.Scan.{HasSeen, HasSeenHead, IsAtStage, IsInHead}

@@ -1,20 +1,16 @@
 -- A head that is cut or ill-formed ends the reading, at each field.
 
 use Rattle.std.proofs.Common.{◌≡◌, ℕ, zero, suc, ◌-◌, List, length, Some, Err, refl}
-use Rattle.link_bundle.specs.declared.draft.Draft.{Draft}
-use Rattle.link_bundle.specs.declared.stage.Field.{Field}
+use Rattle.link_bundle.specs.declared.{draft.Draft.Draft, stage.Field.Field}
 use Rattle.link_bundle.specs.declared.stage.Field.TheVariants as field
 use Rattle.link_bundle.specs.declared.stage.PrimaryField.TheVariants as primary
 use Rattle.link_bundle.specs.declared.stage.CanonicalField.TheVariants as canonical
 use Rattle.link_bundle.specs.declared.stage.Part.TheVariants as part
 use Rattle.link_bundle_heads.specs.declared.endpoint.Scheme.TheVariants.{Dtn}
 use Rattle.link_bundle_blocks.specs.Reading.{Stop, stopped, head_at, row_at}
-use Rattle.link_bundle_blocks.specs.EndpointId.{eid_at, specific_at}
-use Rattle.link_bundle_blocks.specs.CheckField.{field_at}
-use Rattle.link_bundle_blocks.specs.Primary.{fragment_at}
-use Rattle.link_bundle_blocks.specs.Blocks.{Primary}
-use Rattle.link_bundle_blocks.specs.Bundle.{cut_in, blocks_at}
-use Rattle.link_bundle_blocks.specs.Canonical.{heads_at}
+use Rattle.link_bundle_blocks.specs.{EndpointId.{eid_at, specific_at}, CheckField.field_at}
+use Rattle.link_bundle_blocks.specs.{Primary.fragment_at, Blocks.Primary}
+use Rattle.link_bundle_blocks.specs.{Bundle.{cut_in, blocks_at}, Canonical.heads_at}
 use Rattle.link_bundle.specs.declared.stage.BlockKind.TheVariants.{Canonical}
 use Rattle.link_bundle_types.specs.declared.fault.BundleFault.TheVariants.{Cut, BadHead}
 use Rattle.link_bundle.specs.Left.{current, field_block, field_left, primary_of, primary_block_left, version_left, flags_left, check_type_left, timestamp_left, time_left, sequence_left, lifetime_left, fragment_offset_left, total_length_left, scheme_left, allocator_left, node_left, service_left, type_left, number_left, block_flags_left, block_check_type_left, data_left}

@@ -3,13 +3,10 @@
 use Rattle.std.proofs.Common.{◌≡◌, ℕ, ◌+◌, ◌-◌, ◌&&◌, Bool, true, false, List, [], ◌∷◌, ◌++◌, length, take, drop, refl, sym, ap, subst, ◌∙◌, append-nil, length-drop, ⊎_elim, arith}
 use Rattle.std.specs.Prelude.{◌==◌, if◌then◌else◌}
 use Rattle.std.proofs.lemmas.Bool.{cases_lt, eq-eqb}
-use Rattle.link_bundle.specs.declared.cursor.Cursor.{Cursor}
-use Rattle.link_bundle.specs.declared.draft.Draft.{Draft}
-use Rattle.link_bundle.specs.declared.scan.BundleScan.{BundleScan}
-use Rattle.link_bundle.specs.declared.stage.ScanStage.{ScanStage}
+use Rattle.link_bundle.specs.declared.{cursor.Cursor.Cursor, draft.Draft.Draft}
+use Rattle.link_bundle.specs.declared.{scan.BundleScan.BundleScan, stage.ScanStage.ScanStage}
 use Rattle.link_bundle.specs.declared.stage.ScanStage.TheVariants.{Ended}
-use Rattle.link_bundle_blocks.specs.Blocks.{Block}
-use Rattle.link_bundle_blocks.specs.Bundle.{blocks_in, bundle_goes}
+use Rattle.link_bundle_blocks.specs.{Blocks.Block, Bundle.{blocks_in, bundle_goes}}
 use Rattle.link_bundle.specs.Left.{block_of, stage_follows, stage_last}
 use Rattle.link_bundle.specs.Scan.{HasSeen, HasScanned, HasTaken, Advances, AddsBlock, ending_at, ending, scan_size}
 use Rattle.link_bundle_blocks.proofs.Rests.{joined_run}

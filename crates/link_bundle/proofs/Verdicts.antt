@@ -4,34 +4,27 @@ use Rattle.std.proofs.Common.{◌≡◌, ℕ, ◌+◌, ◌-◌, ◌<◌, true, m
 use Rattle.std.specs.Prelude.{IsTrue, is_some}
 use Rattle.std.proofs.lemmas.Bool.{eq-eqb, ltb-true}
 use Rattle.link_cbor.specs.Head.{Cut as CutHead, head_front}
-use Rattle.link_bundle.specs.declared.cursor.Cursor.{Cursor}
-use Rattle.link_bundle.specs.declared.draft.Draft.{Draft}
+use Rattle.link_bundle.specs.declared.{cursor.Cursor.Cursor, draft.Draft.Draft}
 use Rattle.link_bundle_types.specs.declared.fault.BundleFault.{BundleFault}
 use Rattle.link_bundle_types.specs.declared.fault.BundleFault.TheVariants.{Cut}
 use Rattle.link_bundle_types.specs.declared.fault.State.TheVariants as state
 use Rattle.link_bundle.specs.declared.stage.ScanStage.{ScanStage}
 use Rattle.link_bundle.specs.declared.stage.ScanStage.TheVariants.{Start, Head, Name, Content, Stored, Ended, Failed}
-use Rattle.link_bundle.specs.CheckKinds.{kind_of, is_kind}
-use Rattle.link_bundle.specs.Fits.{rest_fits, scan_fits}
+use Rattle.link_bundle.specs.{CheckKinds.{kind_of, is_kind}, Fits.{rest_fits, scan_fits}}
 use Rattle.link_bundle_blocks.specs.Reading.{Stop, stopped, cut_short, head_at}
 use Rattle.link_bundle_blocks.specs.Canonical.{content_at}
 use Rattle.link_bundle.specs.declared.stage.BlockKind.{BlockKind}
-use Rattle.link_bundle.specs.declared.stage.BlockKind.TheVariants.{Primary, Canonical}
-use Rattle.link_bundle.specs.declared.stage.Role.{Role}
+use Rattle.link_bundle.specs.declared.stage.{BlockKind.TheVariants.{Primary, Canonical}, Role.Role}
 use Rattle.link_cbor.specs.declared.check.CheckKind.{CheckKind}
-use Rattle.link_bundle_types.specs.declared.fault.State.{State}
-use Rattle.link_bundle_types.specs.declared.info.BundleInfo.{BundleInfo}
-use Rattle.link_bundle_blocks.specs.declared.block.CanonicalBlock.{CanonicalBlock}
-use Rattle.link_bundle_blocks.specs.Blocks.{Block}
+use Rattle.link_bundle_types.specs.declared.{fault.State.State, info.BundleInfo.BundleInfo}
+use Rattle.link_bundle_blocks.specs.{declared.block.CanonicalBlock.CanonicalBlock, Blocks.Block}
 use Rattle.link_bundle_blocks.specs.Bundle.{Bundle, with_blocks, opening_at, bundle_at, judged_bundle, verdict_by, verdict, payload_of, payload_in, payload_seen, state_of, blocks_of, blocks_in, cut_block_of, cut_block_in}
 use Rattle.link_bundle.specs.Left.{span_of, bundle_of, read_alone, with_known_payload, kept_name, name_left, zeroed_check, stored_left, after_field, kind_block, stage_block, stage_last, stage_left}
 use Rattle.link_bundle_blocks.proofs.Blocks.{verdict_by-blocks, payload_of-blocks, blocks_of-blocks, cut_block_of-blocks}
 use Rattle.link_bundle.proofs.Steps.{at_head}
-use Rattle.link_bundle.specs.declared.scan.BundleScan.{BundleScan}
-use Rattle.link_bundle.specs.Scan.{HasSeen, HasScanned}
+use Rattle.link_bundle.specs.{declared.scan.BundleScan.BundleScan, Scan.{HasSeen, HasScanned}}
 use Rattle.link_bundle.specs.Stages.{stage_state}
-use Rattle.link_bundle.proofs.Fields.{has_room, some_left}
-use Rattle.link_bundle.proofs.Heads.{read_alone-stopped}
+use Rattle.link_bundle.proofs.{Fields.{has_room, some_left}, Heads.read_alone-stopped}
 use Rattle.link_bundle.proofs.Opening.{blank}
 use Rattle.link_bundle_blocks.proofs.Runs.{bytes_at-cut}
 use Rattle.link_bundle.proofs.Stops.{stop_at-cut, field_left-stopped}

@@ -1,38 +1,30 @@
 -- A scan that takes a whole block at once.
 
 use Rattle.std.proofs.Common.{◌≡◌, ℕ, suc, ◌+◌, ◌-◌, ◌<◌, Bool, true, false, List, [], ◌∷◌, ◌++◌, length, take, Option, None, Result, Ok, Err, refl, sym, ap, subst, ◌∙◌, append_assoc, length-append, arith}
-use Rattle.std.specs.Prelude.{◌==◌, IsTrue, is_none, if◌then◌else◌}
-use Rattle.std.specs.Bool.{then_some}
-use Rattle.link_cbor.specs.Head.{AreBytes}
-use Rattle.link_cbor.specs.declared.check.CheckKind.{CheckKind}
+use Rattle.std.specs.{Prelude.{◌==◌, IsTrue, is_none, if◌then◌else◌}, Bool.then_some}
+use Rattle.link_cbor.specs.{Head.AreBytes, declared.check.CheckKind.CheckKind}
 use Rattle.link_bundle_heads.specs.Rows.{◌>>=◌}
 use Rattle.link_bundle_blocks.specs.declared.block.CanonicalBlock.{CanonicalBlock}
-use Rattle.link_bundle.specs.declared.cursor.Cursor.{Cursor}
-use Rattle.link_bundle.specs.declared.draft.Draft.{Draft}
+use Rattle.link_bundle.specs.declared.{cursor.Cursor.Cursor, draft.Draft.Draft}
 use Rattle.link_bundle.specs.declared.stage.BlockKind.TheVariants.{Primary as PrimaryKind}
-use Rattle.link_bundle.specs.declared.stage.CheckType.TheVariants.{Is}
-use Rattle.link_bundle.specs.declared.stage.Field.{Field}
+use Rattle.link_bundle.specs.declared.stage.{CheckType.TheVariants.Is, Field.Field}
 use Rattle.link_bundle.specs.declared.stage.Field.TheVariants as field
 use Rattle.link_bundle.specs.declared.stage.CanonicalField.TheVariants as canonical
 use Rattle.link_bundle.specs.declared.stage.ScanStage.{ScanStage}
 use Rattle.link_bundle.specs.declared.stage.ScanStage.TheVariants.{Start, Head}
-use Rattle.link_bundle_blocks.specs.Reading.{Stop, ReadAt}
-use Rattle.link_bundle_blocks.specs.Canonical.{heads_at, content_at}
+use Rattle.link_bundle_blocks.specs.{Reading.{Stop, ReadAt}, Canonical.{heads_at, content_at}}
 use Rattle.link_bundle_blocks.specs.Blocks.{Primary, Block, CanonicalOf, ended}
 use Rattle.link_bundle_blocks.specs.Bundle.{Bundle, with_payload, with_blocks, inside, payload_at, blocks_at, judged_bundle, bundle_goes}
 use Rattle.link_bundle.specs.Fits.{stage_fits, KeepsCheck}
 use Rattle.link_bundle.specs.Left.{primary_of, block_end, BlockEnds, last_block, read_alone, with_known_payload, field_left, stage_left, CanonicalEnds}
-use Rattle.link_bundle.specs.Moves.{Enters}
-use Rattle.link_bundle.specs.Scan.{HasSeen}
+use Rattle.link_bundle.specs.{Moves.Enters, Scan.HasSeen}
 use Rattle.link_bundle_blocks.specs.Whole.{whole_primary, whole_canonical, moved}
 use Rattle.link_bundle_blocks.proofs.Beginnings.{Begins, begins_primary, block_lasts, primary_lasts}
-use Rattle.link_bundle.proofs.Feeding.{goes-cut}
-use Rattle.link_bundle.proofs.Heads.{data_read, read_alone-stopped}
+use Rattle.link_bundle.proofs.{Feeding.goes-cut, Heads.{data_read, read_alone-stopped}}
 use Rattle.link_bundle.proofs.Opening.{blank, after_first}
 use Rattle.link_bundle_blocks.proofs.Payloads.{cut_goes-on}
 use Rattle.link_bundle_blocks.proofs.Readings.{has_parts, canonical_read, after_primary, bundle_parts, primary_read}
-use Rattle.link_bundle_blocks.proofs.Shifting.{shifted, whole_canonical-shifted}
-use Rattle.link_bundle_blocks.proofs.Steady.{EndsCut}
+use Rattle.link_bundle_blocks.proofs.{Shifting.{shifted, whole_canonical-shifted}, Steady.EndsCut}
 use Rattle.link_bundle.proofs.Steps.{entered, grown_reads, all_grown, at_head}
 
 -- the field at which a canonical block begins

@@ -3,8 +3,7 @@
 use Rattle.std.specs.Prelude.{ℕ, List, None, Some}
 use Rattle.link_cbor.specs.declared.check.CheckKind.TheVariants.{Crc16, Crc32}
 use Rattle.link_cbor.specs.Pushed.{HasPushed}
-use Rattle.link_bundle.specs.declared.checks.BlockChecks.{BlockChecks}
-use Rattle.link_bundle.specs.declared.stage.CheckType.{CheckType}
+use Rattle.link_bundle.specs.declared.{checks.BlockChecks.BlockChecks, stage.CheckType.CheckType}
 use Rattle.link_bundle.specs.declared.stage.CheckType.TheVariants.{Unread, Is}
 
 -- exactly these bytes were pushed to each check that the block may have

@@ -6,8 +6,7 @@ use Rattle.link_cbor.specs.HeadScan.{may_scan_head}
 use Rattle.link_bundle.specs.declared.cursor.Cursor.{Cursor}
 use Rattle.link_bundle_types.specs.declared.fault.BundleFault.{BundleFault}
 use Rattle.link_bundle_types.specs.Faults.{lasts}
-use Rattle.link_bundle.specs.declared.draft.Draft.{Draft}
-use Rattle.link_bundle.specs.declared.stage.ScanStage.{ScanStage}
+use Rattle.link_bundle.specs.declared.{draft.Draft.Draft, stage.ScanStage.ScanStage}
 use Rattle.link_bundle.specs.declared.stage.ScanStage.TheVariants.{Start, Head, Name, Content, Stored, Ended, Failed}
 use Rattle.link_bundle.specs.declared.stage.Field.{Field}
 use Rattle.link_bundle.specs.declared.stage.Field.TheVariants as field
@@ -15,8 +14,7 @@ use Rattle.link_bundle.specs.declared.stage.PrimaryField.{PrimaryField}
 use Rattle.link_bundle.specs.declared.stage.PrimaryField.TheVariants as primary
 use Rattle.link_bundle.specs.declared.stage.CanonicalField.{CanonicalField}
 use Rattle.link_bundle.specs.declared.stage.CanonicalField.TheVariants as canonical
-use Rattle.link_bundle.specs.declared.stage.CheckType.{CheckType}
-use Rattle.link_bundle.specs.declared.stage.Role.{Role}
+use Rattle.link_bundle.specs.declared.stage.{CheckType.CheckType, Role.Role}
 use Rattle.link_bundle.specs.declared.stage.Role.TheVariants.{Destination, Source, ReportTo}
 use Rattle.link_bundle_types.specs.KeptEid.{name_fits}
 use Rattle.link_bundle.specs.declared.checks.BlockChecks.{BlockChecks}

@@ -3,8 +3,7 @@
 use Rattle.std.specs.Prelude.{◌≡◌, ℕ, Result, IfOk}
 use Rattle.link_cbor.specs.declared.head.Head.{Head as HeadItem}
 use Rattle.link_bundle_types.specs.declared.fault.BundleFault.{BundleFault}
-use Rattle.link_bundle.specs.declared.draft.Draft.{Draft}
-use Rattle.link_bundle.specs.declared.stage.ScanStage.{ScanStage}
+use Rattle.link_bundle.specs.declared.{draft.Draft.Draft, stage.ScanStage.ScanStage}
 use Rattle.link_bundle.specs.declared.stage.Field.{Field}
 use Rattle.link_bundle.specs.Fits.{Follows, KeepsCheck}
 use Rattle.link_bundle.specs.Left.{AsReadFrom, block_start}

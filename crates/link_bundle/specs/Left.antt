@@ -5,13 +5,10 @@
 
 use Rattle.std.specs.Prelude.{◌≡◌, ◌≤◌, ℕ, ◌+◌, ◌-◌, ◌==◌, Bool, true, false, List, [], ◌∷◌, ◌++◌, length, replicate, slice_range, drop, unwrap_or, Option, Some, None, Result, Ok, Err, if◌then◌else◌}
 use Rattle.std.specs.Bool.{then_some}
-use Rattle.link_cbor.specs.declared.check.CheckKind.{CheckKind}
-use Rattle.link_cbor.specs.declared.head.Head.{Head as HeadItem}
+use Rattle.link_cbor.specs.declared.{check.CheckKind.CheckKind, head.Head.Head as HeadItem}
 use Rattle.link_cbor.specs.Crc.{crc}
-use Rattle.link_bundle_types.specs.declared.eid.Eid.{Eid}
-use Rattle.link_bundle_types.specs.declared.eid.Eid.TheVariants.{Dtn, Ipn, Ipn3}
-use Rattle.link_bundle.specs.declared.draft.Draft.{Draft}
-use Rattle.link_bundle.specs.declared.stage.ScanStage.{ScanStage}
+use Rattle.link_bundle_types.specs.declared.eid.{Eid.Eid, Eid.TheVariants.{Dtn, Ipn, Ipn3}}
+use Rattle.link_bundle.specs.declared.{draft.Draft.Draft, stage.ScanStage.ScanStage}
 use Rattle.link_bundle.specs.declared.stage.ScanStage.TheVariants.{Start, Head, Name, Content, Stored, Ended, Failed}
 use Rattle.link_bundle.specs.declared.stage.Field.{Field}
 use Rattle.link_bundle.specs.declared.stage.Field.TheVariants as field

@@ -1,12 +1,9 @@
 -- Relations: how a step changes the cursor of a scan.
 
-use Rattle.std.specs.Prelude.{◌≡◌, ℕ, ◌+◌, List, [], ◌++◌, length, IsTrue}
-use Rattle.std.specs.Bool.{MatchBool}
+use Rattle.std.specs.{Prelude.{◌≡◌, ℕ, ◌+◌, List, [], ◌++◌, length, IsTrue}, Bool.MatchBool}
 use Rattle.link_cbor.specs.HeadScan.{HasScannedHead, may_scan_head}
-use Rattle.link_bundle.specs.declared.cursor.Cursor.{Cursor}
-use Rattle.link_bundle.specs.declared.stage.CheckType.{CheckType}
-use Rattle.link_bundle.specs.declared.stage.CheckType.TheVariants.{Unread}
-use Rattle.link_bundle.specs.declared.stage.ScanStage.{ScanStage}
+use Rattle.link_bundle.specs.declared.{cursor.Cursor.Cursor, stage.CheckType.CheckType}
+use Rattle.link_bundle.specs.declared.stage.{CheckType.TheVariants.Unread, ScanStage.ScanStage}
 use Rattle.link_bundle.specs.Covers.{Covers}
 use Rattle.link_bundle.specs.Fits.{is_block}
 

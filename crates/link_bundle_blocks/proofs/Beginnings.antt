@@ -2,10 +2,8 @@
 
 use Rattle.std.proofs.Common.{◌≡◌, ℕ, zero, suc, ◌<◌, ◌≤◌, List, [], ◌++◌, length, take, drop, Option, Result, Ok, Err, refl, sym, ap, ◌∙◌, append-nil, arith}
 use Rattle.std.proofs.lemmas.List.{length-take-le, take-append-drop}
-use Rattle.link_cbor.specs.declared.check.CheckKind.{CheckKind}
-use Rattle.link_cbor.specs.Head.{head_front}
-use Rattle.link_bundle_blocks.specs.declared.block.CanonicalBlock.{CanonicalBlock}
-use Rattle.link_bundle_blocks.specs.Blocks.{Primary}
+use Rattle.link_cbor.specs.{declared.check.CheckKind.CheckKind, Head.head_front}
+use Rattle.link_bundle_blocks.specs.{declared.block.CanonicalBlock.CanonicalBlock, Blocks.Primary}
 use Rattle.link_bundle_blocks.specs.Reading.{Stop, ReadAt, head_at, row_at}
 use Rattle.link_bundle_blocks.specs.Canonical.{heads_at, content_at}
 use Rattle.link_bundle_blocks.specs.Bundle.{Bundle, opening_at, bundle_at}

@@ -1,8 +1,7 @@
 -- The blocks before a reading.
 
 use Rattle.std.proofs.Common.{◌≡◌, List, [], ◌++◌, Result, Ok, Err, refl, append_assoc}
-use Rattle.link_bundle_blocks.specs.Blocks.{Block}
-use Rattle.link_bundle_blocks.specs.Reading.{Stop}
+use Rattle.link_bundle_blocks.specs.{Blocks.Block, Reading.Stop}
 use Rattle.link_bundle_blocks.specs.Bundle.{Bundle, with_blocks, verdict_by, payload_of, blocks_of, cut_block_of}
 
 pub none_before : (reading : Result Bundle Stop) → with_blocks [] reading ≡ reading

@@ -2,11 +2,9 @@
 
 use Rattle.std.proofs.Common.{◌≡◌, ℕ, zero, suc, ◌+◌, ◌-◌, ◌*◌, ◌/◌, ◌%◌, ◌^◌, ◌<◌, ◌≤◌, true, false, List, ◌∷◌, length, take, drop, slice_index, get_or, None, Some, Ok, refl, sym, ap, ◌∙◌, arith}
 use Rattle.std.specs.Prelude.{◌==◌}
-use Rattle.std.proofs.lemmas.Bool.{ne_eqb}
-use Rattle.std.proofs.lemmas.List.{drop_more, get_or-drop, length-drop}
+use Rattle.std.proofs.lemmas.{Bool.ne_eqb, List.{drop_more, get_or-drop, length-drop}}
 use Rattle.std.proofs.lemmas.Nat.{div-mul-add, pow-add}
-use Rattle.byteorder.specs.Endian.{big_from}
-use Rattle.byteorder.specs.Numbers.{big_from-lt}
+use Rattle.byteorder.specs.{Endian.big_from, Numbers.big_from-lt}
 use Rattle.link_cbor.specs.declared.head.Head.{Head}
 use Rattle.link_cbor.specs.Head.{Whole, big_endian, with_argument, no_argument, head_front}
 use Rattle.link_cbor.proofs.HeadLaws.{big_endian-big_from, argument_front-there, front_by-small, front_by-argument, front_by-none}

@@ -6,14 +6,11 @@ use Rattle.std.proofs.lemmas.Bool.{cases_Bool, false≢true, eqb-true, ne_eqb}
 use Rattle.std.proofs.lemmas.Bool.Decides.{nat_tests}
 use Rattle.link_bundle_types.specs.declared.fault.BundleFault.{BundleFault}
 use Rattle.link_bundle_types.specs.declared.fault.BundleFault.TheVariants.{Cut, Trailing}
-use Rattle.link_bundle_types.specs.declared.info.BundleInfo.{BundleInfo}
-use Rattle.link_bundle_types.specs.Faults.{lasts}
+use Rattle.link_bundle_types.specs.{declared.info.BundleInfo.BundleInfo, Faults.lasts}
 use Rattle.link_bundle_heads.specs.Rows.{◌>>=◌}
-use Rattle.link_bundle_blocks.specs.Laws.{FaultLasts, TrailingLasts}
-use Rattle.link_bundle_blocks.specs.Reading.{Stop}
+use Rattle.link_bundle_blocks.specs.{Laws.{FaultLasts, TrailingLasts}, Reading.Stop}
 use Rattle.link_bundle_blocks.specs.Bundle.{Bundle, bundle_at, if_alone, judged_bundle, verdict_by, verdict}
-use Rattle.link_bundle_blocks.proofs.Steady.{Lasts, cuts, same}
-use Rattle.link_bundle_blocks.proofs.Keeping.{bundle_at-lasts}
+use Rattle.link_bundle_blocks.proofs.{Steady.{Lasts, cuts, same}, Keeping.bundle_at-lasts}
 
 -- the verdict, by the reading of the bundle
 judgement : List ℕ → Result Bundle Stop → Result BundleInfo (BundleFault × ℕ)

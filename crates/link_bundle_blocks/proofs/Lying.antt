@@ -1,10 +1,8 @@
 -- The whole blocks lie within the bytes.
 
 use Rattle.std.proofs.Common.{◌≡◌, ℕ, zero, suc, ◌+◌, ◌≤◌, Bool, true, List, [], ◌∷◌, ◌++◌, length, Option, Result, Ok, Err, refl, ap, ⊎_elim, arith, ltb}
-use Rattle.std.specs.Prelude.{◌==◌, if◌then◌else◌}
-use Rattle.std.specs.List.{All}
-use Rattle.std.proofs.lemmas.Bool.{cases_lt, lt-ltb}
-use Rattle.std.proofs.lemmas.List.Elements.{All-nil, All-cons}
+use Rattle.std.specs.{Prelude.{◌==◌, if◌then◌else◌}, List.All}
+use Rattle.std.proofs.lemmas.{Bool.{cases_lt, lt-ltb}, List.Elements.{All-nil, All-cons}}
 use Rattle.link_cbor.specs.declared.check.CheckKind.{CheckKind}
 use Rattle.link_bundle_heads.specs.Rows.{◌>>=◌, block_too_many, closing}
 use Rattle.link_bundle_blocks.specs.declared.block.CanonicalBlock.{CanonicalBlock}

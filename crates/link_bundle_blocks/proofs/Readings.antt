@@ -8,8 +8,7 @@ use Rattle.link_bundle_heads.specs.Rows.{◌>>=◌, check_width, check_field, cl
 use Rattle.link_bundle_blocks.specs.Reading.{Stop, ReadAt, row_at, bytes_at}
 use Rattle.link_bundle_blocks.specs.declared.block.CanonicalBlock.{CanonicalBlock}
 use Rattle.link_bundle_blocks.specs.Blocks.{Primary, PrimaryOf, CanonicalOf, ended}
-use Rattle.link_bundle_blocks.specs.Primary.{primary_at}
-use Rattle.link_bundle_blocks.specs.Canonical.{heads_at, content_at}
+use Rattle.link_bundle_blocks.specs.{Primary.primary_at, Canonical.{heads_at, content_at}}
 use Rattle.link_bundle_blocks.specs.Bundle.{Bundle, with_blocks, rest_of, payload_at, blocks_at, opening_at, bundle_at}
 use Rattle.link_bundle_blocks.specs.Whole.{whole_primary, whole_canonical, bundle_with}
 use Rattle.link_bundle_blocks.specs.CheckField.{number_from, check_of, field_at}

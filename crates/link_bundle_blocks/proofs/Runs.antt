@@ -2,8 +2,7 @@
 
 use Rattle.std.proofs.Common.{◌≡◌, ℕ, ◌+◌, ◌-◌, ◌<◌, ◌≤◌, Bool, true, false, List, [], ◌∷◌, ◌++◌, length, take, drop, Ok, refl, sym, ap, ◌∙◌, arith, add-zero, ltb, length-append, length-drop}
 use Rattle.std.specs.Prelude.{if◌then◌else◌}
-use Rattle.std.proofs.lemmas.Bool.{le-ltb, lt-ltb}
-use Rattle.std.proofs.lemmas.List.{drop-drop}
+use Rattle.std.proofs.lemmas.{Bool.{le-ltb, lt-ltb}, List.drop-drop}
 use Rattle.std.proofs.Math.Seq.{drop-append_seam, take-append-add}
 use Rattle.link_bundle_heads.specs.Rows.{◌>>=◌}
 use Rattle.link_bundle_blocks.specs.Reading.{ReadAt, cut_short, bytes_at}

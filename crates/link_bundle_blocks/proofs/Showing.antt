@@ -1,16 +1,14 @@
 -- The blocks among some bytes, and among those bytes with more after them.
 
 use Rattle.std.proofs.Common.{◌≡◌, ℕ, zero, suc, ◌+◌, ◌<◌, ◌≤◌, ◌⊎◌, inl, inr, Bool, true, false, List, [], ◌∷◌, ◌++◌, length, Option, None, Some, Result, Ok, Err, refl, sym, ap, ◌∙◌, append_assoc, arith}
-use Rattle.std.proofs.lemmas.Bool.{false≢true}
-use Rattle.std.proofs.lemmas.List.{append_cancel_left}
+use Rattle.std.proofs.lemmas.{Bool.false≢true, List.append_cancel_left}
 use Rattle.link_cbor.specs.declared.check.CheckKind.{CheckKind}
 use Rattle.std.specs.Prelude.{◌==◌, if◌then◌else◌}
 use Rattle.link_bundle_types.specs.Faults.{lasts}
 use Rattle.link_bundle_heads.specs.Rows.{◌>>=◌, block_too_many, closing}
 use Rattle.link_bundle_blocks.specs.declared.block.CanonicalBlock.{CanonicalBlock}
 use Rattle.link_bundle_blocks.specs.Blocks.{Primary, Block, PrimaryOf, CanonicalOf, ended, next_of}
-use Rattle.link_bundle_blocks.specs.Reading.{Stop, ReadAt, stopped}
-use Rattle.link_bundle_blocks.specs.Canonical.{heads_at}
+use Rattle.link_bundle_blocks.specs.{Reading.{Stop, ReadAt, stopped}, Canonical.heads_at}
 use Rattle.link_bundle_blocks.specs.Bundle.{Bundle, with_payload, with_blocks, inside, payload_at, blocks_at, bundle_at, if_alone, judged_bundle, blocks_of, cut_block_of, blocks_in, cut_block_in}
 use Rattle.link_bundle_blocks.proofs.Steady.{EndsCut, Reads, Lasts, cuts, same, short, whole, of_either, both_either, row_at-reads, content_at-reads, heads_at-reads, whole_primary-reads}
 use Rattle.link_bundle_blocks.proofs.Readings.{bundle_parts}

@@ -3,23 +3,19 @@
 use Rattle.std.proofs.Common.{◌≡◌, ℕ, suc, ◌+◌, ◌-◌, ◌<◌, ◌≤◌, Bool, true, false, List, [], ◌∷◌, ◌++◌, length, drop, Option, None, Some, Result, Ok, Err, refl, ap, ◌⊎◌, inl, inr, ⊎_elim, length-append, length-drop, arith, ltb}
 use Rattle.std.specs.Prelude.{◌==◌, slice_range, if◌then◌else◌}
 use Rattle.std.proofs.lemmas.Bool.{cases_lt, lt-ltb, le-ltb}
-use Rattle.std.proofs.lemmas.List.{drop-append-le, take-append-le}
-use Rattle.std.proofs.Math.ListN.{drop_of_length-le}
-use Rattle.link_cbor.specs.declared.check.CheckKind.{CheckKind}
-use Rattle.link_cbor.specs.declared.head.Head.{Head}
+use Rattle.std.proofs.{lemmas.List.{drop-append-le, take-append-le}, Math.ListN.drop_of_length-le}
+use Rattle.link_cbor.specs.declared.{check.CheckKind.CheckKind, head.Head.Head}
 use Rattle.link_cbor.specs.Head.{HeadFront, Cut as CutHead, IllFormed, Whole, head_front}
 use Rattle.link_cbor.proofs.HeadLaws.{EndsFrom, HeadStays, ends_inside, ends_after, head_stays}
 use Rattle.link_bundle_types.specs.declared.fault.BundleFault.{BundleFault}
 use Rattle.link_bundle_types.specs.declared.fault.BundleFault.TheVariants.{Cut, NotABundle, CheckDiffers}
-use Rattle.link_bundle_heads.specs.declared.endpoint.Scheme.{Scheme}
-use Rattle.link_bundle_heads.specs.declared.endpoint.Scheme.TheVariants.{Dtn, Ipn}
+use Rattle.link_bundle_heads.specs.declared.endpoint.{Scheme.Scheme, Scheme.TheVariants.{Dtn, Ipn}}
 use Rattle.link_bundle_heads.specs.Rows.{◌>>=◌, unsigned, byte_string, block, block_number, block_check_type, pair, scheme, dtn_part, ipn_part, version, is_fragment, primary_block, primary_check_type, check_width, check_field}
 use Rattle.link_bundle_blocks.specs.Reading.{Stop, ReadAt, stopped, cut_short, head_by, outcome_at, head_at, row_at, bytes_at}
 use Rattle.link_bundle_blocks.specs.EndpointId.{dtn_at, ipn_at, specific_at, eid_at}
 use Rattle.link_bundle_blocks.specs.CheckField.{number_from, check_of, field_at}
 use Rattle.link_bundle_blocks.specs.Primary.{fragment_at, primary_at}
-use Rattle.link_bundle_blocks.specs.Canonical.{heads_at, content_at}
-use Rattle.link_bundle_blocks.specs.Bundle.{opening_at}
+use Rattle.link_bundle_blocks.specs.{Canonical.{heads_at, content_at}, Bundle.opening_at}
 use Rattle.link_bundle_blocks.specs.Whole.{whole_primary}
 
 -- ---- how far one reading goes

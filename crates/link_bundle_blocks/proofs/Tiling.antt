@@ -1,12 +1,10 @@
 -- The blocks of a good bundle have all bytes between its first byte and its last.
 
 use Rattle.std.proofs.Common.{◌≡◌, ℕ, zero, suc, ◌+◌, ◌/◌, ◌%◌, ◌≤◌, ◌≢◌, Bool, true, false, ◌&&◌, ◌||◌, List, [], ◌∷◌, ◌++◌, map, length, drop, Option, Result, Ok, Err, refl, sym, ap, ◌∙◌, ⊎_elim, zero-add, length-append, arith}
-use Rattle.std.specs.Prelude.{◌==◌, nat_lt, if◌then◌else◌}
-use Rattle.std.specs.List.{All}
+use Rattle.std.specs.{Prelude.{◌==◌, nat_lt, if◌then◌else◌}, List.All}
 use Rattle.std.proofs.lemmas.Bool.{cases_Bool, and_parts, eqb-true, eqb-false}
 use Rattle.std.proofs.lemmas.List.Elements.{All-nil, All-cons}
-use Rattle.link_cbor.specs.declared.check.CheckKind.{CheckKind}
-use Rattle.link_cbor.specs.declared.head.Head.{Head}
+use Rattle.link_cbor.specs.declared.{check.CheckKind.CheckKind, head.Head.Head}
 use Rattle.link_cbor.specs.Head.{HeadFront, Cut as CutHead, IllFormed, Whole, with_argument, argument_front, no_argument, front_by, head_front}
 use Rattle.link_bundle_types.specs.declared.fault.BundleFault.{BundleFault}
 use Rattle.link_bundle_types.specs.declared.info.BundleInfo.{BundleInfo}
@@ -14,8 +12,7 @@ use Rattle.link_bundle_heads.specs.Rows.{◌>>=◌, block, unsigned, block_numbe
 use Rattle.link_bundle_blocks.specs.declared.block.CanonicalBlock.{CanonicalBlock}
 use Rattle.link_bundle_blocks.specs.Blocks.{Primary, PrimaryOf, CanonicalOf, ended}
 use Rattle.link_bundle_blocks.specs.Reading.{Stop, ReadAt, head_by, outcome_at, head_at, row_at, bytes_at}
-use Rattle.link_bundle_blocks.specs.CheckField.{field_at}
-use Rattle.link_bundle_blocks.specs.Primary.{primary_at}
+use Rattle.link_bundle_blocks.specs.{CheckField.field_at, Primary.primary_at}
 use Rattle.link_bundle_blocks.specs.Canonical.{heads_at, content_at}
 use Rattle.link_bundle_blocks.specs.Bundle.{Bundle, with_payload, with_blocks, inside, info_of, rest_of, payload_at, blocks_at, opening_at, bundle_at, if_alone, judged_bundle, verdict_by, verdict, blocks_in, blocks_of}
 use Rattle.link_bundle_blocks.specs.Laws.{Fills, Tiles, IsTiled, GoodBlocksTile}

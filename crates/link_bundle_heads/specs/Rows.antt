@@ -3,13 +3,11 @@
 
 use Rattle.std.specs.Prelude.{ℕ, ◌+◌, Bool, true, false, not, ◌&&◌, ◌||◌, ◌==◌, nat_le, List, Option, Some, None, Result, Ok, Err, if◌then◌else◌, bit_and}
 use Rattle.std.specs.List.{list_any}
-use Rattle.link_cbor.specs.declared.head.Head.{Head}
-use Rattle.link_cbor.specs.declared.check.CheckKind.{CheckKind}
+use Rattle.link_cbor.specs.declared.{head.Head.Head, check.CheckKind.CheckKind}
 use Rattle.link_cbor.specs.declared.check.CheckKind.TheVariants.{Crc16, Crc32}
 use Rattle.link_bundle_types.specs.declared.fault.BundleFault.{BundleFault}
 use Rattle.link_bundle_types.specs.declared.fault.BundleFault.TheVariants.{WrongKind, BadCount, BadVersion, BadCheckType, BadScheme, BadSpecificPart, EidTooLong, BadCheckLength, BadBlockNumber, RepeatedBlockNumber, TooManyBlocks, NoPayloadLast}
-use Rattle.link_bundle_heads.specs.declared.endpoint.Scheme.{Scheme}
-use Rattle.link_bundle_heads.specs.declared.endpoint.Scheme.TheVariants.{Dtn, Ipn}
+use Rattle.link_bundle_heads.specs.declared.endpoint.{Scheme.Scheme, Scheme.TheVariants.{Dtn, Ipn}}
 
 -- the first fault, or the result of the next part
 infixl 10 ◌>>=◌

@@ -2,8 +2,7 @@
 
 use Rattle.std.specs.Prelude.{ℕ, Result, Ok, Err}
 use Rattle.link_bundle_types.specs.declared.fault.BundleFault.{BundleFault}
-use Rattle.link_bundle_types.specs.declared.info.BundleInfo.{BundleInfo}
-use Rattle.link_bundle_types.specs.declared.info.BundleView.{BundleView}
+use Rattle.link_bundle_types.specs.declared.info.{BundleInfo.BundleInfo, BundleView.BundleView}
 use Rattle.link_bundle_types.specs.EidView.{viewed_eid}
 
 abbrev pub viewed_info : BundleView → BundleInfo

@@ -1,8 +1,7 @@
 -- The greatest length of the names in a bundle's endpoint IDs.
 
 use Rattle.std.specs.Prelude.{◌≤◌, length}
-use Rattle.link_bundle_types.specs.declared.eid.Eid.{Eid}
-use Rattle.link_bundle_types.specs.declared.eid.Eid.TheVariants.{DtnNone, Dtn, Ipn, Ipn3}
+use Rattle.link_bundle_types.specs.declared.eid.{Eid.Eid, Eid.TheVariants.{DtnNone, Dtn, Ipn, Ipn3}}
 use Rattle.link_bundle_types.specs.declared.info.BundleInfo.{BundleInfo}
 
 -- the name of a dtn endpoint ID has at most 1,024 bytes

@@ -5,8 +5,7 @@ use Rattle.std.proofs.lemmas.Bool.{false≢true, lt-ltb, le-ltb}
 use Rattle.std.proofs.lemmas.List.{length-take, take-take, take-append-le}
 use Rattle.link_cbor.specs.PieceLaws.{taken-idle, taken-cons, taken-nil, joins_pieces, takes_shortest}
 use Rattle.link_cbor.specs.Pieces.{taken}
-use Rattle.link_bundle_types.specs.Faults.{lasts}
-use Rattle.link_bundle_types.specs.declared.fault.BundleFault.{BundleFault}
+use Rattle.link_bundle_types.specs.{Faults.lasts, declared.fault.BundleFault.BundleFault}
 use Rattle.link_bundle_types.specs.declared.fault.BundleFault.TheVariants.{Cut}
 use Rattle.link_bundle_types.specs.declared.fault.State.TheVariants as state
 use Rattle.link_bundle_types.specs.declared.info.BundleInfo.{BundleInfo}
@@ -15,8 +14,7 @@ use Rattle.link_bundle_walk.specs.Bundles.{Packed, Refusal, Longer, Faulty, Divi
 use Rattle.link_bundle.specs.Scan.{HasScanned}
 use Rattle.link_report.specs.declared.fault.Fault.TheVariants.{TooLong}
 use Rattle.link_bundle_walk.specs.BundleRun.{Refuses, MakesOf, found_by}
-use Rattle.link_bundle_walk.specs.declared.current.Current.{Current}
-use Rattle.link_bundle_walk.specs.declared.current.Found.{Found}
+use Rattle.link_bundle_walk.specs.declared.current.{Current.Current, Found.Found}
 
 -- ---- prefixes
 

@@ -2,10 +2,8 @@
 use Rattle.std.proofs.Common.{◌≡◌, ℕ, ◌+◌, ◌<◌, ◌≤◌, ◌⊎◌, inl, inr, Bool, true, false, List, [], ◌∷◌, ◌++◌, length, take, Option, Some, None, Result, Ok, Err, refl, ap, sym, ◌∙◌, subst, append-nil, append_assoc, length-append, length-take, arith, ◌-◌, ⊎_elim, if◌then◌else◌}
 use Rattle.std.proofs.lemmas.Grind.{fold-append}
 use Rattle.std.specs.Result.{result_and}
-use Rattle.link_wire.specs.Device.{Output}
-use Rattle.link_wire.specs.Limits.{window_size}
-use Rattle.link_wire.specs.Source.{window_of, IsLive, IsOver, Takes}
-use Rattle.link_wire.specs.declared.IoFault.{IoFault}
+use Rattle.link_wire.specs.{Device.Output, Limits.window_size}
+use Rattle.link_wire.specs.{Source.{window_of, IsLive, IsOver, Takes}, declared.IoFault.IoFault}
 use Rattle.link_wire.specs.declared.Source.{Source}
 use Rattle.link_io.proofs.Sources.{IsSourceAt-then}
 use Rattle.link_report.specs.declared.fault.Fault.{Fault}
@@ -13,21 +11,18 @@ use Rattle.link_run.specs.Made.{Made, shows_fault, with_fault}
 use Rattle.link_run.specs.Run.{Texts, ◌then◌, Looks, Devices, answer_of, progress_after}
 use Rattle.link_run.specs.Stages.{Stands, AfterStage, written_by}
 use Rattle.link_run.specs.Writers.{place_of, AfterLastWrite, on_report, Writes, WritesPart, AfterWrite}
-use Rattle.link_run.specs.declared.run.Progress.{Progress}
-use Rattle.link_run.specs.declared.run.Status.{Status}
+use Rattle.link_run.specs.declared.run.{Progress.Progress, Status.Status}
 use Rattle.link_run.specs.declared.writers.Writers.{Writers}
 use Rattle.link_run.proofs.Runs.{few_over, then_assoc, writes_then, part_of_more}
 use Rattle.link_run.proofs.Stands.{goes_on, loses, ends, last_step}
 use Rattle.link_bundle_walk.specs.Bundles.{Packed, divided, with_bundles, size_of}
 use Rattle.link_bundle_walk.specs.Telling.{SoFar, BundleTelling, Tells, told_of, with_run, between, ComesAfter, IsAccepted}
 use Rattle.link_bundle_walk.specs.BundleRun.{before_last, MakesOf, cut_at, Walks, ended_by, GoesOn, Ends, WritesFound, Comes, Refuses}
-use Rattle.link_bundle_walk.specs.declared.current.Current.{Current}
-use Rattle.link_bundle_walk.specs.declared.current.Found.{Found}
+use Rattle.link_bundle_walk.specs.declared.current.{Current.Current, Found.Found}
 use Rattle.link_bundle_walk.specs.declared.current.Found.TheVariants as found
 use Rattle.link_bundle_walk.proofs.Dividing.{divided_whole, divided_none}
 use Rattle.link_bundle_walk.proofs.Outcomes.{whole_of, texts_going, unshown_going, whole_going, told_refused, told_same}
-use Rattle.std.proofs.Math.Seq.{take-append-add}
-use Rattle.std.proofs.KnownBytes.{Appends-trans}
+use Rattle.std.proofs.{Math.Seq.take-append-add, KnownBytes.Appends-trans}
 use Rattle.link_report.specs.Fault.{fault_text}
 use Rattle.link_run.proofs.Sessions.{then_fault}
 use Rattle.link_bundle_walk.specs.declared.consumer.WholeView.{WholeView}

@@ -4,8 +4,7 @@ use Rattle.std.proofs.lemmas.Bool.{false≢true}
 use Rattle.link_bundle_blocks.specs.Bundle.{verdict}
 use Rattle.link_bundle_types.specs.declared.fault.BundleFault.{BundleFault}
 use Rattle.link_bundle_types.specs.declared.info.BundleInfo.{BundleInfo}
-use Rattle.link_run.specs.Made.{Made, IsLasting, whole_by, shows_fault}
-use Rattle.link_run.specs.Run.{Outcome}
+use Rattle.link_run.specs.{Made.{Made, IsLasting, whole_by, shows_fault}, Run.Outcome}
 use Rattle.link_run.specs.Stages.{MayBegin}
 use Rattle.link_bundle_walk.specs.Bundles.{Packed, Rest, Divided, IsOpen, divided, with_bundles}
 use Rattle.link_bundle_walk.specs.Telling.{BundleTelling, SoFar, stop_by, accepted_in, told_by, told_of}

@@ -3,25 +3,21 @@
 use Rattle.std.specs.Prelude.{◌≡◌, ℕ, ◌+◌, ◌-◌, ◌^◌, ◌<◌, ◌≤◌, Bool, true, false, List, [], ◌++◌, length, take, Option, Some, None, if◌then◌else◌, Result, Ok}
 use Rattle.link_wire.specs.Device.{Input as Seen, Output}
 use Rattle.link_wire.specs.Source.{window_of, IsSourceAt, IsLive}
-use Rattle.link_wire.specs.declared.IoFault.{IoFault}
-use Rattle.link_wire.specs.declared.Source.{Source}
+use Rattle.link_wire.specs.declared.{IoFault.IoFault, Source.Source}
 use Rattle.link_bundle_blocks.specs.Bundle.{verdict}
 use Rattle.link_bundle.specs.Scan.{HasScanned}
 use Rattle.link_bundle_types.specs.declared.fault.State.{State}
 use Rattle.link_bundle_types.specs.declared.fault.State.TheVariants as state
 use Rattle.link_bundle_types.specs.declared.info.BundleInfo.{BundleInfo}
-use Rattle.link_report.specs.declared.fault.Fault.{Fault}
-use Rattle.link_report.specs.declared.fault.Fault.TheVariants.{Bundle}
+use Rattle.link_report.specs.declared.fault.{Fault.Fault, Fault.TheVariants.Bundle}
 use Rattle.link_run.specs.Made.{StreamStop, with_fault}
 use Rattle.link_run.specs.Run.{Texts, Outcome, ◌then◌, answer_of, progress_after}
 use Rattle.link_run.specs.Writers.{AfterLastWrite}
-use Rattle.link_run.specs.declared.run.Progress.{Progress}
-use Rattle.link_run.specs.declared.run.Status.{Status}
+use Rattle.link_run.specs.declared.run.{Progress.Progress, Status.Status}
 use Rattle.link_run.specs.declared.writers.Writers.{Writers}
 use Rattle.link_bundle_walk.specs.Bundles.{Refusal, IsOpen, bundle_prefix, divided, with_bundles, size_of}
 use Rattle.link_bundle_walk.specs.Telling.{SoFar, none_yet, BundleTelling, Tells, with_run, refusal_fault, lasting, stop_by, IsShown}
-use Rattle.link_bundle_walk.specs.declared.consumer.WholeView.{WholeView}
-use Rattle.link_bundle_walk.specs.declared.current.Current.{Current}
+use Rattle.link_bundle_walk.specs.declared.{consumer.WholeView.WholeView, current.Current.Current}
 use Rattle.link_bundle_walk.specs.declared.current.Found.{Found}
 use Rattle.link_bundle_walk.specs.declared.current.Found.TheVariants as found
 use Rattle.link_bundle_walk.specs.declared.walk.Stage.{Stage}

@@ -7,8 +7,7 @@ use Rattle.link_bundle_blocks.specs.Bundle.{verdict}
 use Rattle.link_bundle_types.specs.BundleView.{viewed_info}
 use Rattle.link_bundle_types.specs.Faults.{lasts}
 use Rattle.link_bundle_types.specs.declared.info.BundleInfo.{BundleInfo}
-use Rattle.link_report.specs.declared.fault.Fault.{Fault}
-use Rattle.link_report.specs.declared.fault.Fault.TheVariants.{Bundle, TooLong}
+use Rattle.link_report.specs.declared.fault.{Fault.Fault, Fault.TheVariants.{Bundle, TooLong}}
 use Rattle.link_run.specs.Made.{StreamStop, Made}
 use Rattle.link_run.specs.Run.{Texts, ◌then◌}
 use Rattle.link_run.specs.Writers.{AfterWrite}

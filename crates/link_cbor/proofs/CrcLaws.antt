@@ -2,15 +2,11 @@
 -- and bytes.
 
 use Rattle.std.proofs.Common.{◌≡◌, ℕ, zero, suc, ◌+◌, ◌*◌, ◌/◌, ◌%◌, ◌^◌, ◌<◌, List, [], ◌∷◌, ◌++◌, replicate, refl, sym, ap, ◌∙◌, ⊎_elim, arith}
-use Rattle.std.specs.Prelude.{fold, bit_xor}
-use Rattle.std.specs.List.{flat_map}
+use Rattle.std.specs.{Prelude.{fold, bit_xor}, List.flat_map}
 use Rattle.std.specs.Int.Bits.{xor_assoc, xor_zero_l, xor_zero_r, xor_self, xor_mod, xor_shr}
-use Rattle.std.proofs.lemmas.Nat.{xor_comm}
-use Rattle.std.proofs.lemmas.List.Concat.{flat_map-append}
-use Rattle.std.proofs.lemmas.List.Sums.{fold-append}
+use Rattle.std.proofs.lemmas.{Nat.xor_comm, List.Concat.flat_map-append, List.Sums.fold-append}
 use Rattle.std.proofs.lemmas.List.{append-nil, replicate-append-replicate}
-use Rattle.std.proofs.lemmas.Bool.{cases_eq, eq-eqb, ne_eqb}
-use Rattle.std.proofs.Math.Nat.{pow-suc}
+use Rattle.std.proofs.{lemmas.Bool.{cases_eq, eq-eqb, ne_eqb}, Math.Nat.pow-suc}
 use Rattle.link_cbor.specs.declared.check.CheckKind.{CheckKind}
 use Rattle.link_cbor.specs.Crc.{polynomial, low_bits, all_bits, turn, register_after}
 

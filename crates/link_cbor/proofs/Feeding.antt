@@ -3,8 +3,7 @@
 use Rattle.std.proofs.Common.{◌≡◌, ℕ, ◌+◌, ◌<◌, ◌≤◌, Bool, true, false, List, [], ◌∷◌, ◌++◌, length, take, drop, get_or, sym, ap, ◌∙◌, append_assoc, arith}
 use Rattle.std.proofs.lemmas.List.{append-nil, take_more, drop_more, length-take-le, drop_all}
 use Rattle.link_cbor.proofs.Joins.{joined_more}
-use Rattle.link_cbor.specs.Pieces.{taken}
-use Rattle.link_cbor.specs.PieceLaws.{taken-cons, taken-nil, taken-idle}
+use Rattle.link_cbor.specs.{Pieces.taken, PieceLaws.{taken-cons, taken-nil, taken-idle}}
 
 -- the bytes taken are the first `count` bytes of the piece and those taken of the rest
 pub record TakenSoFar (goes : List ℕ → Bool) (seen bytes : List ℕ) (count : ℕ) : Type 0 where

@@ -2,9 +2,7 @@
 
 use Rattle.std.proofs.Common.{◌≡◌, ℕ, ◌-◌, ◌/◌, ◌^◌, ◌<◌, ◌≤◌, true, false, List, [], ◌∷◌, length, take, drop, get_or, sym, refl, ap, ◌∙◌, arith}
 use Rattle.std.specs.Prelude.{◌==◌, bit_and}
-use Rattle.std.proofs.lemmas.Bool.{eqb-true}
-use Rattle.std.proofs.lemmas.List.{length-drop}
-use Rattle.std.proofs.lemmas.Nat.{and_mask}
+use Rattle.std.proofs.lemmas.{Bool.eqb-true, List.length-drop, Nat.and_mask}
 use Rattle.std.proofs.Math.Seq.{take-length}
 use Rattle.link_cbor.specs.Head.{Cut, argument_front, front_by, head_front}
 use Rattle.link_cbor.proofs.HeadLaws.{front_by-argument}

@@ -3,13 +3,10 @@
 use Rattle.std.proofs.Common.{◌≡◌, ℕ, zero, suc, ◌+◌, ◌*◌, ◌/◌, ◌%◌, ◌^◌, ◌<◌, List, [], ◌∷◌, length, replicate, refl, sym, ap, ap₂, ◌∙◌, ⊎_elim, arith}
 use Rattle.std.specs.Prelude.{fold}
 use Rattle.std.specs.Int.Bits.{bit_xor, xor_assoc, xor_zero_r, xor_self, xor_shifted}
-use Rattle.std.proofs.Math.Nat.{pow-suc}
-use Rattle.std.proofs.lemmas.Nat.{xor_comm}
-use Rattle.std.proofs.lemmas.List.Elements.{All-head, All-tail}
-use Rattle.std.proofs.lemmas.Bool.{cases_eq}
+use Rattle.std.proofs.{Math.Nat.pow-suc, lemmas.Nat.xor_comm}
+use Rattle.std.proofs.lemmas.{List.Elements.{All-head, All-tail}, Bool.cases_eq}
 use Rattle.link_cbor.specs.declared.check.CheckKind.{CheckKind}
-use Rattle.link_cbor.specs.Crc.{polynomial, turn, register_after}
-use Rattle.link_cbor.specs.Head.{AreBytes}
+use Rattle.link_cbor.specs.{Crc.{polynomial, turn, register_after}, Head.AreBytes}
 use Rattle.link_cbor.proofs.CrcLaws.{register_after-nil, register_after-cons, zero_turns, zero_turns-none, zero_turns-add, turn-same, turn-other, turn_first}
 
 -- zeros in the lowest bits of a number are shifted out, one in each turn

@@ -2,15 +2,11 @@
 
 use Rattle.std.proofs.Common.{◌≡◌, ℕ, ◌+◌, ◌-◌, ◌*◌, ◌/◌, ◌%◌, ◌^◌, ◌<◌, List, [], ◌∷◌, length, get_or, drop, sym, ap, ap₂, ◌∙◌, arith, length-drop}
 use Rattle.std.specs.Int.Bits.{bit_xor}
-use Rattle.std.proofs.lemmas.Nat.{shr-shr, xor_comm, xor_lt}
-use Rattle.std.proofs.lemmas.List.{drop_more}
+use Rattle.std.proofs.lemmas.{Nat.{shr-shr, xor_comm, xor_lt}, List.drop_more}
 use Rattle.std.proofs.lemmas.List.Elements.{All-drop}
-use Rattle.link_cbor.specs.declared.check.CheckKind.{CheckKind}
-use Rattle.link_cbor.specs.Crc.{register_after}
-use Rattle.link_cbor.specs.CrcTables.{AreTables}
-use Rattle.link_cbor.specs.Head.{AreBytes}
-use Rattle.link_cbor.proofs.CrcLaws.{register_after-byte_zeros}
-use Rattle.link_cbor.proofs.Linear.{register_after-split}
+use Rattle.link_cbor.specs.{declared.check.CheckKind.CheckKind, Crc.register_after}
+use Rattle.link_cbor.specs.{CrcTables.AreTables, Head.AreBytes}
+use Rattle.link_cbor.proofs.{CrcLaws.register_after-byte_zeros, Linear.register_after-split}
 
 -- the first byte of a message is looked up in the table whose number is that of the bytes after it
 pub looked_up : (kind : CheckKind) (tables : List (List ℕ)) (register byte : ℕ) (bytes : List ℕ)

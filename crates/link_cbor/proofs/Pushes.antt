@@ -2,14 +2,10 @@
 
 use Rattle.std.proofs.Common.{◌≡◌, ℕ, zero, suc, ◌+◌, ◌*◌, ◌<◌, List, ◌++◌, take, drop, sym, ap, ap₂, ◌∙◌, arith}
 use Rattle.std.specs.List.{concat}
-use Rattle.std.proofs.Math.Seq.{take-add}
-use Rattle.std.proofs.lemmas.List.Elements.{All-append}
+use Rattle.std.proofs.{Math.Seq.take-add, lemmas.List.Elements.All-append}
 use Rattle.std.specs.Simd.{first_chunks}
-use Rattle.link_cbor.specs.declared.check.Check.{Check}
-use Rattle.link_cbor.specs.declared.check.CheckKind.{CheckKind}
-use Rattle.link_cbor.specs.Crc.{all_ones, register_after}
-use Rattle.link_cbor.specs.Head.{AreBytes}
-use Rattle.link_cbor.specs.Pushed.{HasPushed}
+use Rattle.link_cbor.specs.declared.check.{Check.Check, CheckKind.CheckKind}
+use Rattle.link_cbor.specs.{Crc.{all_ones, register_after}, Head.AreBytes, Pushed.HasPushed}
 use Rattle.link_cbor.proofs.CrcLaws.{register_after-append}
 
 -- the register of the check has consumed more bytes

@@ -3,14 +3,12 @@
 use Rattle.std.proofs.Common.{◌≡◌, ℕ, zero, suc, ◌+◌, ◌-◌, ◌*◌, ◌/◌, ◌%◌, ◌^◌, ◌<◌, ◌≤◌, true, false, ◌&&◌, ◌||◌, ◌==◌, nat_lt, nat_le, List, [], ◌∷◌, ◌++◌, length, take, Some, None, refl, sym, ap, ◌∙◌, arith, ⊎_elim}
 use Rattle.std.proofs.lemmas.List.{append-nil, append_assoc, length-take-le}
 use Rattle.std.proofs.lemmas.Bool.{cases_lt, cases_eq, ne_eqb, and_right, and_parts, ltb-true, leb-true, eqb-true, lt-ltb, le-ltb, le-leb}
-use Rattle.std.proofs.Math.Nat.{pow-suc, pow-le-pow_right, one-le-pow}
-use Rattle.std.proofs.Math.Pow.{pow_mono}
+use Rattle.std.proofs.Math.{Nat.{pow-suc, pow-le-pow_right, one-le-pow}, Pow.pow_mono}
 use Rattle.std.proofs.lemmas.Nat.{and_mask}
 use Rattle.std.specs.Int.Bits.{bit_and}
 use Rattle.link_cbor.specs.declared.head_scan.HeadStage.{HeadStage}
 use Rattle.link_cbor.specs.declared.head_scan.HeadStage.TheVariants.{Start, Argument, Simple, Whole as WholeHead, IllFormed as NoHead}
-use Rattle.link_cbor.specs.declared.head.HeadStep.{HeadStep}
-use Rattle.link_cbor.specs.declared.head.HeadStep.TheVariants.{More, Done, Bad}
+use Rattle.link_cbor.specs.declared.head.{HeadStep.HeadStep, HeadStep.TheVariants.{More, Done, Bad}}
 use Rattle.link_cbor.specs.Head.{Cut, Whole, big_endian, head_front, front_by_step, step_at, step_of, argument_front, with_argument, no_argument, front_by}
 use Rattle.link_cbor.proofs.HeadLaws.{argument_front-cut, argument_front-there, front_by-small, front_by-argument, front_by-reserved, front_by-none}
 use Rattle.link_cbor.specs.Stage.{front_from, in_argument, stage_step, head_stage_fits, DeterminesHead}

@@ -8,8 +8,7 @@ use Rattle.std.proofs.lemmas.Bool.{eqb-true, and_parts, false≢true}
 use Rattle.link_cbor.specs.declared.check.CheckKind.{CheckKind}
 use Rattle.link_cbor.specs.declared.check.CheckKind.TheVariants.{Crc16, Crc32}
 use Rattle.link_cbor.specs.declared.check.crc16.TheConstants.{TABLES as CRC16_TABLES}
-use Rattle.link_cbor.specs.declared.check.crc32.TheConstants.{TABLES as CRC32_TABLES}
-use Rattle.link_cbor.specs.Crc.{turn}
+use Rattle.link_cbor.specs.{declared.check.crc32.TheConstants.TABLES as CRC32_TABLES, Crc.turn}
 use Rattle.link_cbor.specs.CrcTables.{AreTables}
 use Rattle.link_cbor.proofs.CrcLaws.{zero_turns, zero_turns-add, register_after-byte_zeros}
 

@@ -1,8 +1,7 @@
 -- The head that a list of bytes begins with (RFC 8949 section 3).
 
 use Rattle.std.specs.Prelude.{ℕ, ◌+◌, ◌-◌, ◌*◌, ◌/◌, ◌%◌, ◌^◌, Bool, true, false, ◌&&◌, ◌||◌, ◌==◌, nat_lt, List, [], ◌∷◌, length, take, Option, Some, None, if◌then◌else◌, All, ◌<◌}
-use Rattle.link_cbor.specs.declared.head.Head.{Head}
-use Rattle.link_cbor.specs.declared.head.HeadStep.{HeadStep}
+use Rattle.link_cbor.specs.declared.head.{Head.Head, HeadStep.HeadStep}
 use Rattle.link_cbor.specs.declared.head.HeadStep.TheVariants.{More, Done, Bad}
 
 -- each number is a byte, 0 to 255

@@ -1,8 +1,7 @@
 -- Relations: the bytes that were pushed to a check.
 
 use Rattle.std.specs.Prelude.{◌≡◌, ℕ, List}
-use Rattle.link_cbor.specs.declared.check.Check.{Check}
-use Rattle.link_cbor.specs.declared.check.CheckKind.{CheckKind}
+use Rattle.link_cbor.specs.declared.check.{Check.Check, CheckKind.CheckKind}
 use Rattle.link_cbor.specs.Crc.{all_ones, register_after}
 use Rattle.link_cbor.specs.Head.{AreBytes}
 

@@ -1,8 +1,7 @@
 -- Relations: the head that a stage of a scan determines.
 
 use Rattle.std.specs.Prelude.{◌≡◌, IsTrue, ℕ, ◌+◌, ◌-◌, ◌*◌, ◌^◌, Bool, true, false, ◌&&◌, ◌==◌, nat_lt, nat_le, List, length, take, Some, if◌then◌else◌}
-use Rattle.link_cbor.specs.declared.head.HeadStep.{HeadStep}
-use Rattle.link_cbor.specs.declared.head.HeadStep.TheVariants.{More, Done, Bad}
+use Rattle.link_cbor.specs.declared.head.{HeadStep.HeadStep, HeadStep.TheVariants.{More, Done, Bad}}
 use Rattle.link_cbor.specs.declared.head_scan.HeadStage.{HeadStage}
 use Rattle.link_cbor.specs.declared.head_scan.HeadStage.TheVariants.{Start, Argument, Simple, Whole as WholeHead, IllFormed as NoHead}
 use Rattle.link_cbor.specs.Head.{HeadFront, Cut, IllFormed, Whole, big_endian, head_front, argument_front}

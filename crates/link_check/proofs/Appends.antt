@@ -1,11 +1,9 @@
 -- The lines of broken rules that follow one another.
 use Rattle.std.proofs.Common.{◌≡◌, ℕ, ◌+◌, ◌<◌, Bool, true, false, not, ◌&&◌, List, [], ◌∷◌, ◌++◌, length, map, take, drop, append-nil, refl, ap, sym, ◌∙◌}
 use Rattle.std.specs.Prelude.{slice_index_or}
-use Rattle.std.proofs.Math.Bool.{and-true}
-use Rattle.std.proofs.lemmas.Grind.{flat_map-append}
+use Rattle.std.proofs.{Math.Bool.and-true, lemmas.Grind.flat_map-append}
 use Rattle.std.proofs.lemmas.List.{map-append, map_more, take-append-drop}
-use Rattle.link_rule_report.specs.declared.line.RuleText.{RuleText}
-use Rattle.link_rule_report.specs.declared.rule.BrokenRule.{BrokenRule}
+use Rattle.link_rule_report.specs.declared.{line.RuleText.RuleText, rule.BrokenRule.BrokenRule}
 use Rattle.link_check.specs.Lines.{counts, line_of, lines_of, none_counts, at_offset}
 
 pub lines_append : (must : Bool) (first second : List RuleText)

@@ -6,17 +6,14 @@ use Rattle.link_bundle_types.specs.declared.info.BundleInfo.{BundleInfo}
 use Rattle.link_bundle_blocks.specs.Blocks.{Primary, Block, PrimaryOf, CanonicalOf, LiesWithin}
 use Rattle.link_bundle_blocks.specs.Bundle.{blocks_in, bundle_goes}
 use Rattle.link_bundle_blocks.specs.declared.block.CanonicalBlock.{CanonicalBlock}
-use Rattle.link_bundle_blocks.proofs.Lying.{BlocksWithin-holds}
-use Rattle.link_bundle_blocks.proofs.Showing.{BlocksEnd-holds}
+use Rattle.link_bundle_blocks.proofs.{Lying.BlocksWithin-holds, Showing.BlocksEnd-holds}
 use Rattle.link_block_data.specs.BlockData.{data_of}
 use Rattle.link_block_report.specs.Kinds.{kind_of}
 use Rattle.link_blocks.specs.BlockLines.{flags_after, found_in}
-use Rattle.link_blocks.proofs.Lines.{all_first, all_rest, data_grown, no_blocks}
-use Rattle.link_blocks.proofs.Judged.{rest_read}
+use Rattle.link_blocks.proofs.{Lines.{all_first, all_rest, data_grown, no_blocks}, Judged.rest_read}
 use Rattle.link_rules.specs.Heads.{first_long}
 use Rattle.link_bundle_rules.specs.BundleRules.{broken_bundle_rules}
-use Rattle.link_bundle_rules.specs.ReadBundle.{ReadBundle, with_block}
-use Rattle.link_bundle_rules.specs.Remembered.{Remembers}
+use Rattle.link_bundle_rules.specs.{ReadBundle.{ReadBundle, with_block}, Remembered.Remembers}
 use Rattle.link_bundle_rules.specs.declared.history.BundleHistory.{BundleHistory}
 use Rattle.link_bundle_rules.specs.declared.rule.BundleRule.{BundleRule}
 use Rattle.link_check.specs.BundleReader.{HasHistory, IsReadingBlocks}

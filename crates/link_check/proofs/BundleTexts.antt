@@ -1,23 +1,20 @@
 -- What is kept of bundles and said of them, when more bytes come.
 use Rattle.std.proofs.Common.{◌≡◌, ℕ, suc, ◌+◌, Bool, true, ◌&&◌, List, [], ◌∷◌, ◌++◌, length, map, Result, Ok, Err, OnOk, refl, ap, sym, ◌∙◌, append-nil, append_assoc, arith}
 use Rattle.std.proofs.lemmas.List.Sums.{sum_by-cons, sum_by_push}
-use Rattle.link_wire.specs.Device.{Output}
-use Rattle.link_wire.specs.declared.IoFault.{IoFault}
+use Rattle.link_wire.specs.{Device.Output, declared.IoFault.IoFault}
 use Rattle.link_bundle.specs.Scan.{HasScanned}
 use Rattle.link_bundle.proofs.Pieces.{all_judged}
 use Rattle.link_bundle_rules.specs.declared.rule.BundleRule.{BundleRule}
 use Rattle.link_bundle_types.specs.declared.info.BundleInfo.{BundleInfo}
 use Rattle.link_bundle_walk.specs.Bundles.{Packed, size_of}
 use Rattle.link_bundle_walk.specs.Telling.{SoFar, none_yet, between, Tells}
-use Rattle.link_run.specs.Run.{Texts, no_texts}
-use Rattle.link_run.specs.Writers.{AfterWrite, on_output}
+use Rattle.link_run.specs.{Run.{Texts, no_texts}, Writers.{AfterWrite, on_output}}
 use Rattle.link_run.specs.declared.writers.Writers.{Writers}
 use Rattle.link_run.proofs.Runs.{texts_as, then_none, writes_none}
 use Rattle.link_rule_report.specs.declared.line.RuleText.{RuleText}
 use Rattle.link_rule_report.specs.declared.rule.BrokenRule.TheVariants.{Bundle}
 use Rattle.link_rule_report.specs.declared.rule.BundlePlace.TheVariants as place
-use Rattle.link_check.specs.BundleChecker.{KnowsBundles}
-use Rattle.link_check.specs.BundleReader.{IsReadingBundle}
+use Rattle.link_check.specs.{BundleChecker.KnowsBundles, BundleReader.IsReadingBundle}
 use Rattle.link_check.specs.BundleRules.{bundle_rules}
 use Rattle.link_check.specs.Bundles.{broken_in, broken_bundles, bundle_check_telling}
 use Rattle.link_check.specs.Lines.{lines_of, none_counts, at_offset}

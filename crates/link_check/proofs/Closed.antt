@@ -4,13 +4,10 @@ use Rattle.link_bundle_blocks.specs.Bundle.{verdict}
 use Rattle.link_wire.specs.declared.IoFault.{IoFault}
 use Rattle.link_message_rules.specs.TransferRules.{broken_transfer_rules}
 use Rattle.link_message_rules.specs.declared.rule.TransferRule.{TransferRule}
-use Rattle.link_rule_report.specs.declared.line.RuleText.{RuleText}
-use Rattle.link_rule_report.specs.declared.rule.BrokenRule.{BrokenRule}
+use Rattle.link_rule_report.specs.declared.{line.RuleText.RuleText, rule.BrokenRule.BrokenRule}
 use Rattle.link_rule_report.specs.declared.rule.BrokenRule.TheVariants.{Transfer}
-use Rattle.link_check.specs.Checker.{IsChecking}
-use Rattle.link_check.specs.Checking.{Begun, closed_rules, data_rules}
-use Rattle.link_check.specs.Lines.{at_offset}
-use Rattle.link_check.specs.declared.transfer.CheckedTransfer.{CheckedTransfer}
+use Rattle.link_check.specs.{Checker.IsChecking, Checking.{Begun, closed_rules, data_rules}}
+use Rattle.link_check.specs.{Lines.at_offset, declared.transfer.CheckedTransfer.CheckedTransfer}
 use Rattle.link_check.proofs.Appends.{at_append}
 
 pub on_ok_by : {P Q : Type 0} (result : Result (Unit {0}) IoFault) → (P → Q) → OnOk result P → OnOk result Q

@@ -1,17 +1,13 @@
 -- What is kept after more events, and what is said of them.
 use Rattle.std.proofs.Common.{◌≡◌, ℕ, ◌+◌, ◌≤◌, ◌⊎◌, inl, inr, Bool, true, false, ◌&&◌, ◌==◌, List, [], ◌∷◌, ◌++◌, length, Option, Some, None, option_map, Result, OnOk, if◌then◌else◌, refl, ap, sym, ◌∙◌, ⊎_elim, append-nil, append_assoc, arith}
-use Rattle.std.proofs.Math.Bool.{and-true}
-use Rattle.std.proofs.lemmas.Grind.{fold-append}
-use Rattle.link_wire.specs.Codes.{is_start}
-use Rattle.link_wire.specs.Device.{Output}
-use Rattle.link_wire.specs.Message.{data_length}
+use Rattle.std.proofs.{Math.Bool.and-true, lemmas.Grind.fold-append}
+use Rattle.link_wire.specs.{Codes.is_start, Device.Output, Message.data_length}
 use Rattle.link_wire.specs.declared.IoFault.{IoFault}
 use Rattle.link_wire.specs.declared.message.Message.TheVariants as message
 use Rattle.link_wire.specs.declared.message.SegmentHead.{SegmentHead}
 use Rattle.link_run.specs.Run.{Texts, no_texts, ◌then◌}
 use Rattle.link_transfer.specs.declared.joiner.Turn.TheVariants.{Continue}
-use Rattle.link_run.specs.Writers.{on_output, AfterWrite}
-use Rattle.link_run.specs.declared.writers.Writers.{Writers}
+use Rattle.link_run.specs.{Writers.{on_output, AfterWrite}, declared.writers.Writers.Writers}
 use Rattle.link_run.proofs.Runs.{then_none}
 use Rattle.link_walk.specs.Saying.{kept_after, said_from, keeps_telling}
 use Rattle.link_walk.specs.Telling.{ComesAfter, Tells, data_ends}
@@ -22,8 +18,7 @@ use Rattle.link_message_rules.specs.Remembered.{Remembers}
 use Rattle.link_rule_report.specs.declared.line.RuleText.{RuleText}
 use Rattle.link_check.specs.Checker.{IsAtLatest, IsChecking, KnowsChecked, closed_due, kept_of}
 use Rattle.link_check.specs.Checking.{Begun, Kept, begun_by, broken_by, check_telling, checking, closed_rules, head_rules, judged, kept_with, none_kept, rules_at, with_bytes}
-use Rattle.link_check.specs.Lines.{lines_of, none_counts}
-use Rattle.link_check.specs.declared.checker.Checker.{Checker}
+use Rattle.link_check.specs.{Lines.{lines_of, none_counts}, declared.checker.Checker.Checker}
 use Rattle.link_check.specs.declared.options.CheckOptions.{CheckOptions}
 use Rattle.link_check.specs.declared.transfer.CheckedTransfer.{CheckedTransfer}
 use Rattle.link_check.proofs.Appends.{no_lines, none_count}

@@ -1,15 +1,12 @@
 -- Lines of broken rules, written one after another.
 use Rattle.std.proofs.Common.{◌≡◌, Bool, ◌&&◌, not, List, [], ◌∷◌, ◌++◌, Result, Ok, Err, sym, ap, ◌∙◌, arith}
 use Rattle.std.proofs.Math.Bool.{and-true}
-use Rattle.link_wire.specs.Device.{Output}
-use Rattle.link_wire.specs.declared.IoFault.{IoFault}
-use Rattle.link_run.specs.Writers.{AfterWrite, on_output}
-use Rattle.link_run.specs.declared.writers.Writers.{Writers}
+use Rattle.link_wire.specs.{Device.Output, declared.IoFault.IoFault}
+use Rattle.link_run.specs.{Writers.{AfterWrite, on_output}, declared.writers.Writers.Writers}
 use Rattle.link_run.proofs.Runs.{outputs_then, part_of_more, writes_none}
 use Rattle.link_unpack.proofs.Told.{on_ok}
 use Rattle.link_rule_report.specs.declared.line.RuleText.{RuleText}
-use Rattle.link_check.specs.Lines.{counts, line_of, lines_of, none_counts}
-use Rattle.link_check.specs.Writing.{WritesRules}
+use Rattle.link_check.specs.{Lines.{counts, line_of, lines_of, none_counts}, Writing.WritesRules}
 use Rattle.link_check.proofs.Appends.{and_assoc, counts_append, lines_append, no_lines, none_count, one_counts, one_line}
 use Rattle.link_check.proofs.Closed.{on_ok_by}
 

@@ -16,8 +16,7 @@ use Rattle.link_message_rules.specs.MessageRules.{broken_rules}
 use Rattle.link_message_rules.specs.TransferData.{data_rule}
 use Rattle.link_message_rules.specs.TransferRules.{broken_transfer_rules}
 use Rattle.link_message_rules.specs.declared.rule.TransferRule.TheVariants.{Unfinished}
-use Rattle.link_rule_report.specs.declared.line.RuleText.{RuleText}
-use Rattle.link_rule_report.specs.declared.rule.BrokenRule.{BrokenRule}
+use Rattle.link_rule_report.specs.declared.{line.RuleText.RuleText, rule.BrokenRule.BrokenRule}
 use Rattle.link_rule_report.specs.declared.rule.BrokenRule.TheVariants.{Message, Transfer, Bundle}
 use Rattle.link_rule_report.specs.declared.rule.BundlePlace.TheVariants as place
 use Rattle.link_check.specs.BundleRules.{bundle_rules}

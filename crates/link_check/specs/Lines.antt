@@ -1,12 +1,10 @@
 -- The lines of broken rules.
 use Rattle.std.specs.Prelude.{ℕ, Bool, true, false, not, ◌||◌, List, [], map, flat_map, if◌then◌else◌}
 use Rattle.std.specs.List.{list_all}
-use Rattle.link_rules.specs.declared.level.Level.{Level}
-use Rattle.link_rules.specs.declared.level.Level.TheVariants.{Must, Should}
+use Rattle.link_rules.specs.declared.level.{Level.Level, Level.TheVariants.{Must, Should}}
 use Rattle.link_rule_report.specs.Line.{rule_line}
 use Rattle.link_rule_report.specs.Names.{rule_level}
-use Rattle.link_rule_report.specs.declared.line.RuleText.{RuleText}
-use Rattle.link_rule_report.specs.declared.rule.BrokenRule.{BrokenRule}
+use Rattle.link_rule_report.specs.declared.{line.RuleText.RuleText, rule.BrokenRule.BrokenRule}
 
 abbrev pub is_must : Level → Bool
 is_must Must = true

@@ -1,15 +1,11 @@
 -- A command that is built argument by argument.
 use Rattle.std.proofs.Common.{◌≡◌, ◌∙◌, Bool, true, false, List, [], ◌∷◌, ◌++◌, append_assoc, ap, refl, subst, sym}
 use Rattle.std.proofs.lemmas.List.{append-nil}
-use Rattle.std.specs.Prelude.{◌||◌, fold}
-use Rattle.std.specs.Borrow.{Bor}
+use Rattle.std.specs.{Prelude.{◌||◌, fold}, Borrow.Bor}
 use Rattle.clap.specs.Words.{AddsArg, App, Rule, Shape, Text, app_of, rule_of, with_rule}
-use Rattle.clap.specs.declared.builder.arg.Arg.{Arg}
-use Rattle.clap.specs.declared.builder.value_parser.ValueParser.{ValueParser}
-use Rattle.clap.specs.declared.builder.texts.Texts.TheVariants.{One}
-use Rattle.clap.specs.declared.builder.command.Command.{Command}
-use Rattle.link_command.specs.Building.{AddsRules, HasRule, IsTool}
-use Rattle.link_command.specs.Table.{number, tool}
+use Rattle.clap.specs.declared.builder.{arg.Arg.Arg, value_parser.ValueParser.ValueParser}
+use Rattle.clap.specs.declared.builder.{texts.Texts.TheVariants.One, command.Command.Command}
+use Rattle.link_command.specs.{Building.{AddsRules, HasRule, IsTool}, Table.{number, tool}}
 
 fold_joined : (a : App) (rs qs : List Rule)
     → fold with_rule a (rs ++ qs) ≡ fold with_rule (fold with_rule a rs) qs

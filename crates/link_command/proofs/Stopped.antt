@@ -1,11 +1,8 @@
 -- A walk in which `clap` finds nothing wrong does not stop at the name `help`.
 use Rattle.std.proofs.Common.{◌≡◌, ◌∙◌, ℕ, Bool, true, false, true≢false, cond, List, [], ◌∷◌, Option, Some, None, codes, refl, sym}
-use Rattle.std.proofs.lemmas.Bool.{false_from_ne_true}
-use Rattle.std.proofs.lemmas.Slice.Eq.{bytes_eq-Decides}
-use Rattle.std.specs.Prelude.{◌&&◌, ◌||◌, ⊤, fold, is_some, not}
-use Rattle.std.specs.Str.{bytes_eq}
-use Rattle.clap.specs.Words.{Kinds, Rule, Shape, Text}
-use Rattle.clap.specs.Lexer.{long_of, short_of}
+use Rattle.std.proofs.lemmas.{Bool.false_from_ne_true, Slice.Eq.bytes_eq-Decides}
+use Rattle.std.specs.{Prelude.{◌&&◌, ◌||◌, ⊤, fold, is_some, not}, Str.bytes_eq}
+use Rattle.clap.specs.{Words.{Kinds, Rule, Shape, Text}, Lexer.{long_of, short_of}}
 use Rattle.clap.specs.Walk.{Held, Names, Outcome, Step, Waiting, Walk, after_flag, after_step, answers_to, arg_by_index, arg_by_long, bundle, done, idle, long_met, long_or_other, next, option, plain, plain_word, positional, refused, short_or_plain, subcommand, subcommand_met, subcommand_or_other, to_positional, trailing, value, waits, walk, walk_from, walked, walked_from, word_met}
 use Rattle.clap.specs.Kinds.{or_else}
 use Rattle.clap.specs.Faults.{level_fault, other_fault, step_fault, turn_fault, walk_fault, word_fault}

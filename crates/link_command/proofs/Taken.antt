@@ -1,19 +1,16 @@
 -- Facts about words in which `clap` finds no error.
 use Rattle.std.proofs.Common.{◌≡◌, ◌∙◌, ◌<◌, Bool, true, false, true≢false, cond, List, [], ◌∷◌, Option, Some, None, inl, inr, ap, codes, length, refl, subst, sym}
-use Rattle.std.specs.Prelude.{◌⊎◌, ◌&&◌, is_some, not, option_map}
-use Rattle.std.specs.List.{list_any}
+use Rattle.std.specs.{Prelude.{◌⊎◌, ◌&&◌, is_some, not, option_map}, List.list_any}
 use Rattle.clap.specs.Words.{App, HasMatchesOf, IsAmong, Kinds, Row, Shape, Text, built, fault_of, is_simple_and_free, subcommand_of, subcommand_rows_of}
 use Rattle.clap.specs.Facts.{explicit_source}
 use Rattle.clap.specs.Walk.{Held, Names, answers_to, finished, nothing_held, settled, stop_after, walk, walk_from}
 use Rattle.clap.specs.Simple.{argument_words, built_leaf, entered, help_shape, label_of, names_of, rows_at}
-use Rattle.clap.specs.Takes.{is_given}
-use Rattle.clap.specs.Kinds.{check_kinds}
+use Rattle.clap.specs.{Takes.is_given, Kinds.check_kinds}
 use Rattle.clap.specs.Faults.{built_fault, check_fault, defaults_fault, entered_fault, level_fault, settle_fault, walk_fault}
 use Rattle.clap.proofs.OnLiterals.{clap_on_literals}
 use Rattle.link_command.specs.Table.{blocks_words, check_words, list_words, pack_words, table, unpack_words}
 use Rattle.clap.specs.declared.parser.matches.ArgMatches.{ArgMatches}
-use Rattle.clap.specs.declared.error.kind.ErrorKind.{ErrorKind}
-use Rattle.clap.specs.declared.error.kind.ErrorKind.TheVariants.{OutOfMemory}
+use Rattle.clap.specs.declared.error.kind.{ErrorKind.ErrorKind, ErrorKind.TheVariants.OutOfMemory}
 use Rattle.clap.proofs.WalkLemmas.{both}
 use Rattle.link_command.proofs.Stopped.{StopsElsewhere, level_stops, not_help, second_empty}
 use Rattle.link_command.specs.Usage.{AreAccepted, IsFaultOf, is_request, limits_bundles_of, mixes_inputs_of, node_of}

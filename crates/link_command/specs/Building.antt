@@ -1,8 +1,7 @@
 -- Relations: facts about the arguments and commands that src/command.rt builds.
 use Rattle.std.specs.Prelude.{◌≡◌, false, List, fold}
 use Rattle.clap.specs.Words.{Rule, Shape, app_of, rule_of, shape_of, with_rule}
-use Rattle.clap.specs.declared.builder.arg.Arg.{Arg}
-use Rattle.clap.specs.declared.builder.command.Command.{Command}
+use Rattle.clap.specs.declared.builder.{arg.Arg.Arg, command.Command.Command}
 use Rattle.clap.specs.declared.builder.command.Command.TheViews.{out-Command as fields_of}
 
 -- the argument is read by this rule, and belongs only to its own tool: it is not global

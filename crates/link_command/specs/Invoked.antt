@@ -1,10 +1,7 @@
 -- The invocation that a command line asks for, by the matches that `clap` defines for its words.
 use Rattle.std.specs.Prelude.{◌≡◌, ◌&&◌, ◌||◌, ◌^◌, ℕ, Bool, true, false, List, [], Option, Some, None, codes, is_some, length, max, min, nat_lt, option_and_then, option_map, string_bytes, unwrap_or, if◌then◌else◌}
-use Rattle.std.specs.List.{list_all}
-use Rattle.std.specs.Option.{option_map_or}
-use Rattle.std.specs.Str.{bytes_eq}
-use Rattle.std.specs.Str.Parse.{digits_value, without_leading_plus}
-use Rattle.std.specs.Char.{digit_value}
+use Rattle.std.specs.{List.list_all, Option.option_map_or, Str.bytes_eq}
+use Rattle.std.specs.{Str.Parse.{digits_value, without_leading_plus}, Char.digit_value}
 use Rattle.clap.specs.Words.{Row, Text, first_of, one_of, subcommand_of}
 use Rattle.link_unpack.specs.declared.wanted.Wanted.{Wanted}
 use Rattle.link_blocks.specs.declared.options.BlockOptions.{BlockOptions}

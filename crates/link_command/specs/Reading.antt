@@ -1,7 +1,6 @@
 -- Relations: conditions on the functions that read the matches, and on their results.
 use Rattle.std.specs.Prelude.{◌≡◌, ◌<◌, ◌⊎◌, ⊤, true, false, List, Option, Some, None, codes, length}
-use Rattle.clap.specs.Words.{Row, Text}
-use Rattle.clap.specs.declared.error.kind.ErrorKind.{ErrorKind}
+use Rattle.clap.specs.{Words.{Row, Text}, declared.error.kind.ErrorKind.ErrorKind}
 use Rattle.clap.specs.declared.error.kind.ErrorKind.TheVariants.{OutOfMemory}
 use Rattle.link_command.specs.Usage.{is_request, limits_bundles_of, mixes_inputs_of, node_of}
 use Rattle.link_command.specs.declared.usage.UsageFault.{UsageFault}

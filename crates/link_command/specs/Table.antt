@@ -1,7 +1,6 @@
 -- The arguments of the program, as a command of `clap`. docs/MANUAL.md has this table in words.
 use Rattle.std.specs.Prelude.{true, false, List, [], ◌∷◌, Some, codes, pos}
-use Rattle.clap.specs.Words.{App, Rule, Shape, Text, new_rule}
-use Rattle.clap.specs.Simple.{new_shape}
+use Rattle.clap.specs.{Words.{App, Rule, Shape, Text, new_rule}, Simple.new_shape}
 use Rattle.clap.specs.declared.builder.action.ArgAction.TheVariants.{SetTrue}
 use Rattle.clap.specs.declared.builder.value_parser.ValueParser.{ValueParser}
 use Rattle.clap.specs.declared.builder.value_parser.ValueParser.TheVariants.{Signed, Unsigned}

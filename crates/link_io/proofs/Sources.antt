@@ -2,15 +2,10 @@
 use Rattle.std.proofs.Common.{⊎_elim, ◌≡◌, ℕ, zero, suc, ◌+◌, ◌-◌, ◌^◌, ◌<◌, ◌≤◌, nat_lt, List, [], ◌∷◌, ◌++◌, length, take, drop, Option, Some, None, ap, sym, ◌∙◌, Bool, true, false, ◌&&◌, eqb, eqb-true, add_assoc, length-append, append_assoc, append-nil, add-zero, refl, arith, length-take, length-drop, take-append-drop}
 use Rattle.std.specs.Io.KnownBytes.{Consumes, prepend_known}
 use Rattle.std.proofs.KnownBytes.{Consumes-nil, Consumes-trans}
-use Rattle.std.proofs.lemmas.List.Elements.{All-nil, All-append}
-use Rattle.std.proofs.Math.Seq.{take-take}
-use Rattle.std.proofs.lemmas.Bool.{cases_lt}
-use Rattle.std.proofs.lemmas.Bool.Decides.{nat_tests}
-use Rattle.std.proofs.lemmas.List.{nil_from_length}
+use Rattle.std.proofs.{lemmas.List.Elements.{All-nil, All-append}, Math.Seq.take-take}
+use Rattle.std.proofs.lemmas.{Bool.cases_lt, Bool.Decides.nat_tests, List.nil_from_length}
 use Rattle.std.proofs.lemmas.Grind.{common_steps}
-use Rattle.link_io.specs.Bytes.{IsByte}
-use Rattle.link_io.specs.Device.{Input}
-use Rattle.link_io.specs.Limits.{longest_input, window_size}
+use Rattle.link_io.specs.{Bytes.IsByte, Device.Input, Limits.{longest_input, window_size}}
 use Rattle.link_io.specs.Source.{is_open, is_fresh, IsSourceAt, IsLiveBy, IsLive, HasEnded, HasFailed, IsOver, given_by, window_of, held_from, front_of, ahead, WindowAfter, Takes, Readies, StopsAfter}
 use Rattle.link_io.specs.declared.fault.IoFault.{IoFault}
 use Rattle.link_io.proofs.Windows.{range_none}

@@ -1,10 +1,7 @@
 -- Successive writes are one write of their bytes, joined.
 use Rattle.std.proofs.Common.{◌≡◌, ℕ, ◌+◌, ◌-◌, ◌≤◌, List, length, arith, ◌++◌, take, drop, ◌∙◌, length-drop}
-use Rattle.std.proofs.Math.Seq.{take-add}
-use Rattle.std.proofs.lemmas.Grind.{common_steps}
-use Rattle.std.proofs.KnownBytes.{Appends-trans}
-use Rattle.link_io.specs.Device.{Output}
-use Rattle.link_io.specs.Writing.{WritesWhole, WritesFront}
+use Rattle.std.proofs.{Math.Seq.take-add, lemmas.Grind.common_steps, KnownBytes.Appends-trans}
+use Rattle.link_io.specs.{Device.Output, Writing.{WritesWhole, WritesFront}}
 use Rattle.link_io.specs.declared.fault.IoFault.{IoFault}
 
 -- taking the number of elements after an index takes all of them

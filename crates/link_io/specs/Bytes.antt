@@ -1,6 +1,5 @@
 -- Lists of bytes.
-use Rattle.std.specs.Prelude.{ℕ, ◌<◌, List}
-use Rattle.std.specs.List.{All}
+use Rattle.std.specs.{Prelude.{ℕ, ◌<◌, List}, List.All}
 
 abbrev pub IsByte : ℕ → Type 0
 IsByte byte = byte < 256

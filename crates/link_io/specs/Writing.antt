@@ -1,6 +1,5 @@
 -- The output of a device after a whole write.
-use Rattle.std.specs.Prelude.{◌≡◌, ℕ, ◌<◌, true, List, length, take}
-use Rattle.std.specs.Io.KnownBytes.{Appends}
+use Rattle.std.specs.{Prelude.{◌≡◌, ℕ, ◌<◌, true, List, length, take}, Io.KnownBytes.Appends}
 use Rattle.link_io.specs.Device.{Output}
 use Rattle.link_io.specs.declared.fault.IoFault.{IoFault}
 use Rattle.link_io.specs.declared.fault.IoFault.TheVariants as io

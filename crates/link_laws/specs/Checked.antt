@@ -1,12 +1,10 @@
 -- What `unpack` reports of a recording in which `check --must` finds no rule broken.
-use Rattle.std.specs.Prelude.{◌≡◌, ℕ, true, List, [], Option, Some, None}
-use Rattle.std.specs.List.{All}
+use Rattle.std.specs.{Prelude.{◌≡◌, ℕ, true, List, [], Option, Some, None}, List.All}
 use Rattle.link_wire.specs.Stream.{reading_of, heads_of}
 use Rattle.link_transfer.specs.declared.fault.OrderFault.{OrderFault}
 use Rattle.link_transfer.specs.declared.fault.OrderFault.TheVariants.{SecondSessInit}
 use Rattle.link_message_rules.specs.TransferData.{may_be_bundle}
-use Rattle.link_report.specs.declared.fault.Fault.TheVariants.{Order}
-use Rattle.link_report.specs.declared.judgement.Judgement.{Judgement}
+use Rattle.link_report.specs.declared.{fault.Fault.TheVariants.Order, judgement.Judgement.Judgement}
 use Rattle.link_report.specs.declared.judgement.Judgement.TheVariants.{Abandoned, BadLengthItem, LengthDiffers, Bad, Good}
 use Rattle.link_run.specs.Made.{StreamStop, stop_of}
 use Rattle.link_unpack.specs.Transfers.{Transfer}

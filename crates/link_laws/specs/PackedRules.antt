@@ -1,6 +1,5 @@
 -- The rules that `check` finds broken in a packed stream.
-use Rattle.std.specs.Prelude.{◌≡◌, ℕ, ◌≤◌, Bool, List, None, Ok, IfSome}
-use Rattle.std.specs.List.{All, flat_map}
+use Rattle.std.specs.{Prelude.{◌≡◌, ℕ, ◌≤◌, Bool, List, None, Ok, IfSome}, List.{All, flat_map}}
 use Rattle.link_wire.specs.Spelling.{sess_init_with}
 use Rattle.link_bundle_blocks.specs.Bundle.{verdict}
 use Rattle.link_message_rules.specs.NodeIds.{node_id}

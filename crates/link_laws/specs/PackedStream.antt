@@ -1,9 +1,7 @@
 -- A packed stream and the limits of the peer for which it was packed.
-use Rattle.std.specs.Prelude.{◌≡◌, ℕ, ◌<◌, ◌≤◌, ◌⊎◌, true, length, List, None}
-use Rattle.std.specs.List.{All}
+use Rattle.std.specs.{Prelude.{◌≡◌, ℕ, ◌<◌, ◌≤◌, ◌⊎◌, true, length, List, None}, List.All}
 use Rattle.link_wire.specs.Stream.{Entry, reading_of, heads_of}
-use Rattle.link_wire.specs.declared.message.Message.{Message}
-use Rattle.link_wire.specs.declared.message.Message.TheVariants.{Segment}
+use Rattle.link_wire.specs.declared.message.{Message.Message, Message.TheVariants.Segment}
 use Rattle.link_transfer.specs.Announced.{announced_of}
 use Rattle.link_transfer.specs.declared.announcement.Announced.TheVariants.{Absent, Total}
 use Rattle.link_list.specs.Listing.{list_tool}

@@ -1,7 +1,6 @@
 -- The lines that `blocks` writes for a recording, and those that `blocks --bundles` writes for what
 -- `unpack` writes of the same recording.
-use Rattle.std.specs.Prelude.{◌≡◌, ℕ, suc, false, List, [], ◌∷◌, None, Ok}
-use Rattle.std.specs.List.{All, flat_map}
+use Rattle.std.specs.{Prelude.{◌≡◌, ℕ, suc, false, List, [], ◌∷◌, None, Ok}, List.{All, flat_map}}
 use Rattle.link_bundle_blocks.specs.Bundle.{verdict}
 use Rattle.link_run.specs.Writers.{on_output}
 use Rattle.link_unpack.specs.Unpacking.{unpack_tool}

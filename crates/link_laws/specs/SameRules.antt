@@ -7,8 +7,7 @@ use Rattle.link_run.specs.Run.{Outcome}
 use Rattle.link_run.specs.Writers.{on_output}
 use Rattle.link_bundle_walk.specs.Bundles.{Packed}
 use Rattle.link_message_rules.specs.declared.limits.PeerLimits.{PeerLimits}
-use Rattle.link_rule_report.specs.declared.line.RuleText.{RuleText}
-use Rattle.link_rule_report.specs.declared.rule.BrokenRule.{BrokenRule}
+use Rattle.link_rule_report.specs.declared.{line.RuleText.RuleText, rule.BrokenRule.BrokenRule}
 use Rattle.link_rule_report.specs.declared.rule.BrokenRule.TheVariants.{Message, Transfer, Bundle}
 use Rattle.link_rule_report.specs.declared.rule.BundlePlace.TheVariants as place
 use Rattle.link_check.specs.BundleRules.{bundle_rules}

@@ -6,8 +6,7 @@ use Rattle.link_wire.specs.Stream.{Entry, End, Reading, reading_of, heads_of}
 use Rattle.link_wire.specs.declared.message.Message.{Message}
 use Rattle.link_transfer.specs.Event.{event_of}
 use Rattle.link_transfer.specs.Order.{begins, is_segment, is_stray, refusal, with_taken}
-use Rattle.link_transfer.specs.declared.event.Event.{Event}
-use Rattle.link_transfer.specs.declared.fault.OrderFault.{OrderFault}
+use Rattle.link_transfer.specs.declared.{event.Event.Event, fault.OrderFault.OrderFault}
 use Rattle.link_run.specs.Made.{Made, stop_of}
 use Rattle.link_walk.specs.Walk.{stop_by}
 use Rattle.link_unpack.specs.Transfers.{Transfer, after_message}

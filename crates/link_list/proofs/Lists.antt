@@ -1,18 +1,13 @@
 -- What holds after a step of `list`, by the result of its call of the session.
 use Rattle.std.proofs.Common.{◌≡◌, ℕ, ◌+◌, ◌<◌, ◌≤◌, Bool, true, false, List, [], ◌∷◌, ◌++◌, length, length-append, inl, ⊎_elim, Result, Ok, Err, nat_lt, if◌then◌else◌, refl, ap, sym, ◌∙◌, subst, append-nil, append_assoc, arith}
 use Rattle.std.specs.Prelude.{IsTrue}
-use Rattle.std.proofs.lemmas.Bool.{lt-ltb, le-ltb}
-use Rattle.std.proofs.lemmas.Grind.{flat_map-append}
-use Rattle.link_wire.specs.Device.{Input}
-use Rattle.link_wire.specs.Limits.{window_size, longest_head}
-use Rattle.link_wire.specs.Message.{data_length}
+use Rattle.std.proofs.lemmas.{Bool.{lt-ltb, le-ltb}, Grind.flat_map-append}
+use Rattle.link_wire.specs.{Device.Input, Limits.{window_size, longest_head}, Message.data_length}
 use Rattle.link_wire.specs.Source.{given_by, window_of, Takes, Readies}
 use Rattle.link_wire.specs.Stream.{Entry, End, Clean, Cut, Fault, Stream, ended, with_entry, Reading, reading_of}
 use Rattle.link_wire.specs.Session.{source_of, left_of, joined, data_after, IsLeft, IsSessionAt, ReadContact, ReadMessage, CleanEnd, PassedBytes}
-use Rattle.link_wire.specs.declared.IoFault.{IoFault}
-use Rattle.link_wire.specs.declared.message.Contact.{Contact}
-use Rattle.link_wire.specs.declared.message.Message.{Message}
-use Rattle.link_wire.specs.declared.session.Session.{Session}
+use Rattle.link_wire.specs.declared.{IoFault.IoFault, message.Contact.Contact}
+use Rattle.link_wire.specs.declared.{message.Message.Message, session.Session.Session}
 use Rattle.link_wire.proofs.Contacts.{reading-none}
 use Rattle.link_io.proofs.Sources.{Takes-none, Takes-then, Readies-takes}
 use Rattle.link_report.specs.Message.{contact_text, message_text}
@@ -20,14 +15,11 @@ use Rattle.link_run.specs.Made.{Made, IsLasting, whole_by, shows_fault, stop_of}
 use Rattle.link_run.specs.Run.{Texts, no_texts, ◌then◌, Looks, Devices, Place, devices_at, LastStep, answer_of, progress_after}
 use Rattle.link_run.specs.Stages.{Stands, AfterStage, MayBegin, IsMore}
 use Rattle.link_run.specs.Writers.{place_of, on_output, AfterWrite}
-use Rattle.link_run.specs.declared.run.Progress.{Progress}
-use Rattle.link_run.specs.declared.run.Progress.TheVariants.{More}
-use Rattle.link_run.specs.declared.run.Status.{Status}
+use Rattle.link_run.specs.declared.run.{Progress.Progress, Progress.TheVariants.More, Status.Status}
 use Rattle.link_run.specs.declared.writers.Writers.{Writers}
 use Rattle.link_run.proofs.Continued.{reading_on}
 use Rattle.link_run.proofs.Runs.{texts_as, then_assoc, then_none, few_over, writes_none}
-use Rattle.link_run.proofs.Sessions.{SameTexts}
-use Rattle.link_run.proofs.Strides.{went_with}
+use Rattle.link_run.proofs.{Sessions.SameTexts, Strides.went_with}
 use Rattle.link_run.proofs.Stands.{ends, goes_on, loses, written, last_step}
 use Rattle.link_list.specs.Listing.{contact_lines, message_lines, listed_lines, listing_by, listing_of, list_tool}
 use Rattle.link_list.specs.ListRun.{most_by, may_go_on, may_follow, progress_of, stage_after, IsWaiting, IsWaitingAfter, Lists, IsListing, IsDue, IsListedTo, ListedOn, ListedAt, PassesHere, AfterRead, AfterLines, AfterStepOrStride, WaitsForData}

@@ -6,18 +6,15 @@ use Rattle.link_wire.specs.Stream.{End, Clean, Cut, Fault, reading_of}
 use Rattle.link_wire.specs.MessageBuffer.{message_of}
 use Rattle.link_wire.specs.Session.{source_of, left_of, IsSessionAt, PassedBytes, may_open, may_read, is_opened}
 use Rattle.link_wire.specs.Source.{Takes, window_of}
-use Rattle.link_wire.specs.declared.IoFault.{IoFault}
-use Rattle.link_wire.specs.declared.session.Session.{Session}
+use Rattle.link_wire.specs.declared.{IoFault.IoFault, session.Session.Session}
 use Rattle.link_report.specs.Message.{message_text}
 use Rattle.link_run.specs.Run.{Texts, Looks, ◌then◌, Devices, Place, LastStep, WentOn, devices_at, answer_of}
 use Rattle.link_run.specs.Stages.{Stands, AfterStage}
 use Rattle.link_run.specs.Writers.{place_of, on_output, Writes, WritesPart}
-use Rattle.link_run.specs.declared.run.Progress.{Progress}
-use Rattle.link_run.specs.declared.run.Progress.TheVariants.{More}
+use Rattle.link_run.specs.declared.run.{Progress.Progress, Progress.TheVariants.More}
 use Rattle.link_run.specs.declared.writers.Writers.{Writers}
 use Rattle.link_list.specs.Listing.{list_tool, listing_of}
-use Rattle.link_list.specs.declared.listing.Latest.{Latest}
-use Rattle.link_list.specs.declared.listing.Next.{Next}
+use Rattle.link_list.specs.declared.listing.{Latest.Latest, Next.Next}
 use Rattle.link_list.specs.declared.listing.Next.TheVariants as next
 use Rattle.link_list.specs.declared.listing.Stage.{Stage}
 use Rattle.link_list.specs.declared.listing.Stage.TheVariants as stage

@@ -1,6 +1,5 @@
 -- What `list` writes for a recorded stream.
-use Rattle.std.specs.Prelude.{ℕ, true, List, [], ◌++◌, Option, Some, None}
-use Rattle.std.specs.List.{flat_map}
+use Rattle.std.specs.{Prelude.{ℕ, true, List, [], ◌++◌, Option, Some, None}, List.flat_map}
 use Rattle.link_wire.specs.Stream.{Entry, Reading, reading_of}
 use Rattle.link_wire.specs.declared.message.Contact.{Contact}
 use Rattle.link_report.specs.Message.{contact_text, message_text}

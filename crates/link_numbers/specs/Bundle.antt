@@ -1,21 +1,17 @@
 -- The verdict on a bundle, its endpoint IDs and its fields as numbers.
 use Rattle.std.specs.Prelude.{◌≡◌, ℕ, ◌==◌, ◌&&◌, nat_le, List, [], length, Option, Some, None, Result, Ok, Err, if◌then◌else◌}
 use Rattle.link_bundle_types.specs.EidView.{viewed_eid}
-use Rattle.link_bundle_types.specs.declared.fault.BundleFault.{BundleFault}
-use Rattle.link_bundle_types.specs.declared.eid.Eid.{Eid}
+use Rattle.link_bundle_types.specs.declared.{fault.BundleFault.BundleFault, eid.Eid.Eid}
 use Rattle.link_bundle_types.specs.declared.eid.Eid.TheVariants.{DtnNone, Dtn, Ipn, Ipn3}
-use Rattle.link_bundle_types.specs.declared.eid.EidView.{EidView}
-use Rattle.link_bundle_types.specs.declared.fault.State.{State}
+use Rattle.link_bundle_types.specs.declared.{eid.EidView.EidView, fault.State.State}
 use Rattle.link_bundle_types.specs.declared.fault.State.TheVariants.{Going, Ended, Failed}
 use Rattle.link_bundle_types.specs.declared.info.BundleInfo.{BundleInfo}
 use Rattle.link_bundle_blocks.specs.Bundle.{verdict, payload_seen, state_of}
 use Rattle.link_bundle_heads.specs.Rows.{is_fragment}
 use Rattle.link_primary.specs.Fields.{PrimaryFields}
 use Rattle.link_numbers.specs.Fault.{no_fault, bundle_fault}
-use Rattle.link_numbers.specs.declared.fault.Fault.{Fault}
-use Rattle.link_numbers.specs.declared.bundle.Bundle.{Bundle}
-use Rattle.link_numbers.specs.declared.bundle.EidNumbers.{EidNumbers}
-use Rattle.link_numbers.specs.declared.bundle.Verdict.{Verdict}
+use Rattle.link_numbers.specs.declared.{fault.Fault.Fault, bundle.Bundle.Bundle}
+use Rattle.link_numbers.specs.declared.bundle.{EidNumbers.EidNumbers, Verdict.Verdict}
 
 -- TCPCLKIT_TRUNCATED, TCPCLKIT_OK or TCPCLKIT_FAULT
 abbrev pub state_status : State → ℕ

@@ -9,8 +9,7 @@ use Rattle.link_transfer.specs.declared.fault.OrderFault.{OrderFault}
 use Rattle.link_transfer.specs.declared.fault.OrderFault.TheVariants.{SecondSessInit, SegmentBeforeSessInit, NoSuchOpenTransfer, StartRepeatsOpenId, StartAfterSessTerm}
 use Rattle.link_transfer.specs.declared.joiner.Turn as effect
 use Rattle.link_transfer.specs.declared.joiner.Turn.TheVariants.{Other, Begin, Continue}
-use Rattle.link_numbers.specs.declared.order.Order.{Order}
-use Rattle.link_numbers.specs.declared.order.Turn.{Turn}
+use Rattle.link_numbers.specs.declared.order.{Order.Order, Turn.Turn}
 
 abbrev pub order_code : OrderFault → ℕ
 order_code SecondSessInit = 51

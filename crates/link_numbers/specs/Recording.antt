@@ -3,21 +3,16 @@ use Rattle.std.specs.Prelude.{◌≡◌, ℕ, ◌+◌, ◌-◌, nat_le, min, Lis
 use Rattle.link_wire.specs.InSlice.{LiesAt, ItemLies}
 use Rattle.link_wire.specs.Message.{item_head_at, total_at}
 use Rattle.link_wire.specs.Part.{Part, ◌>>=◌}
-use Rattle.link_wire.specs.declared.fault.WireFault.{WireFault}
-use Rattle.link_wire.specs.declared.fault.WireFault.TheVariants.{Truncated}
+use Rattle.link_wire.specs.declared.fault.{WireFault.WireFault, WireFault.TheVariants.Truncated}
 use Rattle.link_wire.specs.declared.message.Contact as wire
 use Rattle.link_wire.specs.declared.message.Fields.{Fields}
 use Rattle.link_wire.specs.declared.message.Fields.TheVariants.{SessInit, Segment, Ack, Refuse, Keepalive, SessTerm, MsgReject}
 use Rattle.link_wire.specs.declared.message.ListOf.TheVariants.{Transfer}
 use Rattle.link_wire.specs.declared.message.Message as read
-use Rattle.link_wire.specs.declared.slices.ItemAt.{ItemAt}
-use Rattle.link_wire.specs.declared.slices.MessageAt.{MessageAt}
-use Rattle.link_wire.specs.declared.slices.Span.{Span}
+use Rattle.link_wire.specs.declared.slices.{ItemAt.ItemAt, MessageAt.MessageAt, Span.Span}
 use Rattle.link_numbers.specs.Fault.{no_fault, wire_status, wire_fault}
-use Rattle.link_numbers.specs.declared.fault.Fault.{Fault}
-use Rattle.link_numbers.specs.declared.recording.Contact.{Contact}
-use Rattle.link_numbers.specs.declared.recording.Item.{Item}
-use Rattle.link_numbers.specs.declared.recording.Message.{Message}
+use Rattle.link_numbers.specs.declared.{fault.Fault.Fault, recording.Contact.Contact}
+use Rattle.link_numbers.specs.declared.recording.{Item.Item, Message.Message}
 
 -- Each field that a status, or a kind of message, does not have is 0.
 

@@ -15,14 +15,11 @@ use Rattle.link_pack.proofs.Sending.{segments_none, segments_grow, segments_idle
 use Rattle.link_transfer.specs.Cutting.{with_bytes, due_of, Cutting}
 use Rattle.link_run.specs.Writers.{on_output, on_report, AfterWrite}
 use Rattle.link_pack.specs.Packer.{cutting, Keeps}
-use Rattle.std.proofs.lemmas.Bool.Decides.{nat_tests}
-use Rattle.std.proofs.lemmas.List.{length-drop}
-use Rattle.link_transfer.specs.Cutter.{IsCutterAt, kept_size}
-use Rattle.link_transfer.specs.declared.cutter.Cutter.{Cutter}
+use Rattle.std.proofs.lemmas.{Bool.Decides.nat_tests, List.length-drop}
+use Rattle.link_transfer.specs.{Cutter.{IsCutterAt, kept_size}, declared.cutter.Cutter.Cutter}
 use Rattle.link_transfer.proofs.Due.{fits_back, fits}
 use Rattle.std.proofs.lemmas.Grind.{div_ceil_times}
-use Rattle.link_wire.specs.Device.{Output}
-use Rattle.link_wire.specs.declared.IoFault.{IoFault}
+use Rattle.link_wire.specs.{Device.Output, declared.IoFault.IoFault}
 use Rattle.link_bundle_types.specs.declared.info.BundleInfo.{BundleInfo}
 use Rattle.link_report.specs.Packed.{packed_text}
 use Rattle.link_run.specs.declared.writers.Writers.{Writers}

@@ -9,16 +9,11 @@ use Rattle.link_transfer.specs.declared.cut.Cut.{Cut}
 use Rattle.link_transfer.proofs.Chunking.{first_chunks-zero}
 use Rattle.link_transfer.proofs.Due.{fits_back, given_within, due_more}
 use Rattle.link_pack.specs.Segments.{segment_bytes, Sending, cut_at, segments_from, segments_of, segments_left, all_given, going, flags_of, sending_of}
-use Rattle.std.proofs.Math.Seq.{take-length}
-use Rattle.std.proofs.lemmas.Option.{cond_some}
-use Rattle.link_wire.specs.Device.{Output}
-use Rattle.link_wire.specs.Spelled.{be}
-use Rattle.link_wire.specs.Spelling.{list_bytes, segment_head_bytes}
+use Rattle.std.proofs.{Math.Seq.take-length, lemmas.Option.cond_some}
+use Rattle.link_wire.specs.{Device.Output, Spelled.be, Spelling.{list_bytes, segment_head_bytes}}
 use Rattle.link_wire.specs.declared.IoFault.{IoFault}
-use Rattle.link_transfer.specs.Cutter.{IsCutterAt, cut_waits}
-use Rattle.link_transfer.specs.declared.cutter.Cutter.{Cutter}
-use Rattle.link_transfer.proofs.Giving.{next_cut-none}
-use Rattle.link_transfer.proofs.Steps.{next_cut-is}
+use Rattle.link_transfer.specs.{Cutter.{IsCutterAt, cut_waits}, declared.cutter.Cutter.Cutter}
+use Rattle.link_transfer.proofs.{Giving.next_cut-none, Steps.next_cut-is}
 use Rattle.link_run.specs.Writers.{on_output, Writes, WritesPart, AfterWrite}
 use Rattle.link_run.specs.declared.writers.Writers.{Writers}
 use Rattle.link_run.proofs.Runs.{writes_none, part_of_more, output_then}

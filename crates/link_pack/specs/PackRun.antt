@@ -8,8 +8,7 @@ use Rattle.link_transfer.specs.Cutting.{Cutting}
 use Rattle.link_transfer.specs.declared.cutter.Cutter.{Cutter}
 use Rattle.link_run.specs.Run.{Texts, ◌then◌, Devices}
 use Rattle.link_run.specs.Writers.{on_output, AfterWrite}
-use Rattle.link_run.specs.declared.run.Status.{Status}
-use Rattle.link_run.specs.declared.writers.Writers.{Writers}
+use Rattle.link_run.specs.declared.{run.Status.Status, writers.Writers.Writers}
 use Rattle.link_bundle_walk.specs.Bundles.{Packed}
 use Rattle.link_bundle_walk.specs.Telling.{BundleTelling}
 use Rattle.link_pack.specs.Segments.{segments_of, segments_left, all_given}

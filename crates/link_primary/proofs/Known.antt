@@ -1,11 +1,8 @@
 -- Parts that are read or not, and what follows them.
 
 use Rattle.std.proofs.Common.{◌≡◌, ℕ, ◌+◌, ◌-◌, ◌<◌, true, false, List, [], ◌∷◌, length, take, drop, Option, None, Some, Result, Ok, Err, refl, sym, ap, ◌∙◌, ⊎_elim, is_some, arith}
-use Rattle.std.specs.Prelude.{◌==◌, slice_index_or}
-use Rattle.std.specs.Bool.{then_some}
-use Rattle.std.proofs.lemmas.Bool.{cases_Bool}
-use Rattle.std.proofs.lemmas.List.{take_rest}
-use Rattle.std.proofs.Math.ListN.{drop_of_length-le}
+use Rattle.std.specs.{Prelude.{◌==◌, slice_index_or}, Bool.then_some}
+use Rattle.std.proofs.{lemmas.Bool.cases_Bool, lemmas.List.take_rest, Math.ListN.drop_of_length-le}
 use Rattle.link_cbor.specs.declared.check.CheckKind.{CheckKind}
 use Rattle.link_cbor.specs.Head.{HeadFront, Cut, IllFormed, Whole, head_front, whole_of}
 use Rattle.link_cbor.specs.declared.head.Head.{Head}

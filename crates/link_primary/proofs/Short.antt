@@ -2,22 +2,17 @@
 
 use Rattle.std.proofs.Common.{◌≡◌, ℕ, ◌+◌, ◌-◌, ◌≤◌, Bool, true, false, List, [], ◌∷◌, length, take, drop, Option, None, Some, Result, Ok, Err, refl, sym, ap, subst, ◌∙◌, ⊎_elim, length-take, arith}
 use Rattle.std.specs.Prelude.{◌&&◌, ◌==◌, slice_range, is_some, nat_le, if◌then◌else◌}
-use Rattle.std.proofs.lemmas.Bool.{cases_Bool, cases_lt, leb-true, lt-ltb, le-ltb}
-use Rattle.std.proofs.lemmas.List.{drop-take}
+use Rattle.std.proofs.lemmas.{Bool.{cases_Bool, cases_lt, leb-true, lt-ltb, le-ltb}, List.drop-take}
 use Rattle.link_cbor.specs.declared.check.CheckKind.{CheckKind}
-use Rattle.link_cbor.specs.declared.check.CheckKind.TheVariants.{Crc16, Crc32}
-use Rattle.link_cbor.specs.declared.head.Head.{Head}
+use Rattle.link_cbor.specs.declared.{check.CheckKind.TheVariants.{Crc16, Crc32}, head.Head.Head}
 use Rattle.link_cbor.specs.Head.{HeadFront, Cut, IllFormed, Whole, head_front}
-use Rattle.link_bundle_types.specs.declared.eid.Eid.{Eid}
-use Rattle.link_bundle_types.specs.declared.fault.BundleFault.{BundleFault}
+use Rattle.link_bundle_types.specs.declared.{eid.Eid.Eid, fault.BundleFault.BundleFault}
 use Rattle.link_bundle_types.specs.declared.fault.BundleFault.TheVariants.{CheckDiffers, EidTooLong, BadSpecificPart}
-use Rattle.link_bundle_heads.specs.declared.endpoint.Scheme.{Scheme}
-use Rattle.link_bundle_heads.specs.declared.endpoint.Scheme.TheVariants.{Dtn, Ipn}
+use Rattle.link_bundle_heads.specs.declared.endpoint.{Scheme.Scheme, Scheme.TheVariants.{Dtn, Ipn}}
 use Rattle.link_bundle_heads.specs.Rows.{◌>>=◌, wanted, unsigned, pair, scheme, dtn_by, dtn_part, ipn_part, version, is_fragment, primary_block, primary_check_type, check_width, check_field}
 use Rattle.link_bundle_blocks.specs.Reading.{ReadAt, stopped, head_by, outcome_at, head_at, row_at, bytes_at}
 use Rattle.link_bundle_blocks.specs.EndpointId.{dtn_at, ipn_at, specific_at, eid_at}
-use Rattle.link_bundle_blocks.specs.CheckField.{check_of, field_at}
-use Rattle.link_bundle_blocks.specs.Bundle.{opening_at}
+use Rattle.link_bundle_blocks.specs.{CheckField.{check_of, field_at}, Bundle.opening_at}
 use Rattle.link_primary.specs.Accepted.{accepted}
 use Rattle.link_primary.specs.Fields.{PrimaryFields, no_fields, or_before, first_fields, endpoint_fields, time_fields, fragment_fields, last_field, block_fields, fields_of, primary_fields}
 use Rattle.link_primary.proofs.Heads.{take-take, AtMost, head-same, head-most}

@@ -2,8 +2,7 @@
 
 use Rattle.std.specs.Prelude.{ℕ, Option, Some, None, Result, Ok, Err, option_map}
 use Rattle.link_cbor.specs.declared.check.CheckKind.{CheckKind}
-use Rattle.link_bundle_types.specs.declared.eid.Eid.{Eid}
-use Rattle.link_bundle_types.specs.declared.eid.EidView.{EidView}
+use Rattle.link_bundle_types.specs.declared.eid.{Eid.Eid, EidView.EidView}
 use Rattle.link_bundle_types.specs.EidView.{viewed_eid}
 use Rattle.link_primary.specs.declared.view.PrimaryView.{PrimaryView}
 use Rattle.link_primary.specs.Fields.{PrimaryFields, Reading}

@@ -1,8 +1,7 @@
 -- How many digits a number has.
 use Rattle.std.proofs.Common.{◌≡◌, ℕ, zero, suc, ◌+◌, ◌*◌, ◌/◌, ◌^◌, ◌<◌, ◌≤◌, ◌∙◌, length, ap, length-append, arith}
 use Rattle.std.specs.Fmt.{decimal}
-use Rattle.std.proofs.Math.Nat.{pow-suc}
-use Rattle.std.proofs.lemmas.Fmt.{decimal_digit, decimal_step}
+use Rattle.std.proofs.{Math.Nat.pow-suc, lemmas.Fmt.{decimal_digit, decimal_step}}
 
 pub length_of_digit : (n : ℕ) → n < 10 → length (decimal n) ≡ 1
 length_of_digit n few = ap length (decimal_digit n few)

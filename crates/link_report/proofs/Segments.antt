@@ -2,9 +2,7 @@
 use Rattle.std.proofs.Common.{◌≡◌, ℕ, List, [], ◌∷◌, length, true, false, cond, codes, refl, arith}
 use Rattle.std.proofs.lemmas.Fmt.{decimal_digit}
 use Rattle.arrayvec.specs.ArrayVec.{ArrayVec}
-use Rattle.link_wire.specs.Codes.{is_start}
-use Rattle.link_wire.specs.MessageBuffer.{segment_items}
-use Rattle.link_wire.specs.declared.message.Item.{Item}
+use Rattle.link_wire.specs.{Codes.is_start, MessageBuffer.segment_items, declared.message.Item.Item}
 use Rattle.link_report.specs.Message.{start_items_text, segment_text, items_text}
 use Rattle.link_report.specs.Text.{number_text}
 

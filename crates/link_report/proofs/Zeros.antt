@@ -1,8 +1,7 @@
 -- The digits of a number from those of a multiple of 10,000.
 use Rattle.std.proofs.Common.{◌≡◌, ℕ, ◌+◌, ◌-◌, ◌/◌, ◌%◌, ◌^◌, ◌<◌, ◌≤◌, List, [], ◌∷◌, ◌++◌, ◌∙◌, length, take, ap, refl, append_assoc, length-append, eq-zero-or-pos, inl, inr, arith}
 use Rattle.std.specs.Fmt.{decimal}
-use Rattle.std.proofs.Math.Seq.{take-append-add}
-use Rattle.std.proofs.lemmas.Fmt.{decimal_digit, length-decimal-le}
+use Rattle.std.proofs.{Math.Seq.take-append-add, lemmas.Fmt.{decimal_digit, length-decimal-le}}
 use Rattle.itoa.proofs.Decimal.{pair, decimal_two, decimal_pair, decimal_four}
 
 abbrev pub zeros : List ℕ

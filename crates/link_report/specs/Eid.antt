@@ -1,7 +1,6 @@
 -- The text of an endpoint ID (RFC 9171 section 4.2.5.1).
 use Rattle.std.specs.Prelude.{ℕ, List, ◌++◌, codes}
-use Rattle.link_bundle_types.specs.declared.eid.Eid.{Eid}
-use Rattle.link_bundle_types.specs.declared.eid.Eid.TheVariants.{DtnNone, Dtn, Ipn, Ipn3}
+use Rattle.link_bundle_types.specs.declared.eid.{Eid.Eid, Eid.TheVariants.{DtnNone, Dtn, Ipn, Ipn3}}
 use Rattle.link_report.specs.Text.{escaped, number_text}
 
 -- an ipn endpoint ID has two or three numbers, and the text has the same

@@ -2,8 +2,7 @@
 -- a fragment also by its offset and payload length (RFC 9171 section 4.3.1). The text has the
 -- destination too.
 use Rattle.std.specs.Prelude.{ℕ, Option, Some, None, List, [], ◌++◌, codes}
-use Rattle.link_bundle_types.specs.declared.eid.Eid.{Eid}
-use Rattle.link_bundle_types.specs.declared.info.BundleInfo.{BundleInfo}
+use Rattle.link_bundle_types.specs.declared.{eid.Eid.Eid, info.BundleInfo.BundleInfo}
 use Rattle.link_report.specs.Eid.{eid_text}
 use Rattle.link_report.specs.Text.{number_text}
 

@@ -1,8 +1,7 @@
 -- The line of a packed bundle.
 use Rattle.std.specs.Prelude.{ℕ, List, ◌++◌, codes}
 use Rattle.link_bundle_types.specs.BundleView.{viewed_info}
-use Rattle.link_report.specs.declared.packed.PackedEntry.{PackedEntry}
-use Rattle.link_report.specs.declared.packed.PackedView.{PackedView}
+use Rattle.link_report.specs.declared.packed.{PackedEntry.PackedEntry, PackedView.PackedView}
 use Rattle.link_report.specs.Identity.{identity_text}
 use Rattle.link_report.specs.Text.{number_text, newline}
 

@@ -4,12 +4,9 @@ use Rattle.std.proofs.lemmas.Bool.{cases_lt, false≢true, lt-ltb, le-ltb}
 use Rattle.std.proofs.lemmas.List.{take-append-le, drop-append-le}
 use Rattle.link_wire.specs.Message.{contact_at, message_at, data_length}
 use Rattle.link_wire.specs.Stream.{Entry, Cut, Stream, ended, with_entry, with_data_of, stream_at, Reading, reading_by, reading_of, cut_heads}
-use Rattle.link_wire.specs.declared.fault.WireFault.{WireFault}
-use Rattle.link_wire.specs.declared.message.Contact.{Contact}
-use Rattle.link_wire.specs.declared.message.Message.{Message}
-use Rattle.link_wire.specs.declared.fault.WireFault.TheVariants.{Truncated}
-use Rattle.link_wire.proofs.Shrinks.{shrinks_message}
-use Rattle.link_wire.proofs.Steady.{steady_contact, steady_message}
+use Rattle.link_wire.specs.declared.{fault.WireFault.WireFault, message.Contact.Contact}
+use Rattle.link_wire.specs.declared.{message.Message.Message, fault.WireFault.TheVariants.Truncated}
+use Rattle.link_wire.proofs.{Shrinks.shrinks_message, Steady.{steady_contact, steady_message}}
 use Rattle.link_wire.proofs.Streams.{stream_at-nil, stream_at-message, stream_at-fault}
 use Rattle.link_run.specs.Made.{shows_fault, is_lasting, stop_of}
 use Rattle.link_run.proofs.Ends.{take-append}

@@ -1,18 +1,13 @@
 -- Where a recorded stream stops, and which texts of a tool have the line of its fault.
 use Rattle.std.proofs.Common.{◌≡◌, ℕ, ◌+◌, ◌-◌, ◌<◌, ◌≤◌, ◌⊎◌, inl, inr, Bool, true, false, List, [], ◌∷◌, ◌++◌, length, take, Option, Some, None, if◌then◌else◌, ⊎_elim, refl, ap, sym, ◌∙◌, length-append, append-nil, take_all, arith}
-use Rattle.std.proofs.Math.Seq.{take-append-add}
-use Rattle.std.proofs.lemmas.Bool.{cases_Bool, cases_lt, false≢true}
+use Rattle.std.proofs.{Math.Seq.take-append-add, lemmas.Bool.{cases_Bool, cases_lt, false≢true}}
 use Rattle.std.proofs.lemmas.List.{take-append-le}
-use Rattle.link_wire.specs.Device.{Input}
-use Rattle.link_wire.specs.Limits.{window_size}
-use Rattle.link_wire.specs.Source.{window_of, Takes}
+use Rattle.link_wire.specs.{Device.Input, Limits.window_size, Source.{window_of, Takes}}
 use Rattle.link_wire.specs.Stream.{End, Clean, Cut, Fault, Reading, reading_of}
-use Rattle.link_wire.specs.Session.{IsLeft, IsUndecided, IsRead}
-use Rattle.link_wire.specs.declared.Source.{Source}
+use Rattle.link_wire.specs.{Session.{IsLeft, IsUndecided, IsRead}, declared.Source.Source}
 use Rattle.link_wire.specs.declared.fault.WireFault.{WireFault}
 use Rattle.link_wire.specs.declared.fault.WireFault.TheVariants as wire
-use Rattle.link_report.specs.Fault.{fault_text}
-use Rattle.link_report.specs.declared.fault.Fault.{Fault as ReportedFault}
+use Rattle.link_report.specs.{Fault.fault_text, declared.fault.Fault.Fault as ReportedFault}
 use Rattle.link_report.proofs.Faults.{some_fault}
 use Rattle.link_run.specs.Made.{StreamStop, Made, IsLasting, with_fault, whole_by, so_far_by, shows_fault, tool_of, is_lasting, stop_of}
 use Rattle.link_run.specs.Run.{Texts, EndsAtFault}

@@ -1,18 +1,12 @@
 -- What a run reads from a session.
 use Rattle.std.proofs.Common.{◌≡◌, ℕ, refl, inl, true, List, [], Option, Result, Ok, Err, ap, ◌∙◌}
 use Rattle.link_wire.specs.Session.{past_opening, reads_next, AfterNext, AfterLoad}
-use Rattle.link_wire.specs.declared.fault.Stop.{Stop}
-use Rattle.link_wire.specs.declared.message.Message.{Message}
-use Rattle.link_wire.specs.declared.session.Phase.{Phase}
+use Rattle.link_wire.specs.declared.{fault.Stop.Stop, message.Message.Message, session.Phase.Phase}
 use Rattle.link_wire.specs.declared.session.Phase.TheVariants.{Unopened, Reading, Stopped}
 use Rattle.link_wire.specs.declared.session.Session.{Session}
-use Rattle.link_run.specs.Run.{Looks}
-use Rattle.link_run.specs.Reading.{ReadsMessage, ReadsData}
-use Rattle.link_run.specs.Writers.{on_output, Writes}
-use Rattle.link_run.specs.declared.input.Input.{Input}
-use Rattle.link_run.specs.declared.input.Position.{Position}
-use Rattle.link_run.specs.declared.log.Log.{Log}
-use Rattle.link_run.specs.declared.writers.Writers.{Writers}
+use Rattle.link_run.specs.{Run.Looks, Reading.{ReadsMessage, ReadsData}}
+use Rattle.link_run.specs.{Writers.{on_output, Writes}, declared.input.Input.Input}
+use Rattle.link_run.specs.declared.{input.Position.Position, log.Log.Log, writers.Writers.Writers}
 
 -- a message is read only after the contact header
 pub opened_to_read : (phase : Phase) (left : ℕ) → reads_next phase left ≡ true

@@ -1,21 +1,17 @@
 -- How the texts of the steps make up the texts of a run, and how a run ends.
 use Rattle.std.proofs.Common.{◌≡◌, ℕ, ◌+◌, ◌-◌, min, ◌<◌, ◌≤◌, ◌⊎◌, inl, inr, true, false, List, [], ◌++◌, length, take, drop, Option, Some, None, Result, Ok, Err, ⊎_elim, refl, ap, sym, ◌∙◌, subst, length-append, append-nil, append_assoc, take_all, arith}
-use Rattle.std.proofs.lemmas.Bool.{false≢true}
-use Rattle.std.proofs.Math.Nat.{min-le_right}
-use Rattle.std.proofs.Math.Seq.{take-append-add}
+use Rattle.std.proofs.{lemmas.Bool.false≢true, Math.Nat.min-le_right, Math.Seq.take-append-add}
 use Rattle.std.proofs.lemmas.List.{take-append-le, take_min}
 use Rattle.std.specs.Io.KnownBytes.{Consumes, prepend_known}
 use Rattle.std.proofs.KnownBytes.{Consumes-nil, Consumes-trans, Appends-nil, Appends-trans}
-use Rattle.link_wire.specs.Device.{Input, Output}
-use Rattle.link_wire.specs.Limits.{window_size}
+use Rattle.link_wire.specs.{Device.{Input, Output}, Limits.window_size}
 use Rattle.link_wire.specs.Source.{reader_of, window_of, ahead, Takes, StopsAfter, IsOver}
 use Rattle.link_wire.specs.declared.IoFault.{IoFault}
 use Rattle.link_wire.specs.declared.IoFault.TheVariants as io
 use Rattle.link_wire.specs.declared.Source.{Source}
 use Rattle.link_run.specs.Run.{Texts, no_texts, ◌then◌, Tool, Looks, Devices, Place, devices_at, NoneFailed, Moves, HasWritten, HandedBack, AllGiven, FinishedRun, AreDue, IsBehind, EndedRun}
 use Rattle.link_run.specs.Writers.{place_of, on_output, Writes, WritesPart, AfterWrite, Unsettled}
-use Rattle.link_run.specs.declared.run.Status.{Status}
-use Rattle.link_run.specs.declared.writers.Writers.{Writers}
+use Rattle.link_run.specs.declared.{run.Status.Status, writers.Writers.Writers}
 
 -- what is ahead is the window and then what the reader has left
 Consumes-ahead : (window : List ℕ) (left : Option (List ℕ))

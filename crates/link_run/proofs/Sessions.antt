@@ -4,23 +4,17 @@ use Rattle.link_wire.specs.Limits.{window_size, longest_head}
 use Rattle.link_wire.specs.Source.{window_of, Takes, StopsAfter}
 use Rattle.link_wire.specs.Stream.{End, Clean, Cut, Fault, Reading, reading_of, ended}
 use Rattle.link_wire.specs.Session.{source_of, joined, IsSessionAt, IsRead, IsUndecided, SameMessages, ShownLast, AfterOpen, AfterNext, AfterLoad}
-use Rattle.link_wire.specs.declared.IoFault.{IoFault}
-use Rattle.link_wire.specs.declared.Source.{Source}
-use Rattle.link_wire.specs.declared.fault.Stop.{Stop}
+use Rattle.link_wire.specs.declared.{IoFault.IoFault, Source.Source, fault.Stop.Stop}
 use Rattle.link_wire.specs.declared.fault.Stop.TheVariants as stop
-use Rattle.link_wire.specs.declared.fault.WireFault.{WireFault}
-use Rattle.link_wire.specs.declared.session.Session.{Session}
+use Rattle.link_wire.specs.declared.{fault.WireFault.WireFault, session.Session.Session}
 use Rattle.link_wire.proofs.Contacts.{reading-none}
-use Rattle.link_report.specs.Fault.{fault_text}
-use Rattle.link_report.specs.declared.fault.Fault.{Fault as ReportedFault}
+use Rattle.link_report.specs.{Fault.fault_text, declared.fault.Fault.Fault as ReportedFault}
 use Rattle.link_report.specs.declared.fault.Fault.TheVariants.{Wire}
 use Rattle.link_run.specs.Made.{Made, with_fault, whole_by, shows_fault, tool_of, is_lasting, stop_of}
 use Rattle.link_run.specs.Reading.{NotHandedOn, ReadsMessage, ReadsData}
-use Rattle.link_run.specs.Run.{Texts, ◌then◌, Looks, Devices, devices_at, LastStep}
-use Rattle.link_run.specs.Stages.{Stands}
+use Rattle.link_run.specs.{Run.{Texts, ◌then◌, Looks, Devices, devices_at, LastStep}, Stages.Stands}
 use Rattle.link_run.specs.Writers.{place_of, on_report, AfterLastWrite, AfterEnd}
-use Rattle.link_run.specs.declared.run.Status.{Status}
-use Rattle.link_run.specs.declared.writers.Writers.{Writers}
+use Rattle.link_run.specs.declared.{run.Status.Status, writers.Writers.Writers}
 use Rattle.link_run.proofs.Ends.{lasts, few_at_fault, undecided_unshown, standing_unshown}
 use Rattle.link_run.proofs.Runs.{few_over, texts_as}
 use Rattle.link_run.proofs.Stands.{ends, read_fails, settled, not_handed_on}

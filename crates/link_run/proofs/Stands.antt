@@ -1,15 +1,12 @@
 -- A step of a run for which `Stands` holds: the run goes on, it ends, or a device fails.
 use Rattle.std.proofs.Common.{◌≡◌, ℕ, ◌<◌, ◌≤◌, ◌⊎◌, inl, inr, Bool, true, false, List, [], ◌++◌, length, take, Result, Ok, Err, ⊎_elim, refl, ap, sym, ◌∙◌, append-nil, arith}
-use Rattle.link_wire.specs.Limits.{window_size}
-use Rattle.link_wire.specs.Source.{window_of, Takes, StopsAfter, IsOver}
-use Rattle.link_wire.specs.declared.IoFault.{IoFault}
-use Rattle.link_wire.specs.declared.Source.{Source}
+use Rattle.link_wire.specs.{Limits.window_size, Source.{window_of, Takes, StopsAfter, IsOver}}
+use Rattle.link_wire.specs.declared.{IoFault.IoFault, Source.Source}
 use Rattle.link_run.specs.Made.{Made, whole_by, shows_fault, tool_of}
 use Rattle.link_run.specs.Run.{Texts, no_texts, ◌then◌, Looks, Devices, Place, devices_at, NoneFailed, HasWritten, AreDue, LastStep, WentOn, EndedRun, AfterStep, answer_of, progress_after}
 use Rattle.link_run.specs.Stages.{Stands, AfterStage, written_by}
 use Rattle.link_run.specs.Writers.{place_of, Writes, WritesPart, AfterWrite, AfterLastWrite, Unsettled}
-use Rattle.link_run.specs.declared.run.Status.{Status}
-use Rattle.link_run.specs.declared.writers.Writers.{Writers}
+use Rattle.link_run.specs.declared.{run.Status.Status, writers.Writers.Writers}
 use Rattle.link_run.proofs.Ends.{unshown_sofar, shown_sofar, made_reports, ends_unshown, ends_shown}
 use Rattle.link_run.proofs.Runs.{Stood, written_as, written_given, written_more, sound_given, sound_written, all_given, answered, writer_lost, settle_lost, settle_kept, reader_lost}
 

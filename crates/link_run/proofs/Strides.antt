@@ -1,14 +1,11 @@
 -- Steps, one after another, make a stride.
 use Rattle.std.proofs.Common.{◌≡◌, ℕ, ◌+◌, ◌≤◌, Bool, List, ◌++◌, length, Option, None, Result, Ok, Err, ⊎_elim, sym, subst, append_assoc, length-append, arith}
 use Rattle.std.proofs.lemmas.Bool.{cases_lt}
-use Rattle.link_wire.specs.declared.IoFault.{IoFault}
-use Rattle.link_wire.specs.declared.Source.{Source}
+use Rattle.link_wire.specs.declared.{IoFault.IoFault, Source.Source}
 use Rattle.link_run.specs.Made.{Made, tool_of}
 use Rattle.link_run.specs.Run.{Tool, Looks, Devices, Place, EndedRun, WentOn, LastStep, AfterStep, EndsAtFault}
-use Rattle.link_run.specs.Stages.{Stands, AfterStage, IsMore}
-use Rattle.link_run.specs.declared.run.Progress.{Progress}
-use Rattle.link_run.specs.declared.run.Progress.TheVariants.{More, Done}
-use Rattle.link_run.specs.declared.run.Status.{Status}
+use Rattle.link_run.specs.{Stages.{Stands, AfterStage, IsMore}, declared.run.Progress.Progress}
+use Rattle.link_run.specs.declared.run.{Progress.TheVariants.{More, Done}, Status.Status}
 
 -- a step that went on, with another relation that holds of the history and the bytes given
 pub went_with : {R : Type 0} {old new : Source R} {first second : List ℕ → Type 0} {most : ℕ}

@@ -1,18 +1,13 @@
 -- When a call waits for its input, and when a step of a run does.
 use Rattle.std.proofs.Common.{◌≡◌, ◌⊎◌, inl, inr, ℕ, Bool, true, false, List, [], ◌∷◌, ◌++◌, length, Result, ⊎_elim, refl, ap, sym, ◌∙◌, subst, append-nil, append_assoc, length-append, arith}
-use Rattle.std.specs.Prelude.{All}
-use Rattle.std.specs.Io.KnownBytes.{Appends}
+use Rattle.std.specs.{Prelude.All, Io.KnownBytes.Appends}
 use Rattle.std.proofs.KnownBytes.{Appends-trans}
 use Rattle.std.proofs.lemmas.List.Elements.{All-nil, All-push, All-weaker}
-use Rattle.link_wire.specs.Device.{Input as Seen, Output}
-use Rattle.link_wire.specs.declared.IoFault.{IoFault}
+use Rattle.link_wire.specs.{Device.{Input as Seen, Output}, declared.IoFault.IoFault}
 use Rattle.link_wire.specs.declared.Source.{Source}
-use Rattle.link_run.specs.Made.{Made, tool_of}
-use Rattle.link_run.specs.Reading.{Unread, CallWaits}
+use Rattle.link_run.specs.{Made.{Made, tool_of}, Reading.{Unread, CallWaits}}
 use Rattle.link_run.specs.Run.{Texts, Tool, Looks, Devices, Place, Wait, HasShown, IsWaitAt, IsPrompt, WasPrompt, WaitsOnce, LastStep, AfterRunFrom}
-use Rattle.link_run.specs.Stages.{Stands}
-use Rattle.link_run.specs.declared.input.Input.{Input}
-use Rattle.link_run.specs.declared.run.Status.{Status}
+use Rattle.link_run.specs.{Stages.Stands, declared.input.Input.Input, declared.run.Status.Status}
 use Rattle.link_run.specs.declared.writers.Writers.{Writers}
 use Rattle.link_run.proofs.Ends.{unshown_sofar}
 

@@ -1,11 +1,9 @@
 -- What a tool makes of its input, and where the input stops.
 use Rattle.std.specs.Prelude.{◌≡◌, ℕ, Bool, true, false, List, ◌++◌, Option, Some, None, if◌then◌else◌}
 use Rattle.link_wire.specs.Stream.{End, Clean, Cut, Fault}
-use Rattle.link_wire.specs.declared.fault.WireFault.{WireFault}
-use Rattle.link_wire.specs.declared.fault.WireFault.TheVariants.{Truncated}
+use Rattle.link_wire.specs.declared.fault.{WireFault.WireFault, WireFault.TheVariants.Truncated}
 use Rattle.link_report.specs.Fault.{fault_text}
-use Rattle.link_report.specs.declared.fault.Fault.{Fault as ReportedFault}
-use Rattle.link_report.specs.declared.fault.Fault.TheVariants.{Wire}
+use Rattle.link_report.specs.declared.fault.{Fault.Fault as ReportedFault, Fault.TheVariants.Wire}
 use Rattle.link_run.specs.Run.{Texts, Outcome, Tool}
 
 -- An input stops at this fault. A fault that does not last may disappear when more bytes come.

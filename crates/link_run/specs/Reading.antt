@@ -8,16 +8,13 @@ use Rattle.link_wire.specs.Session.{source_of, left_of, may_open, is_opened, dat
 use Rattle.link_wire.specs.Source.{window_of, at_hand, front_of, reach, IsLive, HasEnded, HasFailed, AfterReadyFront}
 use Rattle.link_wire.specs.declared.IoFault.{IoFault}
 use Rattle.link_wire.specs.declared.IoFault.TheVariants as io
-use Rattle.link_wire.specs.declared.Source.{Source}
-use Rattle.link_wire.specs.declared.fault.Stop.{Stop}
+use Rattle.link_wire.specs.declared.{Source.Source, fault.Stop.Stop}
 use Rattle.link_wire.specs.declared.fault.Stop.TheVariants as stop
-use Rattle.link_wire.specs.declared.message.Message.{Message}
-use Rattle.link_wire.specs.declared.message.MessageBuffer.{MessageBuffer}
+use Rattle.link_wire.specs.declared.message.{Message.Message, MessageBuffer.MessageBuffer}
 use Rattle.link_wire.specs.declared.session.Session.{Session}
 use Rattle.link_run.specs.Run.{Looks, Wait, IsWaitAt, WaitsOnce, IsSpared}
 use Rattle.link_run.specs.Writers.{place_of, on_output, next_line, Writes, Unsettled}
-use Rattle.link_run.specs.declared.input.Input.{Input}
-use Rattle.link_run.specs.declared.writers.Writers.{Writers}
+use Rattle.link_run.specs.declared.{input.Input.Input, writers.Writers.Writers}
 
 module _ {S W E : Type 0} where
   -- the session or the source inside an input

@@ -7,10 +7,8 @@ use Rattle.link_wire.specs.Source.{reader_of, given_by, window_of, ahead, reach}
 use Rattle.link_wire.specs.declared.IoFault.{IoFault}
 use Rattle.link_wire.specs.declared.IoFault.TheVariants as io
 use Rattle.link_wire.specs.declared.Source.{Source}
-use Rattle.link_run.specs.declared.input.Position.{Position}
-use Rattle.link_run.specs.declared.run.Status.{Status}
-use Rattle.link_run.specs.declared.run.Progress.{Progress}
-use Rattle.link_run.specs.declared.run.Progress.TheVariants.{More, Done}
+use Rattle.link_run.specs.declared.{input.Position.Position, run.Status.Status}
+use Rattle.link_run.specs.declared.run.{Progress.Progress, Progress.TheVariants.{More, Done}}
 use Rattle.link_run.specs.declared.writers.Writers.{Writers}
 
 -- what a run writes

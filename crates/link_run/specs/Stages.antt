@@ -3,9 +3,7 @@ use Rattle.std.specs.Prelude.{◌≡◌, ℕ, ◌<◌, Bool, true, false, List, 
 use Rattle.link_wire.specs.declared.IoFault.{IoFault}
 use Rattle.link_run.specs.Run.{Texts, no_texts, Looks, Devices, Place, devices_at, NoneFailed, HasWritten, AfterStep, answer_of}
 use Rattle.link_run.specs.Made.{Made, IsLasting, shows_fault, tool_of}
-use Rattle.link_run.specs.declared.run.Progress.{Progress}
-use Rattle.link_run.specs.declared.run.Progress.TheVariants.{More}
-use Rattle.link_run.specs.declared.run.Status.{Status}
+use Rattle.link_run.specs.declared.run.{Progress.Progress, Progress.TheVariants.More, Status.Status}
 
 -- the texts that a run has written: none before it has begun
 abbrev pub written_by : (begun : Bool) → Made → Texts

@@ -1,8 +1,7 @@
 -- The announcement of items, with one more item.
 use Rattle.std.proofs.Common.{◌≡◌, ℕ, ◌+◌, ◌<◌, Bool, true, false, eqb, cond, List, [], ◌∷◌, ◌++◌, length, take, get_or, Option, Some, None, refl, ap, sym, ◌∙◌}
 use Rattle.std.specs.List.{filter}
-use Rattle.std.proofs.lemmas.List.{append-nil, take_more}
-use Rattle.std.proofs.lemmas.List.Elements.{filter-append}
+use Rattle.std.proofs.lemmas.{List.{append-nil, take_more}, List.Elements.filter-append}
 use Rattle.link_wire.specs.declared.message.Item.{Item}
 use Rattle.link_transfer.specs.Announced.{announced_by_all, announced_after, announced_with, announced_of, is_transfer_length, total_or_malformed}
 use Rattle.link_transfer.specs.declared.announcement.Announced.TheVariants.{Malformed}

@@ -3,11 +3,9 @@
 use Rattle.std.proofs.Common.{◌≡◌, ℕ, Bool, true, false, List, Option, Some, None, if◌then◌else◌, refl, ap, sym, ◌∙◌, subst}
 use Rattle.std.proofs.lemmas.Bool.{eq-eqb}
 use Rattle.link_wire.specs.declared.message.Message.{Message}
-use Rattle.link_transfer.specs.Event.{event_of}
-use Rattle.link_transfer.specs.Joiner.{IsJoinerAt}
+use Rattle.link_transfer.specs.{Event.event_of, Joiner.IsJoinerAt}
 use Rattle.link_transfer.specs.Order.{has_sess_init, has_sess_term, open_of, continuable, refusal, refusal_by, is_stray, is_stray_by, turn_of, turn_by, effect_of, effect_by, with_taken, appended_unless}
-use Rattle.link_transfer.specs.declared.event.Event.TheVariants.{Segment}
-use Rattle.link_transfer.specs.declared.joiner.Joiner.{Joiner}
+use Rattle.link_transfer.specs.declared.{event.Event.TheVariants.Segment, joiner.Joiner.Joiner}
 use Rattle.link_transfer.specs.declared.joiner.Turn.TheVariants as turn
 use Rattle.link_transfer.proofs.Joining.{IsJoinerAt-then}
 

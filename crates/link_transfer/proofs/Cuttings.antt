@@ -1,12 +1,10 @@
 -- The chunks of a bundle are the only list with their sizes.
 use Rattle.std.proofs.Common.{◌≡◌, ℕ, zero, suc, ◌+◌, ◌-◌, ◌*◌, ◌<◌, ◌≤◌, List, [], ◌∷◌, ◌++◌, length, take, drop, refl, ap, ap₂, subst, sym, ◌∙◌, arith, ⊎_elim, ◌/◌}
 use Rattle.std.specs.List.{flat_map}
-use Rattle.std.proofs.lemmas.Bool.{cases_lt}
-use Rattle.std.proofs.lemmas.Nat.{div_below}
+use Rattle.std.proofs.lemmas.{Bool.cases_lt, Nat.div_below}
 use Rattle.std.proofs.lemmas.List.{append-nil, length-append, length-take, length-take-le, length-drop, take_all, take_at, drop_at, drop-drop, nil_from_length, take-append-drop}
 use Rattle.link_transfer.specs.Chunks.{chunk_count, chunks, first_chunks, AreSegments, AreChunks}
-use Rattle.link_transfer.proofs.Chunking.{first_chunks-zero}
-use Rattle.link_transfer.proofs.Due.{fits, fits_back}
+use Rattle.link_transfer.proofs.{Chunking.first_chunks-zero, Due.{fits, fits_back}}
 
 -- the first chunk, and then those of the other bytes
 first_chunks-suc : (segment count : ℕ) (bundle : List ℕ)

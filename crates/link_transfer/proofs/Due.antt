@@ -1,10 +1,7 @@
 -- The number of chunks that are due.
 use Rattle.std.proofs.Common.{◌≡◌, ℕ, ◌+◌, ◌-◌, ◌*◌, ◌/◌, ◌<◌, ◌≤◌, Bool, true, false, ltb, leb, eqb, refl, arith}
-use Rattle.std.proofs.Math.Nat.{le-div_iff_mul-le}
-use Rattle.std.proofs.lemmas.Bool.Decides.{nat_tests}
-use Rattle.link_transfer.specs.Chunks.{chunk_count}
-use Rattle.link_transfer.specs.Cutting.{due_of}
-use Rattle.link_transfer.specs.Held.{waits, wanted_size}
+use Rattle.std.proofs.{Math.Nat.le-div_iff_mul-le, lemmas.Bool.Decides.nat_tests}
+use Rattle.link_transfer.specs.{Chunks.chunk_count, Cutting.due_of, Held.{waits, wanted_size}}
 
 -- that many segments fit in the size
 pub fits : (segment count size : ℕ) → 0 < segment → count ≤ size / segment → count * segment ≤ size

@@ -2,15 +2,12 @@
 use Rattle.std.proofs.Common.{◌≡◌, ℕ, zero, suc, ◌+◌, ◌-◌, ◌*◌, ◌<◌, ◌≤◌, Bool, true, false, not, ltb, leb, eqb, cond, ◌&&◌, [], ◌∷◌, ◌++◌, length, take, drop, min, max, Option, Some, None, is_some, refl, ap, ap₂, subst, sym, ◌∙◌, arith}
 use Rattle.std.specs.Bool.{OnTrue}
 use Rattle.std.proofs.lemmas.List.{length-drop, length-take, length_push, take_min, drop_min, drop-drop, drop_all}
-use Rattle.std.proofs.lemmas.List.Elements.{All-nil}
-use Rattle.std.proofs.lemmas.Bool.{false≢true}
-use Rattle.std.proofs.lemmas.Bool.Decides.{nat_tests}
+use Rattle.std.proofs.lemmas.{List.Elements.All-nil, Bool.false≢true, Bool.Decides.nat_tests}
 use Rattle.link_wire.specs.Bytes.{IsByte}
 use Rattle.link_transfer.specs.Chunks.{chunk_count, chunks, first_chunks}
 use Rattle.link_transfer.specs.Cutting.{Cutting, beginning, due, due_of, announcement, is_first, is_last, next_chunk, next_cut, after_cut, without_chunk, uncut}
 use Rattle.link_transfer.specs.Cutter.{IsCutterAt, IsGiven, cut_waits, kept_size}
-use Rattle.link_transfer.specs.Held.{is_last_of, announcement_of, cut_of}
-use Rattle.link_transfer.specs.declared.cut.Cut.{Cut}
+use Rattle.link_transfer.specs.{Held.{is_last_of, announcement_of, cut_of}, declared.cut.Cut.Cut}
 use Rattle.link_transfer.specs.declared.cutter.Cutter.{Cutter}
 use Rattle.link_transfer.proofs.Chunking.{first_chunks-zero, first_chunks-push}
 use Rattle.link_transfer.proofs.Due.{fits, byte_left, last_of}

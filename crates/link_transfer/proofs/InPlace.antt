@@ -1,14 +1,11 @@
 -- A chunk that is cut where it lies: the cutter takes none of its bytes.
 use Rattle.std.proofs.Common.{◌≡◌, ℕ, ◌<◌, ◌≤◌, Bool, true, false, not, ◌&&◌, nat_lt, nat_le, List, [], ◌++◌, length, take, min, Some, None, if◌then◌else◌, refl, ap, ap₂, subst, sym, ◌∙◌, arith}
-use Rattle.std.proofs.lemmas.Bool.{false≢true}
-use Rattle.std.proofs.lemmas.Bool.Decides.{nat_tests}
+use Rattle.std.proofs.lemmas.{Bool.false≢true, Bool.Decides.nat_tests}
 use Rattle.std.proofs.lemmas.List.{take_all, drop_all, nil_from_length}
 use Rattle.link_wire.specs.Bytes.{AreBytes}
 use Rattle.link_transfer.specs.Cutting.{Cutting, with_bytes, is_last, next_chunk, next_cut, after_cut, without_chunk}
-use Rattle.link_transfer.specs.Cutter.{IsCutterAt, cut_waits}
-use Rattle.link_transfer.specs.Held.{waits, cut_of, is_chunk}
-use Rattle.link_transfer.specs.declared.cut.Cut.{Cut}
-use Rattle.link_transfer.specs.declared.cutter.Cutter.{Cutter}
+use Rattle.link_transfer.specs.{Cutter.{IsCutterAt, cut_waits}, Held.{waits, cut_of, is_chunk}}
+use Rattle.link_transfer.specs.declared.{cut.Cut.Cut, cutter.Cutter.Cutter}
 use Rattle.link_transfer.proofs.Giving.{Gives, same_cut, next_cut-at, last-at, IsCutterAt-cut, IsCutterAt-unshown}
 use Rattle.link_transfer.proofs.Pushing.{IsCutterAt-pushed}
 

@@ -1,14 +1,11 @@
 -- The messages that a joiner has accepted, with one more.
 use Rattle.std.proofs.Common.{◌≡◌, ℕ, Bool, true, false, ◌||◌, cond, List, [], ◌∷◌, ◌++◌, reverse, Option, Some, None, if◌then◌else◌, refl, ap, sym, subst, ◌∙◌}
-use Rattle.std.proofs.lemmas.List.{map_push, reverse-append}
-use Rattle.std.proofs.lemmas.List.Folds.{list_any-append}
-use Rattle.std.specs.List.{list_any, find}
-use Rattle.std.specs.Option.{option_and_then}
+use Rattle.std.proofs.lemmas.{List.{map_push, reverse-append}, List.Folds.list_any-append}
+use Rattle.std.specs.{List.{list_any, find}, Option.option_and_then}
 use Rattle.link_wire.specs.declared.message.Message.{Message}
 use Rattle.link_transfer.specs.Event.{event_of}
 use Rattle.link_transfer.specs.Order.{is_sess_init, is_sess_term, is_segment, events_of, has_sess_init, has_sess_term, open_after, open_of, refusal, refusal_by, turn_of, turn_by, judged_message, judged_message_by, is_stray, is_stray_by, effect_of, effect_by, with_taken, appended_unless}
-use Rattle.link_transfer.specs.Joiner.{IsJoinerAt, joiner_after}
-use Rattle.link_transfer.specs.declared.event.Event.{Event}
+use Rattle.link_transfer.specs.{Joiner.{IsJoinerAt, joiner_after}, declared.event.Event.Event}
 use Rattle.link_transfer.specs.declared.event.Event.TheVariants.{SessInit, SessTerm, Segment, Other}
 use Rattle.link_transfer.specs.declared.fault.OrderFault.TheVariants.{SecondSessInit, SegmentBeforeSessInit, NoSuchOpenTransfer, StartRepeatsOpenId, StartAfterSessTerm}
 use Rattle.link_transfer.specs.declared.joiner.Joiner.{Joiner}

@@ -1,12 +1,10 @@
 -- Bytes pushed at once, and one at a time.
 use Rattle.std.proofs.Common.{◌≡◌, ℕ, zero, suc, ◌+◌, ◌-◌, ◌*◌, ◌<◌, ◌≤◌, Bool, true, false, ltb, leb, eqb, cond, ◌&&◌, List, [], ◌∷◌, length, take, min, max, None, is_some, refl, ap, subst, sym, ◌∙◌, arith}
-use Rattle.std.proofs.lemmas.List.{append_assoc, length_push}
-use Rattle.std.proofs.lemmas.Bool.{false≢true}
+use Rattle.std.proofs.lemmas.{List.{append_assoc, length_push}, Bool.false≢true}
 use Rattle.std.proofs.lemmas.Bool.Decides.{nat_tests}
 use Rattle.link_wire.specs.Bytes.{AreBytes}
 use Rattle.link_transfer.specs.Cutting.{Cutting, due, due_of, next_cut, with_bytes, with_each, is_empty}
-use Rattle.link_transfer.specs.Cutter.{IsCutterAt, cut_waits}
-use Rattle.link_transfer.specs.Held.{waits, wanted_size}
+use Rattle.link_transfer.specs.{Cutter.{IsCutterAt, cut_waits}, Held.{waits, wanted_size}}
 use Rattle.link_transfer.specs.declared.cutter.Cutter.{Cutter}
 use Rattle.link_transfer.proofs.Due.{waits_as_due, given_within, due_more, wanted_some, waits_when_wanted}
 use Rattle.link_transfer.proofs.Steps.{IsCutterAt-push, Pushes, next_cut-is, goes_on, waits-at, size_of}

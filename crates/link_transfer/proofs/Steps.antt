@@ -1,14 +1,12 @@
 -- A cutter and its history, after one more step.
 use Rattle.std.proofs.Common.{◌≡◌, ℕ, ◌+◌, ◌-◌, ◌*◌, ◌<◌, ◌≤◌, max, Bool, true, false, ltb, cond, List, [], ◌∷◌, ◌++◌, length, Option, Some, None, is_some, ◌||◌, refl, ap, subst, sym, ◌∙◌, arith}
-use Rattle.std.proofs.lemmas.List.Elements.{All-nil, All-append}
-use Rattle.std.proofs.lemmas.Bool.{false≢true}
+use Rattle.std.proofs.lemmas.{List.Elements.{All-nil, All-append}, Bool.false≢true}
 use Rattle.link_wire.specs.Bytes.{IsByte, AreBytes}
 use Rattle.std.specs.Bool.{OnFalse}
 use Rattle.std.proofs.lemmas.Bool.Decides.{nat_tests}
 use Rattle.std.proofs.lemmas.List.{length-drop, length-append, drop-append-le, drop_all}
 use Rattle.link_transfer.specs.Cutting.{Cutting, beginning, due, due_of, next_cut, with_bytes, shown_by}
-use Rattle.link_transfer.specs.Cutter.{IsCutterAt, IsGiven, cut_waits}
-use Rattle.link_transfer.specs.Held.{waits}
+use Rattle.link_transfer.specs.{Cutter.{IsCutterAt, IsGiven, cut_waits}, Held.waits}
 use Rattle.link_transfer.specs.declared.cutter.Cutter.{Cutter}
 use Rattle.link_transfer.proofs.Chunking.{first_chunks-zero, first_chunks-append}
 use Rattle.link_transfer.proofs.Due.{waits_as_due, given_within, due_more, chunk_left}

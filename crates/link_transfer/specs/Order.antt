@@ -1,8 +1,7 @@
 -- The order of the messages that one entity sends in a session (RFC 9174). Which message may come
 -- next depends on the whole list of messages that were accepted before.
 use Rattle.std.specs.Prelude.{ℕ, Bool, true, false, not, ◌&&◌, ◌==◌, List, [], ◌∷◌, ◌++◌, map, reverse, find, Option, Some, None, Result, Ok, Err, if◌then◌else◌}
-use Rattle.std.specs.List.{list_any}
-use Rattle.std.specs.Option.{option_and_then, option_eq}
+use Rattle.std.specs.{List.list_any, Option.{option_and_then, option_eq}}
 use Rattle.link_wire.specs.Codes.{is_start, is_end}
 use Rattle.link_wire.specs.declared.message.Message.{Message}
 use Rattle.link_transfer.specs.Event.{event_of}

@@ -1,8 +1,7 @@
 -- What a head does to the transfers.
 use Rattle.std.proofs.Common.{◌≡◌, ℕ, zero, suc, Bool, true, false, ◌==◌, is_some, List, Option, Some, None, refl, ap, sym, ◌∙◌, ⊎_elim, arith, if◌then◌else◌}
 use Rattle.std.proofs.lemmas.Bool.{ne_eqb}
-use Rattle.link_wire.specs.Codes.{is_start, is_end}
-use Rattle.link_wire.specs.declared.message.Message.{Message}
+use Rattle.link_wire.specs.{Codes.{is_start, is_end}, declared.message.Message.Message}
 use Rattle.link_wire.specs.declared.message.Message.TheVariants as message
 use Rattle.link_wire.specs.declared.message.SegmentHead.{SegmentHead}
 use Rattle.link_transfer.specs.Event.{event_of}
@@ -11,8 +10,7 @@ use Rattle.link_transfer.specs.declared.event.Event.{Event}
 use Rattle.link_transfer.specs.declared.event.Event.TheVariants as event
 use Rattle.link_transfer.specs.declared.joiner.Turn.{Turn}
 use Rattle.link_transfer.specs.declared.joiner.Turn.TheVariants as turn
-use Rattle.link_walk.specs.Walk.{Head, WalkEvent, has_open, abandons}
-use Rattle.link_walk.specs.Telling.{ComesAfter}
+use Rattle.link_walk.specs.{Walk.{Head, WalkEvent, has_open, abandons}, Telling.ComesAfter}
 use Rattle.link_walk.proofs.Heads.{continues_some}
 use Rattle.link_unpack.proofs.Heads.{kind_of}
 

@@ -1,13 +1,10 @@
 -- What `unpack` has said after more events, and after data.
 use Rattle.std.proofs.Common.{◌≡◌, ℕ, Bool, true, false, not, List, [], ◌∷◌, ◌++◌, if◌then◌else◌, refl, ap, ◌∙◌, append-nil, append_assoc}
 use Rattle.std.specs.List.{fold}
-use Rattle.std.proofs.Math.Bool.{and-true}
-use Rattle.std.proofs.lemmas.Grind.{fold-append}
+use Rattle.std.proofs.{Math.Bool.and-true, lemmas.Grind.fold-append}
 use Rattle.link_wire.specs.declared.message.SegmentHead.{SegmentHead}
-use Rattle.link_walk.specs.Walk.{WalkEvent, Whole, data_events}
-use Rattle.link_walk.specs.Telling.{data_ends}
-use Rattle.link_unpack.specs.Transfers.{Transfer, continued}
-use Rattle.link_unpack.specs.TransferJudge.{grown}
+use Rattle.link_walk.specs.{Walk.{WalkEvent, Whole, data_events}, Telling.data_ends}
+use Rattle.link_unpack.specs.{Transfers.{Transfer, continued}, TransferJudge.grown}
 use Rattle.link_unpack.specs.Unpacking.{Told, none_told, told_event, told_after, with_line}
 use Rattle.link_unpack.specs.declared.wanted.Wanted.{Wanted}
 

@@ -1,11 +1,9 @@
 -- What a message and its data do to the transfers.
 use Rattle.std.proofs.Common.{◌≡◌, ℕ, inl, inr, ◌⊎◌, true, false, List, ◌∷◌, refl}
-use Rattle.link_wire.specs.Codes.{is_start}
-use Rattle.link_wire.specs.declared.message.Message.{Message}
+use Rattle.link_wire.specs.{Codes.is_start, declared.message.Message.Message}
 use Rattle.link_wire.specs.declared.message.Message.TheVariants as message
 use Rattle.link_wire.specs.declared.message.SegmentHead.{SegmentHead}
-use Rattle.link_transfer.specs.Event.{event_of}
-use Rattle.link_transfer.specs.Order.{is_segment}
+use Rattle.link_transfer.specs.{Event.event_of, Order.is_segment}
 use Rattle.link_unpack.specs.Transfers.{Transfer, closes, continued, after_segment, after_message}
 
 -- a message is a segment, or it is not

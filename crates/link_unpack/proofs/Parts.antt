@@ -1,8 +1,7 @@
 -- The bytes of a piece that belong to a part of the data.
 use Rattle.std.proofs.Common.{◌≡◌, ℕ, ◌+◌, ◌-◌, ◌<◌, ◌≤◌, min, List, [], ◌++◌, length, take, drop, sym, ap, ◌∙◌, ⊎_elim, append-nil, length-append, length-take, length-drop, arith}
 use Rattle.std.proofs.Math.ListN.{drop_of_length-le}
-use Rattle.std.proofs.Math.Seq.{take-nil, take-append-add, drop-append-add}
-use Rattle.std.proofs.lemmas.Bool.{cases_lt}
+use Rattle.std.proofs.{Math.Seq.{take-nil, take-append-add, drop-append-add}, lemmas.Bool.cases_lt}
 use Rattle.std.proofs.lemmas.List.{take_all, take_min, take-append-le, drop-append-le, nil_from_length}
 use Rattle.link_unpack.specs.Pieces.{part_in}
 

@@ -1,9 +1,7 @@
 -- A text is written, and then another to the report.
 use Rattle.std.proofs.Common.{ℕ, ◌+◌, Result, Ok, Err, List, [], ◌++◌, length, take, ⊎_elim, inr, refl, ◌∙◌, length-append, arith}
-use Rattle.std.proofs.Math.Seq.{take-append-add}
-use Rattle.std.proofs.KnownBytes.{Appends-trans}
-use Rattle.link_wire.specs.Device.{Output}
-use Rattle.link_wire.specs.declared.IoFault.{IoFault}
+use Rattle.std.proofs.{Math.Seq.take-append-add, KnownBytes.Appends-trans}
+use Rattle.link_wire.specs.{Device.Output, declared.IoFault.IoFault}
 use Rattle.link_run.specs.Run.{◌then◌}
 use Rattle.link_run.specs.Writers.{on_output, on_report, Writes, WritesPart, AfterWrite}
 use Rattle.link_run.specs.declared.writers.Writers.{Writers}

@@ -1,30 +1,23 @@
 -- What is kept after one more event, and what is written for it.
 use Rattle.std.proofs.Common.{◌≡◌, ℕ, ◌+◌, ◌≤◌, Bool, true, false, not, ◌&&◌, ◌==◌, is_some, List, [], ◌∷◌, ◌++◌, length, Option, Result, Ok, Err, OnOk, refl, ap, sym, ◌∙◌, append-nil, append_assoc, arith}
 use Rattle.std.specs.List.{fold}
-use Rattle.std.proofs.Math.Bool.{and-true}
-use Rattle.std.proofs.lemmas.Grind.{fold-append}
-use Rattle.link_wire.specs.Codes.{is_start, is_end}
-use Rattle.link_wire.specs.Device.{Output}
-use Rattle.link_wire.specs.Message.{data_length}
-use Rattle.link_wire.specs.declared.IoFault.{IoFault}
-use Rattle.link_wire.specs.declared.message.Message.{Message}
+use Rattle.std.proofs.{Math.Bool.and-true, lemmas.Grind.fold-append}
+use Rattle.link_wire.specs.{Codes.{is_start, is_end}, Device.Output, Message.data_length}
+use Rattle.link_wire.specs.declared.{IoFault.IoFault, message.Message.Message}
 use Rattle.link_wire.specs.declared.message.Message.TheVariants as message
 use Rattle.link_wire.specs.declared.message.SegmentHead.{SegmentHead}
 use Rattle.link_transfer.specs.declared.joiner.Turn.{Turn}
-use Rattle.link_run.specs.Run.{no_texts, ◌then◌}
-use Rattle.link_run.specs.Writers.{on_output, on_report, AfterWrite}
+use Rattle.link_run.specs.{Run.{no_texts, ◌then◌}, Writers.{on_output, on_report, AfterWrite}}
 use Rattle.link_run.specs.declared.writers.Writers.{Writers}
 use Rattle.link_run.proofs.Runs.{texts_as}
 use Rattle.link_walk.specs.Walk.{Head, WalkEvent, MessageHead, closes as closes_head, is_last, is_beginning, open_with, open_after_event, data_size_of, data_size, has_open, abandons}
 use Rattle.link_walk.specs.Telling.{ComesAfter, Tells, data_ends}
 use Rattle.link_unpack.specs.Transfers.{Transfer, closes, continued}
 use Rattle.link_unpack.specs.Unpacking.{part_of, parts_of, order_line, Told, line_due, good_due, transfers_at, told_event, told_after, unpack_telling}
-use Rattle.link_unpack.specs.TransferJudge.{begun, grown}
-use Rattle.link_unpack.specs.TransferScan.{IsAtTransfer}
+use Rattle.link_unpack.specs.{TransferJudge.{begun, grown}, TransferScan.IsAtTransfer}
 use Rattle.link_unpack.specs.Unpacker.{IsAtLatest, KnowsTold}
 use Rattle.link_unpack.specs.declared.transfer.TransferScan.{TransferScan}
-use Rattle.link_unpack.specs.declared.unpacker.Unpacker.{Unpacker}
-use Rattle.link_unpack.specs.declared.wanted.Wanted.{Wanted}
+use Rattle.link_unpack.specs.declared.{unpacker.Unpacker.Unpacker, wanted.Wanted.Wanted}
 use Rattle.link_unpack.proofs.Events.{open_is, told_push, data_after, whole_if}
 use Rattle.link_unpack.proofs.Heads.{transfers_same, transfer_begins, transfer_continues}
 use Rattle.link_unpack.proofs.Effects.{zero_eq, Does, Strays, Passes, Begins, Continues, comes_does}

@@ -7,25 +7,20 @@ use Rattle.link_bundle_types.specs.declared.info.BundleInfo.{BundleInfo}
 use Rattle.link_bundle_blocks.specs.Bundle.{judged_bundle as judged_bytes, bundle_at, opening_at, verdict, payload_in}
 use Rattle.link_bundle.specs.Scan.{HasScanned}
 use Rattle.link_bundle.proofs.Pieces.{verdict_judged}
-use Rattle.link_report.specs.Judgement.{judged_transfer}
-use Rattle.link_report.specs.Transfer.{transfer_text}
+use Rattle.link_report.specs.{Judgement.judged_transfer, Transfer.transfer_text}
 use Rattle.link_report.specs.declared.judgement.Judgement.{Judgement}
 use Rattle.link_report.specs.declared.transfer.TransferEntry.{TransferEntry}
 use Rattle.link_transfer.specs.Announced.{announced_of}
-use Rattle.link_wire.specs.Codes.{is_start}
-use Rattle.link_wire.specs.MessageBuffer.{message_of, message_with, segment_items}
+use Rattle.link_wire.specs.{Codes.is_start, MessageBuffer.{message_of, message_with, segment_items}}
 use Rattle.link_wire.specs.declared.message.Item.{Item}
 use Rattle.link_wire.specs.declared.message.Fields.TheVariants as fields
 use Rattle.link_wire.specs.declared.message.Message.TheVariants.{Segment}
-use Rattle.link_wire.specs.declared.message.MessageBuffer.{MessageBuffer}
-use Rattle.link_wire.specs.declared.message.SegmentHead.{SegmentHead}
-use Rattle.link_unpack.specs.Transfers.{Transfer}
-use Rattle.link_unpack.specs.TransferJudge.{IsJudging, begun, grown}
+use Rattle.link_wire.specs.declared.message.{MessageBuffer.MessageBuffer, SegmentHead.SegmentHead}
+use Rattle.link_unpack.specs.{Transfers.Transfer, TransferJudge.{IsJudging, begun, grown}}
 use Rattle.link_unpack.specs.TransferScan.{IsAtTransfer}
 use Rattle.link_unpack.specs.Unpacking.{is_selected, part_of, parts_of, judgement_of, entry_of}
 use Rattle.link_unpack.specs.declared.judge.TransferJudge.{TransferJudge}
-use Rattle.link_unpack.specs.declared.transfer.TransferScan.{TransferScan}
-use Rattle.link_unpack.specs.declared.wanted.Wanted.{Wanted}
+use Rattle.link_unpack.specs.declared.{transfer.TransferScan.TransferScan, wanted.Wanted.Wanted}
 use Rattle.link_unpack.proofs.Texts.{parts_more}
 
 -- ---- a transfer begins

@@ -5,8 +5,7 @@ use Rattle.std.specs.List.{fold}
 use Rattle.link_wire.specs.declared.message.Message.{Message}
 use Rattle.link_bundle_blocks.specs.Bundle.{verdict, payload_in}
 use Rattle.link_transfer.specs.Announced.{announced_of}
-use Rattle.link_transfer.specs.declared.fault.OrderFault.{OrderFault}
-use Rattle.link_transfer.specs.declared.joiner.Turn.{Turn}
+use Rattle.link_transfer.specs.declared.{fault.OrderFault.OrderFault, joiner.Turn.Turn}
 use Rattle.link_report.specs.Fault.{fault_text}
 use Rattle.link_report.specs.declared.fault.Fault.TheVariants.{Order}
 use Rattle.link_report.specs.Judgement.{judged_transfer}

@@ -4,23 +4,18 @@ use Rattle.std.proofs.Common.{◌≡◌, ℕ, zero, suc, ◌+◌, ◌<◌, Bool,
 use Rattle.std.specs.List.{fold}
 use Rattle.std.proofs.Math.Bool.{and-true}
 use Rattle.std.proofs.lemmas.Bool.{cases_Bool, and_right, eq-eqb, ne_eqb, lt-ltb}
-use Rattle.std.proofs.lemmas.Grind.{fold-append}
-use Rattle.std.proofs.lemmas.List.{map-append}
+use Rattle.std.proofs.lemmas.{Grind.fold-append, List.map-append}
 use Rattle.std.proofs.lemmas.List.Elements.{All-head, All-tail}
-use Rattle.link_wire.specs.Inner.{inner_segment}
-use Rattle.link_wire.specs.Message.{data_length}
+use Rattle.link_wire.specs.{Inner.inner_segment, Message.data_length}
 use Rattle.link_wire.specs.Session.{joined, with_message, data_after, with_data, IsLeft}
 use Rattle.link_wire.specs.Stream.{Entry, End, Clean, Cut, Fault, Stream, ended, with_entry, Reading, cut_heads, heads_of}
-use Rattle.link_wire.specs.Whole.{is_quiet, IsQuiet}
-use Rattle.link_wire.specs.declared.message.Contact.{Contact}
+use Rattle.link_wire.specs.{Whole.{is_quiet, IsQuiet}, declared.message.Contact.Contact}
 use Rattle.link_wire.specs.declared.message.Message.{Message}
 use Rattle.link_wire.specs.declared.message.Message.TheVariants as message
-use Rattle.link_transfer.specs.Event.{event_of}
-use Rattle.link_transfer.specs.Joiner.{IsJoinerAt}
+use Rattle.link_transfer.specs.{Event.event_of, Joiner.IsJoinerAt}
 use Rattle.link_transfer.specs.Order.{continuable, effect_of, open_of, refusal, with_taken}
 use Rattle.link_transfer.specs.declared.event.Event.TheVariants as event
-use Rattle.link_transfer.specs.declared.fault.OrderFault.{OrderFault}
-use Rattle.link_transfer.specs.declared.joiner.Joiner.{Joiner}
+use Rattle.link_transfer.specs.declared.{fault.OrderFault.OrderFault, joiner.Joiner.Joiner}
 use Rattle.link_transfer.specs.declared.joiner.Turn.{Turn}
 use Rattle.link_transfer.specs.declared.joiner.Turn.TheVariants as turn
 use Rattle.link_transfer.proofs.Continuing.{may_continue, continues_open, joiner_stays}

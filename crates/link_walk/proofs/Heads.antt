@@ -1,12 +1,9 @@
 -- The heads of a reading that goes on, and what a message or an event does to the open transfer.
 use Rattle.std.proofs.Common.{◌≡◌, ℕ, zero, suc, ◌+◌, Bool, true, false, not, ◌&&◌, ◌==◌, nat_lt, is_some, List, [], ◌∷◌, ◌++◌, length, Option, Some, None, if◌then◌else◌, refl, ap, sym, ◌∙◌, append-nil, arith}
 use Rattle.std.specs.List.{fold}
-use Rattle.std.proofs.lemmas.Bool.{eq-eqb, ne_eqb}
-use Rattle.std.proofs.lemmas.Grind.{fold-append}
+use Rattle.std.proofs.lemmas.{Bool.{eq-eqb, ne_eqb}, Grind.fold-append}
 use Rattle.std.proofs.lemmas.List.Sums.{sum_by-cons, sum_by-append}
-use Rattle.link_wire.specs.Codes.{is_start, is_end}
-use Rattle.link_wire.specs.Message.{data_length}
-use Rattle.link_wire.specs.Session.{joined}
+use Rattle.link_wire.specs.{Codes.{is_start, is_end}, Message.data_length, Session.joined}
 use Rattle.link_wire.specs.Stream.{Entry, Clean, Cut, Stream, ended, with_entry, Reading, cut_heads, heads_of}
 use Rattle.link_wire.specs.declared.message.Message.{Message}
 use Rattle.link_wire.specs.declared.message.Message.TheVariants as message

@@ -3,8 +3,7 @@ use Rattle.std.proofs.Common.{◌≡◌, List, [], ◌∷◌, ◌++◌, Option, 
 use Rattle.link_wire.specs.declared.message.Message.{Message}
 use Rattle.link_transfer.specs.Event.{event_of}
 use Rattle.link_transfer.specs.Order.{has_sess_init, has_sess_term, is_stray, effect_of, effect_by, open_of, refusal, turn_of, with_taken, appended_unless, judged_message, judged_message_by}
-use Rattle.link_transfer.specs.declared.event.Event.{Event}
-use Rattle.link_transfer.specs.declared.fault.OrderFault.{OrderFault}
+use Rattle.link_transfer.specs.declared.{event.Event.Event, fault.OrderFault.OrderFault}
 use Rattle.link_transfer.specs.declared.joiner.Turn.{Turn}
 use Rattle.link_transfer.proofs.Joining.{not_stray}
 

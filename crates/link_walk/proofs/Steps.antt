@@ -3,36 +3,27 @@ use Rattle.std.proofs.Common.{◌≡◌, ℕ, ◌+◌, ◌^◌, ◌<◌, ◌≤�
 use Rattle.std.specs.Io.KnownBytes.{Consumes}
 use Rattle.std.proofs.KnownBytes.{Consumes-trans}
 use Rattle.link_io.proofs.Sources.{Takes-none, Takes-then}
-use Rattle.link_wire.specs.Device.{Input}
-use Rattle.link_wire.specs.Inner.{PassedInner}
-use Rattle.link_wire.specs.Limits.{longest_head}
+use Rattle.link_wire.specs.{Device.Input, Inner.PassedInner, Limits.longest_head}
 use Rattle.link_wire.specs.Message.{data_length}
 use Rattle.link_wire.specs.Session.{source_of, left_of, IsLeft, IsSessionAt, ReadContact, CleanEnd, ReadMessage, LoadedData, PassedBytes, with_message, with_data}
 use Rattle.link_wire.specs.Source.{Takes, ahead, given_by}
 use Rattle.link_wire.specs.Stream.{Entry, Clean, Cut, Stream, ended, with_entry, Reading, reading_of, cut_heads}
-use Rattle.link_wire.specs.Whole.{PassedQuiet}
-use Rattle.link_wire.specs.declared.IoFault.{IoFault}
-use Rattle.link_wire.specs.declared.message.Contact.{Contact}
-use Rattle.link_wire.specs.declared.message.Message.{Message}
+use Rattle.link_wire.specs.{Whole.PassedQuiet, declared.IoFault.IoFault}
+use Rattle.link_wire.specs.declared.message.{Contact.Contact, Message.Message}
 use Rattle.link_wire.specs.declared.session.Session.{Session}
-use Rattle.link_transfer.specs.Event.{event_of}
-use Rattle.link_transfer.specs.Joiner.{IsJoinerAt}
+use Rattle.link_transfer.specs.{Event.event_of, Joiner.IsJoinerAt}
 use Rattle.link_transfer.specs.Order.{continuable, effect_of, with_taken}
 use Rattle.link_transfer.specs.declared.event.Event.TheVariants.{Segment}
-use Rattle.link_transfer.specs.declared.fault.OrderFault.{OrderFault}
-use Rattle.link_transfer.specs.declared.joiner.Joiner.{Joiner}
+use Rattle.link_transfer.specs.declared.{fault.OrderFault.OrderFault, joiner.Joiner.Joiner}
 use Rattle.link_transfer.proofs.Continuing.{continues_open, may_continue}
-use Rattle.link_report.specs.Fault.{fault_text}
-use Rattle.link_report.specs.declared.fault.Fault.TheVariants.{Order}
+use Rattle.link_report.specs.{Fault.fault_text, declared.fault.Fault.TheVariants.Order}
 use Rattle.link_run.specs.Made.{Made, StreamStop, with_fault, whole_by, shows_fault, stop_of, tool_of}
 use Rattle.link_run.specs.Run.{Texts, ◌then◌, Looks, Devices, devices_at, LastStep}
 use Rattle.link_run.specs.Writers.{place_of, on_report, AfterLastWrite}
-use Rattle.link_run.specs.declared.run.Status.{Status}
-use Rattle.link_run.specs.declared.writers.Writers.{Writers}
+use Rattle.link_run.specs.declared.{run.Status.Status, writers.Writers.Writers}
 use Rattle.link_run.proofs.Ends.{ends_unshown, made_reports, unshown_sofar}
 use Rattle.link_run.proofs.Runs.{few_over, sound_given, writer_lost, written_given}
-use Rattle.link_run.proofs.Sessions.{then_fault, part_unshown}
-use Rattle.link_run.proofs.Stands.{ends, stands_on}
+use Rattle.link_run.proofs.{Sessions.{then_fault, part_unshown}, Stands.{ends, stands_on}}
 use Rattle.link_walk.specs.Telling.{ComesAfter, Tells, data_ends, inner_events, inner_head}
 use Rattle.link_walk.specs.Walk.{head_at, is_plain, WalkEvent, ContactHeader, MessageHead, Whole, data_events, data_size, data_size_of, has_open, Walked, walked, head_events, Telling, told_by, told_of}
 use Rattle.link_walk.specs.WalkRun.{Walks, WalkStands, StandsAt, StandsNext, AfterWalkStep, IsWaitingAfter, Finishes, TakesInner, most_by, next_of, stage_by}

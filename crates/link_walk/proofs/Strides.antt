@@ -1,29 +1,21 @@
 -- Steps of a walk, one after another, make a stride.
 use Rattle.std.proofs.Common.{false, ◌≡◌, ℕ, ◌+◌, ◌<◌, true, IsTrue, List, ◌++◌, length, Ok, ⊎_elim, arith}
 use Rattle.std.proofs.lemmas.Bool.{cases_lt}
-use Rattle.link_wire.specs.Device.{Input}
-use Rattle.link_wire.specs.Limits.{window_size}
-use Rattle.link_wire.specs.Session.{source_of, IsSessionAt}
-use Rattle.link_wire.specs.Source.{window_of, Takes}
-use Rattle.link_wire.specs.Stream.{reading_of}
-use Rattle.link_wire.specs.declared.Source.{Source}
+use Rattle.link_wire.specs.{Device.Input, Limits.window_size, Session.{source_of, IsSessionAt}}
+use Rattle.link_wire.specs.{Source.{window_of, Takes}, Stream.reading_of, declared.Source.Source}
 use Rattle.link_wire.specs.declared.session.Session.{Session}
 use Rattle.link_transfer.specs.declared.joiner.Joiner.{Joiner}
-use Rattle.link_run.specs.Made.{tool_of}
-use Rattle.link_run.specs.Run.{Looks, Devices, WentOn, AfterStep}
-use Rattle.link_run.specs.Stages.{IsMore, AfterStage, AfterStageStride}
-use Rattle.link_run.specs.Writers.{place_of}
+use Rattle.link_run.specs.{Made.tool_of, Run.{Looks, Devices, WentOn, AfterStep}}
+use Rattle.link_run.specs.{Stages.{IsMore, AfterStage, AfterStageStride}, Writers.place_of}
 use Rattle.link_run.specs.declared.writers.Writers.{Writers}
-use Rattle.link_run.proofs.Stands.{last_step}
-use Rattle.link_run.proofs.Strides.{went_with, step_then}
+use Rattle.link_run.proofs.{Stands.last_step, Strides.{went_with, step_then}}
 use Rattle.link_walk.specs.Walk.{WalkEvent, Telling, told_of}
 use Rattle.link_walk.specs.WalkRun.{most_by, most_given, may_go_on, may_follow, progress_of, stage_after, Walks, IsWalking, StandsIf, PassesQuiet, AfterWalkStep, AfterWalkStride, TakesInner, walked_before}
 use Rattle.link_walk.specs.declared.walk.Next.{Next}
 use Rattle.link_walk.specs.declared.walk.Next.TheVariants as next
 use Rattle.link_walk.specs.declared.walk.Stage.{Stage}
 use Rattle.link_walk.specs.declared.walk.Stage.TheVariants as stage
-use Rattle.link_walk.proofs.Steps.{passed_on}
-use Rattle.link_walk.proofs.Comes.{never_contact}
+use Rattle.link_walk.proofs.{Steps.passed_on, Comes.never_contact}
 
 -- each step may be given a byte
 pub most_some : (piece : ℕ) (now : Stage) → 0 < piece → 0 < most_by piece now

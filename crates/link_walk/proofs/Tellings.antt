@@ -1,11 +1,9 @@
 -- Heads of which a tool is not told.
 use Rattle.std.proofs.Common.{◌≡◌, Bool, true, false, List, [], ◌++◌, Ok, refl, ap, sym, ◌∙◌, subst, append-nil}
 use Rattle.link_wire.specs.Device.{Output}
-use Rattle.link_run.specs.Run.{no_texts}
-use Rattle.link_run.specs.declared.writers.Writers.{Writers}
+use Rattle.link_run.specs.{Run.no_texts, declared.writers.Writers.Writers}
 use Rattle.link_run.proofs.Runs.{then_none, writes_none}
-use Rattle.link_walk.specs.Walk.{Head, is_plain, head_events, WalkEvent, Telling}
-use Rattle.link_walk.specs.Telling.{Tells}
+use Rattle.link_walk.specs.{Walk.{Head, is_plain, head_events, WalkEvent, Telling}, Telling.Tells}
 
 -- a plain head is no event for a tool that does not want all heads
 pub plain_no_event : (all : Bool) (head : Head) → all ≡ false → is_plain head ≡ true

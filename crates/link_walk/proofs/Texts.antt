@@ -3,25 +3,19 @@
 use Rattle.std.proofs.Common.{◌≡◌, ℕ, ◌<◌, Bool, true, false, List, [], ◌∷◌, ◌++◌, Option, Some, None, Result, Ok, Err, refl, ap, sym, ◌∙◌, ⊎_elim, append_assoc}
 use Rattle.std.specs.List.{fold}
 use Rattle.std.proofs.lemmas.List.Folds.{fold_stays}
-use Rattle.link_wire.specs.Device.{Input}
-use Rattle.link_wire.specs.Message.{contact_at}
-use Rattle.link_wire.specs.Session.{IsLeft, left_of}
+use Rattle.link_wire.specs.{Device.Input, Message.contact_at, Session.{IsLeft, left_of}}
 use Rattle.link_wire.specs.Stream.{Entry, End, Clean, Cut, Fault, Stream, Reading, reading_by, reading_of, cut_heads, heads_of}
-use Rattle.link_wire.specs.declared.fault.WireFault.{WireFault}
-use Rattle.link_wire.specs.declared.message.Contact.{Contact}
+use Rattle.link_wire.specs.declared.{fault.WireFault.WireFault, message.Contact.Contact}
 use Rattle.link_wire.specs.declared.session.Session.{Session}
 use Rattle.link_wire.proofs.Contacts.{reading-none}
-use Rattle.link_transfer.specs.Event.{event_of}
-use Rattle.link_transfer.specs.Order.{refusal}
-use Rattle.link_transfer.specs.declared.fault.OrderFault.{OrderFault}
+use Rattle.link_transfer.specs.{Event.event_of, Order.refusal, declared.fault.OrderFault.OrderFault}
 use Rattle.link_transfer.specs.declared.joiner.Joiner.{Joiner}
 use Rattle.link_run.specs.Made.{Made, IsLasting, shows_fault, stop_of}
 use Rattle.link_run.proofs.Continued.{LastGoesOn, ReadingGoesOn, reading_on}
 use Rattle.link_run.proofs.Sessions.{IsUncut, SameTexts}
 use Rattle.link_walk.specs.Walk.{WalkEvent, Walked, with_judged, with_entry_unless, with_next, none_walked, walked_of, walked, Telling, stop_by, told_by, told_of}
 use Rattle.link_walk.specs.declared.consumer.Manner.{Manner}
-use Rattle.link_walk.specs.WalkRun.{IsWaiting, Walks, walked_before}
-use Rattle.link_walk.specs.declared.walk.Stage.{Stage}
+use Rattle.link_walk.specs.{WalkRun.{IsWaiting, Walks, walked_before}, declared.walk.Stage.Stage}
 use Rattle.link_walk.specs.declared.walk.Stage.TheVariants as stage
 use Rattle.link_walk.proofs.Heads.{entry}
 

@@ -1,9 +1,7 @@
 -- A tool that keeps something of the events so far. What it says of an event follows from what it
 -- has kept of those before. What `Consumer` asks of such a tool follows from one event at a time.
-use Rattle.std.specs.Prelude.{◌≡◌, Bool, List, [], ◌∷◌, ◌++◌, Result, Ok, Err, OnOk}
-use Rattle.std.specs.List.{fold}
-use Rattle.std.proofs.Common.{refl, ap, sym, ◌∙◌}
-use Rattle.std.proofs.lemmas.Grind.{fold-append}
+use Rattle.std.specs.{Prelude.{◌≡◌, Bool, List, [], ◌∷◌, ◌++◌, Result, Ok, Err, OnOk}, List.fold}
+use Rattle.std.proofs.{Common.{refl, ap, sym, ◌∙◌}, lemmas.Grind.fold-append}
 use Rattle.link_wire.specs.Device.{Output}
 use Rattle.link_wire.specs.declared.IoFault.{IoFault}
 use Rattle.link_run.specs.Run.{Texts, no_texts, ◌then◌}

@@ -3,16 +3,14 @@ use Rattle.std.specs.Prelude.{◌≡◌, ℕ, ◌+◌, ◌^◌, ◌<◌, Bool, t
 use Rattle.link_wire.specs.Device.{Output}
 use Rattle.link_wire.specs.Inner.{inner_segment}
 use Rattle.link_wire.specs.MessageBuffer.{SegmentHasTotals, message_of}
-use Rattle.link_wire.specs.declared.IoFault.{IoFault}
-use Rattle.link_wire.specs.declared.message.Message.{Message}
+use Rattle.link_wire.specs.declared.{IoFault.IoFault, message.Message.Message}
 use Rattle.link_transfer.specs.Order.{open_of}
 use Rattle.link_transfer.specs.declared.joiner.Turn.TheVariants.{Continue}
 use Rattle.link_run.specs.Run.{Texts, ◌then◌}
 use Rattle.link_run.specs.Writers.{AfterWrite}
 use Rattle.link_run.specs.declared.writers.Writers.{Writers}
 use Rattle.link_walk.specs.Walk.{Head, head_at, WalkEvent, ContactHeader, MessageHead, Whole, LeftOpen, data_events, data_size, has_open, head_events, Telling}
-use Rattle.link_walk.specs.declared.consumer.Manner.{Manner}
-use Rattle.link_walk.specs.declared.consumer.EventView.{EventView}
+use Rattle.link_walk.specs.declared.consumer.{Manner.Manner, EventView.EventView}
 use Rattle.link_walk.specs.declared.consumer.EventView.TheVariants as view
 use Rattle.link_walk.specs.declared.head.HeadView.{HeadView}
 

@@ -6,14 +6,12 @@ use Rattle.link_wire.specs.Session.{source_of, IsSessionAt, may_open, may_read, 
 use Rattle.link_wire.specs.Source.{Takes}
 use Rattle.link_wire.specs.Stream.{End, Clean, Cut, Fault, Reading, reading_of}
 use Rattle.link_wire.specs.Whole.{PassedQuiet}
-use Rattle.link_wire.specs.declared.IoFault.{IoFault}
-use Rattle.link_wire.specs.declared.message.Message.{Message}
+use Rattle.link_wire.specs.declared.{IoFault.IoFault, message.Message.Message}
 use Rattle.link_wire.specs.declared.session.Session.{Session}
 use Rattle.link_transfer.specs.Event.{event_of}
 use Rattle.link_transfer.specs.Joiner.{IsJoinerAt}
 use Rattle.link_transfer.specs.Order.{open_of, effect_of}
-use Rattle.link_transfer.specs.declared.fault.OrderFault.{OrderFault}
-use Rattle.link_transfer.specs.declared.joiner.Joiner.{Joiner}
+use Rattle.link_transfer.specs.declared.{fault.OrderFault.OrderFault, joiner.Joiner.Joiner}
 use Rattle.link_transfer.specs.declared.joiner.Turn.{Turn}
 use Rattle.link_report.specs.Fault.{fault_text}
 use Rattle.link_report.specs.declared.fault.Fault.TheVariants.{Order}
@@ -22,10 +20,8 @@ use Rattle.link_run.specs.Run.{Texts, ◌then◌, Looks, Devices, devices_at, En
 use Rattle.link_run.specs.Reading.{feed_of, SessionWaits}
 use Rattle.link_run.specs.Stages.{Stands}
 use Rattle.link_run.specs.Writers.{place_of, on_report, AfterLastWrite}
-use Rattle.link_run.specs.declared.input.Input.{Input}
-use Rattle.link_run.specs.declared.run.Progress.{Progress}
-use Rattle.link_run.specs.declared.run.Progress.TheVariants.{More}
-use Rattle.link_run.specs.declared.run.Status.{Status}
+use Rattle.link_run.specs.declared.{input.Input.Input, run.Progress.Progress}
+use Rattle.link_run.specs.declared.run.{Progress.TheVariants.More, Status.Status}
 use Rattle.link_run.specs.declared.writers.Writers.{Writers}
 use Rattle.link_walk.specs.Walk.{Head, is_last, WalkEvent, data_size, has_open, Walked, walked, walked_of, Telling, told_of, end_events, head_events}
 use Rattle.link_walk.specs.declared.consumer.Manner.{Manner}

@@ -1,28 +1,23 @@
 -- Whatever is read from bytes is spelled in them.
 use Rattle.std.proofs.Common.{◌≡◌, ℕ, zero, suc, ◌+◌, ◌-◌, ◌*◌, ◌%◌, ◌^◌, ◌<◌, ◌≤◌, Bool, true, false, eqb, List, [], ◌∷◌, ◌++◌, slice_index, length, take, drop, Some, None, Ok, Err, nat_lt, if◌then◌else◌, arith, refl, ap, sym, ◌∙◌, subst, append_assoc, append-nil, length-append, ⊎_elim}
-use Rattle.std.proofs.Math.Nat.{add-mul, mul_assoc, pow-succ'}
-use Rattle.std.proofs.lemmas.Nat.{div-mul-add}
+use Rattle.std.proofs.{Math.Nat.{add-mul, mul_assoc, pow-succ'}, lemmas.Nat.div-mul-add}
 use Rattle.std.proofs.Math.Seq.{drop-append_seam, take-append_seam}
 use Rattle.std.proofs.lemmas.List.{get_or_past, take-append-drop, length-take-le}
 use Rattle.std.proofs.lemmas.List.Elements.{All-drop, All-get_or, All-head, All-tail, All-take}
 use Rattle.std.proofs.lemmas.Bool.{cases_lt, ltb-false, eqb-true}
 use Rattle.std.specs.Int.{byte_at, bytes_high_first}
-use Rattle.byteorder.specs.Endian.{big_number, big_from}
-use Rattle.byteorder.specs.Numbers.{big_from-cons, big_from-lt}
+use Rattle.byteorder.specs.{Endian.{big_number, big_from}, Numbers.{big_from-cons, big_from-lt}}
 use Rattle.link_io.specs.Bytes.{IsByte, AreBytes}
 use Rattle.link_wire.specs.Part.{Part, ◌>>=◌, bytes_at, number_at}
 use Rattle.link_wire.proofs.FieldReads.{bytes_gone, same_part, both_read}
 use Rattle.link_wire.specs.Spelled.{Spelling, be, U8, U16, U32, U64, These, FollowedBy, ContactSpelled, NodeSpelled, ItemHeadSpelled, ValueSpelled, total_of, ItemSpelled, ItemsSpelled, ListSpelled, SegmentItemsSpelled, HeadSpelled}
 use Rattle.link_wire.proofs.Sound.{both, last, ItemsFilling, has_total_size, length_item_head}
-use Rattle.link_wire.specs.declared.message.ListOf.{ListOf}
-use Rattle.link_wire.specs.declared.message.ListOf.TheVariants.{Session, Transfer}
-use Rattle.link_wire.specs.Codes.{is_start}
-use Rattle.link_wire.specs.Limits.{longest_node, longest_list, most_items}
+use Rattle.link_wire.specs.declared.message.{ListOf.ListOf, ListOf.TheVariants.{Session, Transfer}}
+use Rattle.link_wire.specs.{Codes.is_start, Limits.{longest_node, longest_list, most_items}}
 use Rattle.link_wire.specs.Message.{contact_at, skipped_at, total_at, item_head_at, items_at, items_of, list_at, node_bytes_at, node_at, segment_items_at, segment_at, ack_at, refuse_at, sess_term_at, msg_reject_at, sess_init_at, fields_at, message_at, is_total_length}
 use Rattle.link_wire.specs.declared.fault.WireFault.{WireFault}
 use Rattle.link_wire.specs.declared.fault.WireFault.TheVariants.{BadMagic, BadVersion, UnknownType, NodeIdTooLong, ListTooLong, TooManyItems, ItemsOverrun}
-use Rattle.link_wire.specs.declared.message.Item.{Item}
-use Rattle.link_wire.specs.declared.list.ItemHead.{ItemHead}
+use Rattle.link_wire.specs.declared.{message.Item.Item, list.ItemHead.ItemHead}
 use Rattle.link_wire.specs.declared.message.Message.TheVariants.{SessInit, Segment, Ack, Refuse, Keepalive, SessTerm, MsgReject}
 
 AreBytes-before : (xs ys : List ℕ) → AreBytes (xs ++ ys) → AreBytes xs

@@ -3,10 +3,8 @@ use Rattle.std.proofs.Common.{◌≡◌, ℕ, ◌+◌, Bool, true, false, List, 
 use Rattle.byteorder.specs.Endian.{big_number}
 use Rattle.link_wire.specs.Part.{bytes_at}
 use Rattle.link_wire.proofs.FieldReads.{bytes_gone, both_read}
-use Rattle.link_wire.specs.Message.{contact_at}
-use Rattle.link_wire.specs.Stream.{Fault, stream_at, reading_of, reading_by}
-use Rattle.link_wire.specs.declared.fault.WireFault.{WireFault}
-use Rattle.link_wire.specs.declared.fault.WireFault.TheVariants.{Truncated}
+use Rattle.link_wire.specs.{Message.contact_at, Stream.{Fault, stream_at, reading_of, reading_by}}
+use Rattle.link_wire.specs.declared.fault.{WireFault.WireFault, WireFault.TheVariants.Truncated}
 use Rattle.link_wire.specs.declared.message.Contact.{Contact}
 
 -- if a value was read, both tests were passed

@@ -4,8 +4,7 @@ use Rattle.std.proofs.lemmas.Bool.{cases_lt, lt-ltb, le-ltb, ne_eqb}
 use Rattle.std.proofs.Math.Seq.{take-append_seam, drop-append_seam}
 use Rattle.arrayvec.specs.ArrayVec.{ArrayVec}
 use Rattle.byteorder.specs.Endian.{big_number}
-use Rattle.link_wire.specs.Getting.{IsPart}
-use Rattle.link_wire.specs.Message.{fields_at}
+use Rattle.link_wire.specs.{Getting.IsPart, Message.fields_at}
 use Rattle.link_wire.specs.Part.{Part, ◌>>=◌, bytes_at, number_at}
 use Rattle.link_wire.specs.declared.fault.WireFault.{WireFault}
 use Rattle.link_wire.specs.declared.fault.WireFault.TheVariants.{Truncated, UnknownType}

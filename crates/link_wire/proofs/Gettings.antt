@@ -2,19 +2,15 @@
 use Rattle.std.proofs.Common.{◌≡◌, ◌≢◌, ◌+◌, ◌-◌, ◌≤◌, ℕ, Bool, true, false, List, [], ◌++◌, length, take, Result, Ok, Err, if◌then◌else◌, ap, sym, ◌∙◌, subst, refl, append_assoc, length-append, slice_index, arith, ⊎_elim}
 use mathlib.Core.Path.{fun_ext}
 use Rattle.std.specs.Prelude.{IsErrAnd}
-use Rattle.std.proofs.lemmas.Bool.{cases_lt}
-use Rattle.std.proofs.lemmas.List.{take-append-le}
-use Rattle.std.proofs.Math.Seq.{take-append-add}
+use Rattle.std.proofs.{lemmas.Bool.cases_lt, lemmas.List.take-append-le, Math.Seq.take-append-add}
 use Rattle.byteorder.specs.Endian.{big_number}
 use Rattle.link_io.specs.Device.{Input}
-use Rattle.link_wire.specs.Part.{Part, ◌>>=◌, bytes_at, number_at}
-use Rattle.link_wire.specs.Message.{skipped_at}
+use Rattle.link_wire.specs.{Part.{Part, ◌>>=◌, bytes_at, number_at}, Message.skipped_at}
 use Rattle.link_wire.proofs.Skips.{skipped_at-there, skipped_at-add}
 use Rattle.link_io.specs.Source.{IsLive}
 use Rattle.link_io.proofs.Sources.{Takes-none, Takes-then, StopsAfter-then}
 use Rattle.link_wire.specs.Getting.{Needs, IsPart, IsFault, Gets, with_value}
-use Rattle.link_wire.specs.declared.fault.WireFault.{WireFault}
-use Rattle.link_wire.specs.declared.fault.WireFault.TheVariants.{Truncated}
+use Rattle.link_wire.specs.declared.fault.{WireFault.WireFault, WireFault.TheVariants.Truncated}
 use Rattle.link_wire.specs.declared.halt.Halt.{Halt}
 use Rattle.link_wire.specs.declared.halt.Halt.TheVariants as halt
 use Rattle.link_io.specs.declared.source.Source.{Source}

@@ -1,20 +1,16 @@
 -- Inner segments that lie whole in a window, with their data.
 use Rattle.std.proofs.Common.{◌≡◌, ℕ, ◌+◌, ◌-◌, ◌<◌, ◌≤◌, List, [], ◌∷◌, ◌++◌, length, take, drop, slice_index, slice_range, refl, ap, sym, subst, arith, length-take, length-drop}
 use Rattle.byteorder.specs.Endian.{big_number}
-use Rattle.link_io.specs.Device.{Input}
-use Rattle.link_io.specs.Source.{window_of, IsLive, Takes}
+use Rattle.link_io.specs.{Device.Input, Source.{window_of, IsLive, Takes}}
 use Rattle.link_io.specs.declared.source.Source.{Source}
-use Rattle.link_wire.specs.Codes.{is_start}
-use Rattle.link_wire.specs.Getting.{IsPart}
+use Rattle.link_wire.specs.{Codes.is_start, Getting.IsPart}
 use Rattle.link_wire.specs.Inner.{inner_segment, IsInner, inner_bytes, PassedInner}
-use Rattle.link_wire.specs.Message.{message_at}
-use Rattle.link_wire.specs.MessageBuffer.{segment_items}
+use Rattle.link_wire.specs.{Message.message_at, MessageBuffer.segment_items}
 use Rattle.link_wire.specs.Session.{IsSessionAt, ReadMessage}
 use Rattle.link_wire.specs.declared.message.Message.TheVariants.{Segment}
 use Rattle.link_wire.specs.declared.session.Phase.TheVariants as phase
 use Rattle.link_wire.specs.declared.session.Session.{Session}
-use Rattle.link_wire.proofs.Plains.{later_head}
-use Rattle.link_wire.proofs.Sessions.{came, data_given}
+use Rattle.link_wire.proofs.{Plains.later_head, Sessions.{came, data_given}}
 
 -- the type byte and the flags, from the number that they are together
 pub two_bytes : (window : List ℕ) → 2 ≤ length window → slice_index window 1 < 256

@@ -3,10 +3,8 @@ use Rattle.std.proofs.Common.{◌≡◌, ℕ, zero, suc, ◌+◌, ◌-◌, ◌<�
 use Rattle.link_wire.specs.Part.{Part}
 use Rattle.link_wire.proofs.Items.{item_of, some_left}
 use Rattle.link_wire.specs.Message.{item_head_at, total_at, items_at, items_of}
-use Rattle.link_wire.specs.declared.fault.WireFault.{WireFault}
-use Rattle.link_wire.specs.declared.fault.WireFault.TheVariants.{TooManyItems}
-use Rattle.link_wire.specs.declared.list.ItemHead.{ItemHead}
-use Rattle.link_wire.specs.declared.message.Item.{Item}
+use Rattle.link_wire.specs.declared.fault.{WireFault.WireFault, WireFault.TheVariants.TooManyItems}
+use Rattle.link_wire.specs.declared.{list.ItemHead.ItemHead, message.Item.Item}
 use Rattle.link_wire.specs.declared.message.ListOf.{ListOf}
 
 -- puts items before those that were read

@@ -1,8 +1,7 @@
 -- The items of a list, one after another.
 use Rattle.std.proofs.Common.{◌≡◌, ℕ, zero, suc, ◌+◌, ◌-◌, ◌<◌, List, [], ◌∷◌, ◌++◌, Option, Result, Ok, Err, eqb, false, arith, refl, ap, sym, append_assoc}
 use Rattle.std.proofs.lemmas.Bool.{ne_eqb}
-use Rattle.link_io.specs.Device.{Input}
-use Rattle.link_io.specs.Source.{IsLive}
+use Rattle.link_io.specs.{Device.Input, Source.IsLive}
 use Rattle.link_wire.specs.Getting.{Gets}
 use Rattle.link_wire.proofs.Gettings.{exit, after, pure, refuse, is_live, if_false}
 use Rattle.link_wire.specs.declared.message.ListOf.{ListOf}
@@ -10,8 +9,7 @@ use Rattle.link_wire.specs.Message.{item_head_at, total_at, items_at}
 use Rattle.link_wire.specs.declared.fault.WireFault.TheVariants as wire
 use Rattle.link_wire.specs.declared.halt.Halt.{Halt}
 use Rattle.link_wire.specs.declared.halt.Halt.TheVariants as halt
-use Rattle.link_wire.specs.declared.list.ItemHead.{ItemHead}
-use Rattle.link_wire.specs.declared.message.Item.{Item}
+use Rattle.link_wire.specs.declared.{list.ItemHead.ItemHead, message.Item.Item}
 use Rattle.link_io.specs.declared.source.Source.{Source}
 
 -- puts items before those that were read

@@ -1,8 +1,7 @@
 -- Every list of bytes has exactly one reading.
 use Rattle.std.proofs.Common.{◌≡◌, ℕ, zero, suc, ◌+◌, ◌<◌, ◌≤◌, true, false, List, [], ◌∷◌, ◌++◌, length, take, drop, Option, Some, None, Result, Ok, Err, nat_lt, arith, refl, ap, sym, ◌∙◌, subst, append_assoc, length-append, length-drop, ⊎_elim}
 use Rattle.std.proofs.lemmas.Bool.{cases_lt, lt-ltb, le-ltb}
-use Rattle.std.proofs.lemmas.List.{take-append-drop, length-take-le}
-use Rattle.std.proofs.lemmas.List.Elements.{All-take}
+use Rattle.std.proofs.lemmas.{List.{take-append-drop, length-take-le}, List.Elements.All-take}
 use Rattle.std.proofs.Math.Seq.{take-append_seam, drop-append_seam}
 use Rattle.link_io.specs.Bytes.{IsByte, AreBytes}
 use Rattle.link_wire.specs.Part.{Part}
@@ -14,8 +13,7 @@ use Rattle.link_wire.proofs.Complete.{AreBytes-after, found_contact, found_messa
 use Rattle.link_wire.specs.SpelledStream.{NoneBegins, IsStream, IsReadingBy, IsReading}
 use Rattle.link_wire.specs.Stream.{Entry, End, Clean, Cut, Fault, Stream, ended, with_entry, with_data_of, stream_at, Reading, reading_by, reading_of}
 use Rattle.link_wire.proofs.Streams.{stream_at-nil, stream_at-head, stream_at-fault}
-use Rattle.link_wire.specs.declared.fault.WireFault.{WireFault}
-use Rattle.link_wire.specs.declared.message.Contact.{Contact}
+use Rattle.link_wire.specs.declared.{fault.WireFault.WireFault, message.Contact.Contact}
 use Rattle.link_wire.specs.declared.message.Message.{Message}
 
 -- the data after a head is whole

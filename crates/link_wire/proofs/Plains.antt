@@ -1,20 +1,14 @@
 -- Heads that are read in place: the fields at their indices in a window are the parts of a message.
 use Rattle.std.proofs.Common.{◌≡◌, ℕ, zero, suc, ◌+◌, ◌*◌, ◌<◌, ◌≤◌, Bool, true, false, List, [], ◌∷◌, ◌++◌, length, take, drop, slice_index, slice_range, Ok, Err, nat_lt, if◌then◌else◌, arith, refl, ap, sym, ◌∙◌, subst, append-nil, length-take, length-drop}
-use Rattle.std.proofs.lemmas.List.{drop-drop}
-use Rattle.std.proofs.Math.Seq.{take-add}
+use Rattle.std.proofs.{lemmas.List.drop-drop, Math.Seq.take-add}
 use Rattle.arrayvec.specs.ArrayVec.{ArrayVec}
 use Rattle.byteorder.specs.Endian.{big_number}
-use Rattle.link_wire.specs.Codes.{is_start}
-use Rattle.link_wire.specs.Getting.{IsPart}
+use Rattle.link_wire.specs.{Codes.is_start, Getting.IsPart}
 use Rattle.link_wire.specs.Message.{list_at, items_of, items_at, segment_items_at, segment_at, ack_at, refuse_at, sess_term_at, msg_reject_at, fields_at, message_at}
-use Rattle.link_wire.specs.MessageBuffer.{segment_items}
-use Rattle.link_wire.specs.Part.{Part, ◌>>=◌, bytes_at, number_at}
-use Rattle.link_wire.proofs.FieldReads.{bytes_at-there, bytes_at-short}
-use Rattle.link_wire.proofs.Gettings.{IsPart-then}
-use Rattle.link_wire.specs.declared.fault.WireFault.TheVariants.{ListTooLong}
-use Rattle.link_wire.specs.declared.message.Item.{Item}
-use Rattle.link_wire.specs.declared.message.ListOf.TheVariants.{Transfer}
-use Rattle.link_wire.specs.declared.message.Message.{Message}
+use Rattle.link_wire.specs.{MessageBuffer.segment_items, Part.{Part, ◌>>=◌, bytes_at, number_at}}
+use Rattle.link_wire.proofs.{FieldReads.{bytes_at-there, bytes_at-short}, Gettings.IsPart-then}
+use Rattle.link_wire.specs.declared.{fault.WireFault.TheVariants.ListTooLong, message.Item.Item}
+use Rattle.link_wire.specs.declared.message.{ListOf.TheVariants.Transfer, Message.Message}
 use Rattle.link_wire.specs.declared.message.Message.TheVariants.{Segment, Ack, Refuse, Keepalive, SessTerm, MsgReject}
 
 -- a value that needs no byte

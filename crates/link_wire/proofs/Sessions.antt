@@ -1,35 +1,29 @@
 -- How each call of a session changes its state.
 use Rattle.std.proofs.Common.{⊎_elim, ◌⊎◌, inl, inr, ◌≡◌, ℕ, ◌+◌, ◌<◌, true, eqb, eqb-true, List, [], ◌∷◌, ◌++◌, length, take, drop, Some, Result, Ok, Err, arith, refl, ap, sym, ◌∙◌, subst, append_assoc, append-nil, length-append}
 use Rattle.std.specs.Prelude.{IsErrAnd}
-use Rattle.std.proofs.lemmas.Bool.{cases_lt}
-use Rattle.std.proofs.lemmas.List.{nil_from_length, take-append-drop}
+use Rattle.std.proofs.lemmas.{Bool.cases_lt, List.{nil_from_length, take-append-drop}}
 use Rattle.link_io.specs.Device.{Input}
 use Rattle.link_wire.specs.Part.{Part, number_at}
 use Rattle.link_wire.specs.Message.{contact_at, message_at, fields_at, data_length}
 use Rattle.link_io.specs.Source.{window_of, is_fresh, IsSourceAt, IsLive, IsOver, Takes, Readies}
-use Rattle.link_wire.specs.Limits.{window_size}
-use Rattle.link_wire.specs.Getting.{Needs, IsFault, WholePart, Gets, OneKind}
+use Rattle.link_wire.specs.{Limits.window_size, Getting.{Needs, IsFault, WholePart, Gets, OneKind}}
 use Rattle.link_wire.specs.Stream.{Entry, End, Clean, Cut, Fault, Stream, ended, stream_at, Reading, reading_of}
 use Rattle.link_wire.specs.Session.{joined, data_after, with_data, rest_after, IsLeft, IsUndecided, SameMessages, ShownLast, is_unopened, reads_next, may_open, may_read, left_of, HasStopped, IsSessionAt, ReadContact, AfterOpen, ReadMessage, AfterNext, PassedBytes, LoadedData, AfterLoad, AfterData}
 use Rattle.link_io.proofs.Sources.{and_true, fresh_at, fresh_live, IsSourceAt-then, Takes-then, Readies-takes, Readies-over, StopsAfter-then}
-use Rattle.link_wire.proofs.Gettings.{after, IsFault-then, cut_then}
-use Rattle.link_wire.proofs.FieldReads.{IsPart-byte}
-use Rattle.link_wire.proofs.Shrinks.{shrinks_message}
-use Rattle.link_wire.proofs.Steady.{steady_contact, steady_message}
+use Rattle.link_wire.proofs.{Gettings.{after, IsFault-then, cut_then}, FieldReads.IsPart-byte}
+use Rattle.link_wire.proofs.{Shrinks.shrinks_message, Steady.{steady_contact, steady_message}}
 use Rattle.link_wire.proofs.Within.{Steady, within_contact, within_message, part_size, needed_size}
 use Rattle.link_wire.proofs.Streams.{stream_at-head, stream_at-fault}
 use Rattle.link_wire.proofs.Contacts.{contact_taken, reading-contact, reading-refused, reading-none}
 use Rattle.link_wire.proofs.Rests.{appended, begun, begun_by, begun_left, data_by, data_left, clean_end, settled, goes_on_from}
-use Rattle.link_wire.specs.Halt.{stop_at}
-use Rattle.link_wire.specs.Whole.{followed, AreMessages, PassedMessages}
+use Rattle.link_wire.specs.{Halt.stop_at, Whole.{followed, AreMessages, PassedMessages}}
 use Rattle.link_wire.specs.declared.fault.Stop.{Stop}
 use Rattle.link_wire.specs.declared.fault.Stop.TheVariants as stop
 use Rattle.link_wire.specs.declared.fault.WireFault.{WireFault}
 use Rattle.link_wire.specs.declared.fault.WireFault.TheVariants as wire
 use Rattle.link_wire.specs.declared.halt.Halt.{Halt}
 use Rattle.link_wire.specs.declared.halt.Halt.TheVariants as halt
-use Rattle.link_wire.specs.declared.message.Contact.{Contact}
-use Rattle.link_wire.specs.declared.message.Message.{Message}
+use Rattle.link_wire.specs.declared.message.{Contact.Contact, Message.Message}
 use Rattle.link_wire.specs.declared.session.Phase.{Phase}
 use Rattle.link_wire.specs.declared.session.Phase.TheVariants as phase
 use Rattle.link_wire.specs.declared.session.Session.{Session}

@@ -1,9 +1,7 @@
 -- After a message, fewer bytes are left than there were before it.
 use Rattle.std.proofs.Common.{◌≡◌, ℕ, ◌+◌, ◌≤◌, List, length, Ok, arith}
-use Rattle.link_wire.specs.Part.{Part, number_at}
-use Rattle.link_wire.specs.Message.{message_at}
-use Rattle.link_wire.proofs.FieldReads.{both_read}
-use Rattle.link_wire.proofs.Within.{number_gone, within_fields}
+use Rattle.link_wire.specs.{Part.{Part, number_at}, Message.message_at}
+use Rattle.link_wire.proofs.{FieldReads.both_read, Within.{number_gone, within_fields}}
 
 -- the part takes at least `less` bytes
 pub record Shrinks {A : Type 0} (less : ℕ) (part : List ℕ → Part A) : Type 0 where

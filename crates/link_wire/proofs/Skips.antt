@@ -1,11 +1,9 @@
 -- Bytes that are skipped in pieces.
 use Rattle.std.proofs.Common.{◌≡◌, ℕ, ◌+◌, ◌<◌, ◌≤◌, List, length, drop, Ok, Err, arith, refl, ap, sym, ◌∙◌, ⊎_elim, length-drop}
-use Rattle.std.proofs.lemmas.Bool.{le-ltb, cases_lt}
-use Rattle.std.proofs.lemmas.List.{drop-drop}
+use Rattle.std.proofs.lemmas.{Bool.{le-ltb, cases_lt}, List.drop-drop}
 use Rattle.link_wire.specs.Part.{◌>>=◌, bytes_at}
 use Rattle.link_wire.proofs.FieldReads.{bytes_at-short}
-use Rattle.link_wire.specs.Message.{skipped_at}
-use Rattle.link_wire.specs.declared.fault.WireFault.TheVariants.{Truncated}
+use Rattle.link_wire.specs.{Message.skipped_at, declared.fault.WireFault.TheVariants.Truncated}
 
 pub skipped_at-short : (n : ℕ) (bytes : List ℕ) → length bytes < n
     → skipped_at n bytes ≡ Err Truncated

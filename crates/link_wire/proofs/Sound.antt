@@ -1,22 +1,16 @@
 -- A spelling is read as what it spells, whatever follows it.
 use Rattle.std.proofs.Common.{◌≡◌, ℕ, zero, suc, ◌+◌, ◌-◌, ◌^◌, ◌<◌, ◌≤◌, Bool, true, false, List, [], ◌∷◌, ◌++◌, length, Option, Some, None, Ok, nat_lt, if◌then◌else◌, arith, refl, ap, sym, ◌∙◌, subst, append_assoc, append-nil, length-append}
-use Rattle.std.proofs.lemmas.List.{nil_from_length}
-use Rattle.std.proofs.lemmas.Bool.{le-ltb, ne_eqb}
-use Rattle.std.proofs.lemmas.Bool.Decides.{nat_tests}
+use Rattle.std.proofs.lemmas.{List.nil_from_length, Bool.{le-ltb, ne_eqb}, Bool.Decides.nat_tests}
 use Rattle.arrayvec.specs.ArrayVec.{ArrayVec}
 use Rattle.byteorder.specs.Endian.{big_number}
 use Rattle.byteorder.specs.Numbers.{big_number-reads_back, length-bytes_high_first}
 use Rattle.link_wire.specs.Part.{Part, ◌>>=◌, bytes_at, number_at}
 use Rattle.link_wire.proofs.FieldReads.{bytes_at-there, array_vec_of, same_part}
 use Rattle.link_wire.specs.Spelled.{Spelling, be, U8, U16, U32, U64, These, ◌⨾◌, ContactSpelled, NodeSpelled, ItemHeadSpelled, ValueSpelled, ItemsSpelled, ListSpelled, SegmentItemsSpelled, HeadSpelled, Spelled}
-use Rattle.link_wire.specs.declared.message.ListOf.{ListOf}
-use Rattle.link_wire.specs.declared.message.ListOf.TheVariants.{Session, Transfer}
-use Rattle.link_wire.specs.Codes.{is_start}
-use Rattle.link_wire.specs.Limits.{longest_node, longest_list, most_items}
+use Rattle.link_wire.specs.declared.message.{ListOf.ListOf, ListOf.TheVariants.{Session, Transfer}}
+use Rattle.link_wire.specs.{Codes.is_start, Limits.{longest_node, longest_list, most_items}}
 use Rattle.link_wire.specs.Message.{contact_at, skipped_at, total_at, item_head_at, items_at, items_of, list_at, node_bytes_at, node_at, segment_items_at, segment_at, ack_at, refuse_at, sess_term_at, msg_reject_at, sess_init_at, fields_at, message_at, is_total_length, data_length}
-use Rattle.link_wire.specs.declared.message.Contact.{Contact}
-use Rattle.link_wire.specs.declared.message.Item.{Item}
-use Rattle.link_wire.specs.declared.message.Message.{Message}
+use Rattle.link_wire.specs.declared.message.{Contact.Contact, Item.Item, Message.Message}
 use Rattle.link_wire.specs.declared.message.Message.TheVariants.{SessInit, Segment, Ack, Refuse, Keepalive, SessTerm, MsgReject}
 
 -- the length of a spelling that has two parts

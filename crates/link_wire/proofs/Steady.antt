@@ -1,12 +1,9 @@
 -- The reading of bytes does not change when more bytes follow, unless a field is missing.
 use Rattle.std.proofs.Common.{◌≡◌, ℕ, List, ◌++◌, Some, Ok, Err, refl, ap, sym, ◌∙◌, subst}
-use Rattle.link_io.specs.Device.{Input, BeginsWith}
-use Rattle.link_io.specs.Source.{at_hand}
-use Rattle.link_wire.specs.Message.{contact_at, message_at}
-use Rattle.link_wire.specs.Part.{Part}
+use Rattle.link_io.specs.{Device.{Input, BeginsWith}, Source.at_hand}
+use Rattle.link_wire.specs.{Message.{contact_at, message_at}, Part.Part}
 use Rattle.link_wire.specs.Session.{IsEnoughFor, IsEnough, HasContact, HasNext}
-use Rattle.link_wire.specs.declared.fault.WireFault.TheVariants.{Truncated}
-use Rattle.link_wire.specs.declared.session.Session.{Session}
+use Rattle.link_wire.specs.declared.{fault.WireFault.TheVariants.Truncated, session.Session.Session}
 use Rattle.link_wire.proofs.Within.{Steady, within_contact, within_message}
 
 pub steady_message : Steady message_at

@@ -3,8 +3,7 @@ use Rattle.std.proofs.Common.{◌≡◌, ℕ, zero, suc, ◌+◌, ◌-◌, ◌�
 use Rattle.link_wire.proofs.Shrinks.{shrinks_message}
 use Rattle.link_wire.specs.Message.{message_at, data_length}
 use Rattle.link_wire.specs.Stream.{Clean, Fault, Stream, ended, with_data_of, stream_by, messages_at, stream_at}
-use Rattle.link_wire.specs.declared.fault.WireFault.{WireFault}
-use Rattle.link_wire.specs.declared.message.Message.{Message}
+use Rattle.link_wire.specs.declared.{fault.WireFault.WireFault, message.Message.Message}
 
 -- two readers that agree on what follows a message
 stream_by-same : (f g : ℕ → List ℕ → Stream) (offset size : ℕ)

@@ -1,12 +1,9 @@
 -- Whole messages, one after another, are read as one list of messages.
 use Rattle.std.proofs.Common.{◌≡◌, ℕ, ◌+◌, ◌^◌, ◌<◌, ◌≤◌, true, List, [], ◌∷◌, ◌++◌, length, take, drop, slice_index, ◌==◌, refl, ap, sym, ◌∙◌, subst, append_assoc, append-nil, length-append, length-drop, add-zero, get_or-drop, arith}
-use Rattle.std.proofs.lemmas.Bool.{le-ltb, eqb-true, cond_both}
-use Rattle.std.proofs.lemmas.List.Elements.{All-nil, All-push}
+use Rattle.std.proofs.lemmas.{Bool.{le-ltb, eqb-true, cond_both}, List.Elements.{All-nil, All-push}}
 use Rattle.std.proofs.Math.Seq.{take-add, take-append_seam, drop-append_seam}
-use Rattle.link_wire.specs.Codes.{xfer_ack, xfer_refuse, keepalive, msg_reject}
-use Rattle.link_wire.specs.Getting.{IsPart}
-use Rattle.link_wire.specs.Message.{message_at, data_length}
-use Rattle.link_wire.specs.Stream.{Entry, stream_at}
+use Rattle.link_wire.specs.{Codes.{xfer_ack, xfer_refuse, keepalive, msg_reject}, Getting.IsPart}
+use Rattle.link_wire.specs.{Message.{message_at, data_length}, Stream.{Entry, stream_at}}
 use Rattle.link_wire.specs.Whole.{followed, AreMessages, is_quiet, IsQuiet, AreQuiet, quiet_size, IsQuietHead}
 use Rattle.link_wire.proofs.Plains.{ack_head, refuse_head, keepalive_head, msg_reject_head}
 use Rattle.link_wire.proofs.Streams.{stream_at-head}

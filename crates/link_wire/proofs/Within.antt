@@ -1,11 +1,9 @@
 -- How many bytes decide a part at most. A part that was read has no more bytes, and if that many
 -- are there, no field is missing. More bytes after those do not change what was read.
 use Rattle.std.proofs.Common.{◌≡◌, ℕ, zero, suc, ◌+◌, ◌-◌, ◌<◌, ◌≤◌, ◌⊎◌, inl, inr, Bool, true, false, eqb, List, [], ◌++◌, length, drop, take, slice_index, Result, Ok, Err, nat_lt, if◌then◌else◌, arith, refl, ap, sym, ◌∙◌, length-append, length-take, append-nil, ⊎_elim}
-use Rattle.std.proofs.lemmas.Bool.{cases_lt, ltb-false}
-use Rattle.std.proofs.lemmas.List.{take-append-le, drop-append-le}
+use Rattle.std.proofs.lemmas.{Bool.{cases_lt, ltb-false}, List.{take-append-le, drop-append-le}}
 use Rattle.byteorder.specs.Endian.{big_number}
-use Rattle.link_wire.specs.Codes.{is_start}
-use Rattle.link_wire.specs.Getting.{Needs, IsPart}
+use Rattle.link_wire.specs.{Codes.is_start, Getting.{Needs, IsPart}}
 use Rattle.link_wire.specs.Limits.{longest_node, longest_list, most_items, longest_head}
 use Rattle.link_wire.specs.Part.{Part, ◌>>=◌, bytes_at, number_at}
 use Rattle.link_wire.specs.Message.{contact_at, skipped_at, is_total_length, total_at, item_head_at, items_at, items_of, list_at, node_bytes_at, node_at, segment_items_at, segment_at, ack_at, refuse_at, sess_term_at, msg_reject_at, sess_init_at, fields_at, message_at}
@@ -13,8 +11,7 @@ use Rattle.link_wire.proofs.FieldReads.{bytes_at-short, bytes_at-enough, bytes_g
 use Rattle.link_wire.proofs.Sound.{has_total_size}
 use Rattle.link_wire.specs.declared.fault.WireFault.{WireFault}
 use Rattle.link_wire.specs.declared.fault.WireFault.TheVariants.{Truncated, ItemsOverrun}
-use Rattle.link_wire.specs.declared.list.ItemHead.{ItemHead}
-use Rattle.link_wire.specs.declared.message.ListOf.{ListOf}
+use Rattle.link_wire.specs.declared.{list.ItemHead.ItemHead, message.ListOf.ListOf}
 use Rattle.link_wire.specs.declared.message.ListOf.TheVariants.{Session, Transfer}
 
 -- the reading does not change when more bytes follow, unless a field is missing

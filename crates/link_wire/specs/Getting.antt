@@ -5,8 +5,7 @@ use Rattle.link_io.specs.Device.{Input}
 use Rattle.link_wire.specs.Part.{Part}
 use Rattle.link_io.specs.Source.{IsLive, IsOver, Takes, StopsAfter}
 use Rattle.link_io.specs.declared.fault.IoFault.{IoFault}
-use Rattle.link_wire.specs.declared.fault.WireFault.{WireFault}
-use Rattle.link_wire.specs.declared.fault.WireFault.TheVariants.{Truncated}
+use Rattle.link_wire.specs.declared.fault.{WireFault.WireFault, WireFault.TheVariants.Truncated}
 use Rattle.link_wire.specs.declared.halt.Halt.{Halt}
 use Rattle.link_wire.specs.declared.halt.Halt.TheVariants as halt
 use Rattle.link_io.specs.declared.source.Source.{Source}

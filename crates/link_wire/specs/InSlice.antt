@@ -6,17 +6,13 @@ use Rattle.link_wire.specs.Codes.{is_start}
 use Rattle.link_wire.specs.Message.{item_head_at, total_at, items_of}
 use Rattle.link_wire.specs.MessageBuffer.{message_with}
 use Rattle.link_wire.specs.Part.{Part, ◌>>=◌}
-use Rattle.link_wire.specs.declared.fault.WireFault.{WireFault}
-use Rattle.link_wire.specs.declared.list.ItemHead.{ItemHead}
+use Rattle.link_wire.specs.declared.{fault.WireFault.WireFault, list.ItemHead.ItemHead}
 use Rattle.link_wire.specs.declared.message.Fields.{Fields}
 use Rattle.link_wire.specs.declared.message.Fields.TheVariants as fields
-use Rattle.link_wire.specs.declared.message.Item.{Item}
-use Rattle.link_wire.specs.declared.message.ListOf.{ListOf}
+use Rattle.link_wire.specs.declared.message.{Item.Item, ListOf.ListOf}
 use Rattle.link_wire.specs.declared.message.ListOf.TheVariants.{Session, Transfer}
-use Rattle.link_wire.specs.declared.message.Message.{Message}
-use Rattle.link_wire.specs.declared.slices.ItemAt.{ItemAt}
-use Rattle.link_wire.specs.declared.slices.Span.{Span}
-use Rattle.link_wire.specs.declared.slices.MessageAt.{MessageAt}
+use Rattle.link_wire.specs.declared.{message.Message.Message, slices.ItemAt.ItemAt}
+use Rattle.link_wire.specs.declared.slices.{Span.Span, MessageAt.MessageAt}
 
 -- a part that was read, with the offset after it
 abbrev pub read_part : {A : Type 0} → List ℕ → Result (A × ℕ) WireFault → Part A

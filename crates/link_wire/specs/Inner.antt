@@ -4,8 +4,7 @@ use Rattle.link_io.specs.Device.{Input}
 use Rattle.link_wire.specs.Getting.{IsPart}
 use Rattle.link_wire.specs.Message.{message_at}
 use Rattle.link_wire.specs.Session.{left_of, ReadMessage, PassedBytes}
-use Rattle.link_wire.specs.declared.message.Message.{Message}
-use Rattle.link_wire.specs.declared.message.Message.TheVariants.{Segment}
+use Rattle.link_wire.specs.declared.message.{Message.Message, Message.TheVariants.Segment}
 use Rattle.link_wire.specs.declared.session.Session.{Session}
 
 -- a segment without flags; without START it has no items (section 5.2.2)

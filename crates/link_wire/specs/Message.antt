@@ -7,12 +7,9 @@ use Rattle.link_wire.specs.Codes.{magic, tcpcl_version, xfer_segment, xfer_ack, 
 use Rattle.link_wire.specs.Limits.{longest_node, longest_list, most_items}
 use Rattle.link_wire.specs.Part.{Part, ◌>>=◌, bytes_at, number_at}
 use Rattle.link_wire.specs.declared.fault.WireFault.TheVariants.{BadMagic, BadVersion, UnknownType, NodeIdTooLong, ListTooLong, TooManyItems, ItemsOverrun}
-use Rattle.link_wire.specs.declared.message.Contact.{Contact}
-use Rattle.link_wire.specs.declared.message.Item.{Item}
-use Rattle.link_wire.specs.declared.message.ListOf.{ListOf}
+use Rattle.link_wire.specs.declared.message.{Contact.Contact, Item.Item, ListOf.ListOf}
 use Rattle.link_wire.specs.declared.message.ListOf.TheVariants.{Session, Transfer}
-use Rattle.link_wire.specs.declared.list.ItemHead.{ItemHead}
-use Rattle.link_wire.specs.declared.message.Message.{Message}
+use Rattle.link_wire.specs.declared.{list.ItemHead.ItemHead, message.Message.Message}
 use Rattle.link_wire.specs.declared.message.Message.TheVariants.{SessInit, Segment, Ack, Refuse, Keepalive, SessTerm, MsgReject}
 
 -- the version and the flags of a contact header; `bytes` follow it

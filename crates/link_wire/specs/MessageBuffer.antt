@@ -3,8 +3,7 @@ use Rattle.std.specs.Prelude.{ℕ, [], if◌then◌else◌}
 use Rattle.arrayvec.specs.ArrayVec.{ArrayVec}
 use Rattle.link_wire.specs.Codes.{is_start}
 use Rattle.link_wire.specs.Message.{HasTotals}
-use Rattle.link_wire.specs.declared.message.Item.{Item}
-use Rattle.link_wire.specs.declared.message.Fields.{Fields}
+use Rattle.link_wire.specs.declared.message.{Item.Item, Fields.Fields}
 use Rattle.link_wire.specs.declared.message.Fields.TheVariants as fields
 use Rattle.link_wire.specs.declared.message.Message.{Message}
 use Rattle.link_wire.specs.declared.message.Message.TheVariants.{SessInit, Segment, Ack, Refuse, Keepalive, SessTerm, MsgReject}

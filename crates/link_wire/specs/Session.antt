@@ -13,10 +13,8 @@ use Rattle.link_wire.specs.declared.fault.Stop.{Stop}
 use Rattle.link_wire.specs.declared.fault.Stop.TheVariants as stop
 use Rattle.link_wire.specs.declared.fault.WireFault.{WireFault}
 use Rattle.link_wire.specs.declared.fault.WireFault.TheVariants as wire
-use Rattle.link_wire.specs.declared.message.Contact.{Contact}
-use Rattle.link_wire.specs.declared.message.Message.{Message}
-use Rattle.link_wire.specs.declared.message.MessageBuffer.{MessageBuffer}
-use Rattle.link_wire.specs.declared.session.Phase.{Phase}
+use Rattle.link_wire.specs.declared.message.{Contact.Contact, Message.Message}
+use Rattle.link_wire.specs.declared.{message.MessageBuffer.MessageBuffer, session.Phase.Phase}
 use Rattle.link_wire.specs.declared.session.Phase.TheVariants as phase
 use Rattle.link_wire.specs.declared.session.Session.{Session}
 use Rattle.link_io.specs.declared.source.Source.{Source}

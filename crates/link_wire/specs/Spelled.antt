@@ -7,9 +7,7 @@ use Rattle.link_io.specs.Bytes.{AreBytes}
 use Rattle.link_wire.specs.Codes.{tcpcl_version, xfer_segment, xfer_ack, xfer_refuse, keepalive, sess_term, msg_reject, sess_init, is_start, total_size}
 use Rattle.link_wire.specs.Limits.{longest_node, longest_list, most_items}
 use Rattle.link_wire.specs.Message.{is_total_length, data_length}
-use Rattle.link_wire.specs.declared.message.Contact.{Contact}
-use Rattle.link_wire.specs.declared.message.Item.{Item}
-use Rattle.link_wire.specs.declared.message.ListOf.{ListOf}
+use Rattle.link_wire.specs.declared.message.{Contact.Contact, Item.Item, ListOf.ListOf}
 use Rattle.link_wire.specs.declared.message.ListOf.TheVariants.{Session, Transfer}
 use Rattle.link_wire.specs.declared.message.Message.{Message}
 use Rattle.link_wire.specs.declared.message.Message.TheVariants.{SessInit, Segment, Ack, Refuse, Keepalive, SessTerm, MsgReject}

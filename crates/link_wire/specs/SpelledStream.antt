@@ -4,8 +4,7 @@ use Rattle.std.specs.Prelude.{◌≡◌, ◌≢◌, ℕ, ◌+◌, ◌<◌, List,
 use Rattle.link_wire.specs.Message.{contact_at, message_at, data_length}
 use Rattle.link_wire.specs.Spelled.{Spelling, These, ◌⨾◌, ContactSpelled, HeadSpelled, Spelled}
 use Rattle.link_wire.specs.Stream.{Entry, End, Clean, Cut, Fault, Reading}
-use Rattle.link_wire.specs.declared.fault.WireFault.{WireFault}
-use Rattle.link_wire.specs.declared.message.Contact.{Contact}
+use Rattle.link_wire.specs.declared.{fault.WireFault.WireFault, message.Contact.Contact}
 use Rattle.link_wire.specs.declared.message.Message.{Message}
 
 -- the bytes begin with no such spelling

@@ -3,8 +3,7 @@
 use Rattle.std.specs.Prelude.{ℕ, ◌+◌, Bool, true, false, List, [], ◌∷◌, ◌++◌, length, Option, Some, None}
 use Rattle.link_wire.specs.Codes.{tcpcl_version, xfer_segment, sess_term, sess_init, is_start, transfer_length, total_size}
 use Rattle.link_wire.specs.Spelled.{be}
-use Rattle.link_wire.specs.declared.message.Item.{Item}
-use Rattle.link_wire.specs.declared.message.Message.{Message}
+use Rattle.link_wire.specs.declared.message.{Item.Item, Message.Message}
 use Rattle.link_wire.specs.declared.message.Message.TheVariants.{SessInit, Segment}
 
 -- a contact header (section 4.2): `dtn!`, the version, and the flags

@@ -2,8 +2,7 @@
 -- one after another.
 use Rattle.std.specs.Prelude.{ℕ, zero, suc, ◌+◌, ◌-◌, List, [], ◌∷◌, ◌++◌, length, take, drop, Option, Some, None, Result, Ok, Err, nat_lt, if◌then◌else◌}
 use Rattle.link_wire.specs.Message.{contact_at, message_at, data_length}
-use Rattle.link_wire.specs.declared.fault.WireFault.{WireFault}
-use Rattle.link_wire.specs.declared.message.Contact.{Contact}
+use Rattle.link_wire.specs.declared.{fault.WireFault.WireFault, message.Contact.Contact}
 use Rattle.link_wire.specs.declared.message.Message.{Message}
 
 -- a whole message: the offset of its type byte, and its data, which only a segment has

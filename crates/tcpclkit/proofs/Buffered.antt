@@ -2,8 +2,7 @@
 use Rattle.std.proofs.Common.{◌≡◌, ℕ, inr, List, [], Option, Some, None, true, false, Result, Ok, Err, is_ok, OnErr, MatchResult, if◌then◌else◌, ap, ◌∙◌, refl, ◌==◌, length, take, ◌+◌}
 use Rattle.std.proofs.Math.Seq.{take-append-add}
 use Rattle.std.specs.Io.KnownBytes.{Appends, Keeps, append_known, prepend_known}
-use Rattle.link_wire.specs.Device.{Input, Output}
-use Rattle.link_wire.specs.TextWriter.{AppendsPart}
+use Rattle.link_wire.specs.{Device.{Input, Output}, TextWriter.AppendsPart}
 use Rattle.link_wire.specs.declared.DeviceFault.{DeviceFault}
 use Rattle.tcpclkit.specs.BufferedEnd.{AreFirst, HandsOver}
 

@@ -1,7 +1,6 @@
 -- The end of a run over buffered streams: what was handed on, and the answer.
 use Rattle.std.specs.Prelude.{◌≡◌, ℕ, ◌⊎◌, true, ◌&&◌, not, List, take, Option, Result}
-use Rattle.std.specs.Option.{option_map}
-use Rattle.std.specs.Io.KnownBytes.{Keeps}
+use Rattle.std.specs.{Option.option_map, Io.KnownBytes.Keeps}
 use Rattle.link_wire.specs.Device.{Output}
 use Rattle.link_wire.specs.declared.IoFault.{IoFault}
 use Rattle.link_run.specs.Run.{Looks, Devices, Wait}

@@ -1,18 +1,15 @@
 -- A scan of a bundle that is taken block by block: the bytes taken, and the block that they add.
 use Rattle.std.proofs.Common.{◌≡◌, ℕ, suc, ◌+◌, ◌<◌, inl, inr, Bool, true, false, List, [], ◌∷◌, ◌++◌, length, take, drop, refl, sym, ap, ◌∙◌, subst, ⊎_elim, append-nil, length-append, length-take-le, arith}
 use Rattle.std.specs.Prelude.{◌&&◌, ◌==◌, ◌⊎◌}
-use Rattle.std.proofs.lemmas.Bool.{cases_lt, lt-ltb, eq-eqb, ne_eqb}
-use Rattle.std.proofs.lemmas.List.{take-take, take_all}
+use Rattle.std.proofs.lemmas.{Bool.{cases_lt, lt-ltb, eq-eqb, ne_eqb}, List.{take-take, take_all}}
 use Rattle.std.proofs.Math.Seq.{drop-append_seam}
-use Rattle.link_cbor.specs.PieceLaws.{takes_shortest, taken-idle, taken-nil}
-use Rattle.link_cbor.specs.Pieces.{taken}
+use Rattle.link_cbor.specs.{PieceLaws.{takes_shortest, taken-idle, taken-nil}, Pieces.taken}
 use Rattle.link_bundle.specs.declared.scan.BundleScan.{BundleScan}
 use Rattle.link_bundle_blocks.specs.Blocks.{Block}
 use Rattle.link_bundle_blocks.specs.Bundle.{verdict, state_of, bundle_goes, blocks_in}
 use Rattle.link_bundle.specs.Scan.{HasScanned, Advances, AddsBlock, ending}
 use Rattle.link_bundle_types.specs.declared.fault.State.{State}
-use Rattle.link_numbers.specs.Block.{first_shown}
-use Rattle.link_numbers.specs.Bundle.{state_status}
+use Rattle.link_numbers.specs.{Block.first_shown, Bundle.state_status}
 use Rattle.link_bundle.proofs.Endings.{none_sooner}
 use Rattle.tcpclkit_c.specs.NextBlock.{goes_in_block, added, TakesBlock, FeedsBlock}
 use Rattle.tcpclkit_c.specs.Scan.{IsScan, has_room}

@@ -1,24 +1,19 @@
 -- A run over slices: it never fails, and what it has written is in its slices.
 use Rattle.std.proofs.Common.{◌≡◌, ◌≤◌, ◌⊎◌, ℕ, ◌+◌, ◌-◌, ◌^◌, min, nat_le, Bool, true, false, List, [], ◌++◌, length, Option, Some, None, Result, Ok, Err, refl, sym, ap, ◌∙◌, subst, inl, inr, ⊎_elim, append-nil, append_assoc, arith}
-use Rattle.std.specs.Prelude.{if◌then◌else◌}
-use Rattle.std.specs.declared.alloc.AllocError.{AllocError}
+use Rattle.std.specs.{Prelude.{if◌then◌else◌}, declared.alloc.AllocError.AllocError}
 use Rattle.std.proofs.lemmas.List.{length-append}
-use Rattle.link_pack.specs.Packing.{pack_tool}
-use Rattle.link_pack.specs.declared.options.PackOptions.{PackOptions}
+use Rattle.link_pack.specs.{Packing.pack_tool, declared.options.PackOptions.PackOptions}
 use Rattle.link_run.specs.Run.{Tool, Outcome, Texts, Looks, Devices, HandedBack, FinishedRun, EndedRun, Wait}
 use Rattle.link_run.specs.declared.run.Status.{Status}
 use Rattle.link_tools.specs.Options.{AfterTool}
 use Rattle.link_tools.specs.declared.options.Job.TheVariants as job
 use Rattle.link_transfer.specs.declared.cutter.Cutter.{Cutter}
-use Rattle.link_wire.specs.Limits.{longest_input}
-use Rattle.link_wire.specs.declared.IoFault.{IoFault}
+use Rattle.link_wire.specs.{Limits.longest_input, declared.IoFault.IoFault}
 use Rattle.link_wire.specs.declared.IoFault.TheVariants.{Read, InputTooLong, Write, Memory}
 use Rattle.tcpclkit_c.specs.Slice.{HoldsFront, KeepsRest, overlaid}
 use Rattle.tcpclkit_c.specs.Tool.{Slices, texts_status, ReturnsTexts, ReturnsNothing}
 use Rattle.tcpclkit_c.specs.Run.{HasWritten, IsWrittenOver, ReturnsTool, ReturnsJob}
-use Rattle.tcpclkit_c.specs.declared.running.Run.{Run}
-use Rattle.tcpclkit_c.specs.declared.running.Wants.{Wants}
-use Rattle.tcpclkit_c.specs.declared.running.Written.{Written}
+use Rattle.tcpclkit_c.specs.declared.running.{Run.Run, Wants.Wants, Written.Written}
 use Rattle.tcpclkit_c.proofs.Overlays.{holds_front, keeps_rest, overlaid_nothing}
 
 -- ---- runs

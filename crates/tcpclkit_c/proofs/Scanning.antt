@@ -1,14 +1,11 @@
 -- A scan of a bundle in pieces: a piece that it has taken.
 use Rattle.std.proofs.Common.{◌≡◌, ℕ, zero, suc, ◌+◌, ◌-◌, ◌≤◌, min, Bool, true, List, [], ◌∷◌, ◌++◌, length, take, refl, ap, sym, ◌∙◌, arith}
-use Rattle.std.proofs.lemmas.List.{length-take-le, take_min}
-use Rattle.std.proofs.Math.Seq.{take-append-add}
-use Rattle.link_cbor.specs.PieceLaws.{takes_shortest}
-use Rattle.link_cbor.specs.Pieces.{taken}
+use Rattle.std.proofs.{lemmas.List.{length-take-le, take_min}, Math.Seq.take-append-add}
+use Rattle.link_cbor.specs.{PieceLaws.takes_shortest, Pieces.taken}
 use Rattle.link_bundle_types.specs.declared.fault.State.{State}
 use Rattle.link_bundle_blocks.specs.Bundle.{verdict, state_of, bundle_goes}
 use Rattle.link_numbers.specs.Bundle.{state_status}
-use Rattle.tcpclkit_c.specs.Scan.{IsScan, has_room, Feeds}
-use Rattle.tcpclkit_c.specs.declared.scan.MarkedScan.{MarkedScan}
+use Rattle.tcpclkit_c.specs.{Scan.{IsScan, has_room, Feeds}, declared.scan.MarkedScan.MarkedScan}
 
 module _ (seen piece : List ℕ) (room : has_room seen piece ≡ true) where
   pub feeds : (scan : MarkedScan) (count : ℕ) (state : State) (status : ℕ)

@@ -1,6 +1,5 @@
 use Rattle.std.proofs.Common.{◌≡◌, [], ◌∷◌, ◌++◌, sym, ap, ◌∙◌, append-nil, fold, length-append, arith}
-use Rattle.link_bundle_blocks.specs.Blocks.{CanonicalOf, viewed_block}
-use Rattle.link_bundle_blocks.specs.Bundle.{blocks_in}
+use Rattle.link_bundle_blocks.specs.{Blocks.{CanonicalOf, viewed_block}, Bundle.blocks_in}
 use Rattle.link_bundle.specs.Scan.{ending}
 use Rattle.link_block_report.specs.Blocks.{block_text}
 use Rattle.link_blocks.specs.BlockLines.{flags_after, found_in}

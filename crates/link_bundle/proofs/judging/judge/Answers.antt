@@ -1,13 +1,9 @@
-use Rattle.std.proofs.Common.{◌∙◌, Bool, Some, sym, ap, rules}
-use Rattle.std.proofs.lemmas.Result.{err_from_is_err_and}
+use Rattle.std.proofs.{Common.{◌∙◌, Bool, Some, sym, ap, rules}, lemmas.Result.err_from_is_err_and}
 use Rattle.link_bundle_heads.specs.Rows.{check_field}
-use Rattle.link_bundle_blocks.specs.Reading.{ReadAt}
-use Rattle.link_bundle_blocks.specs.CheckField.{field_at}
+use Rattle.link_bundle_blocks.specs.{Reading.ReadAt, CheckField.field_at}
 use Rattle.link_bundle.specs.Left.{field_left, stage_left, read_alone, with_known_payload, after_field}
 use Rattle.link_bundle_blocks.proofs.Heads.{row_at-refused}
-use Rattle.link_bundle.proofs.Heads.{refused_in}
-use Rattle.link_bundle.proofs.Fields.{field_at-accepted}
-use Rattle.link_bundle.proofs.Judgings.{as_judged}
+use Rattle.link_bundle.proofs.{Heads.refused_in, Fields.field_at-accepted, Judgings.as_judged}
 use Rattle.link_bundle.proofs.judging.judge.Goals as goal
 
 pub returns-in_err-check_field-in-Check : goal.returns-in_err-check_field-in-Check

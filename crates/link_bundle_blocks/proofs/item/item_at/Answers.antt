@@ -1,7 +1,6 @@
 use Rattle.std.proofs.Common.{ℕ, ◌+◌, List, ap, ◌∙◌, arith}
 use Rattle.byteorder.specs.Endian.{big_from}
-use Rattle.link_bundle_blocks.proofs.Rests.{the_rest}
-use Rattle.link_bundle_blocks.proofs.Items.{head_at-small, head_at-argument}
+use Rattle.link_bundle_blocks.proofs.{Rests.the_rest, Items.{head_at-small, head_at-argument}}
 use Rattle.link_bundle_blocks.proofs.item.item_at.Goals as goal
 
 pub returns-then-information-lt24 : goal.returns-then-information-lt24

@@ -1,11 +1,8 @@
 use Rattle.std.proofs.Common.{ℕ, ◌≡◌, suc, ◌-◌, List, [], ◌∷◌, ◌++◌, length, Result, Ok, sym, ap, ◌∙◌, length-append, arith}
 use Rattle.std.proofs.lemmas.Bool.{eq-eqb, ne_eqb}
-use Rattle.link_bundle_blocks.specs.Blocks.{Primary, Block, CanonicalOf, ended}
-use Rattle.link_bundle_blocks.specs.Reading.{Stop}
-use Rattle.link_bundle_blocks.specs.Bundle.{Bundle, with_blocks, blocks_at}
-use Rattle.link_bundle_blocks.specs.Whole.{bundle_with}
-use Rattle.link_bundle_blocks.proofs.Blocks.{both_before}
-use Rattle.link_bundle_blocks.proofs.Readings.{payload_read, next_read}
+use Rattle.link_bundle_blocks.specs.{Blocks.{Primary, Block, CanonicalOf, ended}, Reading.Stop}
+use Rattle.link_bundle_blocks.specs.{Bundle.{Bundle, with_blocks, blocks_at}, Whole.bundle_with}
+use Rattle.link_bundle_blocks.proofs.{Blocks.both_before, Readings.{payload_read, next_read}}
 use Rattle.link_bundle_blocks.proofs.whole.blocks_at.Goals as goal
 use Rattle.link_bundle_blocks.proofs.whole.blocks_at.Goals.{In_ok-block}
 

@@ -1,6 +1,5 @@
 use Rattle.std.proofs.Common.{◌≡◌, ◌-◌, List, [], length}
-use Rattle.link_bundle_blocks.specs.Blocks.{Primary, Block}
-use Rattle.link_bundle_blocks.specs.Bundle.{with_blocks, blocks_at}
+use Rattle.link_bundle_blocks.specs.{Blocks.{Primary, Block}, Bundle.{with_blocks, blocks_at}}
 use Rattle.link_bundle_blocks.proofs.whole.blocks_at.Given as goal
 
 abbrev pub invariant-loop-block : goal.invariant-loop-block

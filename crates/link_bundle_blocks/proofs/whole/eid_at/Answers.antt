@@ -1,7 +1,6 @@
 use Rattle.std.proofs.Common.{ℕ, List, ap, ◌∙◌, arith}
 use Rattle.byteorder.specs.Endian.{big_from}
-use Rattle.link_bundle_blocks.proofs.Rests.{the_rest}
-use Rattle.link_bundle_blocks.proofs.Items.{eid_at-ipn, eid_at-none}
+use Rattle.link_bundle_blocks.proofs.{Rests.the_rest, Items.{eid_at-ipn, eid_at-none}}
 use Rattle.link_bundle_blocks.proofs.whole.eid_at.Goals as goal
 
 pub returns-in_ok-service-in-8520322-clause-read :

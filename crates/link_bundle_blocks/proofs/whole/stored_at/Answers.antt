@@ -1,10 +1,7 @@
-use Rattle.std.proofs.Common.{ℕ, ◌≡◌, Ok, sym, ◌∙◌, subst}
-use Rattle.std.proofs.lemmas.Bool.{eq-eqb}
+use Rattle.std.proofs.{Common.{ℕ, ◌≡◌, Ok, sym, ◌∙◌, subst}, lemmas.Bool.eq-eqb}
 use Rattle.link_bundle_heads.specs.Rows.{check_field}
-use Rattle.link_bundle_blocks.specs.Reading.{bytes_at}
-use Rattle.link_bundle_blocks.specs.CheckField.{check_of}
-use Rattle.link_bundle_blocks.proofs.Heads.{row_at-accepted}
-use Rattle.link_bundle_blocks.proofs.Readings.{field_at-equal}
+use Rattle.link_bundle_blocks.specs.{Reading.bytes_at, CheckField.check_of}
+use Rattle.link_bundle_blocks.proofs.{Heads.row_at-accepted, Readings.field_at-equal}
 use Rattle.link_bundle_blocks.proofs.whole.stored_at.Goals as goal
 
 pub returns : goal.returns

@@ -1,6 +1,5 @@
 use Rattle.std.proofs.Common.{◌≡◌, ℕ, List, Ok, subst, refl}
-use Rattle.link_bundle_blocks.specs.Canonical.{heads_at}
-use Rattle.link_bundle_blocks.specs.Whole.{whole_canonical}
+use Rattle.link_bundle_blocks.specs.{Canonical.heads_at, Whole.whole_canonical}
 use Rattle.link_bundle_blocks.proofs.whole.whole_canonical.Goals as goal
 
 pub returns-clause-read : goal.returns-clause-read

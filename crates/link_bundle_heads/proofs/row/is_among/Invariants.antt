@@ -1,6 +1,5 @@
 use Rattle.std.proofs.Common.{◌≡◌, false, take}
-use Rattle.std.specs.Prelude.{◌==◌}
-use Rattle.std.specs.List.{list_any}
+use Rattle.std.specs.{Prelude.{◌==◌}, List.list_any}
 use Rattle.link_bundle_heads.proofs.row.is_among.Given as goal
 
 abbrev pub invariant-loop-earlier : goal.invariant-loop-earlier

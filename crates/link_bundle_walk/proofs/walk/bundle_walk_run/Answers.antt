@@ -1,6 +1,5 @@
 use Rattle.std.proofs.Common.{rules, refl}
-use Rattle.link_bundle_walk.proofs.Dividing.{none_open}
-use Rattle.link_bundle_walk.proofs.Outcomes.{may_begin}
+use Rattle.link_bundle_walk.proofs.{Dividing.none_open, Outcomes.may_begin}
 use Rattle.link_bundle_walk.proofs.walk.bundle_walk_run.Goals as goal
 
 pub new-requires-3-clause-knows : goal.new-requires-3-clause-knows

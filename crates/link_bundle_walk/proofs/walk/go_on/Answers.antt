@@ -1,7 +1,6 @@
 use Rattle.std.proofs.Common.{◌+◌, ◌∷◌, [], ◌++◌, None, Some, Err, refl, ap, sym, ◌∙◌, length-append, arith}
 use Rattle.link_bundle_types.specs.BundleView.{viewed_info}
-use Rattle.link_bundle_walk.proofs.Dividing.{none_open}
-use Rattle.link_bundle_walk.proofs.Founds.{accepted, refused, lost, stopped}
+use Rattle.link_bundle_walk.proofs.{Dividing.none_open, Founds.{accepted, refused, lost, stopped}}
 use Rattle.link_bundle_walk.proofs.walk.go_on.Goals as goal
 
 pub returns-in-Part-clause-gives : goal.returns-in-Part-clause-gives

@@ -1,11 +1,9 @@
 use Rattle.std.proofs.Common.{◌≡◌, ◌+◌, ◌<◌, ◌≤◌, [], length, take, length-take, length-append, ⊎_elim, append-nil, ap, sym, ◌∙◌, refl, arith}
-use Rattle.std.proofs.lemmas.Bool.Decides.{nat_tests}
-use Rattle.std.proofs.lemmas.List.{take-take}
+use Rattle.std.proofs.lemmas.{Bool.Decides.nat_tests, List.take-take}
 use Rattle.link_wire.specs.Source.{front_of}
 use Rattle.link_io.proofs.Sources.{Readies-takes, Readies-over, front_room}
 use Rattle.link_run.specs.Reading.{feed_of}
-use Rattle.link_run.proofs.Stands.{settled, not_handed_on, read_fails}
-use Rattle.link_run.proofs.Waiting.{waits_then}
+use Rattle.link_run.proofs.{Stands.{settled, not_handed_on, read_fails}, Waiting.waits_then}
 use Rattle.link_bundle_walk.specs.BundleRun.{IsReading}
 use Rattle.link_bundle_walk.proofs.Founds.{came, finished}
 use Rattle.link_bundle_walk.proofs.walk.take_bytes.Goals as goal

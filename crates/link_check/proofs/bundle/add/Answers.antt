@@ -3,8 +3,7 @@ use Rattle.std.specs.Prelude.{IfSome}
 use Rattle.link_block_data.specs.BlockData.{BlockData}
 use Rattle.link_block_report.specs.Fits.{HasFittingWords}
 use Rattle.link_blocks.specs.BlockLines.{found_in}
-use Rattle.link_bundle_rules.specs.ReadBundle.{malformed_from, with_block}
-use Rattle.link_bundle_rules.specs.Remembered.{Remembers}
+use Rattle.link_bundle_rules.specs.{ReadBundle.{malformed_from, with_block}, Remembered.Remembers}
 use Rattle.link_check.proofs.bundle.add.Goals as goal
 
 -- the offset of malformed data has 64 bits

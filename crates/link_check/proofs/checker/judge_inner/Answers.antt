@@ -1,8 +1,6 @@
 use Rattle.std.proofs.Common.{◌≡◌, [], ◌∷◌, ◌++◌, ap, sym, ◌∙◌, subst}
-use Rattle.link_message_rules.specs.MessageRules.{broken_rules}
-use Rattle.link_message_rules.specs.Remembered.{Remembers}
-use Rattle.link_walk.specs.Telling.{viewed_head}
-use Rattle.link_walk.specs.Walk.{Head}
+use Rattle.link_message_rules.specs.{MessageRules.broken_rules, Remembered.Remembers}
+use Rattle.link_walk.specs.{Telling.viewed_head, Walk.Head}
 use Rattle.link_check.specs.Checking.{judged}
 use Rattle.link_check.proofs.Writing.{none_written}
 use Rattle.link_check.proofs.checker.judge_inner.Goals as goal

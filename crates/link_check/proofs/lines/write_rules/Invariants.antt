@@ -1,6 +1,5 @@
 use Rattle.std.proofs.Common.{map, take, Ok}
-use Rattle.link_check.specs.Lines.{at_offset}
-use Rattle.link_check.specs.Writing.{WritesRules}
+use Rattle.link_check.specs.{Lines.at_offset, Writing.WritesRules}
 use Rattle.link_check.proofs.lines.write_rules.Given as goal
 
 -- the lines of the first rules were written

@@ -2,8 +2,7 @@ use Rattle.std.proofs.Common.{◌≡◌, ℕ, sym, ap, ◌∙◌}
 use Rattle.arrayvec.specs.ArrayVec.{ArrayVec}
 use Rattle.link_wire.specs.MessageBuffer.{message_with, segment_items}
 use Rattle.link_wire.specs.declared.message.Fields.TheVariants as fields
-use Rattle.link_wire.specs.declared.message.Item.{Item}
-use Rattle.link_wire.specs.declared.message.Message.TheVariants.{Segment}
+use Rattle.link_wire.specs.declared.message.{Item.Item, Message.TheVariants.Segment}
 use Rattle.link_wire.specs.declared.message.SegmentHead.{SegmentHead}
 use Rattle.link_check.proofs.transfer.opening_of.Goals as goal
 

@@ -1,5 +1,4 @@
-use Rattle.std.proofs.Common.{◌∙◌, ap₂}
-use Rattle.std.proofs.lemmas.Result.{IfOk-weaker}
+use Rattle.std.proofs.{Common.{◌∙◌, ap₂}, lemmas.Result.IfOk-weaker}
 use Rattle.clap.specs.Words.{with_subcommand}
 use Rattle.link_command.specs.Table.{table}
 use Rattle.link_command.proofs.command.tcpclkit.Goals as goal

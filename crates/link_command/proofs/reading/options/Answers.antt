@@ -2,8 +2,7 @@ use Rattle.std.proofs.Common.{List, Option, map, string_bytes, subst, sym}
 use Rattle.std.proofs.lemmas.Result.{IfErr-weaker, IfOk-weaker}
 use Rattle.std.specs.Prelude.{IfOk}
 use Rattle.clap.specs.Words.{Row, Text, app_of, kind_of, subcommand_rows_of}
-use Rattle.link_command.specs.Invoked.{IsInvokedByTool}
-use Rattle.link_command.specs.Reading.{NamesTool}
+use Rattle.link_command.specs.{Invoked.IsInvokedByTool, Reading.NamesTool}
 use Rattle.link_command.proofs.Taken.{are_taken, clap_fault, found, is_free, taken_names, tool_fault}
 use Rattle.link_command.proofs.reading.options.Goals as goal
 

@@ -1,5 +1,4 @@
-use Rattle.std.proofs.Common.{arith}
-use Rattle.std.proofs.lemmas.List.Elements.{All-take, All-drop, All-from_get_or}
+use Rattle.std.proofs.{Common.arith, lemmas.List.Elements.{All-take, All-drop, All-from_get_or}}
 use Rattle.link_io.specs.Bytes.{IsByte}
 use Rattle.link_io.proofs.source.part.Goals as goal
 

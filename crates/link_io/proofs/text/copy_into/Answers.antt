@@ -1,5 +1,4 @@
-use Rattle.std.proofs.Common.{◌+◌, length, ap, arith}
-use Rattle.std.proofs.lemmas.Slice.{drop-put_mid}
+use Rattle.std.proofs.{Common.{◌+◌, length, ap, arith}, lemmas.Slice.drop-put_mid}
 use Rattle.link_io.proofs.text.copy_into.Goals as goal
 
 pub returns-clause-rest : goal.returns-clause-rest

@@ -1,11 +1,7 @@
 use Rattle.std.proofs.Common.{[], true, inl}
 use Rattle.link_wire.specs.Session.{source_of}
-use Rattle.link_run.specs.Reading.{feed_of}
-use Rattle.link_run.specs.Run.{looks}
-use Rattle.link_run.specs.Stages.{Stands}
-use Rattle.link_run.specs.Writers.{place_of}
-use Rattle.link_run.proofs.Sessions.{contact_ended}
-use Rattle.link_run.proofs.Stands.{last_step}
+use Rattle.link_run.specs.{Reading.feed_of, Run.looks, Stages.Stands, Writers.place_of}
+use Rattle.link_run.proofs.{Sessions.contact_ended, Stands.last_step}
 use Rattle.link_list.specs.Listing.{listing_by, listing_of}
 use Rattle.link_list.proofs.Lists.{by_reading, same_texts, contact_listed}
 use Rattle.link_list.proofs.listing.list_contact.Goals as goal

@@ -1,9 +1,7 @@
 use Rattle.std.proofs.Common.{◌≡◌, length, take, refl, arith, length-take}
 use Rattle.link_wire.specs.Session.{data_in, source_of}
 use Rattle.link_run.specs.Reading.{feed_of}
-use Rattle.link_run.proofs.Waiting.{waits_then}
-use Rattle.link_run.proofs.Sessions.{data_ended}
-use Rattle.link_run.proofs.Stands.{settled}
+use Rattle.link_run.proofs.{Waiting.waits_then, Sessions.data_ended, Stands.settled}
 use Rattle.link_list.specs.Listing.{listing_by}
 use Rattle.link_list.proofs.Lists.{by_reading, inside, data_read}
 use Rattle.link_list.proofs.listing.pass_data.Goals as goal

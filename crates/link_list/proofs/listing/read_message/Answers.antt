@@ -1,8 +1,7 @@
 use Rattle.std.proofs.Common.{refl}
 use Rattle.link_wire.specs.Session.{source_of}
 use Rattle.link_run.specs.Reading.{feed_of}
-use Rattle.link_run.proofs.Sessions.{message_ended}
-use Rattle.link_run.proofs.Stands.{settled}
+use Rattle.link_run.proofs.{Sessions.message_ended, Stands.settled}
 use Rattle.link_list.specs.Listing.{listing_by}
 use Rattle.link_list.proofs.Lists.{by_reading, same_texts, message_read, clean_ended}
 use Rattle.link_list.proofs.listing.read_message.Goals as goal

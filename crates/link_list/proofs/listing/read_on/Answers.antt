@@ -1,6 +1,5 @@
 use Rattle.std.proofs.Common.{refl, ap, sym, ◌∙◌}
-use Rattle.link_run.specs.Reading.{feed_of}
-use Rattle.link_run.specs.Run.{looks}
+use Rattle.link_run.specs.{Reading.feed_of, Run.looks}
 use Rattle.link_run.proofs.Waiting.{waits_then}
 use Rattle.link_list.specs.ListRun.{latest_line}
 use Rattle.link_list.specs.declared.listing.Next.TheVariants as next

@@ -1,7 +1,5 @@
 use Rattle.link_wire.specs.Session.{source_of}
-use Rattle.link_run.specs.Reading.{feed_of}
-use Rattle.link_run.specs.Run.{looks}
-use Rattle.link_run.specs.Writers.{place_of}
+use Rattle.link_run.specs.{Reading.feed_of, Run.looks, Writers.place_of}
 use Rattle.link_list.specs.ListRun.{latest_line, Lists}
 use Rattle.link_list.specs.declared.listing.Stage.TheVariants as stage
 use Rattle.link_list.proofs.Lists.{not_far, fits_kept}

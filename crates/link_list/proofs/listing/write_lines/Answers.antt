@@ -2,10 +2,8 @@ use Rattle.std.proofs.Common.{ℕ, refl, ◌++◌, [], Ok, Err, Result, sym, ap,
 use Rattle.std.proofs.lemmas.Bool.{false≢true}
 use Rattle.link_io.specs.declared.source.Flow.{Flow}
 use Rattle.link_wire.specs.declared.IoFault.{IoFault}
-use Rattle.link_run.specs.Reading.{feed_of}
-use Rattle.link_run.specs.Writers.{on_output, AfterWrite}
-use Rattle.link_run.proofs.Runs.{writes_none, outputs_then}
-use Rattle.link_run.proofs.Waiting.{unread_none, unread_then}
+use Rattle.link_run.specs.{Reading.feed_of, Writers.{on_output, AfterWrite}}
+use Rattle.link_run.proofs.{Runs.{writes_none, outputs_then}, Waiting.{unread_none, unread_then}}
 use Rattle.link_list.specs.ListRun.{latest_line}
 use Rattle.link_list.proofs.Lists.{listed_none, listed_here, listed_more, listed_part}
 use Rattle.link_list.proofs.listing.write_lines.Goals as goal

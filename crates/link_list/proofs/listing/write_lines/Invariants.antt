@@ -1,10 +1,7 @@
 use Rattle.std.proofs.Common.{◌≡◌, List, ℕ, ◌+◌, length, ◌++◌}
 use Rattle.std.specs.Prelude.{IsTrue, false}
-use Rattle.link_wire.specs.Session.{source_of, may_read}
-use Rattle.link_wire.specs.Source.{reader_of, window_of}
-use Rattle.link_run.specs.Reading.{feed_of, Unread}
-use Rattle.link_run.specs.Run.{Texts}
-use Rattle.link_run.specs.Writers.{on_output, Writes}
+use Rattle.link_wire.specs.{Session.{source_of, may_read}, Source.{reader_of, window_of}}
+use Rattle.link_run.specs.{Reading.{feed_of, Unread}, Run.Texts, Writers.{on_output, Writes}}
 use Rattle.link_list.specs.ListRun.{latest_line, IsListedTo, ListedOn}
 use Rattle.link_list.proofs.listing.write_lines.Given as goal
 

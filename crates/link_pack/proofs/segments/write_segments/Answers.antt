@@ -1,5 +1,4 @@
-use Rattle.std.proofs.Common.{sym}
-use Rattle.std.proofs.lemmas.Result.{err_from_is_err_and}
+use Rattle.std.proofs.{Common.sym, lemmas.Result.err_from_is_err_and}
 use Rattle.link_pack.proofs.Sending.{sent_more, sent_part, sent_all}
 use Rattle.link_pack.proofs.segments.write_segments.Goals as goal
 

@@ -1,5 +1,4 @@
-use Rattle.link_transfer.specs.Cutting.{Cutting}
-use Rattle.link_transfer.specs.Cutter.{IsCutterAt, held_size}
+use Rattle.link_transfer.specs.{Cutting.Cutting, Cutter.{IsCutterAt, held_size}}
 use Rattle.link_pack.proofs.Sending.{Sent}
 use Rattle.link_pack.proofs.segments.write_segments.Given as goal
 

@@ -1,6 +1,5 @@
 use Rattle.std.proofs.Common.{ℕ, ◌≡◌, None, Some, ◌∙◌, sym, subst}
-use Rattle.link_bundle_blocks.specs.Reading.{bytes_at}
-use Rattle.link_bundle_blocks.specs.CheckField.{check_of}
+use Rattle.link_bundle_blocks.specs.{Reading.bytes_at, CheckField.check_of}
 use Rattle.link_primary.specs.Accepted.{accepted}
 use Rattle.link_primary.proofs.Known.{field-none, field-short, field-read}
 use Rattle.link_primary.proofs.check.stored_holds.Goals as goal

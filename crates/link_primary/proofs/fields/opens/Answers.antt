@@ -1,5 +1,4 @@
-use Rattle.std.proofs.Common.{arith}
-use Rattle.std.proofs.lemmas.Bool.Decides.{nat_tests}
+use Rattle.std.proofs.{Common.arith, lemmas.Bool.Decides.nat_tests}
 use Rattle.link_primary.proofs.Known.{opens-by, opens-none}
 use Rattle.link_primary.proofs.fields.opens.Goals as goal
 

@@ -1,5 +1,4 @@
-use Rattle.std.proofs.Common.{arith}
-use Rattle.std.proofs.lemmas.Grind.{common_steps}
+use Rattle.std.proofs.{Common.arith, lemmas.Grind.common_steps}
 use Rattle.std.proofs.lemmas.List.Elements.{filter_map-append}
 use Rattle.link_rules.proofs.broken.broken_of.Goals as goal
 use Rattle.link_rules.proofs.broken.broken_of.Goals.{in-Some, in_default}

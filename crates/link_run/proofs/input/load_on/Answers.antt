@@ -1,9 +1,7 @@
-use Rattle.std.proofs.Common.{length, inl, inr, refl, ap, arith}
-use Rattle.std.proofs.lemmas.Bool.{false≢true}
+use Rattle.std.proofs.{Common.{length, inl, inr, refl, ap, arith}, lemmas.Bool.false≢true}
 use Rattle.std.proofs.lemmas.Result.{err_from_is_err_and}
 use Rattle.link_run.specs.Run.{looks}
-use Rattle.link_run.proofs.Readings.{data_given, input_as}
-use Rattle.link_run.proofs.Waiting.{waits_enough}
+use Rattle.link_run.proofs.{Readings.{data_given, input_as}, Waiting.waits_enough}
 use Rattle.link_run.proofs.input.load_on.Goals as goal
 
 pub returns-in_err-settle_before : goal.returns-in_err-settle_before

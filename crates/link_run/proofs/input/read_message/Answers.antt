@@ -1,5 +1,4 @@
-use Rattle.std.proofs.Common.{refl, ap, inl, inr}
-use Rattle.std.proofs.lemmas.Bool.{false≢true}
+use Rattle.std.proofs.{Common.{refl, ap, inl, inr}, lemmas.Bool.false≢true}
 use Rattle.std.proofs.lemmas.Result.{err_from_is_err_and}
 use Rattle.link_run.specs.Run.{looks}
 use Rattle.link_run.proofs.Readings.{opened_to_read, message_given, input_as}

@@ -1,13 +1,9 @@
 use Rattle.std.proofs.Common.{◌≡◌, Bool, [], if◌then◌else◌, true, false, is_some, List, ◌++◌, Ok, refl, ap, sym, ◌∙◌}
 use Rattle.link_wire.specs.declared.message.Message.{Message}
-use Rattle.link_transfer.specs.Joiner.{IsJoinerAt}
-use Rattle.link_transfer.specs.Order.{open_of}
+use Rattle.link_transfer.specs.{Joiner.IsJoinerAt, Order.open_of}
 use Rattle.link_run.specs.declared.run.Status.{Status}
-use Rattle.link_walk.specs.Walk.{WalkEvent, has_open, end_events}
-use Rattle.link_walk.specs.Telling.{Tells}
-use Rattle.link_walk.specs.WalkRun.{Finishes}
-use Rattle.link_walk.proofs.Tellings.{tells_none}
-use Rattle.link_walk.proofs.walk.finish.Given.{Over}
+use Rattle.link_walk.specs.{Walk.{WalkEvent, has_open, end_events}, Telling.Tells, WalkRun.Finishes}
+use Rattle.link_walk.proofs.{Tellings.tells_none, walk.finish.Given.Over}
 use Rattle.link_walk.proofs.walk.finish.Goals as goal
 use Rattle.link_walk.proofs.walk.finish.Goals.{After-is_good, then-is_some+in_ok-event, else-is_some}
 

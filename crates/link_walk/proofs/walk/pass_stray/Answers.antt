@@ -1,15 +1,11 @@
 use Rattle.std.proofs.Common.{◌≡◌, ◌<◌, List, ℕ, [], length, take, None, Ok, refl, arith, length-take}
-use Rattle.link_wire.specs.Session.{source_of, left_of, data_in}
-use Rattle.link_wire.specs.Stream.{reading_of}
+use Rattle.link_wire.specs.{Session.{source_of, left_of, data_in}, Stream.reading_of}
 use Rattle.link_run.specs.Reading.{feed_of}
-use Rattle.link_run.proofs.Sessions.{data_ended}
-use Rattle.link_run.proofs.Stands.{settled}
-use Rattle.link_run.proofs.Waiting.{waits_then}
+use Rattle.link_run.proofs.{Sessions.data_ended, Stands.settled, Waiting.waits_then}
 use Rattle.link_walk.specs.WalkRun.{stage_by}
 use Rattle.link_walk.specs.declared.walk.Next.TheVariants as next
 use Rattle.link_walk.specs.declared.walk.Stage.TheVariants as stage
-use Rattle.link_walk.proofs.Comes.{stage_some}
-use Rattle.link_walk.proofs.Steps.{events_at, data_grows, told_step, ready_step}
+use Rattle.link_walk.proofs.{Comes.stage_some, Steps.{events_at, data_grows, told_step, ready_step}}
 use Rattle.link_walk.proofs.Tellings.{tells_none}
 use Rattle.link_walk.proofs.Texts.{by_reading, made_is, stop_is, some_to_come}
 use Rattle.link_walk.proofs.walk.pass_stray.Goals as goal

@@ -1,12 +1,8 @@
 use Rattle.std.proofs.Common.{◌<◌, arith}
-use Rattle.link_wire.specs.Session.{source_of}
-use Rattle.link_wire.specs.Stream.{reading_of}
+use Rattle.link_wire.specs.{Session.source_of, Stream.reading_of}
 use Rattle.link_run.specs.Reading.{feed_of}
-use Rattle.link_run.proofs.Sessions.{data_ended}
-use Rattle.link_run.proofs.Stands.{settled}
-use Rattle.link_run.proofs.Waiting.{waits_then}
-use Rattle.link_walk.proofs.Steps.{ready_step}
-use Rattle.link_walk.proofs.Texts.{by_reading, made_is, stop_is, some_to_come}
+use Rattle.link_run.proofs.{Sessions.data_ended, Stands.settled, Waiting.waits_then}
+use Rattle.link_walk.proofs.{Steps.ready_step, Texts.{by_reading, made_is, stop_is, some_to_come}}
 use Rattle.link_walk.proofs.walk.take_data.Goals as goal
 
 pub returns-in-Err-clause-gives : goal.returns-in-Err-clause-gives

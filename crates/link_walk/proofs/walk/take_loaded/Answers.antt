@@ -1,17 +1,12 @@
 use Rattle.std.proofs.Common.{◌≡◌, ◌+◌, ◌<◌, ◌&&◌, ◌==◌, Bool, List, ℕ, zero, suc, Some, length, take, refl, ap, ◌∙◌, arith, length-take, length-append}
 use Rattle.link_wire.specs.Session.{source_of, left_of, data_in, IsSessionAt, PassedBytes}
-use Rattle.link_wire.specs.Stream.{reading_of}
-use Rattle.link_wire.specs.declared.session.Session.{Session}
+use Rattle.link_wire.specs.{Stream.reading_of, declared.session.Session.Session}
 use Rattle.link_transfer.specs.declared.joiner.Turn.TheVariants as turn
-use Rattle.link_run.specs.Reading.{feed_of}
-use Rattle.link_run.specs.declared.input.Input.{Input}
-use Rattle.link_run.specs.Run.{looks}
-use Rattle.link_walk.specs.Walk.{WalkEvent, walked}
-use Rattle.link_walk.specs.WalkRun.{Steps, at, next_of, stage_by}
+use Rattle.link_run.specs.{Reading.feed_of, declared.input.Input.Input, Run.looks}
+use Rattle.link_walk.specs.{Walk.{WalkEvent, walked}, WalkRun.{Steps, at, next_of, stage_by}}
 use Rattle.link_walk.specs.declared.walk.Stage.{Stage}
 use Rattle.link_walk.specs.declared.walk.Stage.TheVariants as stage
-use Rattle.link_walk.proofs.Heads.{is_whole}
-use Rattle.link_walk.proofs.Steps.{data_grows, told_step}
+use Rattle.link_walk.proofs.{Heads.is_whole, Steps.{data_grows, told_step}}
 use Rattle.link_walk.proofs.walk.take_loaded.Given.{Over}
 use Rattle.link_walk.proofs.walk.take_loaded.Goals as goal
 use Rattle.link_walk.proofs.walk.take_loaded.Goals.{After-event}

@@ -1,18 +1,12 @@
 use Rattle.std.proofs.Common.{◌≡◌, ◌++◌, List, Some, None, Ok, Err, refl, ap, sym, ◌∙◌, ⊎_elim, subst}
 use Rattle.std.proofs.lemmas.Bool.{cases_Bool}
-use Rattle.link_wire.specs.Message.{data_length}
-use Rattle.link_wire.specs.MessageBuffer.{message_of}
-use Rattle.link_wire.specs.Session.{source_of}
-use Rattle.link_wire.specs.Stream.{reading_of, cut_heads}
-use Rattle.link_wire.specs.declared.message.Message.{Message}
-use Rattle.link_transfer.specs.Event.{event_of}
-use Rattle.link_transfer.specs.Joiner.{IsJoinerAt}
+use Rattle.link_wire.specs.{Message.data_length, MessageBuffer.message_of, Session.source_of}
+use Rattle.link_wire.specs.{Stream.{reading_of, cut_heads}, declared.message.Message.Message}
+use Rattle.link_transfer.specs.{Event.event_of, Joiner.IsJoinerAt}
 use Rattle.link_transfer.specs.Order.{effect_of, judged_message}
 use Rattle.link_run.specs.Reading.{feed_of}
-use Rattle.link_run.proofs.Sessions.{message_ended}
-use Rattle.link_run.proofs.Stands.{settled}
-use Rattle.link_walk.specs.Telling.{Tells}
-use Rattle.link_walk.specs.Walk.{Head, Walked, head_at, head_events, walked}
+use Rattle.link_run.proofs.{Sessions.message_ended, Stands.settled}
+use Rattle.link_walk.specs.{Telling.Tells, Walk.{Head, Walked, head_at, head_events, walked}}
 use Rattle.link_walk.specs.WalkRun.{stage_by}
 use Rattle.link_walk.specs.declared.walk.Stage.TheVariants as stage
 use Rattle.link_walk.proofs.Comes.{at_clean, told_at, head_refused}

@@ -1,12 +1,9 @@
 use Rattle.std.proofs.Common.{◌≡◌, Some, refl, ap, sym, ◌∙◌, subst}
 use Rattle.std.proofs.lemmas.Bool.{false≢true, not-false, not-true}
-use Rattle.link_wire.specs.MessageBuffer.{message_of}
-use Rattle.link_wire.specs.Session.{left_of}
-use Rattle.link_transfer.specs.Event.{event_of}
-use Rattle.link_transfer.specs.Order.{effect_of}
+use Rattle.link_wire.specs.{MessageBuffer.message_of, Session.left_of}
+use Rattle.link_transfer.specs.{Event.event_of, Order.effect_of}
 use Rattle.link_run.specs.Reading.{feed_of}
-use Rattle.link_walk.specs.Walk.{Head, head_at}
-use Rattle.link_walk.specs.WalkRun.{TellsHead}
+use Rattle.link_walk.specs.{Walk.{Head, head_at}, WalkRun.TellsHead}
 use Rattle.link_walk.specs.declared.consumer.Manner.{Manner}
 use Rattle.link_walk.proofs.walk.take_refused.Goals as goal
 

@@ -1,7 +1,5 @@
-use Rattle.std.proofs.Common.{ap, sym, ◌∙◌}
-use Rattle.std.proofs.lemmas.Bool.{not-true}
-use Rattle.link_walk.specs.Telling.{viewed_head}
-use Rattle.link_walk.specs.declared.consumer.Manner.{Manner}
+use Rattle.std.proofs.{Common.{ap, sym, ◌∙◌}, lemmas.Bool.not-true}
+use Rattle.link_walk.specs.{Telling.viewed_head, declared.consumer.Manner.Manner}
 use Rattle.link_walk.proofs.Tellings.{plain_no_event, tells_none}
 use Rattle.link_walk.proofs.walk.tell.Goals as goal
 

@@ -1,5 +1,4 @@
-use Rattle.std.proofs.Common.{eq-eqb, slice_index, sym, ◌∙◌}
-use Rattle.std.proofs.lemmas.Bool.{ne_eqb}
+use Rattle.std.proofs.{Common.{eq-eqb, slice_index, sym, ◌∙◌}, lemmas.Bool.ne_eqb}
 use Rattle.byteorder.specs.Endian.{big_number}
 use Rattle.link_wire.proofs.Gettings.{exit, exiting, after, pure, refuse, is_live, if_true, if_false}
 use Rattle.link_wire.specs.Message.{contact_at}

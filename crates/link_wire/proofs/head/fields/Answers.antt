@@ -1,6 +1,5 @@
 use Rattle.std.proofs.Common.{◌≡◌, ℕ, ◌<◌, ◌≤◌, arith, sym}
-use Rattle.link_wire.proofs.FieldReads.{fields_at-unknown}
-use Rattle.link_wire.proofs.Gettings.{pure, refuse, same_part}
+use Rattle.link_wire.proofs.{FieldReads.fields_at-unknown, Gettings.{pure, refuse, same_part}}
 use Rattle.link_wire.specs.Message.{fields_at}
 use Rattle.link_wire.proofs.head.fields.Goals as goal
 

@@ -1,5 +1,4 @@
-use Rattle.std.proofs.Common.{◌≡◌, length, arith, ap}
-use Rattle.std.proofs.lemmas.List.{take_at}
+use Rattle.std.proofs.{Common.{◌≡◌, length, arith, ap}, lemmas.List.take_at}
 use Rattle.std.specs.List.{refill}
 use Rattle.link_wire.proofs.Gettings.{exit, leaving, after, pure, is_live}
 use Rattle.link_wire.specs.Message.{node_bytes_at}

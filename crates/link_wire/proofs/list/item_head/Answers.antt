@@ -1,5 +1,4 @@
-use Rattle.std.proofs.Common.{◌-◌, ◌<◌, ◌≤◌, arith}
-use Rattle.std.proofs.lemmas.Bool.{lt-ltb, le-ltb}
+use Rattle.std.proofs.{Common.{◌-◌, ◌<◌, ◌≤◌, arith}, lemmas.Bool.{lt-ltb, le-ltb}}
 use Rattle.link_wire.proofs.Gettings.{exiting, step, stop_in, pure, refuse, if_true, if_false}
 use Rattle.link_wire.specs.Message.{item_head_at}
 use Rattle.link_wire.proofs.list.item_head.Goals as goal

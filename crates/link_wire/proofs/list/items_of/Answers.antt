@@ -1,6 +1,5 @@
 use Rattle.std.proofs.Common.{◌≡◌, ℕ, suc, ◌-◌, ◌<◌, [], length, Ok, arith, rules, append-nil}
-use Rattle.std.proofs.lemmas.Bool.Decides.{nat_tests}
-use Rattle.std.proofs.lemmas.List.Elements.{All-push}
+use Rattle.std.proofs.lemmas.{Bool.Decides.nat_tests, List.Elements.All-push}
 use Rattle.link_wire.proofs.Gettings.{exit, leaving, after, pure, is_live}
 use Rattle.link_wire.specs.Message.{items_of, HasTotal}
 use Rattle.link_wire.proofs.Items.{item_of, with_before-append, items_none, items_exit, items_full, items_exit_total, items_more}

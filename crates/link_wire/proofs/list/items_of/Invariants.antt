@@ -1,12 +1,9 @@
 use Rattle.std.proofs.Common.{◌≡◌, ◌-◌, ◌≤◌, length, Result, List}
 use Rattle.link_io.specs.Source.{IsLive}
-use Rattle.link_wire.specs.Message.{HasTotals, items_at}
-use Rattle.link_wire.specs.Getting.{Gets}
+use Rattle.link_wire.specs.{Message.{HasTotals, items_at}, Getting.Gets}
 use Rattle.link_wire.proofs.Items.{with_before}
-use Rattle.link_wire.specs.declared.message.TheConstants.{MAX_ITEMS}
-use Rattle.link_wire.specs.declared.halt.Halt.{Halt}
-use Rattle.link_wire.specs.declared.message.Item.{Item}
-use Rattle.link_wire.specs.declared.message.ListOf.TheVariants.{Transfer}
+use Rattle.link_wire.specs.declared.{message.TheConstants.MAX_ITEMS, halt.Halt.Halt}
+use Rattle.link_wire.specs.declared.message.{Item.Item, ListOf.TheVariants.Transfer}
 use Rattle.link_io.specs.declared.source.Source.{Source}
 use Rattle.link_wire.proofs.list.items_of.Given as goal
 

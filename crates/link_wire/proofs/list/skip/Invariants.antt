@@ -1,7 +1,6 @@
 use Rattle.std.proofs.Common.{◌-◌, ◌≤◌, Ok}
 use Rattle.link_io.specs.Source.{IsLive}
-use Rattle.link_wire.specs.Message.{skipped_at}
-use Rattle.link_wire.specs.Getting.{Gets}
+use Rattle.link_wire.specs.{Message.skipped_at, Getting.Gets}
 use Rattle.link_wire.proofs.list.skip.Given as goal
 
 -- all but the last `left` bytes have been skipped

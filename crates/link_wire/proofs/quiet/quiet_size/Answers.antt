@@ -1,7 +1,6 @@
 use Rattle.std.proofs.Common.{◌≡◌, ℕ, ◌<◌, ◌==◌, true, get_or, refl, ap, ◌∙◌, arith}
 use Rattle.std.proofs.lemmas.Bool.{agree_below_at, eqb-true}
-use Rattle.link_wire.specs.Whole.{quiet_size}
-use Rattle.link_wire.specs.declared.quiet.TheConstants.{SIZES}
+use Rattle.link_wire.specs.{Whole.quiet_size, declared.quiet.TheConstants.SIZES}
 use Rattle.link_wire.proofs.Wholes.{quiet_size-bounds}
 use Rattle.link_wire.proofs.quiet.quiet_size.Goals as goal
 

@@ -1,7 +1,6 @@
 use Rattle.std.proofs.Common.{◌≡◌, ℕ, refl, suc, ◌-◌, ◌+◌, [], ◌∷◌, ◌++◌, drop, arith, sym, ap, ◌∙◌}
 use Rattle.std.proofs.lemmas.Result.{err_from_is_err_and}
-use Rattle.link_wire.specs.InSlice.{head_of}
-use Rattle.link_wire.specs.Message.{items_at}
+use Rattle.link_wire.specs.{InSlice.head_of, Message.items_at}
 use Rattle.link_wire.proofs.Items.{item_of}
 use Rattle.link_wire.proofs.ItemReads.{with_items, with_items-append, with_items-none, items_none, items_bad_head, items_full, items_bad_value, items_more, list_at_fault, list_ended}
 use Rattle.link_wire.proofs.slices.items_of.Goals as goal

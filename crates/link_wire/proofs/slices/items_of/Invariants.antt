@@ -1,8 +1,7 @@
 use Rattle.std.proofs.Common.{◌≡◌, ◌≤◌, ◌+◌, List, length, drop}
 use Rattle.link_wire.specs.Message.{items_at}
 use Rattle.link_wire.proofs.ItemReads.{with_items}
-use Rattle.link_wire.specs.declared.message.Item.{Item}
-use Rattle.link_wire.specs.declared.message.TheConstants.{MAX_ITEMS}
+use Rattle.link_wire.specs.declared.message.{Item.Item, TheConstants.MAX_ITEMS}
 use Rattle.link_wire.proofs.slices.items_of.Given as goal
 
 -- the items of the whole list are some items, and then those of the bytes left

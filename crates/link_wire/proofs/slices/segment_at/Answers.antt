@@ -1,7 +1,5 @@
-use Rattle.std.proofs.Common.{◌≡◌, [], false, refl, sym, ◌∙◌}
-use Rattle.std.proofs.lemmas.Bool.{ne_eqb, false≢true}
-use Rattle.link_wire.specs.Codes.{is_start}
-use Rattle.link_wire.specs.Message.{segment_at, segment_items_at}
+use Rattle.std.proofs.{Common.{◌≡◌, [], false, refl, sym, ◌∙◌}, lemmas.Bool.{ne_eqb, false≢true}}
+use Rattle.link_wire.specs.{Codes.is_start, Message.{segment_at, segment_items_at}}
 use Rattle.link_wire.proofs.slices.segment_at.Goals as goal
 
 pub returns-then-flags-ne-START : goal.returns-then-flags-ne-START

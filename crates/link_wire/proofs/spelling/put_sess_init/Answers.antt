@@ -1,8 +1,6 @@
 use Rattle.std.proofs.Common.{◌++◌, ◌≤◌, length}
-use Rattle.link_wire.proofs.Appends.{then_append}
-use Rattle.link_wire.proofs.Spellings.{sess_init_spelled}
-use Rattle.link_wire.specs.Spelled.{be}
-use Rattle.link_wire.specs.Spelling.{sess_init_bytes}
+use Rattle.link_wire.proofs.{Appends.then_append, Spellings.sess_init_spelled}
+use Rattle.link_wire.specs.{Spelled.be, Spelling.sess_init_bytes}
 use Rattle.link_wire.proofs.spelling.put_sess_init.Goals as goal
 
 pub returns-clause-items : goal.returns-clause-items

@@ -1,7 +1,6 @@
 use Rattle.std.proofs.Common.{◌++◌}
 use Rattle.link_wire.proofs.Appends.{then_append}
-use Rattle.link_wire.specs.Spelled.{be}
-use Rattle.link_wire.specs.Spelling.{total_bytes}
+use Rattle.link_wire.specs.{Spelled.be, Spelling.total_bytes}
 use Rattle.link_wire.proofs.spelling.put_total.Goals as goal
 
 pub returns-clause-items : goal.returns-clause-items

@@ -1,7 +1,6 @@
 use Rattle.std.proofs.Common.{ℕ, Option, ap, ◌∙◌}
 use Rattle.link_bundle_blocks.specs.Bundle.{verdict}
-use Rattle.link_numbers.specs.Bundle.{fault_of, with_span}
-use Rattle.link_numbers.specs.declared.fault.Fault.{Fault}
+use Rattle.link_numbers.specs.{Bundle.{fault_of, with_span}, declared.fault.Fault.Fault}
 use Rattle.link_bundle.proofs.Pieces.{verdict_judged, span_judged}
 use Rattle.tcpclkit_c.proofs.bundle.found.Goals as goal
 

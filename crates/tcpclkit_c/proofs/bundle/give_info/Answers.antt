@@ -1,15 +1,12 @@
 use Rattle.std.proofs.Common.{◌≡◌, ℕ, Option, Result, Ok, Err, ap, sym, ◌∙◌, subst}
 use Rattle.link_bundle_types.specs.BundleView.{viewed_info, viewed_verdict}
-use Rattle.link_bundle_types.specs.declared.fault.BundleFault.{BundleFault}
-use Rattle.link_bundle_types.specs.declared.fault.State.{State}
+use Rattle.link_bundle_types.specs.declared.fault.{BundleFault.BundleFault, State.State}
 use Rattle.link_bundle_types.specs.declared.info.BundleInfo.{BundleInfo}
 use Rattle.link_bundle_blocks.specs.Bundle.{verdict, payload_seen, state_of}
-use Rattle.link_primary.specs.Fields.{PrimaryFields}
-use Rattle.link_primary.specs.View.{viewed_fields}
+use Rattle.link_primary.specs.{Fields.PrimaryFields, View.viewed_fields}
 use Rattle.link_numbers.specs.Bundle.{verdict_shown}
 use Rattle.tcpclkit_c.specs.Bundle.{Names, ReturnsBundle, ReturnsStop, ReturnsInfo}
-use Rattle.link_numbers.specs.declared.bundle.Bundle.{Bundle}
-use Rattle.link_numbers.specs.declared.bundle.Verdict.{Verdict}
+use Rattle.link_numbers.specs.declared.bundle.{Bundle.Bundle, Verdict.Verdict}
 use Rattle.link_bundle.proofs.Pieces.{verdict_judged}
 use Rattle.tcpclkit_c.proofs.bundle.give_info.Goals as goal
 

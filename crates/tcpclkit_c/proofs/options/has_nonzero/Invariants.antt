@@ -1,6 +1,5 @@
 use Rattle.std.proofs.Common.{◌≡◌, false, take}
-use Rattle.std.specs.Prelude.{nat_lt}
-use Rattle.std.specs.List.{list_any}
+use Rattle.std.specs.{Prelude.nat_lt, List.list_any}
 use Rattle.tcpclkit_c.proofs.options.has_nonzero.Given as goal
 
 abbrev pub invariant-loop-word : goal.invariant-loop-word

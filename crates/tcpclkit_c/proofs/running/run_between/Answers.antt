@@ -2,12 +2,9 @@ use Rattle.std.proofs.Common.{◌≡◌, ℕ, List, ◌++◌, Some, false, refl,
 use Rattle.link_run.specs.Run.{looks, Devices}
 use Rattle.link_tools.specs.Options.{job_tool}
 use Rattle.link_wire.specs.Device.{Input, Output}
-use Rattle.tcpclkit_c.specs.Run.{HasRun}
-use Rattle.tcpclkit_c.specs.Slice.{labelled}
-use Rattle.tcpclkit_c.specs.declared.device.SliceReader.{SliceReader}
+use Rattle.tcpclkit_c.specs.{Run.HasRun, Slice.labelled, declared.device.SliceReader.SliceReader}
 use Rattle.tcpclkit_c.specs.declared.device.SliceWriter.{SliceWriter}
-use Rattle.tcpclkit_c.proofs.Overlays.{labels_are}
-use Rattle.tcpclkit_c.proofs.Runs.{Ran, tool_ran}
+use Rattle.tcpclkit_c.proofs.{Overlays.labels_are, Runs.{Ran, tool_ran}}
 use Rattle.tcpclkit_c.proofs.running.run_between.Goals as goal
 
 abbrev reader_look : SliceReader → Input

@@ -1,5 +1,4 @@
-use Rattle.std.proofs.Common.{◌≡◌, ◌++◌, true, sym, ◌∙◌}
-use Rattle.std.proofs.lemmas.Bool.{false≢true}
+use Rattle.std.proofs.{Common.{◌≡◌, ◌++◌, true, sym, ◌∙◌}, lemmas.Bool.false≢true}
 use Rattle.link_cbor.specs.Pieces.{taken}
 use Rattle.link_bundle_blocks.specs.Bundle.{bundle_goes}
 use Rattle.tcpclkit_c.specs.Scan.{has_room}

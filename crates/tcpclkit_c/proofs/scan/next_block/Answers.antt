@@ -5,10 +5,8 @@ use Rattle.link_cbor.specs.Pieces.{taken}
 use Rattle.link_bundle_blocks.specs.Blocks.{viewed_blocks}
 use Rattle.link_bundle.specs.Scan.{ending}
 use Rattle.link_numbers.specs.Block.{first_shown}
-use Rattle.tcpclkit_c.specs.NextBlock.{goes_in_block}
-use Rattle.tcpclkit_c.specs.Scan.{has_room}
-use Rattle.tcpclkit_c.proofs.Blocks.{feeds_block}
-use Rattle.tcpclkit_c.proofs.Scanning.{keeps_taken}
+use Rattle.tcpclkit_c.specs.{NextBlock.goes_in_block, Scan.has_room}
+use Rattle.tcpclkit_c.proofs.{Blocks.feeds_block, Scanning.keeps_taken}
 use Rattle.tcpclkit_c.proofs.scan.next_block.Goals.{then-count-gt0, else-count-gt0}
 use Rattle.tcpclkit_c.proofs.scan.next_block.Goals as goal
 

@@ -1,5 +1,4 @@
-use Rattle.std.proofs.Common.{length, inl, inr, sym, ◌∙◌}
-use Rattle.std.proofs.lemmas.Bool.{eqb-true}
+use Rattle.std.proofs.{Common.{length, inl, inr, sym, ◌∙◌}, lemmas.Bool.eqb-true}
 use Rattle.std.proofs.lemmas.List.{nil_from_length}
 use Rattle.tcpclkit_c.proofs.Blocks.{takes_none, takes_some}
 use Rattle.tcpclkit_c.proofs.scan.take_block.Goals.{then-is_empty-via-then-is_empty, then-is_empty-via-else-is_empty+then-not-going}

@@ -2,8 +2,7 @@
 use Rattle.tcpclkit_c.proofs.Walks.{◌≡◌, ℕ, [], ◌∷◌, ◌++◌, length, refl, w32, MutBor, proved, full_share, emp, id⊢, GName, ftrue, flft, flent, named, vptr, fact, fact_i, tables, Body, lft_new, lft_end, ‵, raw, ◌⊛◌, some, later, prop, ◌$◌, ◌∵◌, !, qed, done, move, keep, drop, use0, use1, use2, use3, split, join, fsplit, fpick, pick, await, regoal, suffices, group, enter, of_opd, addr, stop, no_more, and_then, returns, alloc_all, pass_all, free_all, look_at, get, through, sets, lands_as, u8, u32, u64, yes, shows, Is, lends_ref, ref_back, part_at, mem, uint_Lawful, Ptr, RawPtr, block_ptr, lies_at, in_a_block, rawptr_vals, rawptr_Tells, MutRef, mut_vals, mut_Tells, ShrSlice, slice_val, shr_slice_vals, shr_slice_Tells, plain, shr_slice_of, mut_ref_to, nothing, heard, peeks, calls_at, Lasts, lasts, triple_of, Stays, walk_of, stay_dropped, Goes-dropped, ends_at, framed, stay_passed, Goes-passed}
 use prog.Wp.{WpFn}
 use Rattle.tcpclkit_c.specs.declared.scan.MarkedScan.{MarkedScan}
-use Rattle.tcpclkit_c.specs.contracts.scan.MarkedScan.{the_row as R}
-use Rattle.tcpclkit_c.specs.Scan.{HoldsScan}
+use Rattle.tcpclkit_c.specs.{contracts.scan.MarkedScan.the_row as R, Scan.HoldsScan}
 use Rattle.tcpclkit_c.specs.NextBlock.{FeedsMarkedBlock, fed_block, fed_block_status, added_block}
 use Rattle.link_numbers.specs.contracts.block.BlockNumbers.{the_row as B}
 use Rattle.tcpclkit_c.specs.contracts.scan.tcpclkit_raw_next_block as f

@@ -1,12 +1,10 @@
 -- The new scan is written into the room.
 use Rattle.tcpclkit_c.proofs.Walks.{◌≡◌, [], ◌∷◌, ◌++◌, refl, lit<, w32, proved, full_share, emp, id⊢, ftrue, fsep, fex, vint, fact, fact_i, tables, ‵, raw, ◌⊛◌, some, later, prop, ◌$◌, ◌∵◌, !, qed, done, move, drop, use0, use1, use2, split, join, fjoin, fpack, pick, await, regoal, suffices, group, enter, of_opd, lit, stop, init, no_more, assigns, returns, alloc_all, pass_all, free_all, look_at, get, through, sets, lands_as, u32, yes, uint_Makes, shows, Is, part_at, part_in, Ptr, RawPtr, block_ptr, lies_at, room_at, in_a_block, rawptr_vals, rawptr_Tells, plain, nothing, owned, heard, peeks, calls_at, Lasts, lasts, triple_of, Stays, walk_of, stay_dropped, Goes-dropped, ends_at, framed}
 use prog.Wp.{WpFn}
-use Rattle.tcpclkit_c.specs.Scan.{IsScan}
-use Rattle.tcpclkit_c.specs.declared.scan.MarkedScan.{MarkedScan}
+use Rattle.tcpclkit_c.specs.{Scan.IsScan, declared.scan.MarkedScan.MarkedScan}
 use Rattle.tcpclkit_c.specs.contracts.scan.MarkedScan.{the_row as R}
 use Rattle.tcpclkit_c.specs.contracts.scan.new_scan as g
-use Rattle.tcpclkit_c.proofs.scan.new_scan.Met.{met}
-use Rattle.tcpclkit_c.proofs.scan.MarkedScan.TheLaws.{the_row_laws}
+use Rattle.tcpclkit_c.proofs.scan.{new_scan.Met.met, MarkedScan.TheLaws.the_row_laws}
 use Rattle.tcpclkit_c.specs.contracts.scan.tcpclkit_raw_start_scan as f
 use Rattle.tcpclkit_c.proofs.scan.tcpclkit_raw_start_scan.Statement.{statement}
 use Rattle.tcpclkit_c.proofs.scan.tcpclkit_raw_start_scan.Code as code

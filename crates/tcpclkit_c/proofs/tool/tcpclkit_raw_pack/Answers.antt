@@ -1,6 +1,5 @@
 use Rattle.std.proofs.Common.{subst}
-use Rattle.tcpclkit_c.specs.Options.{HasOptions}
-use Rattle.tcpclkit_c.specs.declared.options.PackNumbers.{PackNumbers}
+use Rattle.tcpclkit_c.specs.{Options.HasOptions, declared.options.PackNumbers.PackNumbers}
 use Rattle.tcpclkit_c.proofs.Runs.{packed}
 use Rattle.tcpclkit_c.proofs.tool.tcpclkit_raw_pack.Goals as goal
 

@@ -1,5 +1,4 @@
-use Rattle.std.proofs.Common.{refl, rules, arith}
-use Rattle.std.proofs.Math.Seq.{take-length}
+use Rattle.std.proofs.{Common.{refl, rules, arith}, Math.Seq.take-length}
 use Rattle.link_bundle.proofs.Steps.{slice_bytes}
 use Rattle.link_block_data.proofs.Steps.{grown_failed}
 use Rattle.link_block_data.proofs.scan.DataScan.advance.Goals as goal

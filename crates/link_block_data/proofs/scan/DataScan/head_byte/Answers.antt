@@ -1,8 +1,7 @@
 use Rattle.std.proofs.Common.{ℕ, ◌+◌, List, ◌∷◌, [], ◌++◌, drop, refl, arith, rules}
 use Rattle.link_cbor.specs.HeadScan.{HasScannedHead}
 use Rattle.link_bundle.proofs.Steps.{one_byte}
-use Rattle.link_block_data.specs.declared.kind.DataKind.{DataKind}
-use Rattle.link_block_data.specs.Scan.{HasScanned, HasSeenHead}
+use Rattle.link_block_data.specs.{declared.kind.DataKind.DataKind, Scan.{HasScanned, HasSeenHead}}
 use Rattle.link_block_data.proofs.Steps.{at_stage, grown_head, grown_bytes, more_head, bad_head}
 use Rattle.link_block_data.proofs.scan.DataScan.head_byte.Goals as goal
 use Rattle.link_block_data.proofs.scan.DataScan.head_byte.Goals.{After-outcome}

@@ -2,8 +2,7 @@ use Rattle.std.proofs.Common.{◌≡◌, ◌+◌, ◌-◌, min, ◌<◌, ℕ, Li
 use Rattle.link_block_data.specs.Scan.{HasScanned}
 use Rattle.link_unpack.specs.Pieces.{part_in}
 use Rattle.link_block_report.specs.Kinds.{kind_of}
-use Rattle.link_blocks.specs.BlockLines.{data_in}
-use Rattle.link_blocks.specs.DataReader.{IsReadingBlock}
+use Rattle.link_blocks.specs.{BlockLines.data_in, DataReader.IsReadingBlock}
 use Rattle.link_blocks.proofs.Runs.{data_later, data_more}
 use Rattle.link_blocks.proofs.data.DataReader.take.Goals as goal
 use Rattle.link_blocks.proofs.data.DataReader.take.Goals.{then-block-before, else-block-before}

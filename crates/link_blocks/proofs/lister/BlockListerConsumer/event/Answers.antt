@@ -1,17 +1,14 @@
 use Rattle.std.proofs.Common.{◌≡◌, ℕ, Bool, Option, ◌+◌, ◌<◌, ◌≤◌, ◌^◌, ◌&&◌, not, length, List, true, Ok, Err, refl, ap, sym, ◌∙◌, append-nil, arith}
 use Rattle.std.proofs.lemmas.Bool.{false≢true}
-use Rattle.link_run.specs.Run.{no_texts, ◌then◌}
-use Rattle.link_run.specs.Writers.{on_output, on_report}
+use Rattle.link_run.specs.{Run.{no_texts, ◌then◌}, Writers.{on_output, on_report}}
 use Rattle.link_run.proofs.Runs.{writes_none, part_of_more, output_then}
 use Rattle.link_walk.specs.Walk.{WalkEvent, ContactHeader, LeftOpen, abandons, closes, has_open}
 use Rattle.link_walk.specs.Telling.{ComesAfter, viewed_head}
 use Rattle.link_transfer.specs.declared.joiner.Turn.{Turn}
 use Rattle.link_unpack.specs.Transfers.{Transfer}
 use Rattle.link_unpack.specs.Unpacking.{order_line, good_due, transfers_at, told_after}
-use Rattle.link_unpack.proofs.Effects.{abandons_open}
-use Rattle.link_unpack.proofs.Told.{on_ok}
-use Rattle.link_blocks.specs.Lister.{KnowsShown, end_due}
-use Rattle.link_blocks.specs.Showing.{unpacking_by}
+use Rattle.link_unpack.proofs.{Effects.abandons_open, Told.on_ok}
+use Rattle.link_blocks.specs.{Lister.{KnowsShown, end_due}, Showing.unpacking_by}
 use Rattle.link_blocks.specs.declared.lister.BlockLister.{BlockLister}
 use Rattle.link_blocks.specs.declared.transfer.TransferBlocks.{TransferBlocks}
 use Rattle.link_blocks.proofs.Ended.{ended_lines}

@@ -1,5 +1,4 @@
-use Rattle.std.proofs.Common.{ap, ◌∙◌}
-use Rattle.std.proofs.lemmas.Bool.{false≢true}
+use Rattle.std.proofs.{Common.{ap, ◌∙◌}, lemmas.Bool.false≢true}
 use Rattle.link_unpack.specs.Unpacking.{is_selected}
 use Rattle.link_blocks.proofs.transfer.TransferBlocks.take.Goals as goal
 

@@ -1,8 +1,7 @@
 use Rattle.std.proofs.Common.{◌∙◌, Some, sym, rules}
 use Rattle.link_bundle.specs.Left.{field_left, stage_left, allocator_left, node_left}
 use Rattle.link_bundle_blocks.specs.Reading.{row_at}
-use Rattle.link_bundle.proofs.Names.{by_eid-numbered}
-use Rattle.link_bundle.proofs.Judgings.{as_judged}
+use Rattle.link_bundle.proofs.{Names.by_eid-numbered, Judgings.as_judged}
 use Rattle.link_bundle.proofs.draft.Draft.allocator.Goals as goal
 
 pub returns : goal.returns

@@ -1,8 +1,7 @@
 use Rattle.std.proofs.Common.{◌∙◌, ◌-◌, length, sym, ap, Result, rules}
 use Rattle.std.proofs.lemmas.Result.{err_from_is_err_and}
 use Rattle.link_bundle_types.specs.declared.fault.BundleFault.TheVariants.{TooManyBlocks}
-use Rattle.link_bundle_blocks.specs.Bundle.{Bundle}
-use Rattle.link_bundle_blocks.specs.Reading.{Stop, stopped}
+use Rattle.link_bundle_blocks.specs.{Bundle.Bundle, Reading.{Stop, stopped}}
 use Rattle.link_bundle.specs.Left.{field_left, stage_left, read_alone, with_known_payload, primary_of}
 use Rattle.link_bundle.proofs.Heads.{read_alone-stopped}
 use Rattle.link_bundle.proofs.Canonical.{blocks_at-refused, blocks_at-full, blocks_at-open, no_room, some_room}

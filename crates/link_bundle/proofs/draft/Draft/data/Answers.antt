@@ -2,11 +2,8 @@ use Rattle.std.proofs.Common.{◌∙◌, sym, ap, Result, rules}
 use Rattle.std.specs.Prelude.{◌==◌, is_none, nat_lt, length}
 use Rattle.link_bundle.specs.Left.{field_left, stage_left, data_left, read_alone, primary_of, current}
 use Rattle.link_bundle.specs.CheckKinds.{kind_of}
-use Rattle.link_bundle_blocks.specs.Bundle.{Bundle}
-use Rattle.link_bundle_blocks.specs.Reading.{Stop, row_at}
-use Rattle.link_bundle.proofs.Heads.{data_read}
-use Rattle.link_bundle.proofs.Fields.{before_and}
-use Rattle.link_bundle.proofs.Judgings.{as_judged}
+use Rattle.link_bundle_blocks.specs.{Bundle.Bundle, Reading.{Stop, row_at}}
+use Rattle.link_bundle.proofs.{Heads.data_read, Fields.before_and, Judgings.as_judged}
 use Rattle.link_bundle.proofs.draft.Draft.data.Goals as goal
 
 pub returns : goal.returns

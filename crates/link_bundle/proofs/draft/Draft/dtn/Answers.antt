@@ -1,7 +1,6 @@
 use Rattle.std.proofs.Common.{◌∙◌, sym, ap, Ok, rules}
 use Rattle.link_bundle.specs.Left.{field_left, stage_left, name_left}
-use Rattle.link_bundle_blocks.specs.EndpointId.{specific_at, dtn_at}
-use Rattle.link_bundle_blocks.specs.Reading.{row_at}
+use Rattle.link_bundle_blocks.specs.{EndpointId.{specific_at, dtn_at}, Reading.row_at}
 use Rattle.link_bundle.proofs.Judgings.{as_judged}
 use Rattle.link_bundle.proofs.draft.Draft.dtn.Goals as goal
 

@@ -2,10 +2,8 @@ use Rattle.std.proofs.Common.{◌≡◌, ◌∙◌, sym, refl, ap, None, Ok, fal
 use Rattle.std.specs.Prelude.{◌==◌}
 use Rattle.std.proofs.lemmas.Bool.{ne_eqb}
 use Rattle.link_bundle.specs.Left.{field_left, stage_left, allocator_left, node_left, service_left}
-use Rattle.link_bundle_blocks.specs.EndpointId.{specific_at, ipn_at}
-use Rattle.link_bundle_blocks.specs.Reading.{row_at}
-use Rattle.link_bundle.proofs.Names.{by_eid-numbered}
-use Rattle.link_bundle.proofs.Judgings.{as_judged}
+use Rattle.link_bundle_blocks.specs.{EndpointId.{specific_at, ipn_at}, Reading.row_at}
+use Rattle.link_bundle.proofs.{Names.by_eid-numbered, Judgings.as_judged}
 use Rattle.link_bundle.proofs.draft.Draft.ipn.Goals as goal
 
 pub returns-in-3 : goal.returns-in-3

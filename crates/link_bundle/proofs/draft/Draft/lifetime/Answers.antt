@@ -1,7 +1,6 @@
 use Rattle.std.proofs.Common.{◌∙◌, sym, refl, rules}
 use Rattle.link_bundle.specs.Left.{field_left, stage_left, lifetime_left, fragment_offset_left}
-use Rattle.link_bundle_blocks.specs.Primary.{fragment_at}
-use Rattle.link_bundle_blocks.specs.Reading.{row_at}
+use Rattle.link_bundle_blocks.specs.{Primary.fragment_at, Reading.row_at}
 use Rattle.link_bundle.proofs.Judgings.{as_judged}
 use Rattle.link_bundle.proofs.draft.Draft.lifetime.Goals as goal
 

@@ -1,7 +1,6 @@
 use Rattle.std.proofs.Common.{◌-◌, length, refl, arith}
 use Rattle.link_bundle.specs.Fits.{rest_fits}
-use Rattle.link_bundle.proofs.Fields.{some_left}
-use Rattle.link_bundle.proofs.Names.{name_run_goes_on, name_run_ends}
+use Rattle.link_bundle.proofs.{Fields.some_left, Names.{name_run_goes_on, name_run_ends}}
 use Rattle.link_bundle.proofs.draft.Draft.name_run.Goals as goal
 
 pub returns-in-0-clause-reads : goal.returns-in-0-clause-reads

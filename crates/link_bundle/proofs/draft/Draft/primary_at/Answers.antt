@@ -1,6 +1,5 @@
 use Rattle.std.proofs.Common.{refl, sym, ◌∙◌}
-use Rattle.link_bundle_blocks.specs.Primary.{primary_at}
-use Rattle.link_bundle_blocks.specs.Reading.{row_at}
+use Rattle.link_bundle_blocks.specs.{Primary.primary_at, Reading.row_at}
 use Rattle.link_bundle.proofs.draft.Draft.primary_at.Goals as goal
 
 pub returns-clause-read : goal.returns-clause-read

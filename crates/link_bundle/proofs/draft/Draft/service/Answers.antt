@@ -6,8 +6,7 @@ use Rattle.link_bundle.specs.declared.stage.ScanStage.{ScanStage}
 use Rattle.link_bundle.specs.Left.{field_left, stage_left, service_left, numbered, AsReadFrom, EidEnds}
 use Rattle.link_bundle_heads.specs.Rows.{unsigned}
 use Rattle.link_bundle_blocks.proofs.Heads.{row_at-accepted}
-use Rattle.link_bundle.proofs.Names.{by_eid}
-use Rattle.link_bundle.proofs.Judgings.{as_judged}
+use Rattle.link_bundle.proofs.{Names.by_eid, Judgings.as_judged}
 use Rattle.link_bundle.proofs.draft.Draft.service.Goals as goal
 use Rattle.link_bundle.proofs.draft.Draft.service.Goals.{In_ok-service}
 

@@ -1,10 +1,7 @@
-use Rattle.std.proofs.Common.{sym, rules}
-use Rattle.std.proofs.lemmas.List.{length-take-le}
+use Rattle.std.proofs.{Common.{sym, rules}, lemmas.List.length-take-le}
 use Rattle.link_bundle_blocks.specs.Whole.{whole_canonical}
 use Rattle.link_bundle_blocks.proofs.Beginnings.{Begins, begins_block, read_exactly}
-use Rattle.link_bundle.proofs.Feeding.{as_taken}
-use Rattle.link_bundle.proofs.Steps.{at_stage}
-use Rattle.link_bundle.proofs.Wholes.{goes_in_canonical}
+use Rattle.link_bundle.proofs.{Feeding.as_taken, Steps.at_stage, Wholes.goes_in_canonical}
 use Rattle.link_bundle.proofs.scan.BundleScan.advance_canonical.Goals as goal
 use Rattle.link_bundle.proofs.scan.BundleScan.advance_canonical.Goals.{In-Ok}
 

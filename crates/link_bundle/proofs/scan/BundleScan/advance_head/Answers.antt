@@ -3,8 +3,7 @@ use Rattle.std.proofs.lemmas.List.{length-take-le, take-take}
 use Rattle.link_cbor.specs.Head.{Whole, head_front}
 use Rattle.link_cbor.proofs.HeadLaws.{head_alone}
 use Rattle.link_bundle_blocks.specs.Bundle.{bundle_goes}
-use Rattle.link_bundle.proofs.Feeding.{as_taken, goes_in_head}
-use Rattle.link_bundle.proofs.Steps.{at_stage}
+use Rattle.link_bundle.proofs.{Feeding.{as_taken, goes_in_head}, Steps.at_stage}
 use Rattle.link_bundle.proofs.scan.BundleScan.advance_head.Goals as goal
 use Rattle.link_bundle.proofs.scan.BundleScan.advance_head.Goals.{In-Some}
 

@@ -1,7 +1,5 @@
-use Rattle.std.proofs.Common.{take, arith, rules}
-use Rattle.std.proofs.lemmas.List.{length-take}
-use Rattle.link_bundle.proofs.Feeding.{as_taken, goes_in_content, goes_in_name}
-use Rattle.link_bundle.proofs.Steps.{at_stage}
+use Rattle.std.proofs.{Common.{take, arith, rules}, lemmas.List.length-take}
+use Rattle.link_bundle.proofs.{Feeding.{as_taken, goes_in_content, goes_in_name}, Steps.at_stage}
 use Rattle.link_bundle.proofs.scan.BundleScan.advance_part.Goals as goal
 
 pub returns-in-Name-clause-advances : goal.returns-in-Name-clause-advances

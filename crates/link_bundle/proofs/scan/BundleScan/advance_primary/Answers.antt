@@ -1,12 +1,9 @@
-use Rattle.std.proofs.Common.{refl, sym, rules}
-use Rattle.std.proofs.lemmas.List.{length-take-le}
+use Rattle.std.proofs.{Common.{refl, sym, rules}, lemmas.List.length-take-le}
 use Rattle.link_bundle.specs.Left.{primary_of}
 use Rattle.link_bundle_blocks.specs.Whole.{whole_primary}
 use Rattle.link_bundle.proofs.Alone.{taken_anew, first_taken}
 use Rattle.link_bundle_blocks.proofs.Beginnings.{Begins, begins_primary, read_exactly}
-use Rattle.link_bundle.proofs.Feeding.{as_taken}
-use Rattle.link_bundle.proofs.Steps.{at_stage}
-use Rattle.link_bundle.proofs.Wholes.{goes_in_primary}
+use Rattle.link_bundle.proofs.{Feeding.as_taken, Steps.at_stage, Wholes.goes_in_primary}
 use Rattle.link_bundle.proofs.scan.BundleScan.advance_primary.Goals as goal
 use Rattle.link_bundle.proofs.scan.BundleScan.advance_primary.Goals.{In-Ok}
 

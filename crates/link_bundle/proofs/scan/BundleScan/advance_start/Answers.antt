@@ -2,8 +2,7 @@ use Rattle.std.proofs.Common.{refl, ◌+◌, arith, rules}
 use Rattle.link_bundle.specs.Left.{bundle_of}
 use Rattle.link_bundle_blocks.specs.Bundle.{Bundle, bundle_at}
 use Rattle.link_bundle_blocks.proofs.Beginnings.{Begins, begins_bundle}
-use Rattle.link_bundle.proofs.Alone.{whole_come, goes_in_whole, first_taken}
-use Rattle.link_bundle.proofs.Feeding.{as_taken}
+use Rattle.link_bundle.proofs.{Alone.{whole_come, goes_in_whole, first_taken}, Feeding.as_taken}
 use Rattle.link_bundle.proofs.Steps.{at_stage, slice_bytes}
 use Rattle.link_bundle.proofs.scan.BundleScan.advance_start.Goals as goal
 use Rattle.link_bundle.proofs.scan.BundleScan.advance_start.Goals.{In-Ok}

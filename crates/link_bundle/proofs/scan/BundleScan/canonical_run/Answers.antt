@@ -4,8 +4,7 @@ use Rattle.link_cbor.specs.HeadScan.{may_scan_head}
 use Rattle.link_bundle.specs.CheckKinds.{is_unread}
 use Rattle.link_bundle_blocks.proofs.Beginnings.{data_begins}
 use Rattle.link_bundle.proofs.Fields.{before_and, after_and}
-use Rattle.link_bundle.proofs.Steps.{at_stage, fits_at, slice_bytes}
-use Rattle.link_bundle.proofs.Taking.{takes_on, ends_here}
+use Rattle.link_bundle.proofs.{Steps.{at_stage, fits_at, slice_bytes}, Taking.{takes_on, ends_here}}
 use Rattle.link_bundle.proofs.Wholes.{canonical_come}
 use Rattle.link_bundle.proofs.scan.BundleScan.canonical_run.Goals as goal
 

@@ -3,10 +3,8 @@ use Rattle.std.proofs.lemmas.Bool.{ne_eqb}
 use Rattle.link_cbor.specs.HeadScan.{HasScannedHead}
 use Rattle.link_bundle_types.specs.declared.fault.BundleFault.TheVariants.{BadHead}
 use Rattle.link_bundle_blocks.specs.Blocks.{Block}
-use Rattle.link_bundle.specs.declared.stage.ScanStage.{ScanStage}
-use Rattle.link_bundle.specs.declared.stage.ScanStage.TheVariants.{Failed}
-use Rattle.link_bundle.specs.Left.{last_block, stage_last}
-use Rattle.link_bundle.specs.Scan.{HasSeen, HasSeenHead}
+use Rattle.link_bundle.specs.declared.stage.{ScanStage.ScanStage, ScanStage.TheVariants.Failed}
+use Rattle.link_bundle.specs.{Left.{last_block, stage_last}, Scan.{HasSeen, HasSeenHead}}
 use Rattle.link_bundle.proofs.Steps.{at_stage, one_byte, grown_head, grown_bytes, more_head, bad_head}
 use Rattle.link_bundle.proofs.Taking.{last_of, IsAfter, takes_on, takes_more, ends_nowhere}
 use Rattle.link_bundle.proofs.scan.BundleScan.head_byte.Goals as goal

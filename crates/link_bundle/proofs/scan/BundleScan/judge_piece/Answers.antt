@@ -1,5 +1,4 @@
-use Rattle.std.proofs.Common.{sym, refl, ◌∙◌, arith}
-use Rattle.std.proofs.lemmas.Bool.{false≢true}
+use Rattle.std.proofs.{Common.{sym, refl, ◌∙◌, arith}, lemmas.Bool.false≢true}
 use Rattle.link_bundle.proofs.Pieces.{judged_fed, judged_stepped}
 use Rattle.link_bundle.proofs.scan.BundleScan.judge_piece.Goals as goal
 use Rattle.link_bundle.proofs.scan.BundleScan.judge_piece.Goals.{else-taken-piece-via-then-taken-piece+else-matches, in-Ended, in_default, else-taken-piece-via-else-taken-piece}

@@ -1,6 +1,5 @@
 use Rattle.std.proofs.Common.{refl, sym, ◌∙◌, rules, arith}
-use Rattle.link_bundle.proofs.Contents.{grown_name}
-use Rattle.link_bundle.proofs.Steps.{at_stage, slice_bytes}
+use Rattle.link_bundle.proofs.{Contents.grown_name, Steps.{at_stage, slice_bytes}}
 use Rattle.link_bundle.proofs.Taking.{takes_plain, none_last, ends_here}
 use Rattle.link_bundle.proofs.scan.BundleScan.name_run.Goals as goal
 

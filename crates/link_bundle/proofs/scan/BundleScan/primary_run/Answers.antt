@@ -1,7 +1,6 @@
 use Rattle.std.proofs.Common.{sym, ◌∙◌, rules, arith}
 use Rattle.link_bundle.proofs.Steps.{at_stage, fits_at, slice_bytes}
-use Rattle.link_bundle.proofs.Taking.{takes_plain, none_last, ends_here}
-use Rattle.link_bundle.proofs.Wholes.{primary_come}
+use Rattle.link_bundle.proofs.{Taking.{takes_plain, none_last, ends_here}, Wholes.primary_come}
 use Rattle.link_bundle.proofs.scan.BundleScan.primary_run.Goals as goal
 use Rattle.std.proofs.Common.{refl}
 

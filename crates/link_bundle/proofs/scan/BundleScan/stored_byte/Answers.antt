@@ -1,12 +1,9 @@
 use Rattle.std.proofs.Common.{ℕ, ◌≡◌, ◌+◌, ◌*◌, ◌<◌, Some, refl, ap, sym, ◌∙◌, arith, rules}
 use Rattle.std.proofs.lemmas.Bool.{eq-eqb, ne_eqb}
 use Rattle.link_cbor.specs.declared.check.CheckKind.{CheckKind}
-use Rattle.link_bundle.specs.CheckKinds.{kind_of, is_kind}
-use Rattle.link_bundle.specs.declared.scan.BundleScan.{BundleScan}
-use Rattle.link_bundle.specs.declared.stage.BlockKind.{BlockKind}
-use Rattle.link_bundle.specs.declared.stage.CheckType.{CheckType}
-use Rattle.link_bundle.specs.declared.stage.CheckType.TheVariants.{Is}
-use Rattle.link_bundle.specs.declared.stage.ScanStage.TheVariants.{Stored}
+use Rattle.link_bundle.specs.{CheckKinds.{kind_of, is_kind}, declared.scan.BundleScan.BundleScan}
+use Rattle.link_bundle.specs.declared.stage.{BlockKind.BlockKind, CheckType.CheckType}
+use Rattle.link_bundle.specs.declared.stage.{CheckType.TheVariants.Is, ScanStage.TheVariants.Stored}
 use Rattle.link_bundle.proofs.Fields.{HasRoom, same_check, has_room, room, before_and}
 use Rattle.link_bundle.proofs.Contents.{grown_stored, equal_stored, other_stored}
 use Rattle.link_bundle.proofs.Steps.{at_stage, fits_at}

@@ -1,6 +1,5 @@
 use Rattle.std.proofs.Common.{◌+◌, refl, arith, rules}
-use Rattle.link_bundle.proofs.Contents.{trailing}
-use Rattle.link_bundle.proofs.Steps.{at_stage, fits_at}
+use Rattle.link_bundle.proofs.{Contents.trailing, Steps.{at_stage, fits_at}}
 use Rattle.link_bundle.proofs.Taking.{takes_plain, none_last, ends_nowhere}
 use Rattle.link_bundle.proofs.scan.BundleScan.trailing_byte.Goals as goal
 

@@ -1,8 +1,7 @@
 use Rattle.std.proofs.Common.{List, ℕ, ◌<◌, ◌++◌, length, sym, subst, ◌∙◌, arith}
 use Rattle.std.proofs.Math.Seq.{take-length}
 use Rattle.link_bundle.specs.Scan.{HasScanned}
-use Rattle.link_bundle.proofs.Feeding.{TakenInAll, content_taken}
-use Rattle.link_bundle.proofs.Steps.{at_stage}
+use Rattle.link_bundle.proofs.{Feeding.{TakenInAll, content_taken}, Steps.at_stage}
 use Rattle.link_bundle.proofs.scan.BundleScanPiecewise.feed.Goals as goal
 use Rattle.link_bundle.proofs.scan.BundleScanPiecewise.feed.Goals.{In-Content}
 

@@ -1,5 +1,4 @@
-use Rattle.std.proofs.Common.{take, arith}
-use Rattle.std.proofs.lemmas.List.{length-take}
+use Rattle.std.proofs.{Common.{take, arith}, lemmas.List.length-take}
 use Rattle.link_bundle_walk.proofs.Dividing.{too_long, taken_some, judged}
 use Rattle.link_bundle_walk.proofs.current.Current.judge.Goals as goal
 

@@ -2,10 +2,8 @@ use Rattle.std.proofs.Common.{◌≡◌, ℕ, List, [], ◌++◌, length, refl, 
 use Rattle.std.proofs.lemmas.Bool.{false≢true}
 use Rattle.link_io.proofs.Sources.{Takes-none}
 use Rattle.link_run.specs.Reading.{feed_of}
-use Rattle.link_bundle_walk.specs.BundleRun.{Walks}
-use Rattle.link_bundle_walk.specs.Telling.{none_yet}
-use Rattle.link_bundle_walk.proofs.Founds.{stepped, no_size}
-use Rattle.link_bundle_walk.proofs.Outcomes.{told_none}
+use Rattle.link_bundle_walk.specs.{BundleRun.Walks, Telling.none_yet}
+use Rattle.link_bundle_walk.proofs.{Founds.{stepped, no_size}, Outcomes.told_none}
 use Rattle.link_bundle_walk.proofs.walk.BundleWalkStagesSource.stage.Goals as goal
 
 pub returns-in-Begin-clause-gives : goal.returns-in-Begin-clause-gives

@@ -1,5 +1,4 @@
-use Rattle.std.proofs.Common.{◌<◌, refl, sym, ◌∙◌}
-use Rattle.std.proofs.lemmas.List.Elements.{All-nil}
+use Rattle.std.proofs.{Common.{◌<◌, refl, sym, ◌∙◌}, lemmas.List.Elements.All-nil}
 use Rattle.link_cbor.specs.Crc.{all_ones}
 use Rattle.link_cbor.proofs.CrcLaws.{register_after-nil}
 use Rattle.link_cbor.proofs.check.Check.new.Goals as goal

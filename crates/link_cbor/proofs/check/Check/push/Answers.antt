@@ -1,5 +1,4 @@
-use Rattle.std.proofs.Common.{◌<◌, ◌∷◌, [], refl, arith}
-use Rattle.std.proofs.lemmas.List.Elements.{All-nil, All-cons}
+use Rattle.std.proofs.{Common.{◌<◌, ◌∷◌, [], refl, arith}, lemmas.List.Elements.{All-nil, All-cons}}
 use Rattle.link_cbor.proofs.Pushes.{pushed_more}
 use Rattle.link_cbor.proofs.check.Check.push.Goals as goal
 

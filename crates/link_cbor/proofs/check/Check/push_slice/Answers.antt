@@ -3,8 +3,7 @@ use Rattle.std.specs.List.{concat}
 use Rattle.std.proofs.lemmas.List.{append_assoc, append-nil, take_all, take-append-drop}
 use Rattle.std.proofs.lemmas.List.Elements.{All-take, All-from_get_or}
 use Rattle.link_cbor.specs.Crc.{register_after}
-use Rattle.link_cbor.proofs.Joins.{joined_more}
-use Rattle.link_cbor.proofs.Pushes.{pushed_more, concat-first_chunks}
+use Rattle.link_cbor.proofs.{Joins.joined_more, Pushes.{pushed_more, concat-first_chunks}}
 use Rattle.link_cbor.proofs.check.Check.push_slice.Goals as goal
 
 pub loop-byte-init : goal.loop-byte-init

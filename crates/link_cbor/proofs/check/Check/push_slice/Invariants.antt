@@ -1,6 +1,5 @@
 use Rattle.std.proofs.Common.{ℕ, ◌*◌, ◌/◌, List, ◌++◌, length, take}
-use Rattle.link_cbor.specs.Pushed.{HasPushed}
-use Rattle.link_cbor.specs.declared.check.CheckKind.{CheckKind}
+use Rattle.link_cbor.specs.{Pushed.HasPushed, declared.check.CheckKind.CheckKind}
 use Rattle.link_cbor.proofs.check.Check.push_slice.Given as goal
 
 abbrev pub invariant-loop-byte : goal.invariant-loop-byte

@@ -1,7 +1,5 @@
-use Rattle.std.proofs.Common.{◌≤◌, ◌/◌, ◌%◌, ◌^◌, ◌*◌, sym, ap, arith}
-use Rattle.std.proofs.Math.Nat.{div-eq_of_lt}
-use Rattle.std.proofs.Math.Pow.{pow_mono}
-use Rattle.std.proofs.lemmas.Nat.{and_mask}
+use Rattle.std.proofs.{Common.{◌≤◌, ◌/◌, ◌%◌, ◌^◌, ◌*◌, sym, ap, arith}, Math.Nat.div-eq_of_lt}
+use Rattle.std.proofs.{Math.Pow.pow_mono, lemmas.Nat.and_mask}
 use Rattle.link_cbor.proofs.check.register.byte_of.Goals as goal
 
 pub returns-then-position-lt-REGISTER_BYTES : goal.returns-then-position-lt-REGISTER_BYTES

@@ -1,8 +1,7 @@
 use Rattle.std.proofs.Common.{◌≡◌, ◌<◌, ◌/◌, ◌%◌, [], get_or, sym, ap, ap₂, ◌∙◌, arith}
 use Rattle.std.specs.Int.Bits.{bit_xor}
 use Rattle.std.proofs.lemmas.List.Elements.{All-nil}
-use Rattle.link_cbor.proofs.CrcLaws.{register_after-nil}
-use Rattle.link_cbor.proofs.LookUps.{looked_up}
+use Rattle.link_cbor.proofs.{CrcLaws.register_after-nil, LookUps.looked_up}
 use Rattle.link_cbor.proofs.check.register.register_after.Goals as goal
 
 pub returns : goal.returns

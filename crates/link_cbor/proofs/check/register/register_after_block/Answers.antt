@@ -1,10 +1,8 @@
 use Rattle.std.proofs.Common.{◌≡◌, ◌<◌, ◌+◌, ◌-◌, ◌*◌, ◌/◌, ◌^◌, [], drop, get_or, sym, ap, ◌∙◌, arith}
 use Rattle.std.specs.Int.Bits.{bit_xor}
-use Rattle.std.proofs.lemmas.List.{drop_all}
-use Rattle.std.proofs.lemmas.List.Elements.{All-from_get_or}
+use Rattle.std.proofs.lemmas.{List.drop_all, List.Elements.All-from_get_or}
 use Rattle.link_cbor.specs.Crc.{register_after}
-use Rattle.link_cbor.proofs.CrcLaws.{register_after-nil}
-use Rattle.link_cbor.proofs.LookUps.{looked_up-before}
+use Rattle.link_cbor.proofs.{CrcLaws.register_after-nil, LookUps.looked_up-before}
 use Rattle.link_cbor.proofs.check.register.register_after_block.Goals as goal
 
 pub loop-zeros-init : goal.loop-zeros-init

@@ -1,6 +1,5 @@
 use Rattle.std.proofs.Common.{◌≡◌, ◌-◌, ◌*◌, ◌/◌, ◌^◌, drop}
-use Rattle.link_cbor.specs.Crc.{register_after}
-use Rattle.link_cbor.specs.CrcTables.{AreTables}
+use Rattle.link_cbor.specs.{Crc.register_after, CrcTables.AreTables}
 use Rattle.link_cbor.specs.declared.check.CheckKind.{CheckKind}
 use Rattle.link_cbor.proofs.check.register.register_after_block.Given as goal
 

@@ -1,7 +1,6 @@
 use Rattle.std.proofs.Common.{◌++◌, [], ◌∷◌, take, get_or, sym, ap, ◌∙◌}
 use Rattle.std.specs.List.{concat}
-use Rattle.std.proofs.lemmas.List.{append-nil, take_more}
-use Rattle.std.proofs.lemmas.List.Folds.{concat-append}
+use Rattle.std.proofs.lemmas.{List.{append-nil, take_more}, List.Folds.concat-append}
 use Rattle.link_cbor.specs.Crc.{register_after}
 use Rattle.link_cbor.proofs.CrcLaws.{register_after-nil, register_after-append}
 use Rattle.link_cbor.proofs.check.register.register_after_blocks.Goals as goal

@@ -1,7 +1,6 @@
 use Rattle.std.proofs.Common.{◌≡◌, take}
 use Rattle.std.specs.List.{concat}
-use Rattle.link_cbor.specs.Crc.{register_after}
-use Rattle.link_cbor.specs.CrcTables.{AreTables}
+use Rattle.link_cbor.specs.{Crc.register_after, CrcTables.AreTables}
 use Rattle.link_cbor.specs.declared.check.CheckKind.{CheckKind}
 use Rattle.link_cbor.proofs.check.register.register_after_blocks.Given as goal
 

@@ -1,7 +1,6 @@
 use Rattle.std.proofs.Common.{◌<◌, ◌/◌, bit_and, get_or, drop, sym, ap, ◌∙◌, arith}
 use Rattle.link_cbor.specs.Head.{whole_of}
-use Rattle.link_cbor.proofs.HeadLaws.{front_by-small}
-use Rattle.link_cbor.proofs.Fronts.{empty, not_empty, by_first}
+use Rattle.link_cbor.proofs.{HeadLaws.front_by-small, Fronts.{empty, not_empty, by_first}}
 use Rattle.link_cbor.proofs.head.Head.front.Goals as goal
 
 pub returns-then-is_empty-clause-front : goal.returns-then-is_empty-clause-front

@@ -1,5 +1,4 @@
-use Rattle.std.proofs.Common.{◌<◌, refl}
-use Rattle.std.proofs.lemmas.List.Elements.{All-nil}
+use Rattle.std.proofs.{Common.{◌<◌, refl}, lemmas.List.Elements.All-nil}
 use Rattle.link_cbor.proofs.Stages.{scanned_none}
 use Rattle.link_cbor.proofs.head_scan.HeadScan.new.Goals as goal
 

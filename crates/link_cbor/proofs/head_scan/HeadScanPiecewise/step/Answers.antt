@@ -1,5 +1,4 @@
-use Rattle.std.proofs.Common.{◌<◌, ◌+◌, ap, ◌∙◌, sym, arith}
-use Rattle.std.proofs.lemmas.List.{length_push}
+use Rattle.std.proofs.{Common.{◌<◌, ◌+◌, ap, ◌∙◌, sym, arith}, lemmas.List.length_push}
 use Rattle.std.proofs.lemmas.List.Elements.{All-push}
 use Rattle.link_cbor.proofs.Stages.{count_fits, scanned_more}
 use Rattle.link_cbor.proofs.head_scan.HeadScanPiecewise.step.Goals as goal

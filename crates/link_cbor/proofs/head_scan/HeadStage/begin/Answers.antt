@@ -1,5 +1,4 @@
-use Rattle.std.proofs.Common.{arith, ◌<◌, ◌≤◌, bit_and}
-use Rattle.std.proofs.lemmas.Nat.{and_le_r}
+use Rattle.std.proofs.{Common.{arith, ◌<◌, ◌≤◌, bit_and}, lemmas.Nat.and_le_r}
 use Rattle.link_cbor.proofs.Stages.{begins-whole, begins-simple, begins-argument, begins-reserved, begins-unargued}
 use Rattle.link_cbor.proofs.head_scan.HeadStage.begin.Goals as goal
 

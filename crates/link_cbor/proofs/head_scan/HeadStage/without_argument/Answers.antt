@@ -1,5 +1,4 @@
-use Rattle.std.proofs.Common.{◌≤◌, arith, refl, ⊎_elim}
-use Rattle.std.proofs.lemmas.Bool.{lt-ltb}
+use Rattle.std.proofs.{Common.{◌≤◌, arith, refl, ⊎_elim}, lemmas.Bool.lt-ltb}
 use Rattle.link_cbor.proofs.Stages.{stands-wrong, stands-right}
 use Rattle.link_cbor.proofs.head_scan.HeadStage.without_argument.Goals as goal
 

@@ -1,5 +1,4 @@
-use Rattle.std.proofs.Common.{ℕ, List, ◌++◌, take, sym, ◌∙◌, arith}
-use Rattle.std.proofs.lemmas.List.{append-nil}
+use Rattle.std.proofs.{Common.{ℕ, List, ◌++◌, take, sym, ◌∙◌, arith}, lemmas.List.append-nil}
 use Rattle.link_cbor.proofs.Feeding.{TakenInAll, none_taken, taken_more, taken_stop, taken_all}
 use Rattle.link_cbor.proofs.Joins.{joined_more}
 use Rattle.link_cbor.proofs.piecewise.Piecewise.feed.Goals as goal

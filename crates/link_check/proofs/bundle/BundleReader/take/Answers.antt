@@ -1,6 +1,5 @@
 use Rattle.std.proofs.Common.{◌++◌, sym, subst, length-append, arith}
-use Rattle.link_rules.specs.HeadWalk.{HasWalked}
-use Rattle.link_rules.specs.declared.heads.HeadWalk.{HeadWalk}
+use Rattle.link_rules.specs.{HeadWalk.HasWalked, declared.heads.HeadWalk.HeadWalk}
 use Rattle.link_check.proofs.bundle.BundleReader.take.Goals as goal
 
 pub returns-clause-reads : goal.returns-clause-reads

@@ -1,7 +1,6 @@
 use Rattle.std.proofs.Common.{refl, subst, arith}
 use Rattle.link_run.specs.Writers.{AfterWrite, on_output}
-use Rattle.link_check.specs.BundleRules.{bundle_rules}
-use Rattle.link_check.specs.Lines.{lines_of}
+use Rattle.link_check.specs.{BundleRules.bundle_rules, Lines.lines_of}
 use Rattle.link_check.proofs.BundleTexts.{found_broken, knows_ended}
 use Rattle.link_check.proofs.bundles.BundleChecker.end_bundle.Goals as goal
 

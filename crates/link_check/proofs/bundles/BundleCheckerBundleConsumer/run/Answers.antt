@@ -1,6 +1,5 @@
 use Rattle.std.proofs.Common.{◌++◌, refl, arith}
-use Rattle.link_bundle_types.specs.BundleView.{viewed_info}
-use Rattle.link_bundle_types.specs.declared.info.BundleInfo.{BundleInfo}
+use Rattle.link_bundle_types.specs.{BundleView.viewed_info, declared.info.BundleInfo.BundleInfo}
 use Rattle.link_bundle_walk.specs.Telling.{SoFar}
 use Rattle.link_check.specs.BundleChecker.{KnowsBundles}
 use Rattle.link_check.proofs.BundleTexts.{tells_none, tells_whole}

@@ -4,10 +4,8 @@ use Rattle.link_bundle_blocks.specs.Bundle.{verdict}
 use Rattle.link_bundle.proofs.Pieces.{verdict_judged}
 use Rattle.link_rule_report.specs.declared.rule.BrokenRule.TheVariants.{Bundle, Transfer}
 use Rattle.link_rule_report.specs.declared.rule.BundlePlace.TheVariants as place
-use Rattle.link_check.specs.BundleRules.{bundle_rules}
-use Rattle.link_check.specs.Checker.{IsChecking}
-use Rattle.link_check.specs.Checking.{Begun, data_rules, optional}
-use Rattle.link_check.specs.Lines.{at_offset}
+use Rattle.link_check.specs.{BundleRules.bundle_rules, Checker.IsChecking}
+use Rattle.link_check.specs.{Checking.{Begun, data_rules, optional}, Lines.at_offset}
 use Rattle.link_check.proofs.Closed.{same_rules}
 use Rattle.link_check.proofs.transfer.CheckedTransfer.write_data.Goals as goal
 

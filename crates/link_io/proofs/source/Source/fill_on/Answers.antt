@@ -1,5 +1,4 @@
-use Rattle.std.proofs.Common.{◌≡◌, ◌+◌, take, drop, ◌++◌, ap, ◌∙◌}
-use Rattle.std.proofs.Math.Seq.{take-add}
+use Rattle.std.proofs.{Common.{◌≡◌, ◌+◌, take, drop, ◌++◌, ap, ◌∙◌}, Math.Seq.take-add}
 use Rattle.link_io.specs.Source.{HasEnded}
 use Rattle.link_io.proofs.Sources.{Takes-then}
 use Rattle.link_io.proofs.source.Source.fill_on.Goals as goal

@@ -1,10 +1,7 @@
 use Rattle.std.proofs.Common.{◌-◌, ◌≤◌, length, drop, refl, arith, length-take}
 use Rattle.std.proofs.lemmas.List.Elements.{All-take}
-use Rattle.link_io.specs.Bytes.{IsByte}
-use Rattle.link_io.specs.Limits.{window_size}
-use Rattle.link_io.specs.Source.{window_of}
-use Rattle.link_io.proofs.Sources.{Consumes-window, WindowAfter-drop}
-use Rattle.link_io.proofs.Windows.{range_rest}
+use Rattle.link_io.specs.{Bytes.IsByte, Limits.window_size, Source.window_of}
+use Rattle.link_io.proofs.{Sources.{Consumes-window, WindowAfter-drop}, Windows.range_rest}
 use Rattle.link_io.proofs.source.Source.give.Goals as goal
 
 pub returns-clause-takes : goal.returns-clause-takes

@@ -1,10 +1,7 @@
 use Rattle.std.proofs.Common.{◌≡◌, ℕ, ◌-◌, [], take, refl, arith, ap, ◌∙◌, length-drop, length-take}
 use Rattle.std.proofs.lemmas.List.Elements.{All-take}
-use Rattle.link_io.specs.Bytes.{IsByte}
-use Rattle.link_io.specs.Limits.{longest_input}
-use Rattle.link_io.specs.Source.{window_of, front_of}
-use Rattle.link_io.proofs.Sources.{front_held, held_part, Consumes-behind}
-use Rattle.link_io.proofs.Windows.{range_none}
+use Rattle.link_io.specs.{Bytes.IsByte, Limits.longest_input, Source.{window_of, front_of}}
+use Rattle.link_io.proofs.{Sources.{front_held, held_part, Consumes-behind}, Windows.range_none}
 use Rattle.link_io.proofs.source.Source.give_held.Goals as goal
 
 pub pass_held-requires : goal.pass_held-requires

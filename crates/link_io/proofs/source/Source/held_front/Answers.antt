@@ -1,6 +1,5 @@
 use Rattle.std.proofs.Common.{◌≡◌, ◌-◌, [], take, ap, sym, ◌∙◌, arith}
-use Rattle.link_io.specs.Limits.{longest_input}
-use Rattle.link_io.specs.Source.{window_of}
+use Rattle.link_io.specs.{Limits.longest_input, Source.window_of}
 use Rattle.link_io.proofs.Sources.{front_held, held_open, held_closed}
 use Rattle.link_io.proofs.Windows.{range_none, begins_nothing, held_next}
 use Rattle.link_io.proofs.source.Source.held_front.Goals as goal

@@ -1,8 +1,7 @@
 use Rattle.std.proofs.Common.{◌≡◌, [], length, take, slice_range, sym, add-zero, arith, refl, length-take}
 use Rattle.std.proofs.lemmas.List.Elements.{All-nil}
 use Rattle.link_io.specs.Bytes.{IsByte}
-use Rattle.link_io.proofs.Sources.{Consumes-empty}
-use Rattle.link_io.proofs.Windows.{range_none}
+use Rattle.link_io.proofs.{Sources.Consumes-empty, Windows.range_none}
 use Rattle.link_io.proofs.source.Source.read.Goals as goal
 
 -- the read returned a byte past the limit, and none of its bytes is given

@@ -1,8 +1,7 @@
 use Rattle.std.proofs.Common.{◌≡◌, ℕ, suc, zero, length, Result, Ok, Err, IfOk, ap, sym, refl, arith, ◌∙◌}
 use Rattle.link_io.specs.Device.{Input}
 use Rattle.link_io.specs.Source.{front_of, window_of, HasEnded, AfterReady, AfterReadyFront}
-use Rattle.link_io.specs.declared.fault.IoFault.{IoFault}
-use Rattle.link_io.specs.declared.source.Source.{Source}
+use Rattle.link_io.specs.declared.{fault.IoFault.IoFault, source.Source.Source}
 use Rattle.link_io.proofs.Sources.{Readies-none, front_empty, front_ended, front_failed, front_window}
 use Rattle.link_io.proofs.source.Source.ready_front.Goals as goal
 

@@ -1,7 +1,6 @@
 use Rattle.std.proofs.Common.{◌≡◌, ℕ, ◌+◌, ◌-◌, ◌≤◌, List, ◌++◌, sym, ap, ◌∙◌, take, drop, take-append-drop, length-take, arith}
 use Rattle.std.specs.List.{slice_range}
-use Rattle.std.proofs.lemmas.List.{drop-take}
-use Rattle.std.proofs.KnownBytes.{append_known-moved}
+use Rattle.std.proofs.{lemmas.List.drop-take, KnownBytes.append_known-moved}
 use Rattle.link_io.specs.TextWriter.{waiting}
 use Rattle.link_io.proofs.text_writer.TextWriter.pass.Goals as goal
 

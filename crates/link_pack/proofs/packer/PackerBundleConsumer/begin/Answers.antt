@@ -1,8 +1,7 @@
 use Rattle.std.proofs.Common.{sym, rules}
 use Rattle.link_run.specs.Writers.{on_output}
 use Rattle.link_pack.specs.Packing.{prelude_bytes}
-use Rattle.link_pack.proofs.Outcomes.{prelude_texts}
-use Rattle.link_pack.proofs.Sending.{holds_if}
+use Rattle.link_pack.proofs.{Outcomes.prelude_texts, Sending.holds_if}
 use Rattle.link_pack.proofs.packer.PackerBundleConsumer.begin.Goals as goal
 
 pub returns-clause-gives : goal.returns-clause-gives

@@ -1,11 +1,8 @@
 use Rattle.std.proofs.Common.{◌<◌, ◌∙◌, Option, Result, subst}
 use Rattle.link_wire.specs.declared.IoFault.{IoFault}
-use Rattle.link_run.specs.Reading.{feed_of}
-use Rattle.link_run.specs.Stages.{most_unless_ended}
-use Rattle.link_run.specs.Writers.{place_of}
+use Rattle.link_run.specs.{Reading.feed_of, Stages.most_unless_ended, Writers.place_of}
 use Rattle.link_run.specs.declared.run.Status.{Status}
-use Rattle.link_run.proofs.Strides.{stage_kept}
-use Rattle.link_run.proofs.Waiting.{prompt_once}
+use Rattle.link_run.proofs.{Strides.stage_kept, Waiting.prompt_once}
 use Rattle.link_run.proofs.stages.ToolRunRunReader.stride.Goals as goal
 
 pub returns-clause-gives : goal.returns-clause-gives

@@ -1,5 +1,4 @@
-use Rattle.std.proofs.Common.{◌≡◌, ◌<◌, length, ap, ◌∙◌, arith}
-use Rattle.std.proofs.lemmas.Bool.Decides.{nat_tests}
+use Rattle.std.proofs.{Common.{◌≡◌, ◌<◌, length, ap, ◌∙◌, arith}, lemmas.Bool.Decides.nat_tests}
 use Rattle.link_transfer.specs.Cutting.{uncut, shown}
 use Rattle.link_transfer.proofs.Steps.{shown_left, shown_chunk}
 use Rattle.link_transfer.proofs.cutter.Cutter.bytes.Goals as goal

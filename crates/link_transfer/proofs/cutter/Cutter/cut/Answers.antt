@@ -1,6 +1,5 @@
 use Rattle.std.proofs.Common.{Some, ◌&&◌, not, min, take, drop, ap, refl, sym, ◌∙◌}
-use Rattle.link_transfer.specs.Held.{HeldBytes}
-use Rattle.link_transfer.specs.declared.cut.Cut.{Cut}
+use Rattle.link_transfer.specs.{Held.HeldBytes, declared.cut.Cut.Cut}
 use Rattle.link_transfer.proofs.Giving.{next_cut-at, next_cut-none, last-at, all_chunks, IsCutterAt-forget, IsCutterAt-cut}
 use Rattle.link_transfer.proofs.cutter.Cutter.cut.Goals as goal
 

@@ -1,10 +1,8 @@
 use Rattle.std.proofs.Common.{◌≡◌, length, Some, refl, ap, sym, ◌∙◌, arith}
 use Rattle.std.proofs.lemmas.List.Elements.{All-from_get_or}
 use Rattle.link_wire.specs.Bytes.{AreBytes, IsByte}
-use Rattle.link_transfer.specs.Held.{HeldBytes}
-use Rattle.link_transfer.specs.declared.cut.Cut.{Cut}
-use Rattle.link_transfer.proofs.InPlace.{here_cut, here_chunk, here_after}
-use Rattle.link_transfer.proofs.Steps.{not_ended}
+use Rattle.link_transfer.specs.{Held.HeldBytes, declared.cut.Cut.Cut}
+use Rattle.link_transfer.proofs.{InPlace.{here_cut, here_chunk, here_after}, Steps.not_ended}
 use Rattle.link_transfer.proofs.cutter.Cutter.cut_slice.Goals as goal
 
 pub returns-clause-cut : goal.returns-clause-cut

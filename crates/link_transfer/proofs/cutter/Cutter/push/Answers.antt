@@ -1,5 +1,4 @@
-use Rattle.std.proofs.Common.{[], ap, refl, arith}
-use Rattle.std.proofs.lemmas.List.Elements.{All-nil, All-push}
+use Rattle.std.proofs.{Common.{[], ap, refl, arith}, lemmas.List.Elements.{All-nil, All-push}}
 use Rattle.link_wire.specs.Bytes.{IsByte}
 use Rattle.link_transfer.specs.Held.{HeldBytes}
 use Rattle.link_transfer.proofs.Steps.{IsCutterAt-push, quiet_room}

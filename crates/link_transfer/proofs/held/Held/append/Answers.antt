@@ -1,5 +1,4 @@
-use Rattle.std.proofs.Common.{◌++◌, drop, ap, ◌∙◌}
-use Rattle.std.proofs.lemmas.List.{drop-append-le}
+use Rattle.std.proofs.{Common.{◌++◌, drop, ap, ◌∙◌}, lemmas.List.drop-append-le}
 use Rattle.link_transfer.specs.Held.{HeldBytes}
 use Rattle.link_transfer.proofs.Holding.{same_held, range_empty}
 use Rattle.link_transfer.proofs.held.Held.append.Goals as goal

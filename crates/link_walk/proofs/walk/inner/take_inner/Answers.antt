@@ -1,7 +1,5 @@
 use Rattle.std.proofs.Common.{◌≡◌, List, ℕ, Ok, Err, refl, sym, subst}
-use Rattle.link_wire.specs.Device.{Input}
-use Rattle.link_wire.specs.Inner.{PassedInner}
-use Rattle.link_wire.specs.Session.{IsSessionAt}
+use Rattle.link_wire.specs.{Device.Input, Inner.PassedInner, Session.IsSessionAt}
 use Rattle.link_wire.specs.declared.session.Session.{Session}
 use Rattle.link_run.proofs.Waiting.{unread_none, unread_then}
 use Rattle.link_walk.proofs.Steps.{none_taken, turn_taken}

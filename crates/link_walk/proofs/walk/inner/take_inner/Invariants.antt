@@ -1,9 +1,7 @@
 use Rattle.std.proofs.Common.{◌≡◌, [], length}
 use Rattle.std.specs.Prelude.{IsTrue}
-use Rattle.link_wire.specs.Session.{source_of, may_read}
-use Rattle.link_wire.specs.Source.{window_of}
-use Rattle.link_run.specs.Reading.{feed_of, Unread}
-use Rattle.link_run.specs.Run.{looks}
+use Rattle.link_wire.specs.{Session.{source_of, may_read}, Source.window_of}
+use Rattle.link_run.specs.{Reading.{feed_of, Unread}, Run.looks}
 use Rattle.link_walk.specs.declared.walk.Next.TheVariants as next
 use Rattle.link_walk.specs.declared.walk.Stage.TheVariants as stage
 use Rattle.link_walk.proofs.Steps.{HasTaken}

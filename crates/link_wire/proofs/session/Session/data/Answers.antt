@@ -1,6 +1,5 @@
 use Rattle.std.proofs.Common.{◌≡◌, ◌≢◌, ◌<◌, [], ◌++◌, refl, length, take, drop, ap, sym, ◌∙◌, arith, length-append, length-take, length-drop}
-use Rattle.std.proofs.Math.Seq.{take-append_seam}
-use Rattle.std.proofs.lemmas.Bool.Decides.{nat_tests}
+use Rattle.std.proofs.{Math.Seq.take-append_seam, lemmas.Bool.Decides.nat_tests}
 use Rattle.link_io.proofs.Sources.{Takes-none}
 use Rattle.link_wire.specs.Session.{left_of}
 use Rattle.link_wire.proofs.Sessions.{data_given, gave_then, data_stopped}

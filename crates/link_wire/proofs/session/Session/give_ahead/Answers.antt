@@ -1,10 +1,8 @@
 use Rattle.std.proofs.Common.{◌≡◌, length, take, refl, sym, subst, ◌∙◌}
 use Rattle.link_wire.proofs.Sessions.{none_left, came}
 use Rattle.link_io.specs.Source.{front_of}
-use Rattle.link_wire.specs.Getting.{IsPart, WholePart}
-use Rattle.link_wire.specs.Message.{message_at}
-use Rattle.link_wire.specs.MessageBuffer.{message_of}
-use Rattle.link_wire.specs.declared.message.Message.{Message}
+use Rattle.link_wire.specs.{Getting.{IsPart, WholePart}, Message.message_at}
+use Rattle.link_wire.specs.{MessageBuffer.message_of, declared.message.Message.Message}
 use Rattle.link_wire.proofs.session.Session.give_ahead.Goals as goal
 
 pub returns-clause-gives : goal.returns-clause-gives

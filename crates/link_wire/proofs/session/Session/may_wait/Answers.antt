@@ -1,11 +1,8 @@
 use Rattle.std.proofs.Common.{◌≡◌, [], false, length, not, ap, sym, ◌∙◌, arith}
-use Rattle.std.proofs.lemmas.Bool.{false≢true}
-use Rattle.std.proofs.lemmas.Bool.Decides.{nat_tests}
-use Rattle.std.proofs.lemmas.Grind.{common_steps}
+use Rattle.std.proofs.lemmas.{Bool.false≢true, Bool.Decides.nat_tests, Grind.common_steps}
 use Rattle.link_io.proofs.Sources.{nothing_ahead}
 use Rattle.link_io.specs.Source.{window_of, front_of}
-use Rattle.link_wire.proofs.Sessions.{opens_unopened}
-use Rattle.link_wire.proofs.Steady.{contact_next, head_next}
+use Rattle.link_wire.proofs.{Sessions.opens_unopened, Steady.{contact_next, head_next}}
 use Rattle.link_wire.proofs.session.Session.may_wait.Goals as goal
 
 pub returns-then-is_empty-clause-data : goal.returns-then-is_empty-clause-data

@@ -1,7 +1,6 @@
 use Rattle.std.proofs.Common.{length, ap, ◌∙◌, arith, length-drop}
 use Rattle.link_io.specs.Source.{window_of}
-use Rattle.link_wire.proofs.Inners.{inner_passed}
-use Rattle.link_wire.proofs.Sessions.{none_left}
+use Rattle.link_wire.proofs.{Inners.inner_passed, Sessions.none_left}
 use Rattle.link_wire.proofs.session.Session.pass_inner.Goals as goal
 
 pub give-requires : goal.give-requires

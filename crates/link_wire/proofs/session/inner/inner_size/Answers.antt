@@ -1,7 +1,5 @@
 use Rattle.std.proofs.Common.{ℕ, take, sym, ◌∙◌, subst, arith}
-use Rattle.link_wire.specs.Getting.{IsPart}
-use Rattle.link_wire.specs.Inner.{inner_segment}
-use Rattle.link_wire.specs.Message.{message_at}
+use Rattle.link_wire.specs.{Getting.IsPart, Inner.inner_segment, Message.message_at}
 use Rattle.link_wire.proofs.Inners.{two_bytes, inner_head}
 use Rattle.link_wire.proofs.session.inner.inner_size.Goals as goal
 
