@@ -5,4 +5,4 @@ pub mod HeadScan
 pub mod PieceLaws
 pub mod Pieces
 pub mod Pushed
-pub mod HeadStage
+pub mod Stage
