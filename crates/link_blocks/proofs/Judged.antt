@@ -1,4 +1,4 @@
--- A piece of a bundle, of which some bytes were scanned.
+-- A piece of a bundle after a scan of some of its bytes.
 use Rattle.std.proofs.Common.{◌≡◌, ℕ, ◌⊎◌, false, List, [], ◌++◌, take, drop, Result, IsTrue, ap, sym, ◌∙◌, subst, ⊎_elim, append-nil, append_assoc, fold}
 use Rattle.std.proofs.lemmas.{Bool.false≢true, List.take-append-drop}
 use Rattle.link_bundle_types.specs.declared.fault.BundleFault.{BundleFault}

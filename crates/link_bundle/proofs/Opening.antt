@@ -59,7 +59,7 @@ other_reads draft byte more blank other = rw (ne_eqb byte 0x9f other, blank.payl
 pub first_run : (seen run more : List ℕ) → seen ≡ [] → (seen ++ run) ++ more ≡ run ++ more
 first_run seen run more nothing = ap (λ (seen : List ℕ). (seen ++ run) ++ more) nothing
 
--- what follows the first bytes is the rest after the blocks before, of which there are none
+-- what follows the first bytes is the rest after the blocks before, and there are none of these
 pub after_first : {cursor : Cursor} {draft : Draft} {before : List Block} {seen : List ℕ}
     (run more : List ℕ) {reading : Result Bundle Stop}
     → HasSeen Start cursor draft before seen → judged_bundle (run ++ more) ≡ reading

@@ -140,7 +140,7 @@ impl<R: Read> Reader<R> {
         }
     }
 
-    /// The reader, as it stands.
+    /// The reader, as it is now.
     pub fn into_inner(self) -> R
         ensures { R.remaining result ≡ (⟦<Reader<R> as InDevice>⟧.state self).left }
     {
@@ -259,7 +259,7 @@ impl<W: Write> Writer<W> {
         }
     }
 
-    /// The writer, as it stands.
+    /// The writer, as it is now.
     pub fn into_inner(self) -> W
         ensures { W.contents result ≡ (⟦<Writer<W> as OutDevice>⟧.state self).written }
     {

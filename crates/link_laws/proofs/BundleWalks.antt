@@ -16,8 +16,8 @@ use Rattle.link_laws.specs.Prefix.{IsPrefixed}
 use Rattle.link_laws.proofs.Fronts.{AreFronts, fronts_same, fronts_trans}
 use Rattle.link_laws.proofs.Prefixes.{MadeOn, prefixed}
 
--- What is said of the bytes so far begins what is said with more bytes, with which the bundle goes
--- on or is whole, and what is said of an input that ends between two bundles.
+-- What is said of the bytes so far begins what is said with more bytes of the bundle, also if they
+-- end it. It also begins what is said of an input that ends between two bundles.
 pub record Grows (telling : BundleTelling) : Type 0 where
   pub part : (before : SoFar) (run : List ℕ)
       → AreFronts (telling.texts before) (telling.texts (with_run before run None))

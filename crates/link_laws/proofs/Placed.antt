@@ -48,7 +48,7 @@ module _ (wanted : Wanted) where
   told_all (event ∷ more) told =
       cc (told_all more (told_event wanted told event), told_one told event)
 
-  -- the transfers of which `unpack` has told
+  -- the transfers that `unpack` has told
   pub told_transfers : (events : List WalkEvent)
       → (told_after wanted events).transfers ≡ after_events [] events
   unfolding told_after

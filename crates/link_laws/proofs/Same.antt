@@ -1,4 +1,4 @@
--- What `unpack` says of the events of a stream is what the transfers of the stream make.
+-- `unpack` says of the events of a stream what the transfers of the stream make.
 use Rattle.std.specs.List.{fold}
 use Rattle.std.proofs.Common.{◌≡◌, ℕ, Bool, true, false, not, ◌&&◌, is_some, List, [], ◌∷◌, ◌++◌, Option, Some, None, if◌then◌else◌, refl, ap, sym, ◌∙◌, append-nil, arith}
 use Rattle.std.proofs.Math.Bool.{and-true, and-false, and_assoc}
@@ -284,7 +284,7 @@ module _ (wanted : Wanted) where
     same_by true = going_same
     same_by false = ending_same order.refused refl
 
-  -- what `unpack` says of the events of a stream is what the transfers of the stream make
+  -- `unpack` says of the events of a stream what the transfers of the stream make
   pub same_tool : unpack_tool wanted ≡ tool_of (by_transfers wanted)
   unfolding told_of by_transfers
   same_tool = grind (arith, fun_ext, reading_read, same_by, same_parts)

@@ -139,7 +139,7 @@ module _ {R : Type 0} (look : R → Input) (first : Texts) where
     pub lists : Lists look now line new (history ++ given)
     pub texts : first then on_output lines ≡ (listing_of (history ++ given)).texts
 
--- No data was to come, and nothing was given. Or data was to come, and these bytes of it were given.
+-- No data was to come, and nothing was given. Or data was to come, and some of it was given.
 abbrev pub PassesHere : {R : Type 0} → (R → Input) → (old new : Session R) → (history : List ℕ)
     → Type 0
 PassesHere look old new history =

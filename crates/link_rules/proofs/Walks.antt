@@ -241,7 +241,7 @@ pub first_byte : (bytes : List ℕ) → 0 < length bytes → get_or bytes 0 0 �
 first_byte [] some = absurd (omega arith)
 first_byte (byte ∷ bytes) some = refl
 
--- a head of which no byte is seen
+-- a head before its first byte
 pub head_begun : (found : Found) (head : HeadScan) (count : ℕ) (seen : List ℕ)
     → HasSeen (Inside 0) found head count seen → HasSeen (Head count) found head count seen
 unfolding head_front

@@ -86,7 +86,7 @@ module _ {R W E : Type 0} {look : Looks R W E} {made : List ℕ → Made} {start
       written knows some known only (Ok done) writes = goes_on knows some known writes only
       written knows some known only (Err fault) part = loses fault part
 
-    -- These texts are the last. The whole input was given, or the bytes show a fault that no further
+    -- These texts are the last. The whole input was given, or the bytes show a fault that no more
     -- bytes change, and no fewer bytes show it.
     module _ (after : Writers W E) (texts : Texts)
         (whole : had then texts ≡ (whole_by (made bytes).stop (made bytes)).texts)

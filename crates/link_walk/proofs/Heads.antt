@@ -24,7 +24,7 @@ pub heads_clean : (reading : Reading) → reading.end ≡ Clean → heads_of rea
 heads_clean reading clean =
     ap (λ e. reading.entries ++ cut_heads e) clean ∙ append-nil reading.entries
 
--- the reading with one more head, with this data, of which `left` bytes are to come
+-- the reading with one more head and this data of it; `left` more bytes of it are to come
 abbrev pub with_head : Reading → ℕ → Message → (content : List ℕ) → (left : ℕ) → Reading
 with_head reading offset sent content left =
     joined reading (if nat_lt 0 left

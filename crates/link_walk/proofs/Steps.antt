@@ -41,8 +41,8 @@ events_at telling bytes = (walked telling.manner (reading_of bytes)).events
 
 -- ---- the events that more bytes add
 
--- These bytes were given after the history, of which the events `had` were told. The events `added`
--- are to be told of them.
+-- These bytes were given after the history, whose events `had` were told. The events `added` are to
+-- be told of them.
 pub record Grows {R : Type 0} (look : R → Input) (telling : Telling) (new : Session R)
     (later : Stage) (joiner : Joiner) (history given : List ℕ) (had added : List WalkEvent)
     : Type 0 where
@@ -299,7 +299,7 @@ pub waits_after : (offset : ℕ) (sent : Message) (reading after : Reading)
 waits_after offset sent reading after is =
     rw is (none_in offset sent (nat_lt 0 (data_length sent)) reading.entries)
 
--- passing over quiet messages is a step, of which nothing is told
+-- passing over quiet messages is a step that is not told
 pub passed_on : {R W E C : Type 0} {look : Looks R W E} {start : Devices R W E}
     {telling : Telling} (knows : C → List WalkEvent → Type 0) {old new : Session R}
     (writers : Writers W E) {joiner : Joiner} {consumer : C} {history : List ℕ}

@@ -1,4 +1,4 @@
--- Heads of which a tool is not told.
+-- Heads that a tool is not told.
 use Rattle.std.proofs.Common.{◌≡◌, Bool, true, false, List, [], ◌++◌, Ok, refl, ap, sym, ◌∙◌, subst, append-nil}
 use Rattle.link_wire.specs.Device.{Output}
 use Rattle.link_run.specs.{Run.no_texts, declared.writers.Writers.Writers}

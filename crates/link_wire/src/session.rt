@@ -180,8 +180,8 @@ impl<R: InDevice> Session<R> {
 
     /// Gives the next message if it has a frequent head that is whole in the window.
     ///
-    /// This is [`Session::next`] for such a head, and it does not read from the reader. Without such
-    /// a head, and after a stop, it returns `None` and gives nothing.
+    /// This is [`Session::next`] for such a head, and it does not read from the reader. Without
+    /// such a head, and after a stop, it returns `None` and gives nothing.
     #[inline(always)]
     pub fn next_here(&mut self, message: &mut MessageBuffer) -> Option<u64>
         requires { IsTrue (may_read self.old) }

@@ -58,7 +58,7 @@ module _ (old new : BundleScan) (seen piece : List ℕ) (count : ℕ) (come : Ha
       (eq-eqb (length (blocks_in (seen ++ take fewer piece))) (length (blocks_in seen))
       (ap length (none_sooner old new piece seen count fewer come advances adds less)))
 
-  -- what was taken is what is taken up to the end of a block
+  -- the bytes that were taken go up to the end of a block
   pub block_taken : take count piece ≡ taken (goes_in_block seen) seen piece
   block_taken =
       (takes_shortest (goes_in_block seen) seen piece (take count piece)).0 (record {

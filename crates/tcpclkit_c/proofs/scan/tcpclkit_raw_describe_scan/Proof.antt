@@ -67,7 +67,8 @@ tcpclkit_raw_describe_scan_spec 𝓤 𝓛 𝓜 𝓡 wired =
     await ! tt $ pick ! (λ r. split ! $ split ! $ split ! $ lft_end ! tt $
     move ! (2 ∷ []) $ peeks ! u32 (Is u32) (shows 𝓛 u32) r (v ∷ []) (λ is. lands_as ! refl refl ((uint_Lawful 𝓛 w32).typed r _ is).0 $
     move ! (3 ∷ []) $ pick ! (λ ws. split ! $ move ! (1 ∷ []) $ heard ! _ (λ gives. fsplit ! $
-    -- [what is left of the loan; and of the others; the result; the loan is over; the tokens; the lender's part]
+    -- [what is left of the loan; and of the others; the result; the loan is over; the tokens;
+    -- the lender's part]
     move ! (3 ∷ 5 ∷ []) $ lent_back ! tt $
     returns ! (look_at ! 0 refl) $ free_all ! refl $ keep ! (0 ∷ 2 ∷ 3 ∷ 4 ∷ []) $
     -- [the scan; what is left of the parameters; the result; the tokens]
