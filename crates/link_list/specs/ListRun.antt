@@ -1,21 +1,20 @@
 -- Relations, but for Begins, Lists, most_given: the state of a run of `list`.
-use Rattle.std.specs.Prelude.{◌≡◌, ℕ, ◌<◌, ◌≤◌, ◌⊎◌, Bool, true, false, List, [], ◌++◌, length, Result, Ok, Err}
+use Rattle.std.specs.Prelude.{◌≡◌, ℕ, ◌<◌, ◌≤◌, Bool, true, false, List, [], ◌++◌, length, Result}
 use Rattle.link_wire.specs.Device.{Input}
 use Rattle.link_wire.specs.Limits.{longest_head, window_size}
 use Rattle.link_wire.specs.Stream.{End, Clean, Cut, Fault, reading_of}
 use Rattle.link_wire.specs.MessageBuffer.{message_of}
-use Rattle.link_wire.specs.Session.{source_of, left_of, IsSessionAt, PassedBytes, may_open, may_read, is_opened}
+use Rattle.link_wire.specs.Session.{source_of, IsSessionAt, may_open, may_read, is_opened}
 use Rattle.link_wire.specs.Source.{Takes, window_of}
 use Rattle.link_wire.specs.declared.{IoFault.IoFault, session.Session.Session}
 use Rattle.link_report.specs.Message.{message_text}
-use Rattle.link_run.specs.Run.{Texts, Looks, ◌then◌, Devices, Place, LastStep, WentOn, devices_at, answer_of}
+use Rattle.link_run.specs.Run.{Texts, Looks, ◌then◌, Devices, Place, LastStep, WentOn, devices_at}
 use Rattle.link_run.specs.Stages.{Stands, AfterStage}
-use Rattle.link_run.specs.Writers.{place_of, on_output, Writes, WritesPart}
-use Rattle.link_run.specs.declared.run.{Progress.Progress, Progress.TheVariants.More}
-use Rattle.link_run.specs.declared.writers.Writers.{Writers}
+use Rattle.link_run.specs.Writers.{place_of, on_output, AfterWrite}
+use Rattle.link_run.specs.declared.{run.Progress.Progress, writers.Writers.Writers}
 use Rattle.link_list.specs.Listing.{list_tool, listing_of}
-use Rattle.link_list.specs.declared.listing.{Latest.Latest, Next.Next}
-use Rattle.link_list.specs.declared.listing.Next.TheVariants as next
+use Rattle.link_list.specs.declared.listing.{Latest.Latest, Read.Read}
+use Rattle.link_list.specs.declared.listing.Read.TheVariants as read
 use Rattle.link_list.specs.declared.listing.Stage.{Stage}
 use Rattle.link_list.specs.declared.listing.Stage.TheVariants as stage
 
@@ -35,20 +34,12 @@ may_go_on stage.Contact session = may_open session
 may_go_on stage.Message session = may_read session
 may_go_on stage.Data session = is_opened session
 
--- the result of a step, from what comes next
-abbrev pub progress_of : Next → Result Progress IoFault
-progress_of (next.Stage now) = Ok More
-progress_of (next.Ended answer) = answer_of answer
-
--- the stage after a step at the stage `now`; it stays the same if the run has ended
-abbrev pub stage_after : (now : Stage) → Next → Stage
-stage_after now (next.Stage later) = later
-stage_after now (next.Ended answer) = now
-
--- whether the session permits the call that comes next
-abbrev pub may_follow : {R : Type 0} → Next → Session R → Bool
-may_follow (next.Stage now) session = may_go_on now session
-may_follow (next.Ended answer) session = true
+-- Whether the session permits the call that comes after the first part of a step. After a line,
+-- that call reads a message.
+abbrev pub may_follow : {R : Type 0} → Read → Session R → Bool
+may_follow read.Whole session = may_read session
+may_follow read.Waits session = is_opened session
+may_follow (read.Ended answer) session = true
 
 -- the line of the message that was read last
 abbrev pub latest_line : Latest → List ℕ
@@ -102,17 +93,15 @@ module _ {R W E : Type 0} (look : Looks R W E) (start : Devices R W E) (piece : 
     pub session_at : IsSessionAt look.input new (history ++ given)
     pub clean : (reading_of (history ++ given)).end ≡ Clean
 
-  -- what holds after the first part of a step: if a message comes next, the line of the one that
-  -- was read last is due
-  abbrev pub AfterRead : Next → Type 0
-  AfterRead (next.Stage stage.Contact) = ⊥
-  AfterRead (next.Stage stage.Message) = IsDue
-  AfterRead (next.Stage stage.Data) =
+  -- what holds after the first part of a step
+  abbrev pub AfterRead : Read → Type 0
+  AfterRead read.Whole = IsDue
+  AfterRead read.Waits =
       WentOn (source_of old) (source_of new)
       (λ bytes. Stands look listing_of start true (place_of (source_of new) writers) bytes
       × (Lists look.input stage.Data line new bytes
       × IsWaitingAfter now (reading_of bytes).end)) (most_by piece now) history
-  AfterRead (next.Ended answer) =
+  AfterRead (read.Ended answer) =
       LastStep look list_tool start (devices_at (place_of (source_of new) writers))
       (most_by piece now)
       history answer
@@ -130,32 +119,12 @@ module _ {R : Type 0} (look : R → Input) (first : Texts) where
     pub takes : Takes look (source_of old) (source_of new) given
     pub listed : IsListedTo new lines (history ++ given)
 
-  -- Some messages were given after the history, and these lines make the texts now. The stage `now`
-  -- comes next, and `line` is that of the message that was read last.
-  pub record ListedAt (now : Stage) (line : List ℕ) (old new : Session R)
-      (lines history : List ℕ) : Type 0 where
-    pub given : List ℕ
-    pub takes : Takes look (source_of old) (source_of new) given
-    pub lists : Lists look now line new (history ++ given)
-    pub texts : first then on_output lines ≡ (listing_of (history ++ given)).texts
-
--- No data was to come, and nothing was given. Or data was to come, and some of it was given.
-abbrev pub PassesHere : {R : Type 0} → (R → Input) → (old new : Session R) → (history : List ℕ)
-    → Type 0
-PassesHere look old new history =
-    ((left_of old ≡ 0) × (new ≡ old))
-    ⊎ ((0 < left_of old) × (bytes : List ℕ) × PassedBytes look old new history bytes)
-
--- Some messages were given, and the line of each whole one was written. Or a writer failed while
--- writing the lines of some whole messages.
+-- some whole messages were given, and their lines were written, or a writer failed while writing
+-- them
 abbrev pub AfterLines : {R W E : Type 0} → Looks R W E → (first : Texts) → (old new : Session R)
-    → (before after : Writers W E) → (line history : List ℕ) → Next → Type 0
-AfterLines look first old new before after line history (next.Stage now) =
-    (lines : List ℕ) × Writes look.output look.report before after (on_output lines)
-    × ListedAt look.input first now line old new lines history
-AfterLines look first old new before after line history (next.Ended answer) =
-    (lines : List ℕ) × (fault : IoFault) × (answer ≡ Err fault)
-    × WritesPart look.output look.report before after (on_output lines) fault
+    → (before after : Writers W E) → (history : List ℕ) → Result (Unit {0}) IoFault → Type 0
+AfterLines look first old new before after history result =
+    (lines : List ℕ) × AfterWrite look.output look.report before after (on_output lines) result
     × ListedOn look.input first old new lines history
 
 -- What holds after a step, or after a stride if `far` is true. Only a step has its bound.
@@ -167,9 +136,8 @@ AfterStepOrStride look start piece far now old new knows history result =
     (size : ℕ) × (far ≡ false → size ≡ most_by piece now) × (0 < size)
     × AfterStage look listing_of start true old new knows size history result
 
--- the stage that comes next: that of data if some is to come, and else that of a message
-abbrev pub WaitsForData : (left : ℕ) → Next → Type 0
-WaitsForData left (next.Stage stage.Contact) = ⊥
-WaitsForData left (next.Stage stage.Message) = left ≡ 0
-WaitsForData left (next.Stage stage.Data) = 0 < left
-WaitsForData left (next.Ended answer) = ⊥
+-- the line waits if data is to come, and is due if none is
+abbrev pub WaitsForData : (left : ℕ) → Read → Type 0
+WaitsForData left read.Whole = left ≡ 0
+WaitsForData left read.Waits = 0 < left
+WaitsForData left (read.Ended answer) = ⊥

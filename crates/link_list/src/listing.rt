@@ -1,14 +1,13 @@
 //! `list`: a line for the contact header and for each message of a recorded stream.
 
-ghost use Rattle.std.specs.Prelude.{◌≡◌, ◌<◌, ◌≤◌, true, false, [], IsTrue, List, ℕ};
-ghost use Rattle.link_wire.specs.Session.{may_open, may_read, is_opened, left_of, source_of, IsSessionAt};
-ghost use Rattle.link_wire.specs.Source.{given_by};
+ghost use Rattle.std.specs.Prelude.{◌≡◌, ◌<◌, true, false, [], IsTrue, List, ℕ};
+ghost use Rattle.link_wire.specs.Session.{may_open, may_read, is_opened, left_of, source_of};
 ghost use Rattle.link_run.specs.Reading.{feed_of, SessionWaits, Unread};
 ghost use Rattle.link_run.specs.Run.{Texts, Devices, devices_at, looks, AfterRun};
 ghost use Rattle.link_run.specs.Stages.{Stands, AfterStage, IsMore};
 ghost use Rattle.link_run.specs.Writers.{AfterWrite, on_output, place_of};
 ghost use Rattle.link_list.specs.Listing.{listing_of, list_tool};
-ghost use Rattle.link_list.specs.ListRun.{may_go_on, may_follow, progress_of, stage_after, latest_line, IsListing, Begins, Lists, IsListedTo, PassesHere, AfterRead, AfterLines, AfterStepOrStride, WaitsForData};
+ghost use Rattle.link_list.specs.ListRun.{may_go_on, may_follow, latest_line, IsListing, Begins, Lists, IsListedTo, AfterRead, AfterLines, AfterStepOrStride, WaitsForData};
 
 use link_report::{KeptDigits, MessageText, contact_line};
 use link_run::{Input, PIECE, Progress, Run, RunEnd, Stages, Status, ToolRun, Writers};
@@ -25,12 +24,14 @@ enum Stage {
     Data,
 }
 
-/// What comes after a part of a step.
+/// What the first part of a step has read.
 #[derive(Clone, Copy, Debug, PartialEq, Eq)]
-enum Next {
-    /// A step at this stage.
-    Stage(Stage),
-    /// Nothing: the run has ended.
+enum Read {
+    /// The last byte of a message. Its line is due.
+    Whole,
+    /// A head or data. More data of the message is to come.
+    Waits,
+    /// The run has ended.
     Ended(Result<Status, IoFault>),
 }
 
@@ -78,7 +79,7 @@ impl<R: InDevice, W: OutDevice, E: OutDevice> Stages<Session<R>, W, E> for Listi
         step(self, PIECE, false, input, writers)
     }
 
-    /// A stride is given all data at hand, and then the messages with frequent heads in the window.
+    /// A stride is given all data at hand, and then the messages that lie whole in the window.
     #[inline(always)]
     fn stride(
         &mut self,
@@ -90,7 +91,7 @@ impl<R: InDevice, W: OutDevice, E: OutDevice> Stages<Session<R>, W, E> for Listi
 }
 
 /// Does a step that is given at most `piece` bytes of data. If `far` is true and the step has
-/// written a line, it goes on with the messages in the window.
+/// written a line, it goes on with the messages that lie whole in the window.
 #[inline(always)]
 fn step<R: InDevice, W: OutDevice, E: OutDevice>(
     tool: &mut Listing,
@@ -121,58 +122,16 @@ fn step<R: InDevice, W: OutDevice, E: OutDevice>(
         tool.stage = Stage::Message;
         return list_contact(input, writers);
     }
-    let next = read_on(tool.stage, piece, far, input, writers, &mut tool.latest);
-    keep(&mut tool.stage, next)
-}
-
-/// Does a step at a message or in its data, and returns what comes next.
-#[inline(always)]
-fn read_on<R: InDevice, W: OutDevice, E: OutDevice>(
-    stage: Stage,
-    piece: usize,
-    far: bool,
-    input: &mut Input<Session<R>, W, E>,
-    writers: &mut Writers<W, E>,
-    latest: &mut Latest,
-) -> Next
-    requires going { stage ≡ Stage.Contact → ⊥ }
-    requires fits { IsTrue (may_go_on stage (feed_of input.old)) }
-    requires piece { 0 < piece }
-    ensures fits { IsTrue (may_follow result (feed_of input.new)) }
-    ensures gives { (start : Devices R W E) (history : List ℕ)
-        → Stands (looks R.state W.state E.state) listing_of start true
-        (place_of (source_of (feed_of input.old)) writers.old) history
-        → IsListing R.state stage (latest_line latest.old) (feed_of input.old) history
-        → AfterStepOrStride (looks R.state W.state E.state) start piece far stage
-        (place_of (source_of (feed_of input.old)) writers.old)
-        (place_of (source_of (feed_of input.new)) writers.new)
-        (IsListing R.state (stage_after stage result) (latest_line latest.new)
-        (feed_of input.new)) history (progress_of result) }
-    ensures waits { (history : List ℕ)
-        → IsListing R.state stage (latest_line latest.old) (feed_of input.old) history
-        → SessionWaits (looks R.state W.state E.state) input.old input.new writers.old }
-{
-    let next = advance(stage, piece, input, writers, latest);
-    match next {
-        Next::Stage(Stage::Message) => write_lines(far, input, writers, latest),
-        Next::Stage(Stage::Contact) => next,
-        Next::Stage(Stage::Data) => next,
-        Next::Ended(_) => next,
-    }
-}
-
-/// Keeps the stage that comes next, unless the run has ended. Returns the result of the step.
-#[inline(always)]
-fn keep(stage: &mut Stage, next: Next) -> Result<Progress, IoFault>
-    ensures progress { result ≡ progress_of next }
-    ensures kept { stage.new ≡ stage_after stage.old next }
-{
-    match next {
-        Next::Stage(later) => {
-            *stage = later;
+    match advance(tool.stage, piece, input, writers, &mut tool.latest) {
+        Read::Waits => {
+            tool.stage = Stage::Data;
             Ok(Progress::More)
         }
-        Next::Ended(answer) => Progress::ended(answer),
+        Read::Ended(answer) => Progress::ended(answer),
+        Read::Whole => {
+            tool.stage = Stage::Message;
+            Progress::after(write_lines(far, input, writers, &mut tool.latest))
+        }
     }
 }
 
@@ -205,8 +164,7 @@ fn list_contact<R: InDevice, W: OutDevice, E: OutDevice>(
     }
 }
 
-/// Reads the head of a message, or a piece of its data. If the message is whole, the stage of a
-/// message comes next, and its line is due.
+/// Reads the head of a message, or a piece of its data.
 #[inline(always)]
 fn advance<R: InDevice, W: OutDevice, E: OutDevice>(
     stage: Stage,
@@ -214,7 +172,7 @@ fn advance<R: InDevice, W: OutDevice, E: OutDevice>(
     input: &mut Input<Session<R>, W, E>,
     writers: &mut Writers<W, E>,
     latest: &mut Latest,
-) -> Next
+) -> Read
     requires going { stage ≡ Stage.Contact → ⊥ }
     requires fits { IsTrue (may_go_on stage (feed_of input.old)) }
     requires piece { 0 < piece }
@@ -241,7 +199,7 @@ fn read_message<R: InDevice, W: OutDevice, E: OutDevice>(
     input: &mut Input<Session<R>, W, E>,
     writers: &mut Writers<W, E>,
     latest: &mut Latest,
-) -> Next
+) -> Read
     requires { IsTrue (may_read (feed_of input.old)) }
     ensures fits { IsTrue (may_follow result (feed_of input.new)) }
     ensures gives { (start : Devices R W E) (piece : ℕ) (history : List ℕ)
@@ -259,8 +217,8 @@ fn read_message<R: InDevice, W: OutDevice, E: OutDevice>(
             latest.offset = offset;
             go_on(input)
         }
-        Ok(None) => Next::Ended(Ok(Status::CLEAN)),
-        Err(stop) => Next::Ended(writers.end(stop)),
+        Ok(None) => Read::Ended(Ok(Status::CLEAN)),
+        Err(stop) => Read::Ended(writers.end(stop)),
     }
 }
 
@@ -270,7 +228,7 @@ fn pass_data<R: InDevice, W: OutDevice, E: OutDevice>(
     piece: usize,
     input: &mut Input<Session<R>, W, E>,
     writers: &mut Writers<W, E>,
-) -> Next
+) -> Read
     requires opened { IsTrue (is_opened (feed_of input.old)) }
     requires piece { 0 < piece }
     ensures fits { IsTrue (may_follow result (feed_of input.new)) }
@@ -289,25 +247,25 @@ fn pass_data<R: InDevice, W: OutDevice, E: OutDevice>(
             input.pass(ready.min(piece));
             go_on(input)
         }
-        Err(stop) => Next::Ended(writers.end(stop)),
+        Err(stop) => Read::Ended(writers.end(stop)),
     }
 }
 
-/// Returns the stage that comes next: that of data if more of the message's data is to come.
+/// Returns whether the message that was read last is whole, or more of its data is to come.
 #[inline(always)]
-fn go_on<R: InDevice, W: OutDevice, E: OutDevice>(input: &Input<Session<R>, W, E>) -> Next
+fn go_on<R: InDevice, W: OutDevice, E: OutDevice>(input: &Input<Session<R>, W, E>) -> Read
     requires { IsTrue (is_opened (feed_of input.now)) }
     ensures fits { IsTrue (may_follow result (feed_of input.now)) }
     ensures goes { WaitsForData (left_of (feed_of input.now)) result }
 {
     if input.left() > 0 {
-        return Next::Stage(Stage::Data);
+        return Read::Waits;
     }
-    Next::Stage(Stage::Message)
+    Read::Whole
 }
 
-/// Writes the line of the message that was read last. If `far` is true, it then does the same for
-/// each message in the window that has a frequent head, as far as all data is at hand.
+/// Writes the line of the message that was read last. If `far` is true, it does the same for each
+/// message that lies whole in the window.
 ///
 /// Only one place writes the line of a message, so the code for that is inlined once.
 #[inline(always)]
@@ -316,55 +274,29 @@ fn write_lines<R: InDevice, W: OutDevice, E: OutDevice>(
     input: &mut Input<Session<R>, W, E>,
     writers: &mut Writers<W, E>,
     latest: &mut Latest,
-) -> Next
+) -> Result<(), IoFault>
     requires { IsTrue (may_read (feed_of input.old)) }
-    ensures fits { IsTrue (may_follow result (feed_of input.new)) }
+    ensures fits { IsTrue (may_read (feed_of input.new)) }
     ensures near { far ≡ false → input.new ≡ input.old }
     ensures gives { (first : Texts) (history : List ℕ)
         → IsListedTo R.state first (feed_of input.old) (latest_line latest.old) history
         → AfterLines (looks R.state W.state E.state) first (feed_of input.old)
-        (feed_of input.new) writers.old writers.new (latest_line latest.new) history result }
+        (feed_of input.new) writers.old writers.new history result }
     ensures unread { Unread R.state source_of input.old input.new }
 {
     'lines: loop {
         match write_line(writers, latest) {
             Ok(()) => {}
-            Err(fault) => return Next::Ended(Err(fault)),
+            Err(fault) => return Err(fault),
         }
         if !far {
-            return Next::Stage(Stage::Message);
+            return Ok(());
         }
-        match input.next_here(&mut latest.message) {
+        match input.next_whole(&mut latest.message) {
             Some(offset) => latest.offset = offset,
-            None => return Next::Stage(Stage::Message),
-        }
-        if !pass_here(input) {
-            return Next::Stage(Stage::Data);
+            None => return Ok(()),
         }
     }
-}
-
-/// Passes over the data at hand of the message that was read last. Returns whether no more of it is
-/// to come.
-#[inline(always)]
-fn pass_here<R: InDevice, W: OutDevice, E: OutDevice>(input: &mut Input<Session<R>, W, E>) -> bool
-    requires { IsTrue (is_opened (feed_of input.old)) }
-    ensures opened { IsTrue (is_opened (feed_of input.new)) }
-    ensures may_read { result ≡ true → IsTrue (may_read (feed_of input.new)) }
-    ensures whole { result ≡ true → left_of (feed_of input.new) ≡ 0 }
-    ensures part { result ≡ false → 0 < left_of (feed_of input.new) }
-    ensures gives { (history : List ℕ) → IsSessionAt R.state (feed_of input.old) history
-        → PassesHere R.state (feed_of input.old) (feed_of input.new) history }
-    ensures count { given_by (source_of (feed_of input.old))
-        ≤ given_by (source_of (feed_of input.new)) }
-    ensures unread { Unread R.state source_of input.old input.new }
-{
-    if input.left() == 0 {
-        return true;
-    }
-    let ready = input.loaded().len();
-    input.pass(ready);
-    input.left() == 0
 }
 
 /// Writes the line of the message that was read last.

@@ -103,10 +103,9 @@ impl<S, W, E> Input<S, W, E> {
 
 /// The calls that read a recorded session.
 impl<R: InDevice, W: OutDevice, E: OutDevice> Input<Session<R>, W, E> {
-    ghost use Rattle.std.specs.Prelude.{◌+◌, ◌≤◌, None, take};
-    ghost use Rattle.link_wire.specs.Session.{may_open, HasEndedBetween, PassedBytes, AfterOpen, ReadMessage};
-    ghost use Rattle.link_wire.specs.Source.{given_by, reader_of};
-    ghost use Rattle.link_wire.specs.Whole.{PassedQuiet};
+    ghost use Rattle.std.specs.Prelude.{◌≤◌, None, take};
+    ghost use Rattle.link_wire.specs.Session.{may_open, PassedBytes, AfterOpen};
+    ghost use Rattle.link_wire.specs.Whole.{ReadWhole, PassedQuiet};
 
     /// Reads the contact header, as [`Session::open`] does.
     ///
@@ -147,28 +146,27 @@ impl<R: InDevice, W: OutDevice, E: OutDevice> Input<Session<R>, W, E> {
         }
     }
 
-    /// Gives the next message if it has a frequent head that is whole in the window, as
-    /// [`Session::next_here`] does.
+    /// Gives the next message with its data if it lies whole in the window, as
+    /// [`Session::next_whole`] does.
     ///
     /// It reads nothing, so it hands nothing on.
     #[inline(always)]
-    pub fn next_here(&mut self, message: &mut MessageBuffer) -> Option<u64>
+    pub fn next_whole(&mut self, message: &mut MessageBuffer) -> Option<u64>
         requires { IsTrue (may_read (feed_of self.old)) }
         ensures none { result ≡ None → (self.new ≡ self.old) × (message.new ≡ message.old) }
-        ensures reader { reader_of (source_of (feed_of self.new))
-            ≡ reader_of (source_of (feed_of self.old)) }
+        ensures may_read { IsTrue (may_read (feed_of self.new)) }
         ensures gives { (history : List ℕ) → IsSessionAt R.state (feed_of self.old) history
-            → IfSome result (λ offset. ReadMessage R.state (feed_of self.old) (feed_of self.new)
+            → IfSome result (λ offset. ReadWhole R.state (feed_of self.old) (feed_of self.new)
             history offset (message_of message.new)) }
         ensures totals { IfSome result (λ offset. SegmentHasTotals message.new) }
         ensures opened { IsTrue (is_opened (feed_of self.new)) }
-        ensures again { HasEndedBetween (feed_of self.old) → result ≡ None }
         ensures stopped { (stop : _) → HasStopped (feed_of self.old) stop → result ≡ None }
-        ensures some { IfSome result (λ offset.
-            given_by (source_of (feed_of self.old)) < given_by (source_of (feed_of self.new))) }
+        ensures shrinks { IfSome result (λ offset.
+            length (window_of (source_of (feed_of self.new)))
+            < length (window_of (source_of (feed_of self.old)))) }
         ensures unread { Unread R.state source_of self.old self.new }
     {
-        self.feed.next_here(message)
+        self.feed.next_whole(message)
     }
 
     /// Passes over the quiet messages that lie whole in the window, as [`Session::pass_quiet`]
@@ -225,8 +223,6 @@ impl<R: InDevice, W: OutDevice, E: OutDevice> Input<Session<R>, W, E> {
         ensures none { count ≡ 0 → self.new ≡ self.old }
         ensures stopped { (stop : _) → HasStopped (feed_of self.old) stop
             → HasStopped (feed_of self.new) stop }
-        ensures count { given_by (source_of (feed_of self.new))
-            ≡ given_by (source_of (feed_of self.old)) + count }
         ensures unread { Unread R.state source_of self.old self.new }
     {
         self.feed.pass(count);

@@ -1,12 +1,13 @@
 -- How each call of a session changes its state.
-use Rattle.std.proofs.Common.{⊎_elim, ◌⊎◌, inl, inr, ◌≡◌, ℕ, ◌+◌, ◌<◌, true, eqb, eqb-true, List, [], ◌∷◌, ◌++◌, length, take, drop, Some, Result, Ok, Err, arith, refl, ap, sym, ◌∙◌, subst, append_assoc, append-nil, length-append}
+use Rattle.std.proofs.Common.{⊎_elim, ◌⊎◌, inl, inr, ◌≡◌, ℕ, ◌+◌, ◌<◌, ◌≤◌, true, eqb, eqb-true, List, [], ◌∷◌, ◌++◌, length, take, drop, Some, Result, Ok, Err, arith, refl, ap, sym, ◌∙◌, subst, append_assoc, append-nil, length-append}
 use Rattle.std.specs.Prelude.{IsErrAnd}
 use Rattle.std.proofs.lemmas.{Bool.cases_lt, List.{nil_from_length, take-append-drop}}
 use Rattle.link_io.specs.Device.{Input}
 use Rattle.link_wire.specs.Part.{Part, number_at}
 use Rattle.link_wire.specs.Message.{contact_at, message_at, fields_at, data_length}
 use Rattle.link_io.specs.Source.{window_of, is_fresh, IsSourceAt, IsLive, IsOver, Takes, Readies}
-use Rattle.link_wire.specs.{Limits.window_size, Getting.{Needs, IsFault, WholePart, Gets, OneKind}}
+use Rattle.link_wire.specs.Limits.{window_size}
+use Rattle.link_wire.specs.Getting.{Needs, IsPart, IsFault, WholePart, Gets, OneKind}
 use Rattle.link_wire.specs.Stream.{Entry, End, Clean, Cut, Fault, Stream, ended, stream_at, Reading, reading_of}
 use Rattle.link_wire.specs.Session.{joined, data_after, with_data, rest_after, IsLeft, IsUndecided, SameMessages, ShownLast, is_unopened, reads_next, may_open, may_read, left_of, HasStopped, IsSessionAt, ReadContact, AfterOpen, ReadMessage, AfterNext, PassedBytes, LoadedData, AfterLoad, AfterData}
 use Rattle.link_io.proofs.Sources.{and_true, fresh_at, fresh_live, IsSourceAt-then, Takes-then, Readies-takes, Readies-over, StopsAfter-then}
@@ -16,7 +17,8 @@ use Rattle.link_wire.proofs.Within.{Steady, within_contact, within_message, part
 use Rattle.link_wire.proofs.Streams.{stream_at-head, stream_at-fault}
 use Rattle.link_wire.proofs.Contacts.{contact_taken, reading-contact, reading-refused, reading-none}
 use Rattle.link_wire.proofs.Rests.{appended, begun, begun_by, begun_left, data_by, data_left, clean_end, settled, goes_on_from}
-use Rattle.link_wire.specs.{Halt.stop_at, Whole.{followed, AreMessages, PassedMessages}}
+use Rattle.link_wire.specs.{Halt.stop_at, Whole.{followed, AreMessages, PassedMessages, ReadWhole}}
+use Rattle.link_wire.proofs.Wholes.{one_message}
 use Rattle.link_wire.specs.declared.fault.Stop.{Stop}
 use Rattle.link_wire.specs.declared.fault.Stop.TheVariants as stop
 use Rattle.link_wire.specs.declared.fault.WireFault.{WireFault}
@@ -246,6 +248,22 @@ module _ {R : Type 0} {look : R → Input} where
             takes = takes;
             reading = settled (reading_of history) (history ++ given) part new.offset new.left (length (history ++ given)) left reads;
             at = stands new (history ++ given) (reading_of history) part at.contact (IsSourceAt-then look old.source new.source history given takes at.at) live going at.has_contact left (λ _. few_passed) reads;
+          }
+
+      -- one message, its head and its data
+      pub came_whole : (head content : List ℕ) (message : Message) → given ≡ head ++ content
+          → length given ≤ window_size → IsPart message_at head message → data_length message ≡ length content
+          → ReadWhole look old new history (length history) message
+      came_whole head content message parts room is size =
+          let one : List Entry = record { offset = length history; message = message; content = content } ∷ [] in
+          let P : List ℕ → Type 0 = λ bytes. AreMessages (length history) bytes one in
+          record {
+            given = given;
+            content = content;
+            some = omega (arith, shrinks_message.by (head ++ []) message [] (is.is_part []), length-append head [], length-append head content, ap length parts);
+            size = room;
+            offset_is = refl;
+            passed = passed one (subst P (sym parts) (one_message (length history) head content message is size));
           }
 
     -- a fault in the message that begins here

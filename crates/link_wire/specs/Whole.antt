@@ -1,9 +1,11 @@
--- Relations: quiet messages that lie whole in the window, and are passed over there.
-use Rattle.std.specs.Prelude.{◌≡◌, ℕ, ◌+◌, ◌^◌, ◌≤◌, Bool, true, false, List, ◌++◌, All, length, take, ◌==◌, if◌then◌else◌}
+-- Relations: whole messages that are passed over in the window (a head with its data, or quiet
+-- messages).
+use Rattle.std.specs.Prelude.{◌≡◌, ℕ, ◌+◌, ◌^◌, ◌<◌, ◌≤◌, Bool, true, false, List, [], ◌∷◌, ◌++◌, All, length, take, ◌==◌, if◌then◌else◌}
 use Rattle.link_io.specs.Device.{Input}
 use Rattle.link_io.specs.Source.{Takes}
 use Rattle.link_wire.specs.Codes.{xfer_ack, xfer_refuse, keepalive, msg_reject}
 use Rattle.link_wire.specs.Getting.{IsPart}
+use Rattle.link_wire.specs.Limits.{window_size}
 use Rattle.link_wire.specs.Message.{message_at, data_length}
 use Rattle.link_wire.specs.Session.{source_of, joined, IsSessionAt}
 use Rattle.link_wire.specs.Stream.{Clean, Entry, Stream, stream_at, reading_of}
@@ -62,6 +64,16 @@ module _ {R : Type 0} (look : R → Input) (old new : Session R) (history : List
     pub reading : reading_of (history ++ given)
         ≡ joined (reading_of history) (record { entries = entries; end = Clean })
     pub at : IsSessionAt look new (history ++ given)
+
+  -- a whole message was given, with its data
+  pub record ReadWhole (offset : ℕ) (message : Message) : Type 0 where
+    pub given : List ℕ
+    pub content : List ℕ
+    pub some : 0 < length given
+    pub size : length given ≤ window_size
+    pub offset_is : offset ≡ length history
+    pub passed : PassedMessages given
+        (record { offset = offset; message = message; content = content } ∷ [])
 
   -- quiet messages of this many bytes were given, none of them if this is 0
   pub record PassedQuiet (count : ℕ) : Type 0 where

@@ -194,8 +194,6 @@ impl<R: InDevice> Session<R> {
         ensures opened { IsTrue (is_opened self.new) }
         ensures again { HasEndedBetween self.old → result ≡ None }
         ensures stopped { (stop : _) → HasStopped self.old stop → result ≡ None }
-        ensures some { IfSome result (λ offset.
-            given_by (source_of self.old) < given_by (source_of self.new)) }
         ensures unread { reach R.state (source_of self.new) ≡ reach R.state (source_of self.old) }
     {
         if let Phase::Stopped(_) = self.phase {
@@ -265,7 +263,6 @@ impl<R: InDevice> Session<R> {
         ensures gives { (history : List ℕ) → IsSessionAt R.state self.old history
             → ReadMessage R.state self.old self.new history result (message_of message.new) }
         ensures totals { SegmentHasTotals message.new }
-        ensures some { given_by self.old.source < given_by self.new.source }
         ensures unread { reach R.state self.new.source ≡ reach R.state self.old.source }
     {
         let offset = self.source.given();
@@ -315,12 +312,71 @@ impl<R: InDevice> Session<R> {
     }
 }
 
-/// The call for quiet messages.
+/// The calls for messages that lie whole in the window.
 impl<R: InDevice> Session<R> {
-    ghost use Rattle.std.specs.Prelude.{◌≡◌, ℕ, List, IsTrue};
-    ghost use Rattle.link_io.specs.Source.{reader_of, reach};
+    ghost use Rattle.std.specs.Prelude.{◌≡◌, ◌+◌, ◌<◌, ◌≤◌, ℕ, List, length, IfSome, None, IsTrue};
+    ghost use Rattle.link_io.specs.Source.{reader_of, window_of, reach};
+    ghost use Rattle.link_wire.specs.Message.{data_length};
+    ghost use Rattle.link_wire.specs.MessageBuffer.{message_of, message_with, SegmentHasTotals};
+    ghost use Rattle.link_wire.specs.Plain.{IsHead};
     ghost use Rattle.link_wire.specs.Session.{source_of, may_read, is_opened, HasEndedBetween, HasStopped, IsSessionAt};
-    ghost use Rattle.link_wire.specs.Whole.{PassedQuiet};
+    ghost use Rattle.link_wire.specs.Whole.{ReadWhole, PassedQuiet};
+
+    /// Gives the next message with its data, if all of it is in the window and its head is
+    /// frequent.
+    ///
+    /// Without such a message, and after a stop, it returns `None` and gives nothing. It does not
+    /// read from the reader.
+    #[inline(always)]
+    pub fn next_whole(&mut self, message: &mut MessageBuffer) -> Option<u64>
+        requires { IsTrue (may_read self.old) }
+        ensures none { result ≡ None → (self.new ≡ self.old) × (message.new ≡ message.old) }
+        ensures reader { reader_of (source_of self.new) ≡ reader_of (source_of self.old) }
+        ensures may_read { IsTrue (may_read self.new) }
+        ensures gives { (history : List ℕ) → IsSessionAt R.state self.old history
+            → IfSome result (λ offset.
+            ReadWhole R.state self.old self.new history offset (message_of message.new)) }
+        ensures totals { IfSome result (λ offset. SegmentHasTotals message.new) }
+        ensures opened { IsTrue (is_opened self.new) }
+        ensures again { HasEndedBetween self.old → result ≡ None }
+        ensures stopped { (stop : _) → HasStopped self.old stop → result ≡ None }
+        ensures shrinks { IfSome result (λ offset.
+            length (window_of (source_of self.new)) < length (window_of (source_of self.old))) }
+        ensures unread { reach R.state (source_of self.new) ≡ reach R.state (source_of self.old) }
+    {
+        let window = self.source.window();
+        match self.phase {
+            Phase::Stopped(_) => None,
+            _ => match plain(window) {
+                Some((fields, size)) if fields.data_length() <= (window.len() - size) as u64 => {
+                    Some(self.give_whole(fields, size, message))
+                }
+                _ => None,
+            },
+        }
+    }
+
+    /// Gives a message that lies whole in the window, and returns its offset.
+    #[inline(always)]
+    fn give_whole(&mut self, fields: Fields, size: usize, message: &mut MessageBuffer) -> u64
+        requires may_read { IsTrue (may_read self.old) }
+        requires head { IsHead (window_of self.old.source) fields size }
+        requires within { size + data_length (message_with fields message.old.node message.old.items)
+            ≤ length (window_of self.old.source) }
+        ensures reader { reader_of self.new.source ≡ reader_of self.old.source }
+        ensures may_read { IsTrue (may_read self.new) }
+        ensures opened { IsTrue (is_opened self.new) }
+        ensures shrinks { length (window_of self.new.source) < length (window_of self.old.source) }
+        ensures gives { (history : List ℕ) → IsSessionAt R.state self.old history
+            → ReadWhole R.state self.old self.new history result (message_of message.new) }
+        ensures totals { SegmentHasTotals message.new }
+        ensures unread { reach R.state self.new.source ≡ reach R.state self.old.source }
+    {
+        let offset = self.source.given();
+        self.source.give(size + fields.data_length() as usize);
+        message.set(fields);
+        offset
+    }
 
     /// Passes over the quiet messages that lie whole in the window. Returns how many bytes they
     /// have: 0 if the window begins with another message or with a part of one, or after a stop.
@@ -351,8 +407,8 @@ impl<R: InDevice> Session<R> {
 
 /// The calls for the data of segments.
 impl<R: InDevice> Session<R> {
-    ghost use Rattle.std.specs.Prelude.{◌≡◌, ◌+◌, ◌<◌, ◌≤◌, ℕ, List, length, take, drop, IfOk, IfErr, Ok, Err, IsTrue};
-    ghost use Rattle.link_io.specs.Source.{given_by, reach};
+    ghost use Rattle.std.specs.Prelude.{◌≡◌, ◌<◌, ◌≤◌, ℕ, List, length, take, drop, IfOk, IfErr, Ok, Err, IsTrue};
+    ghost use Rattle.link_io.specs.Source.{reach};
     ghost use Rattle.link_wire.specs.Session.{source_of, is_opened, IsSessionAt, HasStopped, left_of, data_in, PassedBytes, AfterData, LoadsData};
     ghost use Rattle.link_wire.specs.declared.session.Phase.TheVariants as phase;
 
@@ -467,7 +523,6 @@ impl<R: InDevice> Session<R> {
             → PassedBytes R.state self.old self.new history (take count (data_in R.state self.old)) }
         ensures none { count ≡ 0 → self.new ≡ self.old }
         ensures stopped { (stop : _) → HasStopped self.old stop → HasStopped self.new stop }
-        ensures count { given_by (source_of self.new) ≡ given_by (source_of self.old) + count }
         ensures unread { reach R.state (source_of self.new) ≡ reach R.state (source_of self.old) }
     {
         self.source.give_front(count);

@@ -376,3 +376,45 @@ fn messages_where_they_lie(rt: HostRuntime) {
         is_given_here(&rt, stream, *given, *left, *ready);
     }
 }
+
+/// Recordings, and whether the message after the contact header is given with its data.
+///
+/// It is a KEEPALIVE, or a segment with two bytes of data. A byte of the head or of the data is
+/// missing, or an item is in the head.
+static WHOLE: [(&[u8], bool); 6] = [
+    (b"dtn!\x04\x00", false),
+    (b"dtn!\x04\x00\x04", true),
+    (
+        b"dtn!\x04\x00\x01\x01\x00\x00\x00\x00\x00\x00\x00\x00\x00\x00\x00\x00\x00\x00\x00\x02\x9f\xff",
+        true,
+    ),
+    (
+        b"dtn!\x04\x00\x01\x01\x00\x00\x00\x00\x00\x00\x00\x00\x00\x00\x00\x00\x00\x00\x00\x02\x9f",
+        false,
+    ),
+    (
+        b"dtn!\x04\x00\x01\x01\x00\x00\x00\x00\x00\x00\x00\x00\x00\x00\x00\x00\x00\x00\x00",
+        false,
+    ),
+    (
+        b"dtn!\x04\x00\x01\x02\x00\x00\x00\x00\x00\x00\x00\x00\x00\x00\x00\x05\x00\x00\x02\x00\x00\x00\x00\x00\x00\x00\x00\x00\x00",
+        false,
+    ),
+];
+
+/// Checks whether the message after the contact header is given with its data.
+fn is_given_whole(rt: &impl Abort, stream: &[u8], whole: bool) {
+    let mut session = opened(rt, stream);
+    let mut message = MessageBuffer::new();
+    let offset = session.next_whole(&mut message);
+    assert_eq!(rt; offset, whole.then_some(6));
+    let size = if whole { stream.len() } else { 6 };
+    assert_eq!(rt; session.into_source().given(), size as u64);
+}
+
+#[test]
+fn whole_messages(rt: HostRuntime) {
+    for (stream, whole) in &WHOLE {
+        is_given_whole(&rt, stream, *whole);
+    }
+}

@@ -1,11 +1,10 @@
-use Rattle.std.proofs.Common.{ℕ, refl, ◌++◌, [], Ok, Err, Result, sym, ap, ◌∙◌, subst, arith}
+use Rattle.std.proofs.Common.{refl, ◌++◌, [], Ok, Err, Result, sym, ◌∙◌, subst}
 use Rattle.std.proofs.lemmas.Bool.{false≢true}
-use Rattle.link_io.specs.declared.source.Flow.{Flow}
 use Rattle.link_wire.specs.declared.IoFault.{IoFault}
 use Rattle.link_run.specs.{Reading.feed_of, Writers.{on_output, AfterWrite}}
 use Rattle.link_run.proofs.{Runs.{writes_none, outputs_then}, Waiting.{unread_none, unread_then}}
 use Rattle.link_list.specs.ListRun.{latest_line}
-use Rattle.link_list.proofs.Lists.{listed_none, listed_here, listed_more, listed_part}
+use Rattle.link_list.proofs.Lists.{listed_none, listed_more}
 use Rattle.link_list.proofs.listing.write_lines.Goals as goal
 
 pub lines-init : goal.lines-init
@@ -25,10 +24,9 @@ returns-in-Err g c =
     let P : Result (Unit {0}) IoFault → Type 0 = λ result. AfterWrite g.W.OutDevice.state g.E.OutDevice.state c.lines.writers c.write_line.new.writers (on_output line) result in
     let part = outputs_then g.W.OutDevice.state g.E.OutDevice.state c.args.writers.now c.lines.writers c.write_line.new.writers kept.lines line (Err c.in-Err.fault) kept.writes (subst P c.in-Err.is c.write_line.ensures.line) in
     record {
-      fits = refl;
+      fits = kept.fits;
       near = kept.near;
-      gives = λ first history is.
-          (kept.lines ++ line, c.in-Err.fault, refl, part, kept.listed first history is);
+      gives = λ first history is. (kept.lines ++ line, part, kept.listed first history is);
       unread = kept.unread;
     }
 
@@ -41,8 +39,7 @@ returns-then-not-far g c =
     record {
       fits = kept.fits;
       near = kept.near;
-      gives = λ first history is.
-          (kept.lines ++ line, writes, listed_here g.R.InDevice.state first (feed_of c.args.input.now) (feed_of c.lines.input) (kept.lines ++ line) _ (kept.listed first history is));
+      gives = λ first history is. (kept.lines ++ line, writes, kept.listed first history is);
       unread = kept.unread;
     }
 
@@ -55,29 +52,9 @@ returns-in-None g c =
     rw (c.in-None.ensures.none refl).0 (record {
       fits = kept.fits;
       near = kept.near;
-      gives = λ first history is.
-          (kept.lines ++ line, writes, listed_here g.R.InDevice.state first (feed_of c.args.input.now) (feed_of c.lines.input) (kept.lines ++ line) _ (kept.listed first history is));
+      gives = λ first history is. (kept.lines ++ line, writes, kept.listed first history is);
       unread = kept.unread;
     })
-
-pub returns-then-not-pass_here : goal.returns-then-not-pass_here
-returns-then-not-pass_here g c =
-    let kept = c.lines.invariant in
-    let line = latest_line c.lines.latest in
-    let P : Result (Unit {0}) IoFault → Type 0 = λ result. AfterWrite g.W.OutDevice.state g.E.OutDevice.state c.lines.writers c.write_line.new.writers (on_output line) result in
-    let writes = outputs_then g.W.OutDevice.state g.E.OutDevice.state c.args.writers.now c.lines.writers c.write_line.new.writers kept.lines line (Ok tt) kept.writes (subst P c.in-Ok.is c.write_line.ensures.line) in
-    record {
-      fits = c.pass_here.ensures.opened;
-      near = λ is. absurd (false≢true (sym is ∙ c.if-not-far.false));
-      unread = unread_then kept.unread (unread_then c.in-Some.ensures.unread c.pass_here.ensures.unread);
-      gives = λ first history is.
-          let on = kept.listed first history is in
-          let got = c.in-Some.ensures.gives _ on.listed.session_at in (
-            kept.lines ++ line,
-            writes,
-            listed_part g.R.InDevice.state first (feed_of c.args.input.now) (feed_of c.lines.input) (feed_of c.next_here.new.self) (feed_of c.pass_here.new.input) (kept.lines ++ line) c.in-Some.offset _ on got (c.pass_here.ensures.gives _ got.at) (c.pass_here.ensures.part c.if-not-pass_here.true),
-          );
-    }
 
 pub lines-preserved : goal.lines-preserved
 lines-preserved g c =
@@ -86,21 +63,12 @@ lines-preserved g c =
     let P : Result (Unit {0}) IoFault → Type 0 = λ result. AfterWrite g.W.OutDevice.state g.E.OutDevice.state c.lines.writers c.write_line.new.writers (on_output line) result in
     let writes = outputs_then g.W.OutDevice.state g.E.OutDevice.state c.args.writers.now c.lines.writers c.write_line.new.writers kept.lines line (Ok tt) kept.writes (subst P c.in-Ok.is c.write_line.ensures.line) in
     record {
-      fits = c.pass_here.ensures.may_read c.if-not-pass_here.false;
+      fits = c.in-Some.ensures.may_read;
       near = λ is. absurd (false≢true (sym is ∙ c.if-not-far.false));
-      unread = unread_then kept.unread (unread_then c.in-Some.ensures.unread c.pass_here.ensures.unread);
+      unread = unread_then kept.unread c.in-Some.ensures.unread;
       lines = kept.lines ++ line;
       writes = writes;
       listed = λ first history is.
           let on = kept.listed first history is in
-          let got = c.in-Some.ensures.gives _ on.listed.session_at in
-          listed_more g.R.InDevice.state first (feed_of c.args.input.now) (feed_of c.lines.input) (feed_of c.next_here.new.self) (feed_of c.pass_here.new.input) (kept.lines ++ line) c.in-Some.offset _ on got (c.pass_here.ensures.gives _ got.at) (c.pass_here.ensures.whole c.if-not-pass_here.false);
+          listed_more g.R.InDevice.state first (feed_of c.args.input.now) (feed_of c.lines.input) (feed_of c.next_whole.new.self) (kept.lines ++ line) c.in-Some.offset _ on (c.in-Some.ensures.gives _ on.listed.session_at);
     }
-
--- a head has bytes, and how far the input is at hand stays the same
-pub lines-smaller : goal.lines-smaller
-lines-smaller g c =
-    let first : ℕ × Flow → ℕ = λ at. at.0 in
-    let head = ap first c.in-Some.ensures.unread.reach in
-    let more = ap first c.pass_here.ensures.unread.reach in
-    omega (arith, head, more, c.in-Some.ensures.some, c.pass_here.ensures.count)

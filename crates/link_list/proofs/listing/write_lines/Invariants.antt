@@ -1,6 +1,6 @@
-use Rattle.std.proofs.Common.{◌≡◌, List, ℕ, ◌+◌, length, ◌++◌}
+use Rattle.std.proofs.Common.{◌≡◌, List, ℕ, length, ◌++◌}
 use Rattle.std.specs.Prelude.{IsTrue, false}
-use Rattle.link_wire.specs.{Session.{source_of, may_read}, Source.{reader_of, window_of}}
+use Rattle.link_wire.specs.{Session.{source_of, may_read}, Source.window_of}
 use Rattle.link_run.specs.{Reading.{feed_of, Unread}, Run.Texts, Writers.{on_output, Writes}}
 use Rattle.link_list.specs.ListRun.{latest_line, IsListedTo, ListedOn}
 use Rattle.link_list.proofs.listing.write_lines.Given as goal
@@ -20,8 +20,5 @@ invariant-lines g l =
           → ListedOn look first (feed_of l.fn.input) (feed_of l.input) (lines ++ latest_line l.latest) history;
     }
 
--- the bytes at hand
 abbrev pub decreases-lines : goal.decreases-lines
-decreases-lines g l =
-    length (window_of (source_of (feed_of l.input)))
-    + length (g.R.InDevice.state (reader_of (source_of (feed_of l.input)))).held
+decreases-lines g l = length (window_of (source_of (feed_of l.input)))

@@ -1,4 +1,4 @@
-use Rattle.std.proofs.Common.{◌≡◌, length, length-take, take, refl, sym, subst, ◌∙◌, arith}
+use Rattle.std.proofs.Common.{◌≡◌, length, take, refl, sym, subst, ◌∙◌}
 use Rattle.link_wire.proofs.Sessions.{none_left, came}
 use Rattle.link_io.specs.Source.{window_of}
 use Rattle.link_wire.specs.{Getting.{IsPart, WholePart}, Message.message_at}
@@ -18,10 +18,3 @@ returns-clause-gives g c = λ history at.
       is = subst P (sym c.set.ensures.message) (c.requires.head.is c.args.message.now.node);
     } in
     rw here (came old history at (none_left old at.going c.requires.may_read) _ _ got refl c.data_length-self.ensures at.going)
-
--- a head has bytes
-pub returns-clause-some : goal.returns-clause-some
-returns-clause-some g c =
-    let window = window_of c.args.self.now.source in
-    let count = c.give.ensures.takes.count in
-    omega (arith, count, c.requires.head.some, c.requires.head.within, length-take c.args.size window)

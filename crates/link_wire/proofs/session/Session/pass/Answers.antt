@@ -14,10 +14,3 @@ returns-clause-gives g c = λ history at.
     let same : take c.args.count (data_in look old) ≡ take c.args.count front = take-take c.args.count old.left front fits in
     let size : length (take c.args.count (data_in look old)) ≡ c.args.count = omega (arith, c.requires, length-take c.args.count (data_in look old)) in
     data_given old _ history (take c.args.count (data_in look old)) at (rw same c.give_front.ensures.takes) (c.give_front.ensures.live at.live) at.going refl (omega (arith, size))
-
-pub returns-clause-count : goal.returns-clause-count
-returns-clause-count g c =
-    let front = front_of g.R.InDevice.state c.args.self.now.source in
-    let count = c.give_front.ensures.takes.count in
-    let here = length-take c.args.self.now.left front in
-    omega (arith, count, c.requires, here, length-take c.args.count front)
