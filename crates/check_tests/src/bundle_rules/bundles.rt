@@ -2,7 +2,7 @@
 ghost use Rattle.std.specs.Prelude.{◌+◌, ◌-◌, ◌^◌, ◌<◌, ◌≤◌, length};
 
 use super::rows::{ROWS, Row};
-use link_block_data::{DataKind, DataScan};
+use link_block_data::{DataKind, DataScan, DataView};
 use link_block_report::data_kind;
 use link_bundle::{BlockView, BundleScan, CanonicalBlock, State};
 use link_bundle_rules::{BundleHistory, ReadBlockView};
@@ -27,26 +27,33 @@ fn data_of<'a>(rt: &impl Abort, bytes: &'a [u8], block: &CanonicalBlock) -> &'a 
     &bytes[start..start + block.data_length as usize]
 }
 
-/// Takes a canonical block whose data is read.
-fn take_data(
-    rt: &impl Abort,
-    bytes: &[u8],
+/// What the scanned data says, if data of this kind is read.
+fn found(kind: Option<DataKind>, scan: &DataScan) -> Option<Result<DataView<'_>, u64>> {
+    match kind {
+        Some(_) => Some(scan.view()),
+        None => None,
+    }
+}
+
+/// Takes a canonical block whose data was scanned, if it is read.
+fn take_scanned(
     block: &CanonicalBlock,
-    kind: DataKind,
+    kind: Option<DataKind>,
+    scan: &DataScan,
     history: &mut BundleHistory,
 ) {
-    let mut scan = DataScan::new(kind);
-    scan.take(data_of(rt, bytes, block));
-    let found = Some(scan.view());
-    history.take(&ReadBlockView { block, found });
+    history.take(&ReadBlockView {
+        block,
+        found: found(kind, scan),
+    });
 }
 
 /// Takes a canonical block of a bundle.
 fn take_block(rt: &impl Abort, bytes: &[u8], block: &CanonicalBlock, taken: &mut Taken) {
-    match data_kind(taken.flags, block.block_type) {
-        Some(kind) => take_data(rt, bytes, block, kind, &mut taken.history),
-        None => taken.history.take(&ReadBlockView { block, found: None }),
-    }
+    let kind = data_kind(taken.flags, block.block_type);
+    let mut scan = DataScan::new(kind.unwrap_or(DataKind::Record));
+    scan.take(data_of(rt, bytes, block));
+    take_scanned(block, kind, &scan, &mut taken.history);
 }
 
 /// Takes the block that ends with the bytes scanned, if one does.
