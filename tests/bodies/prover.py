@@ -60,6 +60,10 @@ class Crate:
         """Returns whether a check left work with which the next one can begin."""
         return os.path.isdir(f"{self.folder}/out/incremental")
 
+    def has_library(self):
+        """Returns whether a library of the crate is there."""
+        return os.path.isfile(f"{self.folder}/out/rlib/{self.name}.rlib/format")
+
 
 def crates_of(top):
     """Returns the crates of crates.txt by their names, lower ones first."""
