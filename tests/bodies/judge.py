@@ -170,7 +170,7 @@ def of_whole(output):
         return Verdict(ACCEPTED, last[:SHOWN])
     if errors or unread and output.status == 1:
         return Verdict(UNREADABLE, first(errors or unread))
-    if output.status == 1 and last.startswith(("logic=not-proved", "only=")):
+    if output.status == 1 and last.startswith("logic=not-proved"):
         refusals = [line for line in output.placed if line.is_refusal()]
         return by_lines(refusals) or Verdict(UNJUDGED, last[:SHOWN])
     limit = next((line for line in output.lines if LIMIT.search(line)), "")

@@ -56,14 +56,6 @@ class Crate:
         # The crates of this repository that it uses, and those with the crates below them
         self.own_uses, self.own_below = [], []
 
-    def has_kept_work(self):
-        """Returns whether a check left work with which the next one can begin."""
-        return os.path.isdir(f"{self.folder}/out/incremental")
-
-    def has_library(self):
-        """Returns whether a library of the crate is there."""
-        return os.path.isfile(f"{self.folder}/out/rlib/{self.name}.rlib/format")
-
 
 def crates_of(top):
     """Returns the crates of crates.txt by their names, lower ones first."""
@@ -89,9 +81,8 @@ def crates_of(top):
 class Prover:
     """Starts the prover, and ends what it started if the script ends early."""
 
-    def __init__(self, kit, crates, after_ci=False):
-        # After `rt ci` the crates are proved, and there is no kept work of a check to begin with.
-        self.kit, self.crates, self.after_ci = kit, crates, after_ci
+    def __init__(self, kit, crates):
+        self.kit, self.crates = kit, crates
         self.under = shlex.split(os.environ.get(UNDER, ""))
         self.running, self.guard, self.is_stopped = set(), threading.Lock(), False
 
@@ -141,12 +132,8 @@ class Prover:
         sweep(crate)
         return self.run(["rt", "check", "--jobs", "1"], crate.folder)
 
-    def words(self, crate, functions):
-        """Returns the command that checks a crate in the folder where it is run, as `rt` does.
-
-        After `rt ci` it checks these functions and those that they call, or all if it is given
-        none.
-        """
+    def _words(self, crate):
+        """Returns the command that checks a crate in the folder where it is run, as `rt` does."""
         kit, words = self.kit.folder, [self.kit.rattle, "check", "--crate-name", crate.name]
         words += [f"src/{'main' if crate.is_program else 'lib'}.rt"]
         for name in ["std", *[it for it in crate.uses if it not in crate.own_uses]]:
@@ -159,22 +146,16 @@ class Prover:
         words += ["--antt-project", f"{kit}/rattle/logic/antt-project.json"]
         words += ["--logic-built", f"{kit}/logic_built", "--links", f"{crate.name}="]
         words += ["--crate-type", "staticlib"] if crate.is_static else []
-        words += ["--jobs", "1"]
-        if not self.after_ci:
-            return [*words, "--incremental", "incremental"]
-        # The ends of the names, since a method may be written in another module than its type's
-        ends = ["::".join(name.split("::")[1:][-2:]) for name in functions]
-        return [*words, *(word for end in ends for word in ("--only", end))]
+        return [*words, "--jobs", "1", "--incremental", "incremental"]
 
     def _rlibs(self, name):
-        """Returns the folder of the library that `rt check` or `rt ci` built of a crate."""
+        """Returns the folder of the library that `rt check` built of a crate."""
         return f"{self.crates[name].folder}/out/rlib"
 
-    def check(self, crate, texts, functions=()):
+    def check(self, crate, texts):
         """Checks a copy of a crate with these texts in place of its own, over its kept work.
 
-        The texts change these functions, or more than functions if none is given. The copy is in
-        out/, since links need the same file system.
+        The copy is in out/, since links need the same file system.
         """
         prefix, out = f"rt-edit-{os.getpid()}-", f"{crate.folder}/out"
         with tempfile.TemporaryDirectory(prefix=prefix, dir=out) as room:
@@ -184,9 +165,8 @@ class Prover:
             for path, text in texts.items():
                 with open(f"{room}/{path}", "w", encoding="utf-8", newline="") as file:
                     file.write(text)
-            if not self.after_ci:
-                link_tree(f"{out}/incremental", f"{room}/incremental")
-            ran = self.run(self.words(crate, functions), room)
+            link_tree(f"{crate.folder}/out/incremental", f"{room}/incremental")
+            ran = self.run(self._words(crate), room)
         if judge.STALE.search(ran.text):
             raise RuntimeError(f"the kept work of a crate below {crate.name} cannot be used")
         return ran

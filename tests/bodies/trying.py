@@ -78,10 +78,7 @@ def parted(batch, output, texts):
 
 
 class Trial:
-    """The edits to try, with what came of them.
-
-    Crates are proved first, lower ones before, but after `rt ci`.
-    """
+    """The edits to try, with what came of them. Crates are proved first, lower ones before."""
 
     def __init__(self, prover, kept, jobs, say=print):
         self.prover, self.kept, self.jobs, self.say = prover, kept, jobs, say
@@ -100,12 +97,9 @@ class Trial:
                 self.known.update([] if edit.problem else [edit])
             else:
                 by_crate[edit.crate].append(edit)
-        if self.prover.after_ci:
-            self.waiting = [task for its in by_crate.values() for task in batches_of(its)]
-        else:
-            # The crates that are still to be proved, with their edits
-            self.left = dict(by_crate)
-            self.waiting = [Task(name) for name in self.prover.crates if name in by_crate]
+        # The crates that are still to be proved, with their edits
+        self.left = dict(by_crate)
+        self.waiting = [Task(name) for name in self.prover.crates if name in by_crate]
         with ThreadPoolExecutor(self.jobs) as pool:
             try:
                 self._run_tasks(pool)
@@ -139,8 +133,7 @@ class Trial:
         texts = task.edits[0].texts
         if len(task.edits) > 1:
             texts = edits.merged(task.edits, crate.folder)
-        functions = [edit.function for edit in task.edits]
-        return texts, self.prover.check(crate, texts, functions if all(functions) else ())
+        return texts, self.prover.check(crate, texts)
 
     def _take(self, task, texts, ran):
         """Takes what came of a task. Returns the tasks that follow."""
