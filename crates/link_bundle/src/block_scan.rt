@@ -149,7 +149,9 @@ impl BundleScan {
         Some(self.draft.last_block(self.cursor.offset))
     }
 
-    /// The canonical block in whose data or check field the bytes seen end.
+    /// The canonical block that the bytes seen cut short, if they end in its data or check field.
+    ///
+    /// There is none if they end elsewhere, or if they show a fault.
     #[inline(always)]
     pub fn cut_block(&self) -> Option<CanonicalBlock>
         ensures { (seen : List ℕ) → HasScanned self.now seen → result ≡ cut_block_in seen }

@@ -1,5 +1,7 @@
 //! The rows of the tables in docs/FORMATS.md, each from a head to its value or its first fault.
 //!
+//! Each clause `lasts` says that no bytes that follow can mend the fault.
+//!
 //! They are inlined, since a result passes through memory at a call, and a row is a few compares.
 ghost use Rattle.std.specs.Prelude.{◌≡◌, ◌≤◌, ◌==◌, IfOk, IfErr, IfSome, IsTrue};
 ghost use Rattle.std.specs.List.{list_any};
@@ -59,7 +61,7 @@ pub fn unsigned(head: Head) -> Result<u64, BundleFault>
 
 /// The length of a byte string in bytes.
 ///
-/// The fault of another item is `WrongKind`.
+/// The fault of another item, or of a byte string of indefinite length, is `WrongKind`.
 #[inline(always)]
 #[tactic(auto, unfolding(crate::specs::Rows::byte_string))]
 pub fn byte_string(head: Head) -> Result<u64, BundleFault>

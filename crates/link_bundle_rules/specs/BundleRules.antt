@@ -29,8 +29,19 @@ unfoldable pub broken_bundle_rules : ReadBundle → List BundleRule
 broken_bundle_rules bundle = filter_map (λ judged. judged) (judged_bundle_rules bundle)
 
 unfoldable pub bundle_level_of : BundleRule → Level
+bundle_level_of (rule.LongHead byte) = Must
 bundle_level_of (rule.BundleFlags flags) = Should
+bundle_level_of rule.PrimaryCheck = Must
+bundle_level_of (rule.Anonymous flags) = Must
+bundle_level_of (rule.RecordReports flags) = Must
+bundle_level_of (rule.BlockReports block) = Must
 bundle_level_of (rule.BlockFlags block flags) = Should
+bundle_level_of (rule.DtnName of) = Must
+bundle_level_of (rule.Fragment offset size total) = Must
+bundle_level_of (rule.Age blocks) = Must
 bundle_level_of (rule.PreviousNode blocks) = Should
+bundle_level_of (rule.HopCount blocks limit) = Must
+bundle_level_of (rule.ConfidentialPrimary block) = Must
 bundle_level_of (rule.Hops limit count) = Should
-bundle_level_of others = Must
+bundle_level_of (rule.BlockData block byte) = Must
+bundle_level_of (rule.Record byte) = Must

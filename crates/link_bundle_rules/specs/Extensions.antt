@@ -27,7 +27,7 @@ previous_node bundle =
 
 abbrev pub hops_in_data : Option (Result BlockData ℕ) → Option Hops
 hops_in_data (Some (Ok (HopCount limit count))) = Some (record { limit = limit; count = count })
-hops_in_data others = None
+hops_in_data _ = None
 
 -- `None` for a block that is no hop count block. For a hop count block, `Some` of what its data
 -- says, which is `None` if the data is malformed. So a malformed block can be the first one.

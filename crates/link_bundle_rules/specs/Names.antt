@@ -23,7 +23,7 @@ is_dtn_name shorter = false
 -- dtn:none as the number 0 is no text
 abbrev pub has_bad_name : Eid → Bool
 has_bad_name (eid.Dtn name) = not (is_dtn_name name.items)
-has_bad_name others = false
+has_bad_name _ = false
 
 -- the first endpoint ID of a primary block that has one
 abbrev pub bad_name : Primary → Option Endpoint

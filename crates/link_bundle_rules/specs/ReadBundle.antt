@@ -38,7 +38,7 @@ with_block bundle block = record bundle { blocks = bundle.blocks ++ block ∷ []
 -- whether an endpoint ID is dtn:none, spelled as the number 0 (section 4.2.5.1.1)
 abbrev pub is_none_eid : Eid → Bool
 is_none_eid eid.DtnNone = true
-is_none_eid others = false
+is_none_eid _ = false
 
 -- whether a bundle has no source
 abbrev pub is_anonymous : Primary → Bool
@@ -78,7 +78,7 @@ find_map f (element ∷ more) = option_or (f element) (find_map f more)
 
 abbrev pub malformed_from : (data_start : ℕ) → Option (Result BlockData ℕ) → Option ℕ
 malformed_from data_start (Some (Err offset)) = Some (data_start + offset)
-malformed_from data_start others = None
+malformed_from data_start _ = None
 
 -- the offset in the bundle at which the data of a block is malformed
 abbrev pub malformed_at : ReadBlock → Option ℕ

@@ -13,11 +13,11 @@ is_hidden blocks = list_any (is_of_type block_confidentiality) blocks
 -- whether the primary block is among the targets of a security block (RFC 9172 section 3.6)
 abbrev pub targets_primary : BlockData → Bool
 targets_primary (Security block source) = block.targets_primary
-targets_primary others = false
+targets_primary _ = false
 
 abbrev pub surely_targets_primary : Option (Result BlockData ℕ) → Bool
 surely_targets_primary (Some (Ok said)) = targets_primary said
-surely_targets_primary others = false
+surely_targets_primary _ = false
 
 -- the targets of a malformed block are not known
 abbrev pub may_target_primary : Option (Result BlockData ℕ) → Bool

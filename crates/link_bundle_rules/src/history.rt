@@ -12,7 +12,7 @@ use crate::rule::BundleRule;
 use crate::security::SecurityFacts;
 use arrayvec::ArrayVec;
 use link_bundle_blocks::PrimaryBlock;
-use link_rules::broken_of;
+use link_rules::add_if_broken;
 
 /// The number of rules of a bundle.
 const RULES: usize = 16;
@@ -149,23 +149,23 @@ impl BundleHistory {
             → result.items ≡ broken_bundle_rules bundle }
     {
         let hidden = self.security.is_hidden;
-        broken_of(&[
-            long_head(first_long_head),
-            self.primary.bundle_flags(),
-            self.security.primary_check(&self.primary),
-            self.primary.anonymous(),
-            self.primary.record_reports(),
-            self.flags.block_reports(&self.primary),
-            self.flags.block_flags(),
-            self.primary.dtn_name(),
-            self.primary.fragment(payload_length),
-            self.extensions.age(&self.primary),
-            self.extensions.previous_node(),
-            self.extensions.hop_count(hidden),
-            self.security.confidential_primary(),
-            self.extensions.hops(hidden),
-            self.extensions.block_data(hidden),
-            self.extensions.administrative_record(hidden),
-        ])
+        let mut broken = BrokenBundleRules::new();
+        add_if_broken(&mut broken, long_head(first_long_head));
+        add_if_broken(&mut broken, self.primary.bundle_flags());
+        add_if_broken(&mut broken, self.security.primary_check(&self.primary));
+        add_if_broken(&mut broken, self.primary.anonymous());
+        add_if_broken(&mut broken, self.primary.record_reports());
+        add_if_broken(&mut broken, self.flags.block_reports(&self.primary));
+        add_if_broken(&mut broken, self.flags.block_flags());
+        add_if_broken(&mut broken, self.primary.dtn_name());
+        add_if_broken(&mut broken, self.primary.fragment(payload_length));
+        add_if_broken(&mut broken, self.extensions.age(&self.primary));
+        add_if_broken(&mut broken, self.extensions.previous_node());
+        add_if_broken(&mut broken, self.extensions.hop_count(hidden));
+        add_if_broken(&mut broken, self.security.confidential_primary());
+        add_if_broken(&mut broken, self.extensions.hops(hidden));
+        add_if_broken(&mut broken, self.extensions.block_data(hidden));
+        add_if_broken(&mut broken, self.extensions.administrative_record(hidden));
+        broken
     }
 }

@@ -31,13 +31,13 @@ peer_segment (Some limit) message = option_and_then (if_longer limit) (segment_o
 abbrev pub earlier_of : Option Turn → (so_far : List SegmentHead) → Option (List SegmentHead)
 earlier_of (Some (turn.Begin abandoned last)) so_far = Some []
 earlier_of (Some (turn.Continue last)) so_far = Some so_far
-earlier_of others so_far = None
+earlier_of _ so_far = None
 
 -- a segment and those before it in its transfer; any other message changes nothing
 abbrev pub joined : Option SegmentHead → (earlier : Option (List SegmentHead))
     → (so_far : List SegmentHead) → List SegmentHead
 joined (Some segment) (Some earlier) so_far = segment ∷ earlier
-joined others earlier so_far = so_far
+joined _ earlier so_far = so_far
 
 -- the segments of the transfer that began last, by the heads from the newest on
 abbrev pub segments_back : List JudgedHead → List SegmentHead
@@ -77,7 +77,7 @@ if_exceeded limit (Total total) segment earlier =
     if nat_lt limit total
     then if_first earlier (PeerTransferAnnounced total limit)
     else if_passed limit (size_of earlier) segment.length
-if_exceeded limit others segment earlier = if_passed limit (size_of earlier) segment.length
+if_exceeded limit _ segment earlier = if_passed limit (size_of earlier) segment.length
 
 -- the length that the first segment of a transfer announces (section 5.2.5.1)
 abbrev pub announced_first : SegmentHead → (earlier : List SegmentHead) → Announced
@@ -103,7 +103,7 @@ peer_transfer (Some limit) before head =
 
 abbrev pub ack_of : Message → Option Ack
 ack_of (message.Ack flags id size) = Some (record { id = id; length = size })
-ack_of others = None
+ack_of _ = None
 
 abbrev pub first_of : List Ack → Option Ack
 first_of [] = None
@@ -123,4 +123,4 @@ unfoldable pub ack_length : List JudgedHead → Message → Option MessageRule
 ack_length before (message.Ack flags id size) =
     if is_start flags then None
     else option_and_then (if_less id size) (last_ack (messages_of before))
-ack_length before others = None
+ack_length before _ = None

@@ -1,7 +1,7 @@
 -- The rules that a message breaks (RFC 9174), and how strictly each rule is meant.
 use Rattle.std.specs.Prelude.{List, [], ◌∷◌, filter_map, Option}
 use Rattle.link_transfer.specs.declared.fault.OrderFault.{OrderFault}
-use Rattle.link_transfer.specs.declared.fault.OrderFault.TheVariants.{SecondSessInit}
+use Rattle.link_transfer.specs.declared.fault.OrderFault.TheVariants.{SecondSessInit, SegmentBeforeSessInit, NoSuchOpenTransfer, StartRepeatsOpenId, StartAfterSessTerm}
 use Rattle.link_message_rules.specs.Flags.{item_flags, segment_flags, term_flags}
 use Rattle.link_message_rules.specs.Heads.{JudgedHead}
 use Rattle.link_message_rules.specs.Lengths.{peer_segment, peer_transfer, ack_length}
@@ -30,11 +30,23 @@ broken_rules limits before head = filter_map (λ judged. judged) (judged_rules l
 -- A second SESS_INIT changes nothing, so sending one breaks no MUST.
 abbrev pub order_level : OrderFault → Level
 order_level SecondSessInit = Should
-order_level others = Must
+order_level SegmentBeforeSessInit = Must
+order_level NoSuchOpenTransfer = Must
+order_level StartRepeatsOpenId = Must
+order_level StartAfterSessTerm = Must
 
 unfoldable pub level_of : MessageRule → Level
+level_of (rule.ContactFlags flags) = Must
+level_of (rule.NodeId size) = Must
+level_of (rule.ItemFlags item flags) = Must
 level_of (rule.Order fault) = order_level fault
 level_of (rule.BeforeSession type) = Should
 level_of (rule.Interleaved id open_id) = Should
+level_of (rule.SegmentFlags flags) = Must
+level_of (rule.TransferId id) = Must
+level_of (rule.PeerSegment size limit) = Must
+level_of (rule.PeerTransferAnnounced announced limit) = Must
+level_of (rule.PeerTransferLength size limit) = Must
+level_of (rule.AckLength size before) = Must
 level_of rule.Keepalive = Should
-level_of others = Must
+level_of (rule.TermFlags flags) = Must

@@ -18,7 +18,7 @@ abbrev pub type_after_sess_init : Message → Option ℕ
 type_after_sess_init (message.Ack flags id size) = Some codes.xfer_ack
 type_after_sess_init (message.Refuse reason id) = Some codes.xfer_refuse
 type_after_sess_init message.Keepalive = Some codes.keepalive
-type_after_sess_init others = None
+type_after_sess_init _ = None
 
 -- before-session: an XFER_ACK, XFER_REFUSE or KEEPALIVE comes after a SESS_INIT (section 4.6)
 unfoldable pub before_session : List JudgedHead → Message → Option MessageRule

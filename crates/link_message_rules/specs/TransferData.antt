@@ -13,13 +13,13 @@ abbrev pub is_limit : BundleFault → Bool
 is_limit BadScheme = true
 is_limit EidTooLong = true
 is_limit TooManyBlocks = true
-is_limit others = false
+is_limit _ = false
 
 -- whether an item with this fault is not one of those that this toolkit reads
 abbrev pub is_of_item : BundleFault → Bool
 is_of_item WrongKind = true
 is_of_item BadSpecificPart = true
-is_of_item others = false
+is_of_item _ = false
 
 abbrev pub is_offset : Option ℕ → (byte : ℕ) → Bool
 is_offset None byte = false

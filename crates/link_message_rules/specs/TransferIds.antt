@@ -13,7 +13,7 @@ use Rattle.link_message_rules.specs.declared.rule.MessageRule.TheVariants.{Inter
 -- the transfer that was open until a START, and is abandoned by it
 abbrev pub abandoned_by : Option Turn → Option ℕ
 abandoned_by (Some (turn.Begin abandoned last)) = abandoned
-abandoned_by others = None
+abandoned_by _ = None
 
 abbrev pub if_another : SegmentHead → (open_id : ℕ) → Option MessageRule
 if_another segment open_id =

@@ -13,7 +13,7 @@ use Rattle.link_message_rules.specs.declared.rule.TransferRule.TheVariants as ru
 
 abbrev pub if_malformed : Announced → Option TransferRule
 if_malformed Malformed = Some rule.LengthItem
-if_malformed others = None
+if_malformed _ = None
 
 -- length-item: a transfer has at most one Transfer Length item, with a value of 8 bytes
 unfoldable pub length_item : (first : SegmentHead) → Option TransferRule
@@ -22,7 +22,7 @@ length_item first = if_malformed (announced_of first.items.items)
 abbrev pub if_different : Announced → (size : ℕ) → Option TransferRule
 if_different (Total total) size =
     if total == size then None else Some (rule.LengthDiffers total size)
-if_different others size = None
+if_different _ size = None
 
 -- length-differs: a transfer has the length that it announces
 unfoldable pub length_differs : (first : SegmentHead) → (size : ℕ) → Option TransferRule
@@ -30,7 +30,7 @@ length_differs first size = if_different (announced_of first.items.items) size
 
 abbrev pub has_length_item : Announced → Bool
 has_length_item Absent = false
-has_length_item others = true
+has_length_item _ = true
 
 -- length-of-one-segment: a transfer of one segment has no Transfer Length item, malformed or not
 unfoldable pub length_of_one_segment : (first : SegmentHead) → Option TransferRule
@@ -48,9 +48,11 @@ broken_transfer_rules first size =
 
 unfoldable pub transfer_level_of : TransferRule → Level
 transfer_level_of (rule.Unfinished size) = Should
+transfer_level_of rule.LengthItem = Must
+transfer_level_of (rule.LengthDiffers announced size) = Must
 transfer_level_of rule.LengthOfOneSegment = Should
+transfer_level_of (rule.Bundle fault byte) = Must
 transfer_level_of (rule.NotRead fault byte) = Should
-transfer_level_of others = Must
 
 -- what is kept of the first segment
 abbrev pub opening_of : SegmentHead → Opening

@@ -11,7 +11,7 @@ use crate::rule::MessageRule;
 use crate::session::{Keepalives, before_session, initiated_after, order};
 use crate::transfer_ids::{IdRun, interleaved, run_after, transfer_id};
 use arrayvec::ArrayVec;
-use link_rules::broken_of;
+use link_rules::add_if_broken;
 use link_wire::{Fields, MessageBuffer};
 
 /// The number of rules of a message.
@@ -129,20 +129,20 @@ impl MessageHistory {
             → result.items ≡ broken_rules limits.now before (viewed_head head.now) }
     {
         let message = head.message;
-        broken_of(&[
-            node_id(message),
-            item_flags(message),
-            order(head),
-            before_session(self.initiated, message),
-            interleaved(head),
-            segment_flags(message),
-            transfer_id(self.run, message),
-            peer_segment(limits.segment, message),
-            peer_transfer(limits.transfer, self.transfer, head),
-            ack_length(self.ack, message),
-            self.keepalives.rule(message),
-            term_flags(message),
-        ])
+        let mut broken = BrokenRules::new();
+        add_if_broken(&mut broken, node_id(message));
+        add_if_broken(&mut broken, item_flags(message));
+        add_if_broken(&mut broken, order(head));
+        add_if_broken(&mut broken, before_session(self.initiated, message));
+        add_if_broken(&mut broken, interleaved(head));
+        add_if_broken(&mut broken, segment_flags(message));
+        add_if_broken(&mut broken, transfer_id(self.run, message));
+        add_if_broken(&mut broken, peer_segment(limits.segment, message));
+        add_if_broken(&mut broken, peer_transfer(limits.transfer, self.transfer, head));
+        add_if_broken(&mut broken, ack_length(self.ack, message));
+        add_if_broken(&mut broken, self.keepalives.rule(message));
+        add_if_broken(&mut broken, term_flags(message));
+        broken
     }
 
     /// Takes an inner segment with `length` bytes of data, if it is known to break no rule, and

@@ -84,12 +84,12 @@ nowhere = record { offset = 0; length = 0 }
 -- where the node ID of a message is, and where its items are
 abbrev pub node_of : Fields → Span → Span
 node_of (SessInit interval segment_mru transfer_mru) node = node
-node_of others node = nowhere
+node_of _ node = nowhere
 
 abbrev pub items_of : Fields → Span → Span
 items_of (SessInit interval segment_mru transfer_mru) items = items
 items_of (Segment flags id size) items = items
-items_of others items = nowhere
+items_of _ items = nowhere
 
 -- the number of data bytes of a message, by its head
 abbrev pub size_of : MessageAt → ℕ

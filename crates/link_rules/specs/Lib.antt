@@ -1,3 +1,4 @@
+pub mod Broken
 pub mod Flags
 pub mod Heads
 pub mod HeadWalk

@@ -6,7 +6,7 @@ mod flags;
 mod heads;
 mod level;
 
-pub use broken::broken_of;
+pub use broken::add_if_broken;
 pub use flags::has_other_flags;
 pub use heads::HeadWalk;
 pub use level::Level;

@@ -94,7 +94,7 @@ abbrev pub HasList : Fields → List ℕ → Span → ArrayVec Item → Type 0
 HasList (fields.SessInit interval segment_mru transfer_mru) bytes span items =
     (next : ℕ) × ListAt Session bytes span items next
 HasList (fields.Segment flags id size) bytes span items = SegmentList flags bytes span items
-HasList others bytes span items = Unit {0}
+HasList _ bytes span items = Unit {0}
 
 -- the list is after the node ID and its own length, and ends where the message ends
 pub record SessionSpans (node items : Span) (end : ℕ) : Type 0 where
@@ -111,7 +111,7 @@ abbrev pub HasSpans : Fields → (node items : Span) → (end : ℕ) → Type 0
 HasSpans (fields.SessInit interval segment_mru transfer_mru) node items end =
     SessionSpans node items end
 HasSpans (fields.Segment flags id size) node items end = SegmentSpans flags items end
-HasSpans others node items end = Unit {0}
+HasSpans _ node items end = Unit {0}
 
 -- The part is the message whose numbers, node ID and items the value has: the node ID and the items
 -- by where they lie. The bytes after it begin at its end.

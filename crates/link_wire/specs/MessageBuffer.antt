@@ -32,7 +32,7 @@ message_of buffer = message_with buffer.fields buffer.node buffer.items
 -- holds without START too, where the segment shows no items.
 abbrev pub SegmentHasTotalsWith : Fields → ArrayVec Item → Type 0
 SegmentHasTotalsWith (fields.Segment flags id size) items = HasTotals items.items
-SegmentHasTotalsWith others items = Unit {0}
+SegmentHasTotalsWith _ items = Unit {0}
 
 abbrev pub SegmentHasTotals : MessageBuffer → Type 0
 SegmentHasTotals buffer = SegmentHasTotalsWith buffer.fields buffer.items

@@ -28,7 +28,7 @@ is_quiet (Ack flags id size) = true
 is_quiet (Refuse reason id) = true
 is_quiet Keepalive = true
 is_quiet (MsgReject reason header) = true
-is_quiet others = false
+is_quiet _ = false
 
 abbrev pub IsQuiet : Entry → Type 0
 IsQuiet entry = is_quiet entry.message ≡ true

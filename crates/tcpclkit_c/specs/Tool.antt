@@ -56,10 +56,13 @@ pub record ReturnsNothing (old new : Slices) (run : Run) (status : ℕ) : Type 0
   pub numbers : run ≡ record { exit_status = 0; output_length = 0; report_length = 0 }
   pub gives : status ≡ 8
 
+-- Below, `words` are the numbers of the caller's struct after `size`. Each is in its range, as by
+-- `unpack_in_range` of Options.
+
 -- the recording was unpacked with these options
-abbrev pub Unpacks : (options bytes : List ℕ) → Wants → (old new : Slices) → Run → ℕ → Type 0
-Unpacks options bytes wants old new run status =
-    ReturnsTexts ((unpack_tool (wanted_of (unpack_numbers options))).whole bytes)
+abbrev pub Unpacks : (words bytes : List ℕ) → Wants → (old new : Slices) → Run → ℕ → Type 0
+Unpacks words bytes wants old new run status =
+    ReturnsTexts ((unpack_tool (wanted_of (unpack_numbers words))).whole bytes)
     wants old new run status
 
 -- the tool that these options of `blocks` ask for
@@ -68,9 +71,9 @@ blocks_tool_of numbers =
     if numbers.bundles == 1 then bundle_blocks_tool else blocks_tool (block_options_of numbers)
 
 -- the blocks were shown with these options
-abbrev pub ShowsBlocks : (options bytes : List ℕ) → Wants → (old new : Slices) → Run → ℕ → Type 0
-ShowsBlocks options bytes wants old new run status =
-    ReturnsTexts ((blocks_tool_of (blocks_numbers options)).whole bytes) wants old new run status
+abbrev pub ShowsBlocks : (words bytes : List ℕ) → Wants → (old new : Slices) → Run → ℕ → Type 0
+ShowsBlocks words bytes wants old new run status =
+    ReturnsTexts ((blocks_tool_of (blocks_numbers words)).whole bytes) wants old new run status
 
 -- the tool that these options of `check` ask for
 abbrev pub check_tool_of : CheckNumbers → Tool
@@ -79,9 +82,9 @@ check_tool_of numbers =
     else check_tool (check_options_of numbers)
 
 -- the rules were judged with these options
-abbrev pub JudgesRules : (options bytes : List ℕ) → Wants → (old new : Slices) → Run → ℕ → Type 0
-JudgesRules options bytes wants old new run status =
-    ReturnsTexts ((check_tool_of (check_numbers options)).whole bytes) wants old new run status
+abbrev pub JudgesRules : (words bytes : List ℕ) → Wants → (old new : Slices) → Run → ℕ → Type 0
+JudgesRules words bytes wants old new run status =
+    ReturnsTexts ((check_tool_of (check_numbers words)).whole bytes) wants old new run status
 
 -- The bundles were packed with these options, and the texts are returned as by the other tools. Or
 -- nothing was written, and the status is TCPCLKIT_MEMORY.
