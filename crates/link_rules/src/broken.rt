@@ -7,7 +7,7 @@ ghost use Rattle.link_rules.specs.Broken.{HasBroken};
 use arrayvec::ArrayVec;
 
 /// Appends a rule, if it is broken.
-#[tactic(auto, using(crate::proofs::Broken::broken_more, crate::proofs::Broken::broken_same))]
+#[tactic(auto, using(crate::proofs::OneMore::broken_more, crate::proofs::OneMore::broken_same))]
 pub fn add_if_broken<T: Copy + Default, const N: usize>(
     broken: &mut ArrayVec<T, N>,
     rule: Option<T>,

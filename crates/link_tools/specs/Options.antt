@@ -30,13 +30,8 @@ options_of (job.Pack options memory) = chosen.Pack options
 -- `pack` has a new cutter for its options, or its request for memory was refused. The other tools
 -- are always ready.
 abbrev pub IsReady : Job → Type 0
-IsReady job.List = ⊤
-IsReady (job.Unpack wanted) = ⊤
-IsReady (job.Blocks options) = ⊤
-IsReady job.BundleBlocks = ⊤
-IsReady (job.Check options) = ⊤
-IsReady (job.BundleCheck must) = ⊤
 IsReady (job.Pack options memory) = IfOk memory (IsCutterFor options)
+IsReady _ = ⊤
 
 -- The tool of a job that has the memory that it needs. Only the request of `pack` may be refused.
 abbrev pub job_tool : Job → Option Tool
