@@ -1,5 +1,5 @@
 -- What holds after a step of `list`, by the result of its call of the session.
-use Rattle.std.proofs.Common.{◌≡◌, ℕ, ◌+◌, ◌<◌, ◌≤◌, Bool, true, false, List, [], ◌∷◌, ◌++◌, length, length-append, inl, Result, Ok, nat_lt, if◌then◌else◌, refl, ap, sym, ◌∙◌, subst, append-nil, append_assoc, arith}
+use Rattle.std.proofs.Common.{◌≡◌, ℕ, ◌+◌, ◌<◌, ◌≤◌, Bool, true, false, IsTrue, List, [], ◌∷◌, ◌++◌, length, length-append, inl, Result, Ok, nat_lt, if◌then◌else◌, refl, ap, sym, ◌∙◌, subst, append-nil, append_assoc, arith}
 use Rattle.std.proofs.lemmas.{Bool.{lt-ltb, le-ltb}, Grind.flat_map-append}
 use Rattle.link_wire.specs.{Device.Input, Limits.{window_size, longest_head}, Message.data_length}
 use Rattle.link_wire.specs.Source.{given_by, window_of, Takes, Readies}
@@ -15,15 +15,15 @@ use Rattle.link_run.specs.Made.{Made, IsLasting, whole_by, shows_fault, stop_of}
 use Rattle.link_run.specs.Run.{Texts, no_texts, ◌then◌, Looks, Devices, Place, devices_at, LastStep, progress_after}
 use Rattle.link_run.specs.Stages.{Stands, AfterStage, MayBegin}
 use Rattle.link_run.specs.Writers.{place_of, on_output, AfterWrite}
-use Rattle.link_run.specs.declared.run.{Progress.Progress, Status.Status}
+use Rattle.link_run.specs.declared.{next.Next.Next, run.Progress.Progress, run.Status.Status}
+use Rattle.link_run.specs.declared.run.Progress.TheVariants.{More}
+use Rattle.link_run.specs.declared.next.Next.TheVariants as next
 use Rattle.link_run.specs.declared.writers.Writers.{Writers}
 use Rattle.link_run.proofs.Continued.{reading_on}
 use Rattle.link_run.proofs.Runs.{texts_as, then_assoc, then_none, few_over, writes_none}
-use Rattle.link_run.proofs.{Sessions.SameTexts, Stands.{ends, goes_on, written}}
+use Rattle.link_run.proofs.{Sessions.SameTexts, Stands.{ends, goes_on, written}, Strides.went_with}
 use Rattle.link_list.specs.Listing.{contact_lines, message_lines, listed_lines, listing_by, listing_of, list_tool}
-use Rattle.link_list.specs.ListRun.{most_by, IsWaiting, IsWaitingAfter, Lists, IsDue, IsListedTo, ListedOn, AfterRead, AfterLines, AfterStepOrStride, WaitsForData}
-use Rattle.link_list.specs.declared.listing.Read.{Read}
-use Rattle.link_list.specs.declared.listing.Read.TheVariants as read
+use Rattle.link_list.specs.ListRun.{most_by, may_go_on, may_follow, IsWaiting, IsWaitingAfter, Lists, IsListing, IsDue, IsListedTo, ListedOn, AfterRead, AfterLines, AfterStepOrStride, WaitsForData}
 use Rattle.link_list.specs.declared.listing.Stage.{Stage}
 use Rattle.link_list.specs.declared.listing.Stage.TheVariants as stage
 
@@ -150,9 +150,10 @@ module _ {R W E : Type 0} {look : Looks R W E} {start : Devices R W E} (old new 
         else with_entry (record { offset = offset; message = message; content = [] }) (ended Clean))
     read_head test is = got.reading ∙ ap (λ b. joined (reading_of history) (if b then ended (Cut offset message []) else with_entry (record { offset = offset; message = message; content = [] }) (ended Clean))) is
 
-    pub message_read : (piece : ℕ) (next : Read) → WaitsForData (left_of new) next
-        → AfterRead look start piece stage.Message old new w (message_text offset message) history next
-    message_read piece read.Whole none =
+    pub message_read : (piece : ℕ) (later : Next Stage) → WaitsForData (left_of new) later
+        → AfterRead look start piece stage.Message old new w (message_text offset message) history later
+    message_read piece (next.Stage stage.Contact) goes = absurd goes
+    message_read piece (next.Stage stage.Message) none =
         let left = got.left in
         let reading = read_head false (le-ltb 0 (data_length message) (omega arith)) in
         record {
@@ -166,7 +167,7 @@ module _ {R W E : Type 0} {look : Looks R W E} {start : Devices R W E} (old new 
           session_at = got.at;
           clean = ap (λ (r : Reading). r.end) reading;
         }
-    message_read piece read.Waits more =
+    message_read piece (next.Stage stage.Data) more =
         let left = got.left in
         let reading = read_head true (lt-ltb 0 (data_length message) (omega arith)) in
         let P : End → Type 0 = λ end. IsWaiting stage.Data (message_text offset message) end in
@@ -177,7 +178,7 @@ module _ {R W E : Type 0} {look : Looks R W E} {start : Devices R W E} (old new 
         (λ bytes. Lists look.input stage.Data (message_text offset message) new bytes × IsWaitingAfter stage.Message (reading_of bytes).end)
         (λ begun. got.some) (record { session_at = got.at; waits = subst P end (refl, refl) }, subst Q end refl)
         (writes_none look.output look.report w) (λ some. refl)
-    message_read piece (read.Ended answer) goes = absurd goes
+    message_read piece (next.Ended answer) goes = absurd goes
 
   -- the stream has ended between two messages
   pub clean_ended : (status : Status) → status.0 ≡ 0 → CleanEnd look.input old new history
@@ -246,9 +247,10 @@ module _ {R W E : Type 0} {look : Looks R W E} {start : Devices R W E} (old mid 
       ∙ ap (λ end. joined (reading_of history) (data_after (left_of new) bytes end)) within.end
       ∙ ap (λ b. joined (reading_of history) (if b then ended (Cut within.offset within.message (within.content ++ bytes)) else with_entry (record { offset = within.offset; message = within.message; content = within.content ++ bytes }) (ended Clean))) is
 
-  pub data_read : (next : Read) → WaitsForData (left_of new) next
-      → AfterRead look start piece stage.Data old new w line history next
-  data_read read.Whole none =
+  pub data_read : (later : Next Stage) → WaitsForData (left_of new) later
+      → AfterRead look start piece stage.Data old new w line history later
+  data_read (next.Stage stage.Contact) goes = absurd goes
+  data_read (next.Stage stage.Message) none =
       let reading = read_data false (le-ltb 0 (left_of new) (omega arith)) in
       record {
         given = bytes;
@@ -261,7 +263,7 @@ module _ {R W E : Type 0} {look : Looks R W E} {start : Devices R W E} (old mid 
         session_at = gave.at;
         clean = ap (λ (r : Reading). r.end) reading;
       }
-  data_read read.Waits more =
+  data_read (next.Stage stage.Data) more =
       let reading = read_data true (lt-ltb 0 (left_of new) more) in
       let P : End → Type 0 = λ end. IsWaiting stage.Data line end in
       goes_on piece (source_of old) (source_of new) w at takes size (takes.window.less some) w no_texts
@@ -269,7 +271,7 @@ module _ {R W E : Type 0} {look : Looks R W E} {start : Devices R W E} (old mid 
       (λ given. Lists look.input stage.Data line new given × IsWaitingAfter stage.Data (reading_of given).end)
       (λ begun. some) (record { session_at = gave.at; waits = subst P (sym (ap (λ (r : Reading). r.end) reading)) (refl, within.shown) }, tt)
       (writes_none look.output look.report w) (λ begun. refl)
-  data_read (read.Ended answer) goes = absurd goes
+  data_read (next.Ended answer) goes = absurd goes
 
 -- ---- the line that is due, and those of the messages after it
 
@@ -350,3 +352,23 @@ pub not_far : {R W E : Type 0} (look : Looks R W E) (start : Devices R W E) (pie
     → AfterStepOrStride look start piece far now old new knows history result
 not_far look start piece far now old new knows history result some gives =
     (most_by piece now, λ is. refl, most_some piece now some, gives)
+
+-- ---- what comes next, where no line is due
+
+-- the session permits the step at the stage that comes next
+pub goes_kept : {R : Type 0} (later : Stage) (session : Session R)
+    → IsTrue (may_follow (next.Stage later) session) → IsTrue (may_go_on later session)
+goes_kept stage.Contact session fits = absurd (cc)
+goes_kept later session fits = fits
+
+-- data comes next
+pub step_kept : {R W E : Type 0} (look : Looks R W E) (start : Devices R W E) (piece : ℕ)
+    (far : Bool) (now : Stage) (old new : Session R) (before after : Writers W E)
+    (line history : List ℕ) → 0 < piece → (later : Stage) → (later ≡ stage.Message → ⊥)
+    → AfterRead look start piece now old new after line history (next.Stage later)
+    → AfterStepOrStride look start piece far now (place_of (source_of old) before)
+    (place_of (source_of new) after) (IsListing look.input later line new) history (Ok More)
+step_kept look start piece far now old new before after line history some stage.Contact undue went = absurd went
+step_kept look start piece far now old new before after line history some stage.Message undue went = absurd (undue refl)
+step_kept look start piece far now old new before after line history some stage.Data undue went =
+    (most_by piece now, λ is. refl, most_some piece now some, went_with went (went.at.0, went.at.1.0))

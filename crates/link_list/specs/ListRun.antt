@@ -11,11 +11,11 @@ use Rattle.link_report.specs.Message.{message_text}
 use Rattle.link_run.specs.Run.{Texts, Looks, ◌then◌, Devices, Place, LastStep, WentOn, devices_at}
 use Rattle.link_run.specs.Stages.{Stands, AfterStage}
 use Rattle.link_run.specs.Writers.{place_of, on_output, AfterWrite}
-use Rattle.link_run.specs.declared.{run.Progress.Progress, writers.Writers.Writers}
+use Rattle.link_run.specs.declared.{next.Next.Next, run.Progress.Progress}
+use Rattle.link_run.specs.declared.next.Next.TheVariants as next
+use Rattle.link_run.specs.declared.writers.Writers.{Writers}
 use Rattle.link_list.specs.Listing.{list_tool, listing_of}
-use Rattle.link_list.specs.declared.listing.{Latest.Latest, Read.Read}
-use Rattle.link_list.specs.declared.listing.Read.TheVariants as read
-use Rattle.link_list.specs.declared.listing.Stage.{Stage}
+use Rattle.link_list.specs.declared.listing.{Latest.Latest, Stage.Stage}
 use Rattle.link_list.specs.declared.listing.Stage.TheVariants as stage
 
 -- the most bytes that a step is given: a contact header, the head of a message, or a piece of data
@@ -34,12 +34,13 @@ may_go_on stage.Contact session = may_open session
 may_go_on stage.Message session = may_read session
 may_go_on stage.Data session = is_opened session
 
--- Whether the session permits the call that comes after the first part of a step. After a line,
--- that call reads a message.
-abbrev pub may_follow : {R : Type 0} → Read → Session R → Bool
-may_follow read.Whole session = may_read session
-may_follow read.Waits session = is_opened session
-may_follow (read.Ended answer) session = true
+-- Whether the session permits the call that comes after the first part of a step. That call never
+-- reads the contact header.
+abbrev pub may_follow : {R : Type 0} → Next Stage → Session R → Bool
+may_follow (next.Stage stage.Contact) session = false
+may_follow (next.Stage stage.Message) session = may_read session
+may_follow (next.Stage stage.Data) session = is_opened session
+may_follow (next.Ended answer) session = true
 
 -- the line of the message that was read last
 abbrev pub latest_line : Latest → List ℕ
@@ -93,15 +94,16 @@ module _ {R W E : Type 0} (look : Looks R W E) (start : Devices R W E) (piece : 
     pub session_at : IsSessionAt look.input new (history ++ given)
     pub clean : (reading_of (history ++ given)).end ≡ Clean
 
-  -- what holds after the first part of a step
-  abbrev pub AfterRead : Read → Type 0
-  AfterRead read.Whole = IsDue
-  AfterRead read.Waits =
+  -- What holds after the first part of a step. If a message comes next, a line is due.
+  abbrev pub AfterRead : Next Stage → Type 0
+  AfterRead (next.Stage stage.Contact) = ⊥
+  AfterRead (next.Stage stage.Message) = IsDue
+  AfterRead (next.Stage stage.Data) =
       WentOn (source_of old) (source_of new)
       (λ bytes. Stands look listing_of start true (place_of (source_of new) writers) bytes
       × (Lists look.input stage.Data line new bytes
       × IsWaitingAfter now (reading_of bytes).end)) (most_by piece now) history
-  AfterRead (read.Ended answer) =
+  AfterRead (next.Ended answer) =
       LastStep look list_tool start (devices_at (place_of (source_of new) writers))
       (most_by piece now)
       history answer
@@ -136,8 +138,9 @@ AfterStepOrStride look start piece far now old new knows history result =
     (size : ℕ) × (far ≡ false → size ≡ most_by piece now) × (0 < size)
     × AfterStage look listing_of start true old new knows size history result
 
--- the line waits if data is to come, and is due if none is
-abbrev pub WaitsForData : (left : ℕ) → Read → Type 0
-WaitsForData left read.Whole = left ≡ 0
-WaitsForData left read.Waits = 0 < left
-WaitsForData left (read.Ended answer) = ⊥
+-- data comes next if some is to come, and else a message
+abbrev pub WaitsForData : (left : ℕ) → Next Stage → Type 0
+WaitsForData left (next.Stage stage.Contact) = ⊥
+WaitsForData left (next.Stage stage.Message) = left ≡ 0
+WaitsForData left (next.Stage stage.Data) = 0 < left
+WaitsForData left (next.Ended answer) = ⊥

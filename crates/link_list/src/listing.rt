@@ -10,7 +10,7 @@ ghost use Rattle.link_list.specs.Listing.{listing_of, list_tool};
 ghost use Rattle.link_list.specs.ListRun.{may_go_on, may_follow, latest_line, IsListing, Begins, Lists, IsListedTo, AfterRead, AfterLines, AfterStepOrStride, WaitsForData};
 
 use link_report::{KeptDigits, MessageText, contact_line};
-use link_run::{Input, PIECE, Progress, Run, RunEnd, Stages, Status, ToolRun, Writers};
+use link_run::{Input, Next, PIECE, Progress, Run, RunEnd, Stages, Status, ToolRun, Writers};
 use link_wire::{InDevice, IoFault, MessageBuffer, OutDevice, Session, Source};
 
 /// What the next step of `list` reads.
@@ -22,17 +22,6 @@ enum Stage {
     Message,
     /// Data of a segment. The line of the segment is written after all of its data.
     Data,
-}
-
-/// What the first part of a step has read.
-#[derive(Clone, Copy, Debug, PartialEq, Eq)]
-enum Read {
-    /// The last byte of a message. Its line is due.
-    Whole,
-    /// A head or data. More data of the message is to come.
-    Waits,
-    /// The run has ended.
-    Ended(Result<Status, IoFault>),
 }
 
 /// The message that was read last.
@@ -123,15 +112,17 @@ fn step<R: InDevice, W: OutDevice, E: OutDevice>(
         return list_contact(input, writers);
     }
     match advance(tool.stage, piece, input, writers, &mut tool.latest) {
-        Read::Waits => {
-            tool.stage = Stage::Data;
-            Ok(Progress::More)
+        Next::Stage(later) => {
+            tool.stage = later;
+            match later {
+                // The message that was read last is whole, so its line is due.
+                Stage::Message => {
+                    Progress::after(write_lines(far, input, writers, &mut tool.latest))
+                }
+                _ => Ok(Progress::More),
+            }
         }
-        Read::Ended(answer) => Progress::ended(answer),
-        Read::Whole => {
-            tool.stage = Stage::Message;
-            Progress::after(write_lines(far, input, writers, &mut tool.latest))
-        }
+        Next::Ended(answer) => Progress::ended(answer),
     }
 }
 
@@ -164,7 +155,8 @@ fn list_contact<R: InDevice, W: OutDevice, E: OutDevice>(
     }
 }
 
-/// Reads the head of a message, or a piece of its data.
+/// Reads the head of a message, or a piece of its data. Returns what comes next: a message, more
+/// data, or nothing.
 #[inline(always)]
 fn advance<R: InDevice, W: OutDevice, E: OutDevice>(
     stage: Stage,
@@ -172,7 +164,7 @@ fn advance<R: InDevice, W: OutDevice, E: OutDevice>(
     input: &mut Input<Session<R>, W, E>,
     writers: &mut Writers<W, E>,
     latest: &mut Latest,
-) -> Read
+) -> Next<Stage>
     requires going { stage ≡ Stage.Contact → ⊥ }
     requires fits { IsTrue (may_go_on stage (feed_of input.old)) }
     requires piece { 0 < piece }
@@ -199,7 +191,7 @@ fn read_message<R: InDevice, W: OutDevice, E: OutDevice>(
     input: &mut Input<Session<R>, W, E>,
     writers: &mut Writers<W, E>,
     latest: &mut Latest,
-) -> Read
+) -> Next<Stage>
     requires { IsTrue (may_read (feed_of input.old)) }
     ensures fits { IsTrue (may_follow result (feed_of input.new)) }
     ensures gives { (start : Devices R W E) (piece : ℕ) (history : List ℕ)
@@ -217,8 +209,8 @@ fn read_message<R: InDevice, W: OutDevice, E: OutDevice>(
             latest.offset = offset;
             go_on(input)
         }
-        Ok(None) => Read::Ended(Ok(Status::CLEAN)),
-        Err(stop) => Read::Ended(writers.end(stop)),
+        Ok(None) => Next::Ended(Ok(Status::CLEAN)),
+        Err(stop) => Next::Ended(writers.end(stop)),
     }
 }
 
@@ -228,7 +220,7 @@ fn pass_data<R: InDevice, W: OutDevice, E: OutDevice>(
     piece: usize,
     input: &mut Input<Session<R>, W, E>,
     writers: &mut Writers<W, E>,
-) -> Read
+) -> Next<Stage>
     requires opened { IsTrue (is_opened (feed_of input.old)) }
     requires piece { 0 < piece }
     ensures fits { IsTrue (may_follow result (feed_of input.new)) }
@@ -247,21 +239,21 @@ fn pass_data<R: InDevice, W: OutDevice, E: OutDevice>(
             input.pass(ready.min(piece));
             go_on(input)
         }
-        Err(stop) => Read::Ended(writers.end(stop)),
+        Err(stop) => Next::Ended(writers.end(stop)),
     }
 }
 
-/// Returns whether the message that was read last is whole, or more of its data is to come.
+/// Returns what comes after a head or after data: more data of that message, or the next message.
 #[inline(always)]
-fn go_on<R: InDevice, W: OutDevice, E: OutDevice>(input: &Input<Session<R>, W, E>) -> Read
+fn go_on<R: InDevice, W: OutDevice, E: OutDevice>(input: &Input<Session<R>, W, E>) -> Next<Stage>
     requires { IsTrue (is_opened (feed_of input.now)) }
     ensures fits { IsTrue (may_follow result (feed_of input.now)) }
     ensures goes { WaitsForData (left_of (feed_of input.now)) result }
 {
     if input.left() > 0 {
-        return Read::Waits;
+        return Next::Stage(Stage::Data);
     }
-    Read::Whole
+    Next::Stage(Stage::Message)
 }
 
 /// Writes the line of the message that was read last. If `far` is true, it does the same for each

@@ -3,3 +3,4 @@ pub mod Made
 pub mod Writers
 pub mod Reading
 pub mod Stages
+pub mod Next

@@ -16,12 +16,14 @@
 
 mod input;
 mod log;
+mod next;
 mod run;
 mod stages;
 mod writers;
 
 pub use input::{Feed, Input, Position, Waits};
 pub use log::Log;
+pub use next::Next;
 pub use run::{Progress, Run, RunEnd, Status};
 pub use stages::{PIECE, Stages, ToolRun};
 pub use writers::Writers;

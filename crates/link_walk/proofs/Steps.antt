@@ -18,17 +18,16 @@ use Rattle.link_transfer.specs.declared.{fault.OrderFault.OrderFault, joiner.Joi
 use Rattle.link_transfer.proofs.Continuing.{continues_open, may_continue}
 use Rattle.link_report.specs.{Fault.fault_text, declared.fault.Fault.TheVariants.Order}
 use Rattle.link_run.specs.Made.{Made, StreamStop, with_fault, whole_by, shows_fault, stop_of, tool_of}
-use Rattle.link_run.specs.Run.{Texts, ◌then◌, Looks, Devices, devices_at, LastStep}
+use Rattle.link_run.specs.{Next.next_of, Run.{Texts, ◌then◌, Looks, Devices, devices_at, LastStep}}
 use Rattle.link_run.specs.Writers.{place_of, on_report, AfterLastWrite}
-use Rattle.link_run.specs.declared.{run.Status.Status, writers.Writers.Writers}
+use Rattle.link_run.specs.declared.{next.Next.Next, run.Status.Status, writers.Writers.Writers}
+use Rattle.link_run.specs.declared.next.Next.TheVariants as next
 use Rattle.link_run.proofs.Ends.{ends_unshown, made_reports, unshown_sofar}
 use Rattle.link_run.proofs.Runs.{few_over, sound_given, writer_lost, written_given}
 use Rattle.link_run.proofs.{Sessions.{then_fault, part_unshown}, Stands.{ends, stands_on}}
 use Rattle.link_walk.specs.Telling.{ComesAfter, Tells, data_ends, inner_events, inner_head}
 use Rattle.link_walk.specs.Walk.{head_at, is_plain, WalkEvent, ContactHeader, MessageHead, Whole, data_events, data_size, data_size_of, has_open, Walked, walked, head_events, Telling, told_by, told_of}
-use Rattle.link_walk.specs.WalkRun.{Walks, WalkStands, StandsAt, StandsNext, AfterWalkStep, IsWaitingAfter, Finishes, TakesInner, most_by, next_of, stage_by}
-use Rattle.link_walk.specs.declared.walk.Next.{Next}
-use Rattle.link_walk.specs.declared.walk.Next.TheVariants as next
+use Rattle.link_walk.specs.WalkRun.{Walks, WalkStands, StandsAt, StandsNext, AfterWalkStep, IsWaitingAfter, Finishes, TakesInner, most_by, stage_by}
 use Rattle.link_walk.specs.declared.walk.Stage.{Stage}
 use Rattle.link_walk.specs.declared.walk.Stage.TheVariants as stage
 use Rattle.link_walk.proofs.Comes.{Comes, MayTake, told_at, knows_at, told_in, contact_comes, head_comes, data_comes, quiet_comes, inner_comes}
@@ -426,7 +425,8 @@ module _ {R W E C : Type 0} {look : Looks R W E} {start : Devices R W E} {tellin
 
   -- the step that takes it is the step that made it ready
   pub ready_step : (size piece : ℕ) (new : Session R) (after : Writers W E) (joiner : Joiner)
-      (consumer : C) (result : Next) → 0 < most_by size now → most_by size now ≤ most_by piece now
+      (consumer : C) (result : Next Stage) → 0 < most_by size now
+      → most_by size now ≤ most_by piece now
       → (WalkStands look start telling mid writers history
       → Walks look.input telling knows now mid had earlier history
       → AfterWalkStep look start telling knows size now mid new after joiner consumer history result)
@@ -455,7 +455,7 @@ module _ {R W E C : Type 0} (look : Looks R W E) (telling : Telling)
     (knows : C → List WalkEvent → Type 0) (first : Session R) (begun : Writers W E)
     (joiner : Joiner) (one : C) where
   -- inner segments were taken since then
-  abbrev pub HasTaken : (now : Session R) → (written : Writers W E) → C → Next → Type 0
+  abbrev pub HasTaken : (now : Session R) → (written : Writers W E) → C → Next Stage → Type 0
   HasTaken now written consumer result =
       (start : Devices R W E) (history : List ℕ)
       → WalkStands look start telling first begun history

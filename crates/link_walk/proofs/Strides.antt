@@ -5,14 +5,14 @@ use Rattle.link_wire.specs.{Device.Input, Limits.window_size, Session.{source_of
 use Rattle.link_wire.specs.{Source.{window_of, Takes}, Stream.reading_of, declared.Source.Source}
 use Rattle.link_wire.specs.declared.session.Session.{Session}
 use Rattle.link_transfer.specs.declared.joiner.Joiner.{Joiner}
-use Rattle.link_run.specs.{Made.tool_of, Run.{Looks, Devices, WentOn, AfterStep}}
+use Rattle.link_run.specs.{Made.tool_of, Next.{progress_of, stage_after}}
+use Rattle.link_run.specs.Run.{Looks, Devices, WentOn, AfterStep}
 use Rattle.link_run.specs.{Stages.{IsMore, AfterStage, AfterStageStride}, Writers.place_of}
-use Rattle.link_run.specs.declared.writers.Writers.{Writers}
+use Rattle.link_run.specs.declared.{next.Next.Next, writers.Writers.Writers}
+use Rattle.link_run.specs.declared.next.Next.TheVariants as next
 use Rattle.link_run.proofs.{Stands.last_step, Strides.{went_with, step_then}}
 use Rattle.link_walk.specs.Walk.{WalkEvent, Telling, told_of}
-use Rattle.link_walk.specs.WalkRun.{most_by, most_given, may_go_on, may_follow, progress_of, stage_after, Walks, IsWalking, StandsIf, PassesQuiet, AfterWalkStep, AfterWalkStride, TakesInner, walked_before}
-use Rattle.link_walk.specs.declared.walk.Next.{Next}
-use Rattle.link_walk.specs.declared.walk.Next.TheVariants as next
+use Rattle.link_walk.specs.WalkRun.{most_by, most_given, may_go_on, may_follow, Walks, IsWalking, StandsIf, PassesQuiet, AfterWalkStep, AfterWalkStride, TakesInner, walked_before}
 use Rattle.link_walk.specs.declared.walk.Stage.{Stage}
 use Rattle.link_walk.specs.declared.walk.Stage.TheVariants as stage
 use Rattle.link_walk.proofs.{Steps.passed_on, Comes.never_contact}
@@ -37,7 +37,7 @@ few_later look mid new given takes few =
     (λ some. takes.window.less (omega (arith, some))) (cases_lt (length given) 1)
 
 -- the session permits the step at the stage that is kept
-pub fits_kept : {R : Type 0} (now : Stage) (result : Next) (session : Session R)
+pub fits_kept : {R : Type 0} (now : Stage) (result : Next Stage) (session : Session R)
     → IsTrue (may_follow result session) → IsMore (progress_of result)
     → IsTrue (may_go_on (stage_after now result) session)
 fits_kept now (next.Stage later) session fits more = fits
@@ -48,7 +48,7 @@ module _ {R W E C : Type 0} (look : Looks R W E) (start : Devices R W E) (tellin
     (knows : C → List WalkEvent → Type 0) where
   -- a step that went on, and then a stride
   pub far_later : (old mid new : Session R) (before between after : Writers W E) (joiner : Joiner)
-      (consumer : C) (stands : List ℕ → Type 0) (most : ℕ) (history : List ℕ) (result : Next)
+      (consumer : C) (stands : List ℕ → Type 0) (most : ℕ) (history : List ℕ) (result : Next Stage)
       → (went : WentOn (source_of old) (source_of mid) stands most history)
       → AfterWalkStride look start telling knows mid new between after joiner consumer
       (history ++ went.given) result
@@ -73,7 +73,7 @@ module _ {R W E C : Type 0} (look : Looks R W E) (start : Devices R W E) (tellin
   module _ (old new : Session R) (before after : Writers W E) (joiner : Joiner) (consumer : C)
       (history : List ℕ) where
     -- a step is a stride
-    pub far_step : (piece : ℕ) (now : Stage) (result : Next) → 0 < most_by piece now
+    pub far_step : (piece : ℕ) (now : Stage) (result : Next Stage) → 0 < most_by piece now
         → AfterWalkStep look start telling knows piece now old new after joiner consumer history result
         → AfterWalkStride look start telling knows old new before after joiner consumer history result
     far_step piece now (next.Stage later) some went =
@@ -86,7 +86,7 @@ module _ {R W E C : Type 0} (look : Looks R W E) (start : Devices R W E) (tellin
     )
 
     -- a step of the tool, from what comes next
-    pub step_kept : (now : Stage) (result : Next)
+    pub step_kept : (now : Stage) (result : Next Stage)
         → AfterWalkStep look start telling knows 4096 now old new after joiner consumer history result
         → AfterStage look (told_of telling) start true (place_of (source_of old) before)
         (place_of (source_of new) after)
@@ -101,7 +101,7 @@ module _ {R W E C : Type 0} (look : Looks R W E) (start : Devices R W E) (tellin
     step_kept now result last = last
 
     -- a stride of the tool, from what comes next
-    pub stride_kept : (now : Stage) (result : Next)
+    pub stride_kept : (now : Stage) (result : Next Stage)
         → AfterWalkStride look start telling knows old new before after joiner consumer history result
         → AfterStageStride look (told_of telling) start true (place_of (source_of old) before)
         (place_of (source_of new) after)
@@ -121,8 +121,8 @@ module _ {R W E C : Type 0} (look : Looks R W E) (start : Devices R W E) (tellin
   module _ (old mid new : Session R) (before after : Writers W E) (joiner : Joiner) (consumer : C)
       (history : List ℕ) where
     -- a step, and then the quiet messages that come next
-    pub far_quiet : telling.manner.all_heads ≡ false → (piece : ℕ) (now : Stage) (result : Next)
-        → 0 < most_by piece now
+    pub far_quiet : telling.manner.all_heads ≡ false → (piece : ℕ) (now : Stage)
+        (result : Next Stage) → 0 < most_by piece now
         → ((result ≡ next.Stage stage.Message → ⊥) → new ≡ mid)
         → ((bytes : List ℕ) → IsSessionAt look.input mid bytes → PassesQuiet look.input mid new bytes)
         → AfterWalkStep look start telling knows piece now old mid after joiner consumer history result
@@ -147,7 +147,7 @@ module _ {R W E C : Type 0} (look : Looks R W E) (start : Devices R W E) (tellin
         (far_step old mid before after joiner consumer history piece now result some went)
 
     -- a step, and then inner segments
-    pub far_inner : (stands : List ℕ → Type 0) (most : ℕ) (result : Next) → 0 < most
+    pub far_inner : (stands : List ℕ → Type 0) (most : ℕ) (result : Next Stage) → 0 < most
         → (went : WentOn (source_of old) (source_of mid) stands most history)
         → TakesInner look start telling knows mid new after joiner consumer (history ++ went.given)
         result
@@ -163,7 +163,7 @@ module _ {R W E C : Type 0} (look : Looks R W E) (start : Devices R W E) (tellin
     )
       where
         -- the inner segments are a step, whose bound is the number of its bytes
-        as_step : (bytes : List ℕ) (result : Next)
+        as_step : (bytes : List ℕ) (result : Next Stage)
             → length (window_of (source_of mid)) < window_size
             → (taken : TakesInner look start telling knows mid new after joiner consumer bytes result)
             → AfterStep look (tool_of (told_of telling)) start (place_of (source_of mid) before)

@@ -1,5 +1,5 @@
 -- Relations, but for Begins, Walks, most_given: the state of a walk over the transfers of a stream.
-use Rattle.std.specs.Prelude.{◌≡◌, ℕ, ◌<◌, ◌≤◌, ◌⊎◌, Bool, true, is_some, if◌then◌else◌, zero, suc, List, [], ◌++◌, length, Option, Some, None, Result, Ok, Err}
+use Rattle.std.specs.Prelude.{◌≡◌, ℕ, ◌<◌, ◌≤◌, ◌⊎◌, Bool, true, is_some, if◌then◌else◌, zero, suc, List, [], ◌++◌, length, Option, Some, None, Result}
 use Rattle.link_wire.specs.Device.{Input as Seen, Output}
 use Rattle.link_wire.specs.Limits.{longest_head}
 use Rattle.link_wire.specs.Session.{source_of, IsSessionAt, may_open, may_read, is_opened}
@@ -16,18 +16,17 @@ use Rattle.link_transfer.specs.declared.joiner.Turn.{Turn}
 use Rattle.link_report.specs.Fault.{fault_text}
 use Rattle.link_report.specs.declared.fault.Fault.TheVariants.{Order}
 use Rattle.link_run.specs.Made.{tool_of}
-use Rattle.link_run.specs.Run.{Texts, ◌then◌, Looks, Devices, devices_at, EndedRun, EndsAtFault, WentOn, LastStep, AfterStep, answer_of}
+use Rattle.link_run.specs.Run.{Texts, ◌then◌, Looks, Devices, devices_at, EndedRun, EndsAtFault, WentOn, LastStep, AfterStep}
+use Rattle.link_run.specs.Next.{next_of, progress_of}
 use Rattle.link_run.specs.Reading.{feed_of, SessionWaits}
 use Rattle.link_run.specs.Stages.{Stands}
 use Rattle.link_run.specs.Writers.{place_of, on_report, AfterLastWrite}
-use Rattle.link_run.specs.declared.{input.Input.Input, run.Progress.Progress}
-use Rattle.link_run.specs.declared.run.{Progress.TheVariants.More, Status.Status}
+use Rattle.link_run.specs.declared.{input.Input.Input, next.Next.Next, run.Status.Status}
+use Rattle.link_run.specs.declared.next.Next.TheVariants as next
 use Rattle.link_run.specs.declared.writers.Writers.{Writers}
 use Rattle.link_walk.specs.Walk.{Head, is_last, WalkEvent, data_size, has_open, Walked, walked, walked_of, Telling, told_of, end_events, head_events}
 use Rattle.link_walk.specs.declared.consumer.Manner.{Manner}
 use Rattle.link_walk.specs.Telling.{Tells}
-use Rattle.link_walk.specs.declared.walk.Next.{Next}
-use Rattle.link_walk.specs.declared.walk.Next.TheVariants as next
 use Rattle.link_walk.specs.declared.walk.Stage.{Stage}
 use Rattle.link_walk.specs.declared.walk.Stage.TheVariants as stage
 use Rattle.link_walk.specs.declared.walk.Walker.{Walker}
@@ -52,23 +51,8 @@ may_go_on stage.Message session = may_read session
 may_go_on (stage.Data last) session = is_opened session
 may_go_on stage.Stray session = is_opened session
 
--- what comes after a step: the stage `now` if all was written, or else the failure
-abbrev pub next_of : Stage → Result (Unit {0}) IoFault → Next
-next_of now (Ok done) = next.Stage now
-next_of now (Err fault) = next.Ended (Err fault)
-
--- the result of a step, from what comes next
-abbrev pub progress_of : Next → Result Progress IoFault
-progress_of (next.Stage now) = Ok More
-progress_of (next.Ended answer) = answer_of answer
-
--- the stage after a step at the stage `now`; it stays the same if the run has ended
-abbrev pub stage_after : (now : Stage) → Next → Stage
-stage_after now (next.Stage later) = later
-stage_after now (next.Ended answer) = now
-
 -- whether the session permits the call that comes next
-abbrev pub may_follow : {R : Type 0} → Next → Session R → Bool
+abbrev pub may_follow : {R : Type 0} → Next Stage → Session R → Bool
 may_follow (next.Stage now) session = may_go_on now session
 may_follow (next.Ended answer) session = true
 
@@ -88,7 +72,7 @@ stage_by turn (suc left) = stage_in turn
 -- said of the head.
 abbrev pub TellsHead : {W E : Type 0} → (W → Output) → (E → Output) → Telling
     → (knows : List WalkEvent → Type 0) → (before : List WalkEvent) → Head → (left : ℕ)
-    → (old new : Writers W E) → Next → Type 0
+    → (old new : Writers W E) → Next Stage → Type 0
 TellsHead out_look report_look telling knows before head left old new result =
     (told : Result (Unit {0}) IoFault) × (result ≡ next_of (stage_by head.turn left) told)
     × Tells out_look report_look telling knows before (head_events telling.manner.all_heads head)
@@ -96,7 +80,7 @@ TellsHead out_look report_look telling knows before head left old new result =
 
 -- the run has ended at a head that is not in order, with the line of its fault
 abbrev pub EndsAtHead : {W E : Type 0} → (W → Output) → (E → Output) → (offset : ℕ) → OrderFault
-    → (old new : Writers W E) → Next → Type 0
+    → (old new : Writers W E) → Next Stage → Type 0
 EndsAtHead out_look report_look offset fault old new result =
     (answer : Result Status IoFault) × (result ≡ next.Ended answer)
     × AfterLastWrite out_look report_look old new (on_report (fault_text (Order offset fault))) 3
@@ -191,7 +175,7 @@ module _ {R W E C : Type 0} (look : Looks R W E) (start : Devices R W E) (tellin
 
   -- what holds after a step at the stage `now`
   abbrev pub AfterWalkStep : (piece : ℕ) → (now : Stage) → (old new : Session R)
-      → Writers W E → Joiner → C → (history : List ℕ) → Next → Type 0
+      → Writers W E → Joiner → C → (history : List ℕ) → Next Stage → Type 0
   AfterWalkStep piece now old new after joiner consumer history (next.Stage later) =
       WentOn (source_of old) (source_of new)
       (λ bytes. StandsAt later new after joiner consumer bytes
@@ -201,14 +185,15 @@ module _ {R W E C : Type 0} (look : Looks R W E) (start : Devices R W E) (tellin
       (devices_at (place_of (source_of new) after)) (most_by piece now) history answer
 
   -- the state of the walk if a stage comes next
-  abbrev pub StandsIf : Session R → Writers W E → Joiner → C → Next → (history : List ℕ) → Type 0
+  abbrev pub StandsIf : Session R → Writers W E → Joiner → C → Next Stage → (history : List ℕ)
+      → Type 0
   StandsIf session writers joiner consumer (next.Stage now) history =
       StandsAt now session writers joiner consumer history
   StandsIf session writers joiner consumer (next.Ended answer) history = Unit {0}
 
   -- what holds after a stride, which was given at most some number of bytes
   abbrev pub AfterWalkStride : (old new : Session R) → (before after : Writers W E)
-      → Joiner → C → (history : List ℕ) → Next → Type 0
+      → Joiner → C → (history : List ℕ) → Next Stage → Type 0
   AfterWalkStride old new before after joiner consumer history next =
       (size : ℕ) × (0 < size)
       × AfterStep look (tool_of (told_of telling)) start (place_of (source_of old) before)
@@ -220,7 +205,8 @@ module _ {R W E C : Type 0} (look : Looks R W E) (start : Devices R W E) (tellin
 module _ {R W E C : Type 0} (look : Looks R W E) (start : Devices R W E) (telling : Telling)
     (knows : C → List WalkEvent → Type 0) where
   -- what holds after these bytes were given: a stage comes next, or the run has ended
-  abbrev pub StandsNext : Session R → Writers W E → Joiner → C → (history : List ℕ) → Next → Type 0
+  abbrev pub StandsNext : Session R → Writers W E → Joiner → C → (history : List ℕ) → Next Stage
+      → Type 0
   StandsNext session writers joiner consumer history (next.Stage now) =
       StandsAt look start telling knows now session writers joiner consumer history
   StandsNext session writers joiner consumer history (next.Ended answer) =
@@ -230,7 +216,7 @@ module _ {R W E C : Type 0} (look : Looks R W E) (start : Devices R W E) (tellin
 
   -- some bytes were given, or none; then a stage comes next, or the run has ended
   pub record TakesInner (old new : Session R) (after : Writers W E) (joiner : Joiner) (consumer : C)
-      (history : List ℕ) (result : Next) : Type 0 where
+      (history : List ℕ) (result : Next Stage) : Type 0 where
     pub given : List ℕ
     pub takes : Takes look.input (source_of old) (source_of new) given
     pub stands : StandsNext new after joiner consumer (history ++ given) result
@@ -258,21 +244,21 @@ module _ {R W E C : Type 0} (look : Looks R W E) (telling : Telling)
       → after
 
   -- a step at the stage `now`
-  abbrev pub Steps : (piece : ℕ) → (now : Stage) → (old new : At R W E C) → Next → Type 0
+  abbrev pub Steps : (piece : ℕ) → (now : Stage) → (old new : At R W E C) → Next Stage → Type 0
   Steps piece now old new result =
       (start : Devices R W E) (history : List ℕ) → ComesTo start now old history
       (AfterWalkStep look start telling knows piece now (feed_of old.input) (feed_of new.input)
       new.writers new.walker.joiner new.walker.consumer history result)
 
   -- a stride that begins at the stage `now`
-  abbrev pub Strides : (now : Stage) → (old new : At R W E C) → Next → Type 0
+  abbrev pub Strides : (now : Stage) → (old new : At R W E C) → Next Stage → Type 0
   Strides now old new result =
       (start : Devices R W E) (history : List ℕ) → ComesTo start now old history
       (AfterWalkStride look start telling knows (feed_of old.input) (feed_of new.input)
       old.writers new.writers new.walker.joiner new.walker.consumer history result)
 
   -- inner segments are taken
-  abbrev pub TakesAll : (old new : At R W E C) → Next → Type 0
+  abbrev pub TakesAll : (old new : At R W E C) → Next Stage → Type 0
   TakesAll old new result =
       (start : Devices R W E) (history : List ℕ) → ComesTo start stage.Message old history
       (TakesInner look start telling knows (feed_of old.input) (feed_of new.input) new.writers

@@ -12,13 +12,13 @@ ghost use Rattle.link_run.specs.Run.{Devices, no_texts, devices_at, looks};
 ghost use Rattle.link_wire.specs.declared.message.Message.{Message};
 ghost use Rattle.link_walk.specs.Walk.{WalkEvent, Whole, told_of, data_events, data_size, has_open, head_at, head_events};
 ghost use Rattle.link_walk.specs.Telling.{ComesAfter, Tells, viewed_head};
-ghost use Rattle.link_walk.specs.WalkRun.{Steps, Strides, WalkWaits, at, PassesQuiet, EndsAtHead, TellsHead, Finishes, may_go_on, may_follow, progress_of, stage_after, stage_by};
+ghost use Rattle.link_walk.specs.WalkRun.{Steps, Strides, WalkWaits, at, PassesQuiet, EndsAtHead, TellsHead, Finishes, may_go_on, may_follow, stage_by};
 
 use self::inner::take_on;
 use crate::consumer::{Consumer, EventView};
 use crate::head::{HeadView, is_last};
 use link_report::Fault;
-use link_run::{Input, PIECE, Progress, Run, Stages, Status, ToolRun, Writers};
+use link_run::{Input, Next, PIECE, Progress, Run, Stages, Status, ToolRun, Writers};
 use link_transfer::{Event, Joiner, OrderFault, Turn};
 use link_wire::{InDevice, IoFault, MessageBuffer, OutDevice, Session, Source};
 
@@ -33,15 +33,6 @@ enum Stage {
     Data { last: bool },
     /// Data of a stray segment, which is passed over.
     Stray,
-}
-
-/// What comes after a step.
-#[derive(Clone, Copy, Debug, PartialEq, Eq)]
-enum Next {
-    /// A step at this stage.
-    Stage(Stage),
-    /// Nothing: the run has ended.
-    Ended(Result<Status, IoFault>),
 }
 
 /// What is known of the transfers so far.
@@ -64,21 +55,6 @@ pub struct Walk<C: Consumer> {
 
 /// A run of a tool over transfers, step by step.
 pub type WalkRun<R, W, E, C> = ToolRun<Session<R>, W, E, Walk<C>>;
-
-impl Next {
-    ghost use Rattle.link_walk.specs.WalkRun.{next_of};
-
-    /// What comes after a write: a stage, or the end of the run if a writer failed.
-    #[inline(always)]
-    fn of(later: Stage, written: Result<(), IoFault>) -> Next
-        ensures { result ≡ next_of later written }
-    {
-        match written {
-            Ok(()) => Next::Stage(later),
-            Err(fault) => Next::Ended(Err(fault)),
-        }
-    }
-}
 
 impl<R: InDevice, W: OutDevice, E: OutDevice, C: Consumer> Stages<Session<R>, W, E> for Walk<C> {
     ghost use Rattle.std.specs.Prelude.{true};
@@ -110,7 +86,7 @@ impl<R: InDevice, W: OutDevice, E: OutDevice, C: Consumer> Stages<Session<R>, W,
             &mut self.message,
             &mut self.walker,
         );
-        keep(&mut self.stage, next)
+        next.keep(&mut self.stage)
     }
 
     #[inline(always)]
@@ -127,22 +103,7 @@ impl<R: InDevice, W: OutDevice, E: OutDevice, C: Consumer> Stages<Session<R>, W,
             &mut self.message,
             &mut self.walker,
         );
-        keep(&mut self.stage, next)
-    }
-}
-
-/// Keeps the stage that comes next, unless the run has ended. Returns the result of the step.
-#[inline(always)]
-fn keep(stage: &mut Stage, next: Next) -> Result<Progress, IoFault>
-    ensures progress { result ≡ progress_of next }
-    ensures kept { stage.new ≡ stage_after stage.old next }
-{
-    match next {
-        Next::Stage(later) => {
-            *stage = later;
-            Ok(Progress::More)
-        }
-        Next::Ended(answer) => Progress::ended(answer),
+        next.keep(&mut self.stage)
     }
 }
 
@@ -155,7 +116,7 @@ fn stride_from<R: InDevice, W: OutDevice, E: OutDevice, C: Consumer>(
     writers: &mut Writers<W, E>,
     message: &mut MessageBuffer,
     walker: &mut Walker<C>,
-) -> Next
+) -> Next<Stage>
     requires { IsTrue (may_go_on stage (feed_of input.old)) }
     ensures fits { IsTrue (may_follow result (feed_of input.new)) }
     ensures gives { Strides (looks R.state W.state E.state) (C.telling options.now)
@@ -181,7 +142,7 @@ fn stride_message<R: InDevice, W: OutDevice, E: OutDevice, C: Consumer>(
     writers: &mut Writers<W, E>,
     message: &mut MessageBuffer,
     walker: &mut Walker<C>,
-) -> Next
+) -> Next<Stage>
     requires { IsTrue (may_read (feed_of input.old)) }
     ensures fits { IsTrue (may_follow result (feed_of input.new)) }
     ensures gives { Strides (looks R.state W.state E.state) (C.telling options.now)
@@ -208,9 +169,9 @@ fn stride_message<R: InDevice, W: OutDevice, E: OutDevice, C: Consumer>(
 /// Passes over the quiet messages in the window if a message comes next. Returns what comes next.
 #[inline(always)]
 fn pass_quiet<R: InDevice, W: OutDevice, E: OutDevice>(
-    next: Next,
+    next: Next<Stage>,
     input: &mut Input<Session<R>, W, E>,
-) -> Next
+) -> Next<Stage>
     requires { IsTrue (may_follow next (feed_of input.old)) }
     ensures fits { IsTrue (may_follow result (feed_of input.new)) }
     ensures same { result ≡ next }
@@ -237,7 +198,7 @@ fn advance<R: InDevice, W: OutDevice, E: OutDevice, C: Consumer>(
     writers: &mut Writers<W, E>,
     message: &mut MessageBuffer,
     walker: &mut Walker<C>,
-) -> Next
+) -> Next<Stage>
     requires fits { IsTrue (may_go_on stage (feed_of input.old)) }
     requires piece { 0 < piece }
     ensures fits { IsTrue (may_follow result (feed_of input.new)) }
@@ -262,7 +223,7 @@ fn open<R: InDevice, W: OutDevice, E: OutDevice, C: Consumer>(
     input: &mut Input<Session<R>, W, E>,
     writers: &mut Writers<W, E>,
     walker: &mut Walker<C>,
-) -> Next
+) -> Next<Stage>
     requires { IsTrue (may_open (feed_of input.old)) }
     ensures fits { IsTrue (may_follow result (feed_of input.new)) }
     ensures gives { Steps (looks R.state W.state E.state) (C.telling options.now)
@@ -289,7 +250,7 @@ fn take_message<R: InDevice, W: OutDevice, E: OutDevice, C: Consumer>(
     writers: &mut Writers<W, E>,
     message: &mut MessageBuffer,
     walker: &mut Walker<C>,
-) -> Next
+) -> Next<Stage>
     requires { IsTrue (may_read (feed_of input.old)) }
     ensures fits { IsTrue (may_follow result (feed_of input.new)) }
     ensures gives { Steps (looks R.state W.state E.state) (C.telling options.now)
@@ -329,7 +290,7 @@ fn take_refused<R: InDevice, W: OutDevice, E: OutDevice, C: Consumer>(
     writers: &mut Writers<W, E>,
     message: &MessageBuffer,
     walker: &mut Walker<C>,
-) -> Next
+) -> Next<Stage>
     requires totals { SegmentHasTotals message.now }
     requires opened { IsTrue (is_opened (feed_of input.now)) }
     ensures fits { IsTrue (may_follow result (feed_of input.now)) }
@@ -367,7 +328,7 @@ fn tell_head<R: InDevice, W: OutDevice, E: OutDevice, C: Consumer>(
     input: &Input<Session<R>, W, E>,
     writers: &mut Writers<W, E>,
     consumer: &mut C,
-) -> Next
+) -> Next<Stage>
     requires totals { SegmentHasTotals head.now.message.now }
     requires opened { IsTrue (is_opened (feed_of input.now)) }
     ensures fits { IsTrue (may_follow result (feed_of input.now)) }
@@ -426,7 +387,7 @@ fn pass_stray<R: InDevice, W: OutDevice, E: OutDevice, C: Consumer>(
     piece: usize,
     input: &mut Input<Session<R>, W, E>,
     writers: &mut Writers<W, E>,
-) -> Next
+) -> Next<Stage>
     requires opened { IsTrue (is_opened (feed_of input.old)) }
     requires piece { 0 < piece }
     ensures fits { IsTrue (may_follow result (feed_of input.new)) }
@@ -453,7 +414,7 @@ fn take_data<R: InDevice, W: OutDevice, E: OutDevice, C: Consumer>(
     input: &mut Input<Session<R>, W, E>,
     writers: &mut Writers<W, E>,
     walker: &mut Walker<C>,
-) -> Next
+) -> Next<Stage>
     requires opened { IsTrue (is_opened (feed_of input.old)) }
     requires piece { 0 < piece }
     ensures fits { IsTrue (may_follow result (feed_of input.new)) }
@@ -479,7 +440,7 @@ fn take_loaded<R: InDevice, W: OutDevice, E: OutDevice, C: Consumer>(
     input: &mut Input<Session<R>, W, E>,
     writers: &mut Writers<W, E>,
     walker: &mut Walker<C>,
-) -> Next
+) -> Next<Stage>
     requires opened { IsTrue (is_opened (feed_of input.old)) }
     requires size { size ≤ length (data_in R.state (feed_of input.old)) }
     ensures fits { IsTrue (may_follow result (feed_of input.new)) }

@@ -13,10 +13,10 @@ ghost use Rattle.link_walk.specs.Telling.{ComesAfter, Tells, inner_events, inner
 ghost use Rattle.link_walk.specs.Walk.{WalkEvent, data_size, has_open};
 ghost use Rattle.link_walk.specs.WalkRun.{Strides, TakesAll, at, may_follow};
 
-use super::{Next, Stage, Walker, take_loaded};
+use super::{Stage, Walker, take_loaded};
 use crate::consumer::{Consumer, EventView};
 use crate::head::HeadView;
-use link_run::{Input, Writers};
+use link_run::{Input, Next, Writers};
 use link_transfer::Turn;
 use link_wire::{Fields, InDevice, IoFault, MessageBuffer, OutDevice, Session};
 
@@ -31,7 +31,7 @@ pub(super) fn take_on<R: InDevice, W: OutDevice, E: OutDevice, C: Consumer>(
     writers: &mut Writers<W, E>,
     message: &mut MessageBuffer,
     walker: &mut Walker<C>,
-) -> Next
+) -> Next<Stage>
     requires opened { IsTrue (is_opened (feed_of input.old)) }
     requires size { size ≤ length (data_in R.state (feed_of input.old)) }
     ensures fits { IsTrue (may_follow result (feed_of input.new)) }
@@ -55,7 +55,7 @@ fn take_inner<R: InDevice, W: OutDevice, E: OutDevice, C: Consumer>(
     writers: &mut Writers<W, E>,
     message: &mut MessageBuffer,
     walker: &mut Walker<C>,
-) -> Next
+) -> Next<Stage>
     requires { IsTrue (may_read (feed_of input.old)) }
     ensures fits { IsTrue (may_follow result (feed_of input.new)) }
     ensures gives { TakesAll (looks R.state W.state E.state) (C.telling options.now)

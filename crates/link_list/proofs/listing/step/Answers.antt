@@ -1,10 +1,11 @@
-use Rattle.std.proofs.Common.{refl}
+use Rattle.std.proofs.Common.{refl, ap, ◌∙◌}
 use Rattle.link_wire.specs.Session.{source_of}
 use Rattle.link_run.specs.{Reading.feed_of, Run.looks, Writers.place_of}
-use Rattle.link_run.proofs.{Waiting.waits_then, Stands.last_step, Strides.went_with}
-use Rattle.link_list.specs.{Listing.listing_of, ListRun.{latest_line, most_by, Lists, IsListing}}
+use Rattle.link_run.specs.declared.next.Next.TheVariants as next
+use Rattle.link_run.proofs.{Waiting.waits_then, Stands.last_step}
+use Rattle.link_list.specs.{Listing.listing_of, ListRun.{latest_line, Lists, IsListing}}
 use Rattle.link_list.specs.declared.listing.Stage.TheVariants as stage
-use Rattle.link_list.proofs.Lists.{most_some, not_far, due_listed, lines_written}
+use Rattle.link_list.proofs.Lists.{not_far, due_listed, lines_written, goes_kept, step_kept}
 use Rattle.link_list.proofs.listing.step.Goals as goal
 
 pub returns-in-Contact-clause-gives : goal.returns-in-Contact-clause-gives
@@ -19,14 +20,17 @@ returns-in-Contact-clause-gives g c = λ start history at.
     (Lists g.R.InDevice.state stage.Message latest input) history c.list_contact.result
     c.requires.piece (c.list_contact.ensures.gives start latest history at begins))
 
-pub returns-in-Waits-clause-gives : goal.returns-in-Waits-clause-gives
-returns-in-Waits-clause-gives g c = λ start history at lists.
-    let went = rw c.in-Waits.is at (c.advance.ensures.gives start history at lists) in (
-      most_by c.args.piece c.args.tool.now.stage,
-      λ is. refl,
-      most_some c.args.piece c.args.tool.now.stage c.requires.piece,
-      went_with went (went.at.0, went.at.1.0),
-    )
+pub returns-in_default-later : goal.returns-in_default-later
+returns-in_default-later g c = record {
+  fits = λ more. goes_kept c.in-Stage.later (feed_of c.advance.new.input) c.in-Stage.ensures.fits;
+  gives = λ start history at lists.
+      step_kept (looks g.R.InDevice.state g.W.OutDevice.state g.E.OutDevice.state) start
+      c.args.piece c.args.far c.args.tool.now.stage (feed_of c.args.input.now)
+      (feed_of c.advance.new.input) c.args.writers.now c.advance.new.writers
+      (latest_line c.advance.new.latest) history c.requires.piece c.in-Stage.later
+      c.in_default-later.not-Message (c.in-Stage.ensures.gives start history at lists);
+  waits = c.advance.ensures.waits;
+}
 
 pub returns-in-Ended-clause-gives : goal.returns-in-Ended-clause-gives
 returns-in-Ended-clause-gives g c = λ start history at lists.
@@ -41,19 +45,20 @@ returns-in-Ended-clause-gives g c = λ start history at lists.
     (not_far look start c.args.piece c.args.far tool.stage old new knows history _
     c.requires.piece (last_step listing_of old new _ _ last))
 
-pub returns-in-Whole : goal.returns-in-Whole
-returns-in-Whole g c =
+pub returns-in-Message : goal.returns-in-Message
+returns-in-Message g c =
     let old = feed_of c.args.input.now in
     let mid = feed_of c.advance.new.input in
     let new = feed_of c.write_lines.new.input in
     let before = c.advance.new.writers in
     let after = c.write_lines.new.writers in
+    let is = c.in-Stage.is ∙ ap next.Stage c.in-Message.is in
     record {
-      fits = λ more. c.write_lines.ensures.fits;
+      fits = λ more. rw c.in-Message.is c.write_lines.ensures.fits;
       gives = λ start history at lists.
-          let due = rw c.in-Whole.is at (c.advance.ensures.gives start history at lists) in
+          let due = rw is at (c.advance.ensures.gives start history at lists) in
           let listed = due_listed old mid new before after due in
-          rw c.after.ensures
+          rw (c.in-Message.is, c.after.ensures)
           (lines_written old mid new before after due c.args.far _ _
           (λ is. rw (c.write_lines.ensures.near is) refl)
           (c.write_lines.ensures.gives _ _ listed));

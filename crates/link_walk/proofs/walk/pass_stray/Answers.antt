@@ -3,7 +3,7 @@ use Rattle.link_wire.specs.{Session.{source_of, left_of, data_in}, Stream.readin
 use Rattle.link_run.specs.Reading.{feed_of}
 use Rattle.link_run.proofs.{Sessions.data_ended, Stands.settled, Waiting.waits_then}
 use Rattle.link_walk.specs.WalkRun.{stage_by}
-use Rattle.link_walk.specs.declared.walk.Next.TheVariants as next
+use Rattle.link_run.specs.declared.next.Next.TheVariants as next
 use Rattle.link_walk.specs.declared.walk.Stage.TheVariants as stage
 use Rattle.link_walk.proofs.{Comes.stage_some, Steps.{events_at, data_grows, told_step, ready_step}}
 use Rattle.link_walk.proofs.Tellings.{tells_none}

@@ -2,7 +2,7 @@ use Rattle.std.proofs.Common.{◌++◌, ap, sym, ◌∙◌, arith}
 use Rattle.link_wire.specs.Limits.{longest_head}
 use Rattle.link_run.specs.{Reading.feed_of, Run.looks}
 use Rattle.link_run.proofs.Waiting.{waits_then}
-use Rattle.link_walk.specs.declared.walk.Next.TheVariants as next
+use Rattle.link_run.specs.declared.next.Next.TheVariants as next
 use Rattle.link_walk.specs.declared.walk.Stage.TheVariants as stage
 use Rattle.link_walk.specs.declared.consumer.Manner.{Manner}
 use Rattle.link_walk.proofs.Strides.{far_later, far_quiet, far_step}

@@ -2,8 +2,8 @@ use Rattle.std.proofs.Common.{◌≡◌, ◌+◌, ◌<◌, ◌&&◌, ◌==◌, B
 use Rattle.link_wire.specs.Session.{source_of, left_of, data_in, IsSessionAt, PassedBytes}
 use Rattle.link_wire.specs.{Stream.reading_of, declared.session.Session.Session}
 use Rattle.link_transfer.specs.declared.joiner.Turn.TheVariants as turn
-use Rattle.link_run.specs.{Reading.feed_of, declared.input.Input.Input, Run.looks}
-use Rattle.link_walk.specs.{Walk.{WalkEvent, walked}, WalkRun.{Steps, at, next_of, stage_by}}
+use Rattle.link_run.specs.{Next.next_of, Reading.feed_of, declared.input.Input.Input, Run.looks}
+use Rattle.link_walk.specs.{Walk.{WalkEvent, walked}, WalkRun.{Steps, at, stage_by}}
 use Rattle.link_walk.specs.declared.walk.Stage.{Stage}
 use Rattle.link_walk.specs.declared.walk.Stage.TheVariants as stage
 use Rattle.link_walk.proofs.{Heads.is_whole, Steps.{data_grows, told_step}}

@@ -2,7 +2,7 @@ use Rattle.std.proofs.Common.{◌≡◌, [], length}
 use Rattle.std.specs.Prelude.{IsTrue}
 use Rattle.link_wire.specs.{Session.{source_of, may_read}, Source.window_of}
 use Rattle.link_run.specs.{Reading.{feed_of, Unread}, Run.looks}
-use Rattle.link_walk.specs.declared.walk.Next.TheVariants as next
+use Rattle.link_run.specs.declared.next.Next.TheVariants as next
 use Rattle.link_walk.specs.declared.walk.Stage.TheVariants as stage
 use Rattle.link_walk.proofs.Steps.{HasTaken}
 use Rattle.link_walk.proofs.walk.inner.take_inner.Given as goal

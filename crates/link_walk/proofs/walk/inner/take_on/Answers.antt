@@ -1,6 +1,6 @@
 use Rattle.std.proofs.Common.{◌++◌, ap, ◌∙◌}
 use Rattle.link_run.specs.Reading.{feed_of}
-use Rattle.link_walk.specs.declared.walk.Next.TheVariants as next
+use Rattle.link_run.specs.declared.next.Next.TheVariants as next
 use Rattle.link_walk.specs.declared.walk.Stage.TheVariants as stage
 use Rattle.link_walk.proofs.Strides.{far_inner, far_step}
 use Rattle.link_walk.proofs.walk.inner.take_on.Goals as goal
