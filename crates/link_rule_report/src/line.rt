@@ -1,7 +1,7 @@
 //! The line of a broken rule, as a text.
 
 ghost use Rattle.std.specs.Prelude.{◌≡◌, ◌+◌, ◌≤◌, ◌++◌, length, take};
-ghost use Rattle.link_block_report.specs.Written.{Wrote};
+ghost use Rattle.link_report.specs.Written.{Wrote};
 ghost use Rattle.link_rule_report.specs.Line.{place_text, subject_text, rule_line};
 
 use crate::names::{LEVEL_MAX, NAME_MAX, level_name, rule_name};
