@@ -3,7 +3,6 @@
 
 use Rattle.std.specs.Prelude.{ℕ, ◌+◌, ◌^◌, ◌<◌, Option, Some, None, Result, Ok, Err}
 use Rattle.std.specs.Coded.{Unit-prop, le_prop}
-use Rattle.link_bundle_types.specs.ShortNames.{IsShort}
 use Rattle.link_bundle_blocks.specs.Blocks.{Primary, HasShortEids}
 use Rattle.link_block_data.specs.BlockData.{BlockData, PreviousNode, Security, StatusReport}
 use Rattle.link_block_data.specs.DataView.{HasShortName}

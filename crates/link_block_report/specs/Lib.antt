@@ -1,4 +1,3 @@
-pub mod Written
 pub mod Kinds
 pub mod Fields
 pub mod Words

@@ -4,7 +4,7 @@ ghost use Rattle.std.specs.Prelude.{◌≡◌, ◌+◌, ◌≤◌, ◌++◌, len
 ghost use Rattle.link_bundle_blocks.specs.Blocks.{viewed_primary, HasShortEids};
 ghost use Rattle.link_block_data.specs.DataView.{viewed_result};
 ghost use Rattle.link_report.specs.Judgement.{viewed_judgement};
-ghost use Rattle.link_block_report.specs.Written.{Wrote};
+ghost use Rattle.link_report.specs.Written.{Wrote};
 ghost use Rattle.link_block_report.specs.Blocks.{primary_start_text, primary_rest_text, fields_text, block_text, end_text};
 ghost use Rattle.link_block_report.specs.Fits.{HasShortEids-prop, HasFittingWords, HasFittingWords-prop};
 

@@ -3,7 +3,7 @@
 //! Each call returns the index after its text.
 
 ghost use Rattle.std.specs.Prelude.{◌≡◌, ◌+◌, ◌<◌, ◌≤◌, ◌++◌, length, take, codes};
-ghost use Rattle.link_block_report.specs.Written.{Wrote};
+ghost use Rattle.link_report.specs.Written.{Wrote};
 ghost use Rattle.link_block_report.specs.Fields.{significant, flags_text, check_text, control_text, type_text, length_to};
 
 use link_cbor::CheckKind;

@@ -7,7 +7,7 @@ ghost use Rattle.link_block_data.specs.DataView.{viewed_data, viewed_result, Has
 ghost use Rattle.link_report.specs.Eid.{eid_text};
 ghost use Rattle.link_report.specs.Reason.{name_in};
 ghost use Rattle.link_report.specs.Text.{number_text};
-ghost use Rattle.link_block_report.specs.Written.{Wrote};
+ghost use Rattle.link_report.specs.Written.{Wrote};
 ghost use Rattle.link_block_report.specs.Fits.{HasFittingWords};
 ghost use Rattle.link_block_report.specs.Words.{report_names, integer_text, assertion_text, statuses_text, subject_fragment, subject_text, data_text, words_text};
 

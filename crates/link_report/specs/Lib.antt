@@ -1,4 +1,5 @@
 pub mod Text
+pub mod Written
 pub mod Reason
 pub mod Message
 pub mod Eid

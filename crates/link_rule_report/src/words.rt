@@ -3,7 +3,7 @@
 ghost use Rattle.std.specs.Prelude.{◌≡◌, ◌+◌, ◌≤◌, ◌++◌, length, take, codes, decimal};
 ghost use Rattle.link_report.specs.Message.{flags_text};
 ghost use Rattle.link_report.specs.Text.{number_text};
-ghost use Rattle.link_block_report.specs.Written.{Wrote};
+ghost use Rattle.link_report.specs.Written.{Wrote};
 ghost use Rattle.link_rule_report.specs.Words.{hyphenated, order_words, message_words, fault_words, transfer_words, control_words, endpoint_name, limit_words, bundle_words, rule_words};
 
 use crate::rule::BrokenRule;

@@ -1,5 +1,5 @@
-use Rattle.std.proofs.Common.{◌≡◌, ℕ, ◌<◌, [], ◌∷◌, refl, ap, arith}
-use Rattle.std.specs.{Int.{w64, to_be_bytes, byte_at}, List.flat_map}
+use Rattle.std.proofs.Common.{◌≡◌, ℕ, ◌<◌, [], ◌∷◌, ap, arith}
+use Rattle.std.specs.{Int.{w64, to_be_bytes}, List.flat_map}
 use Rattle.link_report.specs.Text.{hex2}
 use Rattle.link_block_report.specs.Fields.{significant, flags_text}
 use Rattle.link_block_report.proofs.fields.write_flags.Goals as goal
