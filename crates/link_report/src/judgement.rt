@@ -1,11 +1,12 @@
 //! The judgement on a transfer's data, and its text in the line of the transfer.
 
-ghost use Rattle.std.specs.Prelude.{IfOk, ◌≡◌, ◌+◌, ◌≤◌, ◌++◌, length, take, codes};
+ghost use Rattle.std.specs.Prelude.{IfOk, ◌≡◌, ◌+◌, ◌≤◌, ◌++◌, length, codes};
 ghost use Rattle.link_bundle_types.specs.BundleView.{viewed_info, viewed_verdict};
 ghost use Rattle.link_bundle_types.specs.ShortNames.{HasShortNames};
 ghost use Rattle.link_report.specs.BundleFault.{code_text};
 ghost use Rattle.link_report.specs.Text.{number_text};
 ghost use Rattle.link_report.specs.Judgement.{judged_transfer, outcome_text, good_text, judgement_text, viewed_judgement, IsShortJudgement};
+ghost use Rattle.link_report.specs.Written.{Wrote};
 
 use crate::bundle_fault::code_of;
 use crate::identity::{IDENTITY_MAX, write_identity};
@@ -124,10 +125,8 @@ pub fn judge_view<'a>(
 #[inline(never)]
 fn write_bad(page: &mut [u8], at: usize, fault: BundleFault, offset: u64) -> usize
     requires { at + OUTCOME_MAX ≤ length page.old }
-    ensures text { take result page.new ≡ take at page.old
-        ++ codes "bad=" ++ code_text fault ++ number_text (codes " byte=") offset }
-    ensures fits { result ≤ at + OUTCOME_MAX }
-    ensures size { length page.new ≡ length page.old }
+    ensures { Wrote page.old page.new at result OUTCOME_MAX
+        (codes "bad=" ++ code_text fault ++ number_text (codes " byte=") offset) }
 {
     let at = write_bytes(page, at, *b"bad=");
     let at = write_text(page, at, code_of(fault));
@@ -139,10 +138,8 @@ fn write_bad(page: &mut [u8], at: usize, fault: BundleFault, offset: u64) -> usi
 #[inline(always)]
 pub fn write_outcome(page: &mut [u8], at: usize, judgement: &JudgementView<'_>) -> usize
     requires { at + OUTCOME_MAX ≤ length page.old }
-    ensures text { take result page.new
-        ≡ take at page.old ++ outcome_text (viewed_judgement judgement.now) }
-    ensures fits { result ≤ at + OUTCOME_MAX }
-    ensures size { length page.new ≡ length page.old }
+    ensures { Wrote page.old page.new at result OUTCOME_MAX
+        (outcome_text (viewed_judgement judgement.now)) }
 {
     match judgement {
         JudgementView::Abandoned => write_bytes(page, at, *b"abandoned"),
@@ -161,10 +158,8 @@ pub fn write_outcome(page: &mut [u8], at: usize, judgement: &JudgementView<'_>) 
 fn write_good(page: &mut [u8], at: usize, judgement: &JudgementView<'_>) -> usize
     requires short { IsShortJudgement (viewed_judgement judgement.now) }
     requires room { at + 1 + IDENTITY_MAX ≤ length page.old }
-    ensures text { take result page.new
-        ≡ take at page.old ++ good_text (viewed_judgement judgement.now) }
-    ensures fits { result ≤ at + 1 + IDENTITY_MAX }
-    ensures size { length page.new ≡ length page.old }
+    ensures { Wrote page.old page.new at result (1 + IDENTITY_MAX)
+        (good_text (viewed_judgement judgement.now)) }
 {
     match judgement {
         JudgementView::Good(info) => {
@@ -184,10 +179,8 @@ fn write_good(page: &mut [u8], at: usize, judgement: &JudgementView<'_>) -> usiz
 pub(crate) fn write_judgement(page: &mut [u8], at: usize, judgement: &JudgementView<'_>) -> usize
     requires short { IsShortJudgement (viewed_judgement judgement.now) }
     requires room { at + JUDGEMENT_MAX ≤ length page.old }
-    ensures text { take result page.new
-        ≡ take at page.old ++ judgement_text (viewed_judgement judgement.now) }
-    ensures fits { result ≤ at + JUDGEMENT_MAX }
-    ensures size { length page.new ≡ length page.old }
+    ensures { Wrote page.old page.new at result JUDGEMENT_MAX
+        (judgement_text (viewed_judgement judgement.now)) }
 {
     let at = write_outcome(page, at, judgement);
     write_good(page, at, judgement)

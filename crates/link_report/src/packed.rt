@@ -1,10 +1,11 @@
 //! The lines of packed bundles.
 
-ghost use Rattle.std.specs.Prelude.{◌≡◌, ◌+◌, ◌≤◌, [], ◌++◌, length, take};
+ghost use Rattle.std.specs.Prelude.{◌≡◌, ◌+◌, ◌≤◌, [], length};
 ghost use Rattle.link_bundle_types.specs.BundleView.{viewed_info};
 ghost use Rattle.link_bundle_types.specs.ShortNames.{HasShortNames};
 ghost use Rattle.link_report.specs.ShortNames.{HasShortNames-prop};
 ghost use Rattle.link_report.specs.Packed.{packed_text, viewed_packed};
+ghost use Rattle.link_report.specs.Written.{Wrote};
 
 use crate::identity::write_identity;
 use crate::page::{write_bytes, write_number};
@@ -53,10 +54,7 @@ pub struct PackedText<'a> {
 fn write_packed(page: &mut [u8], at: usize, entry: &PackedView<'_>) -> usize
     requires short { HasShortNames (viewed_info entry.now.info) }
     requires room { at + TEXT_MAX ≤ length page.old }
-    ensures text { take result page.new
-        ≡ take at page.old ++ packed_text (viewed_packed entry.now) }
-    ensures fits { result ≤ at + TEXT_MAX }
-    ensures size { length page.new ≡ length page.old }
+    ensures { Wrote page.old page.new at result TEXT_MAX (packed_text (viewed_packed entry.now)) }
 {
     let at = write_number(page, at, *b"bundle ", entry.number);
     let at = write_number(page, at, *b" segments=", entry.segments);

@@ -1,9 +1,10 @@
 //! The lines of transfers.
 
-ghost use Rattle.std.specs.Prelude.{◌≡◌, ◌+◌, ◌≤◌, [], ◌++◌, length, take};
+ghost use Rattle.std.specs.Prelude.{◌≡◌, ◌+◌, ◌≤◌, [], length};
 ghost use Rattle.link_report.specs.Judgement.{viewed_judgement, IsShortJudgement};
 ghost use Rattle.link_report.specs.ShortNames.{IsShortJudgement-prop};
 ghost use Rattle.link_report.specs.Transfer.{extent_text, transfer_text, viewed_transfer};
+ghost use Rattle.link_report.specs.Written.{Wrote};
 
 use crate::judgement::{Judgement, JudgementView, write_judgement};
 use crate::page::{write_bytes, write_number};
@@ -54,9 +55,7 @@ pub struct TransferText<'a> {
 #[inline(always)]
 fn write_extent(page: &mut [u8], at: usize, id: u64, start: u64, written: u64, size: u64) -> usize
     requires { at + 113 ≤ length page.old }
-    ensures text { take result page.new ≡ take at page.old ++ extent_text id start written size }
-    ensures fits { result ≤ at + 113 }
-    ensures size { length page.new ≡ length page.old }
+    ensures { Wrote page.old page.new at result 113 (extent_text id start written size) }
 {
     let at = write_number(page, at, *b"transfer ", id);
     let at = write_number(page, at, *b" start=", start);
@@ -72,10 +71,8 @@ fn write_extent(page: &mut [u8], at: usize, id: u64, start: u64, written: u64, s
 fn write_transfer(page: &mut [u8], at: usize, entry: &TransferView<'_>) -> usize
     requires short { IsShortJudgement (viewed_judgement entry.now.judgement) }
     requires room { at + TEXT_MAX ≤ length page.old }
-    ensures text { take result page.new
-        ≡ take at page.old ++ transfer_text (viewed_transfer entry.now) }
-    ensures fits { result ≤ at + TEXT_MAX }
-    ensures size { length page.new ≡ length page.old }
+    ensures { Wrote page.old page.new at result TEXT_MAX
+        (transfer_text (viewed_transfer entry.now)) }
 {
     let at = write_extent(page, at, entry.id, entry.start, entry.written, entry.length);
     let at = write_bytes(page, at, *b" ");

@@ -1,6 +1,6 @@
 //! The line of a broken rule, as a text.
 
-ghost use Rattle.std.specs.Prelude.{◌≡◌, ◌+◌, ◌≤◌, ◌++◌, length, take};
+ghost use Rattle.std.specs.Prelude.{◌+◌, ◌≤◌, length};
 ghost use Rattle.link_report.specs.Written.{Wrote};
 ghost use Rattle.link_rule_report.specs.Line.{place_text, subject_text, rule_line};
 
@@ -58,10 +58,8 @@ fn write_subject(page: &mut [u8], at: usize, rule: &BrokenRule) -> usize
 #[inline(never)]
 pub fn write_rule(page: &mut [u8], at: usize, line: &RuleText) -> usize
     requires { at + RULE_LINE_MAX ≤ length page.old }
-    ensures text { take result page.new
-        ≡ take at page.old ++ rule_line line.now.offset line.now.rule }
-    ensures fits { result ≤ at + RULE_LINE_MAX }
-    ensures size { length page.new ≡ length page.old }
+    ensures { Wrote page.old page.new at result RULE_LINE_MAX
+        (rule_line line.now.offset line.now.rule) }
 {
     let rule = &line.rule;
     let at = write_decimal(page, at, line.offset);
