@@ -1,6 +1,6 @@
 //! The judgement on a transfer's data, and its text in the line of the transfer.
 
-ghost use Rattle.std.specs.Prelude.{IfOk, ◌≡◌, ◌+◌, ◌≤◌, ◌++◌, length, take, codes};
+ghost use Rattle.std.specs.Prelude.{IfOk, ◌≡◌, ◌+◌, ◌≤◌, ◌++◌, length, codes};
 ghost use Rattle.link_bundle_types.specs.BundleView.{viewed_info, viewed_verdict};
 ghost use Rattle.link_bundle_types.specs.ShortNames.{HasShortNames};
 ghost use Rattle.link_report.specs.BundleFault.{code_text};

@@ -1,6 +1,6 @@
 //! The lines of transfers.
 
-ghost use Rattle.std.specs.Prelude.{◌≡◌, ◌+◌, ◌≤◌, [], ◌++◌, length, take};
+ghost use Rattle.std.specs.Prelude.{◌≡◌, ◌+◌, ◌≤◌, [], length};
 ghost use Rattle.link_report.specs.Judgement.{viewed_judgement, IsShortJudgement};
 ghost use Rattle.link_report.specs.ShortNames.{IsShortJudgement-prop};
 ghost use Rattle.link_report.specs.Transfer.{extent_text, transfer_text, viewed_transfer};

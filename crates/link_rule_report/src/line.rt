@@ -1,6 +1,6 @@
 //! The line of a broken rule, as a text.
 
-ghost use Rattle.std.specs.Prelude.{◌≡◌, ◌+◌, ◌≤◌, ◌++◌, length, take};
+ghost use Rattle.std.specs.Prelude.{◌+◌, ◌≤◌, length};
 ghost use Rattle.link_report.specs.Written.{Wrote};
 ghost use Rattle.link_rule_report.specs.Line.{place_text, subject_text, rule_line};
 
