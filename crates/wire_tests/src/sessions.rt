@@ -315,49 +315,46 @@ fn quiet_messages(rt: HostRuntime) {
     }
 }
 
-/// Recordings, and what `next_here` does with the message after the contact header: how many bytes
-/// are given then, how many bytes of data are to come, and how many of these are at hand.
+/// Recordings, and what is given of the message after the contact header.
 ///
-/// It is a KEEPALIVE, or a segment with two bytes of data. A byte of the head, or data, is missing,
-/// or an item is in the head. After one of the segments comes a KEEPALIVE.
-static HERE: [(&[u8], u64, u64, usize); 8] = [
-    (b"dtn!\x04\x00", 6, 0, 0),
-    (b"dtn!\x04\x00\x04", 7, 0, 0),
+/// For `next_here`, three numbers say how many bytes are given then, how many bytes of data are to
+/// come, and how many of these are at hand. For `next_whole`, one number says how many bytes are
+/// given then. It is 6 if nothing of the message is given.
+///
+/// The message is a KEEPALIVE, or a segment with two bytes of data. A byte of the head, or data, is
+/// missing, or an item is in the head. After one of the segments comes a KEEPALIVE.
+static GIVEN: [(&[u8], (u64, u64, usize), u64); 8] = [
+    (b"dtn!\x04\x00", (6, 0, 0), 6),
+    (b"dtn!\x04\x00\x04", (7, 0, 0), 7),
     (
         b"dtn!\x04\x00\x01\x01\x00\x00\x00\x00\x00\x00\x00\x00\x00\x00\x00\x00\x00\x00\x00\x02\x9f\xff",
-        24,
-        2,
-        2,
+        (24, 2, 2),
+        26,
     ),
     (
         b"dtn!\x04\x00\x01\x01\x00\x00\x00\x00\x00\x00\x00\x00\x00\x00\x00\x00\x00\x00\x00\x02\x9f\xff\x04",
-        24,
-        2,
-        2,
+        (24, 2, 2),
+        26,
     ),
     (
         b"dtn!\x04\x00\x01\x01\x00\x00\x00\x00\x00\x00\x00\x00\x00\x00\x00\x00\x00\x00\x00\x02\x9f",
-        24,
-        2,
-        1,
+        (24, 2, 1),
+        6,
     ),
     (
         b"dtn!\x04\x00\x01\x01\x00\x00\x00\x00\x00\x00\x00\x00\x00\x00\x00\x00\x00\x00\x00\x02",
-        24,
-        2,
-        0,
+        (24, 2, 0),
+        6,
     ),
     (
         b"dtn!\x04\x00\x01\x01\x00\x00\x00\x00\x00\x00\x00\x00\x00\x00\x00\x00\x00\x00\x00",
+        (6, 0, 0),
         6,
-        0,
-        0,
     ),
     (
         b"dtn!\x04\x00\x01\x02\x00\x00\x00\x00\x00\x00\x00\x00\x00\x00\x00\x05\x00\x00\x02\x00\x00\x00\x00\x00\x00\x00\x00\x00\x00",
+        (6, 0, 0),
         6,
-        0,
-        0,
     ),
 ];
 
@@ -372,49 +369,22 @@ fn is_given_here(rt: &impl Abort, stream: &[u8], given: u64, left: u64, ready: u
 
 #[test]
 fn messages_where_they_lie(rt: HostRuntime) {
-    for (stream, given, left, ready) in &HERE {
+    for (stream, (given, left, ready), _) in &GIVEN {
         is_given_here(&rt, stream, *given, *left, *ready);
     }
 }
 
-/// Recordings, and whether the message after the contact header is given with its data.
-///
-/// It is a KEEPALIVE, or a segment with two bytes of data. A byte of the head or of the data is
-/// missing, or an item is in the head.
-static WHOLE: [(&[u8], bool); 6] = [
-    (b"dtn!\x04\x00", false),
-    (b"dtn!\x04\x00\x04", true),
-    (
-        b"dtn!\x04\x00\x01\x01\x00\x00\x00\x00\x00\x00\x00\x00\x00\x00\x00\x00\x00\x00\x00\x02\x9f\xff",
-        true,
-    ),
-    (
-        b"dtn!\x04\x00\x01\x01\x00\x00\x00\x00\x00\x00\x00\x00\x00\x00\x00\x00\x00\x00\x00\x02\x9f",
-        false,
-    ),
-    (
-        b"dtn!\x04\x00\x01\x01\x00\x00\x00\x00\x00\x00\x00\x00\x00\x00\x00\x00\x00\x00\x00",
-        false,
-    ),
-    (
-        b"dtn!\x04\x00\x01\x02\x00\x00\x00\x00\x00\x00\x00\x00\x00\x00\x00\x05\x00\x00\x02\x00\x00\x00\x00\x00\x00\x00\x00\x00\x00",
-        false,
-    ),
-];
-
-/// Checks whether the message after the contact header is given with its data.
-fn is_given_whole(rt: &impl Abort, stream: &[u8], whole: bool) {
+/// Checks whether the message after the contact header is given with all of its data.
+fn is_given_whole(rt: &impl Abort, stream: &[u8], given: u64) {
     let mut session = opened(rt, stream);
-    let mut message = MessageBuffer::new();
-    let offset = session.next_whole(&mut message);
-    assert_eq!(rt; offset, whole.then_some(6));
-    let size = if whole { stream.len() } else { 6 };
-    assert_eq!(rt; session.into_source().given(), size as u64);
+    let offset = session.next_whole(&mut MessageBuffer::new());
+    assert_eq!(rt; offset, (given > 6).then_some(6));
+    assert_eq!(rt; session.given(), given);
 }
 
 #[test]
 fn whole_messages(rt: HostRuntime) {
-    for (stream, whole) in &WHOLE {
-        is_given_whole(&rt, stream, *whole);
+    for (stream, _, given) in &GIVEN {
+        is_given_whole(&rt, stream, *given);
     }
 }
