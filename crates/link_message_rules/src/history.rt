@@ -138,7 +138,10 @@ impl MessageHistory {
         add_if_broken(&mut broken, segment_flags(message));
         add_if_broken(&mut broken, transfer_id(self.run, message));
         add_if_broken(&mut broken, peer_segment(limits.segment, message));
-        add_if_broken(&mut broken, peer_transfer(limits.transfer, self.transfer, head));
+        add_if_broken(
+            &mut broken,
+            peer_transfer(limits.transfer, self.transfer, head),
+        );
         add_if_broken(&mut broken, ack_length(self.ack, message));
         add_if_broken(&mut broken, self.keepalives.rule(message));
         add_if_broken(&mut broken, term_flags(message));
