@@ -127,10 +127,10 @@ class Prover:
             text = file.read().decode(errors="replace")
         return Run(ran.returncode, text, used.ru_utime + used.ru_stime, used.ru_maxrss * 1024)
 
-    def prove(self, crate):
+    def prove(self, crate, jobs):
         """Proves a crate as it is. The checks of edits begin with what this leaves in its out/."""
         sweep(crate)
-        return self.run(["rt", "check", "--jobs", "1"], crate.folder)
+        return self.run(["rt", "check", "--jobs", str(jobs)], crate.folder)
 
     def _words(self, crate):
         """Returns the command that checks a crate in the folder where it is run, as `rt` does."""

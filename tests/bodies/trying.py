@@ -107,18 +107,25 @@ class Trial:
                 self.prover.stop()
 
     def _is_ready(self, task):
-        """Returns whether a task can start: a crate is proved after those below it."""
+        """Returns whether a crate can be proved: those below it come first."""
         below = self.prover.crates[task.crate].own_below
-        return bool(task.edits) or not any(name in self.left for name in below)
+        return not any(name in self.left for name in below)
+
+    def ready(self, running):
+        """Returns the tasks that can start beside those that run.
+
+        Proofs of crates as they are come first, since other tasks wait for them. But one runs at a
+        time, with all jobs: `rt` locks the crates below, and nearly all crates share some.
+        """
+        proofs = [task for task in self.waiting if not task.edits and self._is_ready(task)]
+        is_proving = any(not task.edits for task in running)
+        return proofs[:0 if is_proving else 1] + [task for task in self.waiting if task.edits]
 
     def _run_tasks(self, pool):
         """Runs tasks, and those that come of them, until none is left."""
         running = {}
         while self.waiting or running:
-            ready = [task for task in self.waiting if self._is_ready(task)]
-            # The proofs come first, since other tasks wait for them.
-            ready.sort(key=lambda task: bool(task.edits))
-            for task in ready[:self.jobs - len(running)]:
+            for task in self.ready(running.values())[:self.jobs - len(running)]:
                 self.waiting.remove(task)
                 running[pool.submit(self._do, task)] = task
             done, _ = wait(running, return_when=FIRST_COMPLETED)
@@ -129,7 +136,7 @@ class Trial:
         """Runs the prover for a task. Returns the texts that it checked, and what came of it."""
         crate = self.prover.crates[task.crate]
         if not task.edits:
-            return {}, self.prover.prove(crate)
+            return {}, self.prover.prove(crate, self.jobs)
         texts = task.edits[0].texts
         if len(task.edits) > 1:
             texts = edits.merged(task.edits, crate.folder)
