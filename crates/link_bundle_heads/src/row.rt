@@ -2,7 +2,8 @@
 //!
 //! Each clause `lasts` says that no bytes that follow can mend the fault.
 //!
-//! They are inlined, since a result passes through memory at a call, and a row is a few compares.
+//! The rows are inlined, since a result passes through memory at a call, and a row is a few
+//! compares.
 ghost use Rattle.std.specs.Prelude.{◌≡◌, ◌≤◌, ◌==◌, IfOk, IfErr, IfSome, IsTrue};
 ghost use Rattle.std.specs.List.{list_any};
 ghost use Rattle.link_bundle_types.specs.Faults.{lasts};
