@@ -15,17 +15,21 @@ use Rattle.link_bundle_blocks.proofs.Keeping.{PayloadFrom, PayloadWithin, Ends, 
 whole_of : List ℕ → Result Bundle Stop → Result Bundle Stop
 whole_of bytes reading = reading >>= λ bundle. if_alone bytes bundle
 
-payload_of-whole : (bytes : List ℕ) (reading : Result Bundle Stop)
-    → payload_of (whole_of bytes reading) ≡ payload_of reading
-unfolding whole_of
-payload_of-whole bytes (Ok bundle) =
-    of_either (λ (reading : Result Bundle Stop). payload_of reading ≡ Some bundle.payload_span)
-    (bundle.length == length bytes) _ _ refl refl
-payload_of-whole bytes (Err stop) = refl
+-- A stop at the bytes after a bundle says the same of the bundle as the bundle itself.
+pub judged_as : {A : Type 0} (of : Result Bundle Stop → A) (bytes : List ℕ)
+    → ((bundle : Bundle) → of (if_alone bytes bundle) ≡ of (Ok bundle))
+    → of (judged_bundle bytes) ≡ of (bundle_at bytes)
+unfolding judged_bundle whole_of
+judged_as of bytes alone =
+    elim (bundle_at bytes) as (λ reading. of (whole_of bytes reading) ≡ of reading) [
+      | Ok bundle ↦ alone bundle
+      | Err stop ↦ refl
+    ]
 
 payload_of-judged : (bytes : List ℕ) → payload_of (judged_bundle bytes) ≡ payload_of (bundle_at bytes)
-unfolding judged_bundle whole_of
-payload_of-judged bytes = payload_of-whole bytes (bundle_at bytes)
+payload_of-judged bytes = judged_as payload_of bytes (λ bundle.
+    of_either (λ (reading : Result Bundle Stop). payload_of reading ≡ Some bundle.payload_span)
+    (bundle.length == length bytes) _ _ refl refl)
 
 -- ---- a known payload lasts
 

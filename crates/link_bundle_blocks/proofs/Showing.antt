@@ -9,13 +9,13 @@ use Rattle.link_bundle_heads.specs.Rows.{◌>>=◌, block_too_many, closing}
 use Rattle.link_bundle_blocks.specs.declared.block.CanonicalBlock.{CanonicalBlock}
 use Rattle.link_bundle_blocks.specs.Blocks.{Primary, Block, PrimaryOf, CanonicalOf, ended, next_of}
 use Rattle.link_bundle_blocks.specs.{Reading.{Stop, ReadAt, stopped}, Canonical.heads_at}
-use Rattle.link_bundle_blocks.specs.Bundle.{Bundle, with_payload, with_blocks, inside, payload_at, blocks_at, bundle_at, if_alone, judged_bundle, blocks_of, cut_block_of, blocks_in, cut_block_in}
+use Rattle.link_bundle_blocks.specs.Bundle.{Bundle, with_payload, with_blocks, inside, payload_at, blocks_at, bundle_at, blocks_of, cut_block_of, blocks_in, cut_block_in}
 use Rattle.link_bundle_blocks.proofs.Steady.{EndsCut, Reads, Lasts, cuts, same, short, whole, of_either, both_either, row_at-reads, content_at-reads, heads_at-reads, whole_primary-reads}
 use Rattle.link_bundle_blocks.proofs.Readings.{bundle_parts}
 use Rattle.link_bundle_blocks.specs.Laws.{BlocksGrow, BlocksEnd, BlockPlaced}
 use Rattle.link_bundle_blocks.proofs.Blocks.{blocks_of-blocks, cut_block_of-blocks}
 use Rattle.link_bundle_blocks.proofs.Keeping.{begun-of-either, bundle_at-lasts}
-use Rattle.link_bundle_blocks.proofs.Payloads.{cut_goes-on}
+use Rattle.link_bundle_blocks.proofs.Payloads.{judged_as, cut_goes-on}
 
 -- The blocks of a bundle that is read from an offset on: more bytes add some. The canonical block
 -- that comes next is the one that the first bytes cut, or its data begins after them.
@@ -291,27 +291,17 @@ bundle_at-shows bytes more =
 
 -- ---- all of the bytes
 
-blocks_alone : (bytes : List ℕ) (reading : Result Bundle Stop)
-    → blocks_of (reading >>= λ bundle. if_alone bytes bundle) ≡ blocks_of reading
-blocks_alone bytes (Ok bundle) =
-    of_either (λ (reading : Result Bundle Stop). blocks_of reading ≡ bundle.blocks)
-    (bundle.length == length bytes) _ _ refl refl
-blocks_alone bytes (Err stop) = refl
-
-cut_alone : (bytes : List ℕ) (reading : Result Bundle Stop)
-    → cut_block_of (reading >>= λ bundle. if_alone bytes bundle) ≡ cut_block_of reading
-cut_alone bytes (Ok bundle) =
-    of_either (λ (reading : Result Bundle Stop). cut_block_of reading ≡ None)
-    (bundle.length == length bytes) _ _ refl refl
-cut_alone bytes (Err stop) = refl
-
 pub blocks_judged : (bytes : List ℕ) → blocks_in bytes ≡ blocks_of (bundle_at bytes)
-unfolding blocks_in judged_bundle
-blocks_judged bytes = blocks_alone bytes (bundle_at bytes)
+unfolding blocks_in
+blocks_judged bytes = judged_as blocks_of bytes (λ bundle.
+    of_either (λ (reading : Result Bundle Stop). blocks_of reading ≡ bundle.blocks)
+    (bundle.length == length bytes) _ _ refl refl)
 
 pub cut_judged : (bytes : List ℕ) → cut_block_in bytes ≡ cut_block_of (bundle_at bytes)
-unfolding cut_block_in judged_bundle
-cut_judged bytes = cut_alone bytes (bundle_at bytes)
+unfolding cut_block_in
+cut_judged bytes = judged_as cut_block_of bytes (λ bundle.
+    of_either (λ (reading : Result Bundle Stop). cut_block_of reading ≡ None)
+    (bundle.length == length bytes) _ _ refl refl)
 
 -- ---- the laws
 
