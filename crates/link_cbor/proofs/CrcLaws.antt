@@ -2,9 +2,9 @@
 -- and bytes.
 
 use Rattle.std.proofs.Common.{◌≡◌, ℕ, zero, suc, ◌+◌, ◌*◌, ◌/◌, ◌%◌, ◌^◌, ◌<◌, List, [], ◌∷◌, ◌++◌, replicate, refl, sym, ap, ◌∙◌, ⊎_elim, arith}
-use Rattle.std.specs.{Prelude.{fold, bit_xor}, List.flat_map}
-use Rattle.std.specs.Int.Bits.{xor_assoc, xor_zero_l, xor_zero_r, xor_self, xor_mod, xor_shr}
-use Rattle.std.proofs.lemmas.{Nat.xor_comm, List.Concat.flat_map-append, List.Sums.fold-append}
+use Rattle.std.specs.Prelude.{fold, bit_xor}
+use Rattle.std.specs.Int.Bits.{xor_assoc, xor_zero_l, xor_zero_r, xor_self, xor_mod, xor_shr, xor_add_and}
+use Rattle.std.proofs.lemmas.{Nat.{xor_comm, and_le_l, and_le_r}, List.Concat.flat_map-append, List.Sums.fold-append}
 use Rattle.std.proofs.lemmas.List.{append-nil, replicate-append-replicate}
 use Rattle.std.proofs.{lemmas.Bool.{cases_eq, eq-eqb, ne_eqb}, Math.Nat.pow-suc}
 use Rattle.link_cbor.specs.declared.check.CheckKind.{CheckKind}
@@ -20,9 +20,7 @@ pub register_after-append : (kind : CheckKind) (register : ℕ) (first second : 
     → register_after kind register (first ++ second)
     ≡ register_after kind (register_after kind register first) second
 unfolding register_after all_bits
-register_after-append kind register first second =
-    ap (λ bits. fold (turn kind) register bits) (flat_map-append (low_bits 8) first second)
-    ∙ fold-append (turn kind) register (flat_map (low_bits 8) first) (flat_map (low_bits 8) second)
+register_after-append kind register first second = rw (flat_map-append, fold-append)
 
 -- the turns of this many zero bits
 unfoldable pub zero_turns : CheckKind → ℕ → ℕ → ℕ
@@ -37,8 +35,7 @@ pub zero_turns-add : (kind : CheckKind) (count more register : ℕ)
     ≡ zero_turns kind more (zero_turns kind count register)
 unfolding zero_turns
 zero_turns-add kind count more register =
-    ap (λ bits. fold (turn kind) register bits) (sym (replicate-append-replicate count more 0))
-    ∙ fold-append (turn kind) register (replicate count 0) (replicate more 0)
+    rw (← replicate-append-replicate {A = ℕ} count more 0, fold-append)
 
 pub turn-same : (kind : CheckKind) (register bit : ℕ) → register % 2 ≡ bit
     → turn kind register bit ≡ register / 2
@@ -50,14 +47,8 @@ pub turn-other : (kind : CheckKind) (register bit : ℕ) → (register % 2 ≡ b
 unfolding turn
 turn-other kind register bit other = rw (ne_eqb (register % 2) bit other) refl
 
-bits_differ : (x y : ℕ) → x < 2 → y < 2 → (x ≡ y → ⊥) → bit_xor x y ≡ 0 → ⊥
-bits_differ zero zero a b other = λ _. other refl
-bits_differ zero (suc zero) a b other = λ e. cc
-bits_differ (suc zero) zero a b other = λ e. cc
-bits_differ (suc zero) (suc zero) a b other = λ _. other refl
-bits_differ (suc (suc x)) y a b other = absurd (omega arith)
-bits_differ zero (suc (suc y)) a b other = absurd (omega arith)
-bits_differ (suc zero) (suc (suc y)) a b other = absurd (omega arith)
+xor_none : (x y : ℕ) → bit_xor x y ≡ 0 → x ≡ y
+xor_none x y none = omega (arith, xor_add_and x y, and_le_l x y, and_le_r x y)
 
 -- a bit of the message may be exclusive-ored into the register before the turn of a zero bit
 pub turn_first : (kind : CheckKind) (register number : ℕ)
@@ -68,20 +59,19 @@ turn_first kind register number =
     let half : bit_xor register number / 2 ≡ bit_xor (register / 2) (number / 2) =
     xor_shr register number 1 in
     ⊎_elim
-    (λ same.
-    ap (λ r. bit_xor r (number / 2)) (turn-same kind register (number % 2) same)
-    ∙ sym half
-    ∙ sym (turn-same kind (bit_xor register number) 0
-    (low ∙ ap (λ bit. bit_xor bit (number % 2)) same ∙ xor_self (number % 2))))
-    (λ other.
-    ap (λ r. bit_xor r (number / 2)) (turn-other kind register (number % 2) other)
-    ∙ xor_assoc (register / 2) (polynomial kind) (number / 2)
-    ∙ ap (λ r. bit_xor (register / 2) r) (xor_comm (polynomial kind) (number / 2))
-    ∙ sym (xor_assoc (register / 2) (number / 2) (polynomial kind))
-    ∙ ap (λ r. bit_xor r (polynomial kind)) (sym half)
-    ∙ sym (turn-other kind (bit_xor register number) 0
-    (λ none. bits_differ (register % 2) (number % 2) (omega arith) (omega arith) other
-    (sym low ∙ none))))
+    (λ same. rw (
+      turn-same kind register (number % 2) same,
+      turn-same kind (bit_xor register number) 0 (rw (low, same) (xor_self (number % 2))),
+      half,
+    ))
+    (λ other. rw (
+      turn-other kind register (number % 2) other,
+      turn-other kind (bit_xor register number) 0 (λ none. other (xor_none _ _ (sym low ∙ none))),
+      half,
+      xor_assoc (register / 2) (polynomial kind) (number / 2),
+      xor_comm (polynomial kind) (number / 2),
+      xor_assoc (register / 2) (number / 2) (polynomial kind),
+    ))
     (cases_eq (register % 2) (number % 2))
 
 turns_first : (kind : CheckKind) (count register number : ℕ) → number < 2 ^ count

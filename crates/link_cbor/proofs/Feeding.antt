@@ -1,8 +1,7 @@
 -- A piece that is consumed byte by byte.
 
-use Rattle.std.proofs.Common.{◌≡◌, ℕ, ◌+◌, ◌<◌, ◌≤◌, Bool, true, false, List, [], ◌∷◌, ◌++◌, length, take, drop, get_or, sym, ap, ◌∙◌, append_assoc, arith}
+use Rattle.std.proofs.Common.{◌≡◌, ℕ, ◌+◌, ◌<◌, ◌≤◌, Bool, true, false, List, ◌++◌, length, take, drop, get_or, sym, ap, ◌∙◌, append_assoc, arith}
 use Rattle.std.proofs.lemmas.List.{append-nil, take_more, drop_more, length-take-le, drop_all}
-use Rattle.link_cbor.proofs.Joins.{joined_more}
 use Rattle.link_cbor.specs.{Pieces.taken, PieceLaws.{taken-cons, taken-nil, taken-idle}}
 
 -- the bytes taken are the first `count` bytes of the piece and those taken of the rest
@@ -23,21 +22,12 @@ pub taken_more : (goes : List ℕ → Bool) (seen bytes : List ℕ) (count : ℕ
     → goes (seen ++ take count bytes) ≡ true
     → TakenSoFar goes seen bytes count → TakenSoFar goes seen bytes (count + 1)
 taken_more goes seen bytes count below wanted before = record {
-  splits =
-      before.splits
-      ∙ ap (λ rest. take count bytes ++ taken goes (seen ++ take count bytes) rest)
-      (drop_more bytes count 0 below)
-      ∙ ap (λ t. take count bytes ++ t)
-      (taken-cons goes (seen ++ take count bytes) (get_or bytes count 0)
-      (drop (count + 1) bytes) wanted)
-      ∙ sym (append_assoc (take count bytes) (get_or bytes count 0 ∷ [])
-      (taken goes ((seen ++ take count bytes) ++ get_or bytes count 0 ∷ [])
-      (drop (count + 1) bytes)))
-      ∙ ap (λ front. front ++ taken goes ((seen ++ take count bytes) ++ get_or bytes count 0 ∷ [])
-      (drop (count + 1) bytes))
-      (sym (take_more bytes count 0 below))
-      ∙ ap (λ h. take (count + 1) bytes ++ taken goes h (drop (count + 1) bytes))
-      (joined_more seen bytes count below);
+  splits = rw (
+    before.splits,
+    drop_more bytes count 0 below,
+    taken-cons goes _ (get_or bytes count 0) (drop (count + 1) bytes) wanted,
+    take_more bytes count 0 below,
+  ) (simp append_assoc);
 }
 
 in_all : (goes : List ℕ → Bool) (seen bytes : List ℕ) (count : ℕ) → count ≤ length bytes
@@ -52,17 +42,13 @@ pub taken_stop : (goes : List ℕ → Bool) (seen bytes : List ℕ) (count : ℕ
     → TakenInAll goes seen bytes count
 taken_stop goes seen bytes count within idle before =
     in_all goes seen bytes count within
-    (before.splits
-    ∙ ap (λ t. take count bytes ++ t)
-    (taken-idle goes (seen ++ take count bytes) (drop count bytes) idle)
-    ∙ append-nil (take count bytes))
+    (rw (before.splits, taken-idle goes _ (drop count bytes) idle) (append-nil (take count bytes)))
 
 pub taken_all : (goes : List ℕ → Bool) (seen bytes : List ℕ) (count : ℕ) → count ≡ length bytes
     → TakenSoFar goes seen bytes count → TakenInAll goes seen bytes count
 taken_all goes seen bytes count all before =
-    in_all goes seen bytes count (omega arith)
-    (before.splits
-    ∙ ap (λ rest. take count bytes ++ taken goes (seen ++ take count bytes) rest)
-    (drop_all count bytes (omega arith))
-    ∙ ap (λ t. take count bytes ++ t) (taken-nil goes (seen ++ take count bytes))
-    ∙ append-nil (take count bytes))
+    in_all goes seen bytes count (omega arith) (rw (
+      before.splits,
+      drop_all count bytes (omega arith),
+      taken-nil,
+    ) (append-nil (take count bytes)))

@@ -2,7 +2,7 @@ mod CrcLaws
 mod Feeding
 mod Fronts
 pub mod HeadLaws
-mod Joins
+pub mod Joins
 mod Linear
 mod LookUps
 mod Pushes

@@ -28,31 +28,29 @@ turn-one : (kind : CheckKind) (register : ℕ)
     → turn kind register 1 ≡ bit_xor (turn kind register 0) (polynomial kind)
 turn-one kind register =
     ⊎_elim
-    (λ even.
-    turn-other kind register 1 (λ odd. absurd (omega arith))
-    ∙ ap (λ r. bit_xor r (polynomial kind)) (sym (turn-same kind register 0 even)))
-    (λ odd.
-    turn-same kind register 1 (omega arith)
-    ∙ sym (xor_zero_r (register / 2))
-    ∙ ap (bit_xor (register / 2)) (sym (xor_self (polynomial kind)))
-    ∙ sym (xor_assoc (register / 2) (polynomial kind) (polynomial kind))
-    ∙ ap (λ r. bit_xor r (polynomial kind)) (sym (turn-other kind register 0 odd)))
+    (λ even. rw (
+      turn-other kind register 1 (λ odd. absurd (omega arith)),
+      turn-same kind register 0 even,
+    ))
+    (λ odd. rw (
+      turn-same kind register 1 (omega arith),
+      turn-other kind register 0 odd,
+      xor_assoc,
+      xor_self (polynomial kind),
+      xor_zero_r,
+    ))
     (cases_eq (register % 2) 0)
 
 turn-xor : (kind : CheckKind) (first second : ℕ)
     → turn kind (bit_xor first second) 0 ≡ bit_xor (turn kind first 0) (turn kind second 0)
 turn-xor kind first second =
-    sym (turn_first kind first second)
-    ∙ ⊎_elim
-    (λ even.
-    ap₂ bit_xor (ap (turn kind first) even) (sym (turn-same kind second 0 even)))
+    rw (← turn_first kind first second) (⊎_elim
+    (λ even. rw even (rw (turn-same kind second 0 even)))
     (λ odd.
     let one : second % 2 ≡ 1 = omega arith in
-    ap (λ r. bit_xor r (second / 2)) (ap (turn kind first) one ∙ turn-one kind first)
-    ∙ xor_assoc (turn kind first 0) (polynomial kind) (second / 2)
-    ∙ ap (bit_xor (turn kind first 0))
-    (xor_comm (polynomial kind) (second / 2) ∙ sym (turn-other kind second 0 odd)))
-    (cases_eq (second % 2) 0)
+    rw (one, turn-one kind first, turn-other kind second 0 odd, xor_assoc)
+    (rw (xor_comm (polynomial kind) (second / 2))))
+    (cases_eq (second % 2) 0))
 
 -- after zero bits, the exclusive or of two registers is the exclusive or of the registers after
 -- them
@@ -76,8 +74,7 @@ register_after-xor kind register number [] all =
 register_after-xor kind register number (byte ∷ bytes) all =
     let below : byte < 256 = All-head (λ b. b < 256) byte bytes all in
     let swapped : bit_xor (bit_xor register number) byte ≡ bit_xor (bit_xor register byte) number =
-    xor_assoc register number byte ∙ ap (bit_xor register) (xor_comm number byte)
-    ∙ sym (xor_assoc register byte number) in
+    rw (xor_assoc register number byte, xor_comm number byte, xor_assoc register byte number) in
     let eights : 8 + 8 * length bytes ≡ 8 * length (byte ∷ bytes) = omega arith in
     register_after-cons kind (bit_xor register number) byte bytes below
     ∙ ap (λ r. register_after kind r bytes)
@@ -101,17 +98,19 @@ register_after-split kind register byte bytes below all =
     let low : ℕ = bit_xor (register % 256) byte in
     let whole : high + register % 256 ≡ register = omega arith in
     let parts : bit_xor register byte ≡ bit_xor high low =
-    ap (λ r. bit_xor r byte) (sym (xor_shifted (register / 256) 8 (register % 256) (omega arith)
-    ∙ whole))
-    ∙ xor_assoc high (register % 256) byte in
+    rw (
+      ← xor_assoc high (register % 256) byte,
+      xor_shifted (register / 256) 8 (register % 256) (omega arith),
+      whole,
+    ) in
     let eights : 8 + 8 * length bytes ≡ 8 * (length bytes + 1) = omega arith in
-    register_after-cons kind register byte bytes below
-    ∙ ap (λ r. register_after kind r bytes)
-    (ap (zero_turns kind 8) parts ∙ zero_turns-xor kind 8 high low
-    ∙ ap (λ r. bit_xor r (zero_turns kind 8 low)) (zero_turns-shift kind 8 (register / 256)))
-    ∙ register_after-xor kind (register / 256) (zero_turns kind 8 low) bytes all
-    ∙ ap (bit_xor (register_after kind (register / 256) bytes))
-    (sym (zero_turns-add kind 8 (8 * length bytes) low)
-    ∙ ap (λ count. zero_turns kind count low) eights)
-    ∙ xor_comm (register_after kind (register / 256) bytes)
-    (zero_turns kind (8 * (length bytes + 1)) low)
+    rw (
+      register_after-cons kind register byte bytes below,
+      parts,
+      zero_turns-xor kind 8 high low,
+      zero_turns-shift kind 8 (register / 256),
+      register_after-xor kind (register / 256) (zero_turns kind 8 low) bytes all,
+      ← zero_turns-add kind 8 (8 * length bytes) low,
+      eights,
+    )
+    (xor_comm (register_after kind (register / 256) bytes) _)

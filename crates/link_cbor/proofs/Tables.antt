@@ -29,8 +29,7 @@ are_next kind registers (table ∷ tables) =
 is_next-length : (kind : CheckKind) (registers table : List ℕ) → is_next kind registers table ≡ true
     → length table ≡ length registers
 unfolding is_next
-is_next-length kind [] [] next = refl
-is_next-length kind [] (entry ∷ entries) next = absurd (false≢true next)
+is_next-length kind [] table next = grind arith
 is_next-length kind (register ∷ registers) [] next = absurd (false≢true next)
 is_next-length kind (register ∷ registers) (entry ∷ entries) next =
     ap suc (is_next-length kind registers entries (and_parts _ _ next).1)

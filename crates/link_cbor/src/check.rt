@@ -55,6 +55,7 @@ impl Check {
     ghost use Rattle.link_cbor.specs.declared.check.CheckKind.{CheckKind};
 
     /// A check to which no byte was pushed.
+    #[tactic(auto, unfolding(crate::specs::Crc::register_after, crate::specs::Crc::all_bits))]
     pub fn new(kind: CheckKind) -> Check
         ensures { HasPushed kind result [] }
     {
@@ -87,6 +88,7 @@ impl Check {
     /// The check value of the bytes pushed so far.
     ///
     /// For CRC-16/X-25 it is in the low 16 bits.
+    #[tactic(auto, unfolding(crate::specs::Crc::crc))]
     pub fn value(&self) -> u32
         ensures { (kind : CheckKind) (bytes : List ℕ) → HasPushed kind self.now bytes
             → result ≡ crc kind bytes }

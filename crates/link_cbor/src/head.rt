@@ -23,6 +23,7 @@ impl Head {
     /// Returns `None` if the bytes end inside the head, or if they begin with no well-formed head.
     // Inlined: most heads are one byte, and reading such a head should cost no call.
     #[inline(always)]
+    #[tactic(auto, using(crate::proofs::Fronts::first_byte), unfolding(crate::specs::Head::front_by))]
     pub fn front(bytes: &[u8]) -> Option<(Head, usize)>
         ensures front { result ≡ whole_of (head_front bytes.now) }
         ensures some { IfSome result (λ front. 0 < front.1) }
@@ -41,6 +42,7 @@ impl Head {
     }
 
     /// Reads a head whose additional information is at least 24, so it is not the argument itself.
+    #[tactic(auto, using(crate::proofs::Fronts::first_byte), unfolding(crate::specs::Head::front_by))]
     fn longer(bytes: &[u8]) -> Option<(Head, usize)>
         requires some { 0 < length bytes.now }
         requires information { 24 ≤ bit_and (get_or bytes.now 0 0) 31 }

@@ -42,6 +42,7 @@ impl HeadStage {
     /// The stage after the first byte of a head.
     ///
     /// The top three bits are the major type, and the low five bits are the additional information.
+    #[tactic(auto, using(crate::proofs::Fronts::first_byte), unfolding(crate::specs::Head::front_by, crate::specs::Stage::front_from, crate::specs::Stage::head_stage_fits))]
     fn begin(first: u8) -> HeadStage
         ensures { DeterminesHead 1 result (λ more. head_front (first ∷ more)) }
     {
@@ -79,6 +80,7 @@ impl HeadStage {
     ///
     /// The head has an indefinite length or is the break. For major types 0, 1 and 6 it is
     /// ill-formed.
+    #[tactic(auto, unfolding(crate::specs::Head::no_argument, crate::specs::Stage::front_from, crate::specs::Stage::head_stage_fits))]
     fn without_argument(major: u8) -> HeadStage
         ensures { DeterminesHead 1 result (λ _. no_argument major) }
     {
@@ -108,6 +110,7 @@ impl HeadScan {
     ghost use Rattle.link_cbor.specs.declared.head.HeadStep.TheVariants.{More};
 
     /// A scan that has seen no byte.
+    #[tactic(auto, unfolding(crate::specs::Stage::front_from, crate::specs::Stage::head_stage_fits))]
     pub fn new() -> HeadScan
         ensures seen { HasScannedHead result [] }
         ensures size { head_scan_size result ≡ 0 }
@@ -129,6 +132,7 @@ impl HeadScan {
         self.stage.outcome()
     }
 
+    #[tactic(auto, unfolding(crate::specs::Head::argument_front, crate::specs::Head::with_argument, crate::specs::Head::big_endian, crate::specs::Stage::front_from, crate::specs::Stage::head_stage_fits))]
     fn next_stage(&self, byte: u8) -> HeadStage
         requires { IsTrue (may_scan_head self.now) }
         ensures { DeterminesHead (self.now.count + 1) result

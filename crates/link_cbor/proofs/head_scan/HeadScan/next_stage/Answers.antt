@@ -1,7 +1,7 @@
 use Rattle.std.proofs.Common.{◌≡◌, ◌+◌, ◌*◌, ◌^◌, ◌<◌, true, arith}
 use Rattle.link_cbor.specs.Stage.{head_stage_fits}
 use Rattle.link_cbor.specs.declared.head_scan.HeadStage.TheVariants.{Argument}
-use Rattle.link_cbor.proofs.Stages.{value_fits, argument_fits, begins-start, stands-next, stands-low, stands-high}
+use Rattle.link_cbor.proofs.Stages.{value_fits, argument_fits, stands-next}
 use Rattle.link_cbor.proofs.head_scan.HeadScan.next_stage.Goals as goal
 use Rattle.link_cbor.proofs.head_scan.HeadScan.next_stage.Goals.{In-Argument}
 
@@ -12,9 +12,7 @@ kept : (c : In-Argument)
 kept c = rw c.in-Argument.is at c.args.self.now.fits
 
 grows : (c : In-Argument) → c.in-Argument.value * 256 + c.args.byte < 2 ^ 64
-grows c =
-    value_fits c.args.self.now.count c.in-Argument.major c.in-Argument.left c.in-Argument.value
-    c.args.byte (kept c) (omega arith)
+grows c = value_fits _ _ _ _ c.args.byte (kept c) (omega arith)
 
 pub overflow_mul-value : goal.overflow_mul-value
 overflow_mul-value c = omega (arith, grows c)
@@ -25,17 +23,8 @@ overflow_add-value c =
 
 pub overflow_sub-left : goal.overflow_sub-left
 overflow_sub-left c =
-    let seen = c.in-Argument in
-    omega (
-      arith,
-      (argument_fits c.args.self.now.count seen.major seen.left seen.value
-          (kept (goal.at.overflow_sub-left c).In-Argument)).wanted,
-    )
-
-pub returns-in-Start : goal.returns-in-Start
-returns-in-Start c =
-    rw c.in-Start.is (begins-start c.args.self.now.count c.begin.result c.args.byte
-    (rw c.in-Start.is at c.args.self.now.fits) c.begin.ensures)
+    let facts = argument_fits _ _ _ _ (kept (goal.at.overflow_sub-left c).In-Argument) in
+    omega (arith, facts.wanted)
 
 pub returns-in-Argument : goal.returns-in-Argument
 returns-in-Argument c =
@@ -44,14 +33,3 @@ returns-in-Argument c =
     rw (seen.is, c.in_argument.ensures, c.from.ensures)
     (stands-next stage.count seen.major seen.left seen.value c.args.byte
     (kept (goal.at.returns-in-Argument c).In-Argument) (omega arith))
-
-pub returns-in-Simple : goal.returns-in-Simple
-returns-in-Simple c =
-    rw c.in-Simple.is (stands-low c.args.self.now.count c.args.byte
-    (rw c.in-Simple.is at c.args.self.now.fits) c.if-byte-lt-LEAST_IN_NEXT_BYTE.true)
-
-pub returns-in-Simple-2 : goal.returns-in-Simple-2
-returns-in-Simple-2 c =
-    rw (c.in-Simple.is, c.in_argument-in-Simple-2.ensures, c.from-in-Simple-2.ensures)
-    (stands-high c.args.self.now.count c.args.byte
-    (rw c.in-Simple.is at c.args.self.now.fits) c.if-byte-lt-LEAST_IN_NEXT_BYTE.false)
