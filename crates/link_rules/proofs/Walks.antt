@@ -3,11 +3,11 @@
 use Rattle.std.proofs.Common.{◌≡◌, ℕ, zero, suc, ◌+◌, ◌-◌, ◌%◌, ◌^◌, ◌<◌, ◌≤◌, Bool, true, false, List, [], ◌∷◌, ◌++◌, length, get_or, take, drop, Option, Some, None, refl, sym, ap, subst, ◌∙◌, append_assoc, append-nil, length-append, length-drop, length-take, arith}
 use Rattle.std.specs.{Prelude.{if◌then◌else◌}, Bool.then_some, Option.option_or}
 use Rattle.std.proofs.lemmas.List.{drop-append-le, length-take-le}
-use Rattle.std.proofs.Math.Seq.{drop-append_seam, drop-length, take-add, take-length}
+use Rattle.std.proofs.Math.Seq.{drop-append_seam, drop-length}
 use Rattle.link_cbor.specs.declared.{head.Head.Head as HeadItem, head_scan.HeadScan.HeadScan}
 use Rattle.link_cbor.specs.Head.{Cut, IllFormed, Whole, head_front, whole_of}
 use Rattle.link_cbor.specs.HeadScan.{HasScannedHead}
-use Rattle.link_cbor.proofs.HeadLaws.{head_alone, whole_stays, ill_formed_stays}
+use Rattle.link_cbor.proofs.{HeadLaws.{head_alone, whole_stays, ill_formed_stays}, Joins.joined_run}
 use Rattle.link_rules.specs.declared.heads.{WalkStage.WalkStage, WalkStage.TheVariants.{Inside, Head, Ended}}
 use Rattle.link_rules.specs.declared.heads.{Found.Found, HeadWalk.HeadWalk}
 use Rattle.link_rules.specs.Heads.{content_size, is_long, is_indefinite, first_from}
@@ -175,19 +175,6 @@ taken_inside left size found head count seen run come sized within small = recor
   sought = rw sized (found_inside found left seen run come.sought (omega arith));
   stands = come.stands;
 }
-
--- the bytes of a piece from an offset on, as the code takes them
-pub the_rest : (bytes : List ℕ) (count : ℕ)
-    → take (length bytes - count) (drop count bytes) ≡ drop count bytes
-the_rest bytes count =
-    ap (λ (size : ℕ). take size (drop count bytes)) (sym (length-drop count bytes))
-    ∙ take-length (drop count bytes)
-
--- the bytes seen and the first of a piece, and then one more run of it
-pub joined_run : (seen bytes : List ℕ) (count more : ℕ)
-    → (seen ++ take count bytes) ++ take more (drop count bytes) ≡ seen ++ take (count + more) bytes
-joined_run seen bytes count more =
-    rw (append_assoc seen (take count bytes) (take more (drop count bytes)), take-add count more bytes)
 
 -- fewer bytes of a piece
 pub fewer : (seen piece : List ℕ) (count more : ℕ) → count ≤ more

@@ -1,6 +1,7 @@
 use Rattle.std.proofs.Common.{◌≡◌, ℕ, ◌+◌, ◌-◌, ◌^◌, ◌<◌, ◌≤◌, List, ◌++◌, length, take, drop, sym, subst, ◌∙◌, length-drop, arith}
+use Rattle.std.proofs.lemmas.List.{take_rest}
 use Rattle.link_rules.specs.{HeadWalk.HasFound, declared.heads.WalkStage.TheVariants.Inside}
-use Rattle.link_rules.proofs.Walks.{the_rest, fewer, found_head, found_content}
+use Rattle.link_rules.proofs.Walks.{fewer, found_head, found_content}
 use Rattle.link_rules.proofs.heads.Found.take_heads.Goals as goal
 use Rattle.link_rules.proofs.heads.Found.take_heads.Goals.{After-content_size-content}
 
@@ -11,7 +12,7 @@ ends c =
     let piece = c.args.piece.now in
     let taken = c.loop-head.taken in
     let within : c.in-Some.size ≤ length (drop taken piece) =
-    rw (the_rest piece taken) at c.in-Some.ensures.within in
+    rw (take_rest piece taken) at c.in-Some.ensures.within in
     omega (arith, length-drop taken piece)
 
 -- what is found after the head
@@ -26,7 +27,7 @@ noted c seen here small come =
     let size = c.in-Some.size in
     rw c.content_size-content.ensures
     (found_head _ _ _ taken size seen piece _ here c.loop-head.invariant.within
-    (rw (the_rest piece taken) at (sym c.front.ensures.front ∙ c.in-Some.is)) (ends c)
+    (rw (take_rest piece taken) at (sym c.front.ensures.front ∙ c.in-Some.is)) (ends c)
     (c.loop-head.invariant.found seen here (fewer seen piece taken _ (omega arith) small) come)
     c.note.ensures small)
 
