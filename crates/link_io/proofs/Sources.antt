@@ -1,9 +1,9 @@
 -- The bytes of successive calls of a source, joined, are the bytes given by all these calls.
-use Rattle.std.proofs.Common.{⊎_elim, ◌≡◌, ℕ, zero, suc, ◌+◌, ◌-◌, ◌^◌, ◌<◌, ◌≤◌, nat_lt, List, [], ◌∷◌, ◌++◌, length, take, drop, Option, Some, None, ap, sym, ◌∙◌, Bool, true, false, ◌&&◌, eqb, eqb-true, add_assoc, length-append, append_assoc, append-nil, add-zero, refl, arith, length-take, length-drop, take-append-drop}
+use Rattle.std.proofs.Common.{⊎_elim, ◌≡◌, ℕ, ◌+◌, ◌-◌, ◌^◌, ◌<◌, ◌≤◌, nat_lt, List, [], ◌∷◌, ◌++◌, length, take, drop, Option, Some, None, ap, sym, ◌∙◌, true, false, eqb, eqb-true, length-append, append_assoc, append-nil, add-zero, refl, arith, length-take, length-drop, take-append-drop}
 use Rattle.std.specs.Io.KnownBytes.{Consumes, prepend_known}
 use Rattle.std.proofs.KnownBytes.{Consumes-nil, Consumes-trans}
 use Rattle.std.proofs.{lemmas.List.Elements.{All-nil, All-append}, Math.Seq.take-take}
-use Rattle.std.proofs.lemmas.{Bool.cases_lt, Bool.Decides.nat_tests, List.nil_from_length}
+use Rattle.std.proofs.lemmas.{Bool.{and_parts, cases_lt, Decides.nat_tests}, List.nil_from_length}
 use Rattle.std.proofs.lemmas.Grind.{common_steps}
 use Rattle.link_io.specs.{Bytes.IsByte, Device.Input, Limits.{longest_input, window_size}}
 use Rattle.link_io.specs.Source.{is_open, is_fresh, IsSourceAt, IsLiveBy, IsLive, HasEnded, HasFailed, IsOver, given_by, window_of, held_from, front_of, ahead, WindowAfter, Takes, Readies, StopsAfter}
@@ -12,11 +12,6 @@ use Rattle.link_io.proofs.Windows.{range_none}
 use Rattle.link_io.specs.declared.source.Flow.{Flow}
 use Rattle.link_io.specs.declared.source.Flow.TheVariants as flow
 use Rattle.link_io.specs.declared.source.Source.{Source}
-
-more_given : (a b c : ℕ) (xs ys : List ℕ) → b ≡ a + length xs → c ≡ b + length ys
-    → c ≡ a + length (xs ++ ys)
-more_given a b c xs ys p q =
-    q ∙ ap (λ n. n + length ys) p ∙ add_assoc a (length xs) (length ys) ∙ ap (λ n. a + n) (sym (length-append xs ys))
 
 -- the first bytes of a window are the next bytes ahead
 pub Consumes-window : (window : List ℕ) (left : Option (List ℕ)) (n : ℕ)
@@ -30,16 +25,9 @@ pub Consumes-empty : (old new : Option (List ℕ)) (bytes : List ℕ) → Consum
 Consumes-empty None new bytes read = tt
 Consumes-empty (Some xs) new bytes read = read
 
--- if both tests hold, each of them holds
-pub and_true : (first second : Bool) → (first && second) ≡ true → (first ≡ true) × (second ≡ true)
-and_true true second is = (refl, is)
-and_true false second is = absurd (cc)
-
 live_open : (now : Flow) (left : Option (List ℕ)) (start end : ℕ) → is_open now ≡ true
     → IsLiveBy now left start end
-live_open flow.Open left start end is = tt
-live_open flow.Ended left start end is = absurd (cc)
-live_open (flow.Failed fault) left start end is = absurd (cc)
+live_open now left start end is = grind arith
 
 -- the first `count` bytes of what a reader holds, if the source may give them
 pub record HeldPart (now : Flow) (most : ℕ) (held : List ℕ) (count : ℕ) : Type 0 where
@@ -58,32 +46,23 @@ held_part flow.Open most held count some within =
       room = omega (arith, parts, within);
       live = λ left start end. tt;
     }
-held_part flow.Ended most held count some within = absurd (omega (arith, some, within))
-held_part (flow.Failed fault) most held count some within = absurd (omega (arith, some, within))
+held_part now most held count some within = absurd (omega (arith, some, within))
 
 -- an open source may give what is held, up to the limit
 pub held_open : (now : Flow) (most : ℕ) (held : List ℕ) → now ≡ flow.Open
     → held_from now most held ≡ take most held
-held_open flow.Open most held is = refl
-held_open flow.Ended most held is = absurd (cc)
-held_open (flow.Failed fault) most held is = absurd (cc)
+held_open now most held is = rw is
 
 -- a source that has ended or failed gives nothing more
 pub held_closed : (now : Flow) (most : ℕ) (held : List ℕ) → (now ≡ flow.Open → ⊥)
     → held_from now most held ≡ []
-held_closed flow.Open most held closed = absurd (closed refl)
-held_closed flow.Ended most held closed = refl
-held_closed (flow.Failed fault) most held closed = refl
+held_closed now most held closed = grind arith
 
 none_held : (now : Flow) (most : ℕ) → held_from now most [] ≡ []
-none_held flow.Open most = grind (arith, common_steps)
-none_held flow.Ended most = refl
-none_held (flow.Failed fault) most = refl
+none_held now most = grind (arith, common_steps)
 
 held_room : (now : Flow) (most : ℕ) (held : List ℕ) → length (held_from now most held) ≤ most
-held_room flow.Open most held = omega (arith, length-take most held)
-held_room flow.Ended most held = omega arith
-held_room (flow.Failed fault) most held = omega arith
+held_room now most held = grind (arith, length-take {A = ℕ})
 
 -- bytes that come after an empty window
 pub Consumes-behind : (old new : Option (List ℕ)) (bytes : List ℕ) → Consumes old new bytes
@@ -110,6 +89,12 @@ module _ {R : Type 0} (look : R → Input) (s : Source R) where
   front_held none =
       let empty : nat_lt s.start s.end ≡ false = grind (arith, nat_tests, none) in
       rw empty refl
+
+  -- the first bytes at hand are those that the reader holds
+  pub held_first : (size : ℕ) → s.start ≡ s.end → 0 < size → size ≤ length (front_of look s)
+      → HeldPart s.flow (longest_input - s.given) (look s.reader).held size
+  held_first size empty some within =
+      held_part s.flow _ _ size some (rw (front_held (omega (arith, empty))) at within)
 
   -- nothing is at hand if the window is empty and the reader holds nothing
   pub front_none : s.end ≤ s.start → (look s.reader).held ≡ [] → front_of look s ≡ []
@@ -159,7 +144,10 @@ module _ {R : Type 0} (look : R → Input) (s : Source R) where
 module _ {R : Type 0} (s : Source R) (fresh : is_fresh s ≡ true) where
   -- a fresh source has given nothing
   pub fresh_at : IsSourceAt s []
-  fresh_at = record { bytes = All-nil IsByte; given = eqb-true s.given 0 (and_true (eqb s.given 0) _ fresh).0 }
+  fresh_at = record {
+    bytes = All-nil IsByte;
+    given = eqb-true s.given 0 (and_parts (eqb s.given 0) _ fresh).0;
+  }
 
 module _ {R : Type 0} (s : Source R) where
   -- after the end the window is empty
@@ -170,18 +158,15 @@ module _ {R : Type 0} (look : R → Input) (s : Source R) (fresh : is_fresh s �
   -- more bytes may come from a fresh source
   pub fresh_live : IsLive look s
   fresh_live =
-      let rest = (and_true (eqb s.given 0) _ fresh).1 in
-      live_open s.flow (look s.reader).left s.start s.end (and_true (is_open s.flow) _ rest).0
+      let rest = (and_parts (eqb s.given 0) _ fresh).1 in
+      live_open s.flow (look s.reader).left s.start s.end (and_parts (is_open s.flow) _ rest).0
 
 -- a window that keeps its bytes, if it has some, and is empty afterwards was empty before
 emptied : (old new : List ℕ) → (0 < length old → new ≡ old) → new ≡ [] → new ≡ old
-emptied [] new kept none = none
-emptied (b ∷ old) new kept none = kept (omega arith)
+emptied old new kept none = grind (arith, nil_from_length old)
 
 drop_none : (n : ℕ) (xs : List ℕ) → length (take n xs) ≡ 0 → drop n xs ≡ xs
-drop_none n [] none = grind (arith, common_steps)
-drop_none zero (x ∷ xs) none = refl
-drop_none (suc n) (x ∷ xs) none = absurd (omega arith)
+drop_none n xs none = grind (arith, nil_from_length (take n xs), take-append-drop n xs)
 
 drop_less : (n bound : ℕ) (xs : List ℕ) → length xs ≤ bound → 0 < length (take n xs)
     → length (drop n xs) < bound
@@ -226,7 +211,7 @@ module _ {R : Type 0} (look : R → Input) where
   Takes-then old mid new xs ys p q = record {
     bytes_fit = All-append IsByte xs ys p.bytes_fit q.bytes_fit;
     next = Consumes-trans (ahead look old) (ahead look mid) (ahead look new) xs ys p.next q.next;
-    count = more_given (given_by old) (given_by mid) (given_by new) xs ys p.count q.count;
+    count = omega (arith, p.count, q.count, length-append xs ys);
     device = q.device ∙ p.device;
     window = WindowAfter-then old mid new xs ys p.window q.window;
   }
@@ -272,7 +257,7 @@ module _ {R : Type 0} (look : R → Input) where
     bytes_fit = All-append IsByte xs ys p.bytes_fit q.bytes_fit;
     past = q.past;
     next = rw append_assoc (Consumes-trans (ahead look old) (ahead look mid) (look new.reader).left xs (ys ++ q.past) p.next q.next);
-    count = more_given (given_by old) (given_by mid) (given_by new) xs ys p.count q.count;
+    count = omega (arith, p.count, q.count, length-append xs ys);
     cause = q.cause;
     device = λ is. q.device is ∙ p.device;
     failed = q.failed;

@@ -1,7 +1,7 @@
 -- How each call of a session changes its state.
 use Rattle.std.proofs.Common.{⊎_elim, ◌⊎◌, inl, inr, ◌≡◌, ℕ, ◌+◌, ◌<◌, ◌≤◌, true, eqb, eqb-true, List, [], ◌∷◌, ◌++◌, length, take, drop, Some, Result, Ok, Err, arith, refl, ap, sym, ◌∙◌, subst, append_assoc, append-nil, length-append}
 use Rattle.std.specs.Prelude.{IsErrAnd}
-use Rattle.std.proofs.lemmas.{Bool.cases_lt, List.{nil_from_length, take-append-drop}}
+use Rattle.std.proofs.lemmas.{Bool.{and_parts, cases_lt}, List.{nil_from_length, take-append-drop}}
 use Rattle.link_io.specs.Device.{Input}
 use Rattle.link_wire.specs.Part.{Part, number_at}
 use Rattle.link_wire.specs.Message.{contact_at, message_at, fields_at, data_length}
@@ -10,7 +10,7 @@ use Rattle.link_wire.specs.Limits.{window_size}
 use Rattle.link_wire.specs.Getting.{Needs, IsPart, IsFault, WholePart, Gets, OneKind}
 use Rattle.link_wire.specs.Stream.{Entry, End, Clean, Cut, Fault, Stream, ended, stream_at, Reading, reading_of}
 use Rattle.link_wire.specs.Session.{joined, data_after, with_data, rest_after, IsLeft, IsUndecided, SameMessages, ShownLast, is_unopened, reads_next, may_open, may_read, left_of, HasStopped, IsSessionAt, ReadContact, AfterOpen, ReadMessage, AfterNext, PassedBytes, LoadedData, AfterLoad, AfterData}
-use Rattle.link_io.proofs.Sources.{and_true, fresh_at, fresh_live, IsSourceAt-then, Takes-then, Readies-takes, Readies-over, StopsAfter-then}
+use Rattle.link_io.proofs.Sources.{fresh_at, fresh_live, IsSourceAt-then, Takes-then, Readies-takes, Readies-over, StopsAfter-then}
 use Rattle.link_wire.proofs.{Gettings.{after, IsFault-then, cut_then}, FieldReads.IsPart-byte}
 use Rattle.link_wire.proofs.{Shrinks.shrinks_message, Steady.{steady_contact, steady_message}}
 use Rattle.link_wire.proofs.Within.{Steady, within_contact, within_message, part_size, needed_size}
@@ -40,8 +40,8 @@ module _ {R : Type 0} (look : R → Input) (s : Session R) (fresh : may_open s �
   -- the three properties of a session that may be opened
   parts : (is_unopened s.phase ≡ true) × (left_of s ≡ 0) × (is_fresh s.source ≡ true)
   parts =
-      let first = and_true (is_unopened s.phase) _ fresh in
-      let second = and_true (eqb s.left 0) _ first.1 in
+      let first = and_parts (is_unopened s.phase) _ fresh in
+      let second = and_parts (eqb s.left 0) _ first.1 in
       (first.0, eqb-true s.left 0 second.0, second.1)
 
   pub opens_unopened : s.phase ≡ phase.Unopened

@@ -1,14 +1,14 @@
-use Rattle.std.proofs.Common.{take, arith, length-drop}
-use Rattle.link_io.proofs.Writes.{take-all_after, WritesWhole-more}
+use Rattle.std.proofs.Common.{ℕ, take, arith, length-drop, length-take}
+use Rattle.link_io.proofs.Writes.{WritesWhole-more}
 use Rattle.link_io.proofs.device.OutDevice.write_text.Goals as goal
 
 -- the written prefix grows by the bytes that `write` took
 pub loop-at-preserved : goal.loop-at-preserved
 loop-at-preserved g c =
+    let wrote = c.in-Ok.ensures in
     let made = take c.put-end.result c.put-end.new.page in
-    let rest = take-all_after c.loop-at.at made in
-    let bound = rw rest at c.in-Ok.ensures.bound in
     record {
-      place = omega (arith, bound, length-drop c.loop-at.at made);
-      written = WritesWhole-more g.Self.OutDevice.state _ _ _ made c.loop-at.at c.in-Ok.n c.loop-at.invariant.written (record { written = rw rest at c.in-Ok.ensures.bytes; device = c.in-Ok.ensures.failed });
+      place = omega (arith, wrote.bound, length-take {A = ℕ}, length-drop {A = ℕ});
+      written = WritesWhole-more g.Self.OutDevice.state _ _ _ made c.loop-at.at c.in-Ok.n
+          c.loop-at.invariant.written wrote.bytes wrote.failed;
     }

@@ -2,7 +2,7 @@ use Rattle.std.proofs.Common.{◌≡◌, ℕ, suc, zero, length, Result, Ok, Err
 use Rattle.link_io.specs.Device.{Input}
 use Rattle.link_io.specs.Source.{front_of, window_of, HasEnded, AfterReady, AfterReadyFront}
 use Rattle.link_io.specs.declared.{fault.IoFault.IoFault, source.Source.Source}
-use Rattle.link_io.proofs.Sources.{Readies-none, front_empty, front_ended, front_failed, front_window}
+use Rattle.link_io.proofs.Sources.{front_empty, front_ended, front_failed, front_window}
 use Rattle.link_io.proofs.source.Source.ready_front.Goals as goal
 
 module _ {R : Type 0} (look : R → Input) (s : Source R) where
@@ -27,14 +27,6 @@ by_window look old new (Ok n) gives = record {
 }
 by_window look old new (Err fault) gives = gives
 
-pub returns-then-ready-gt0-clause-gives : goal.returns-then-ready-gt0-clause-gives
-returns-then-ready-gt0-clause-gives g c = λ live. record {
-  readies = Readies-none g.R.InDevice.state c.args.self.now;
-  live = live;
-  size = ap length c.front-ready.ensures.front;
-  over = λ none. absurd (omega (arith, c.if-ready-gt0.true, none));
-}
-
 pub returns-then-ready-gt0-clause-ended : goal.returns-then-ready-gt0-clause-ended
 returns-then-ready-gt0-clause-ended g c = λ ended.
     absurd (omega (arith, c.if-ready-gt0.true, ap length c.front-ready.ensures.front, ap length (front_ended g.R.InDevice.state c.args.self.now ended)))
@@ -55,6 +47,3 @@ returns-clause-size g c = size_by g.R.InDevice.state c.read_on.new.self c.read_o
 
 pub returns-clause-gives : goal.returns-clause-gives
 returns-clause-gives g c = λ live. by_window g.R.InDevice.state c.args.self.now c.read_on.new.self c.read_on.result (c.read_on.ensures.gives live)
-
-pub returns-clause-kept : goal.returns-clause-kept
-returns-clause-kept g c = λ some. absurd (omega (arith, some, c.if-ready-gt0.false, ap length c.front-ready.ensures.front))
