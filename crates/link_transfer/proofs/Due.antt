@@ -56,11 +56,9 @@ last_of segment count size some within =
 pub wanted_some : (begun : Bool) (segment hold size : ℕ)
     → waits begun false segment hold size ≡ false → 0 < segment
     → 0 < wanted_size begun segment hold size
-wanted_some true segment hold size quiet some = grind (arith, nat_tests)
-wanted_some false segment hold size quiet some = grind (arith, nat_tests)
+wanted_some begun segment hold size quiet some = grind (arith, nat_tests)
 
 -- a chunk is ready after the last byte that is needed, and not before
 pub waits_when_wanted : (begun : Bool) (segment hold size : ℕ)
     → waits begun false segment hold (size + 1) ≡ leb (wanted_size begun segment hold size) 1
-waits_when_wanted true segment hold size = grind (arith, nat_tests)
-waits_when_wanted false segment hold size = grind (arith, nat_tests)
+waits_when_wanted begun segment hold size = grind (arith, nat_tests)

@@ -1,8 +1,9 @@
 -- A cutter and its history, after one more cut.
-use Rattle.std.proofs.Common.{◌≡◌, ℕ, zero, suc, ◌+◌, ◌-◌, ◌*◌, ◌<◌, ◌≤◌, Bool, true, false, not, ltb, leb, eqb, cond, ◌&&◌, [], ◌∷◌, ◌++◌, length, take, drop, min, max, Option, Some, None, is_some, refl, ap, ap₂, subst, sym, ◌∙◌, arith}
+use Rattle.std.proofs.Common.{◌≡◌, ℕ, ◌+◌, ◌-◌, ◌*◌, ◌<◌, ◌≤◌, Bool, true, false, not, ltb, leb, eqb, cond, ◌&&◌, [], ◌∷◌, ◌++◌, length, take, drop, min, max, Option, Some, None, is_some, refl, ap, ap₂, subst, sym, ◌∙◌, arith}
 use Rattle.std.specs.Bool.{OnTrue}
 use Rattle.std.proofs.lemmas.List.{length-drop, length-take, length_push, take_min, drop_min, drop-drop, drop_all}
-use Rattle.std.proofs.lemmas.{List.Elements.All-nil, Bool.false≢true, Bool.Decides.nat_tests}
+use Rattle.std.proofs.lemmas.{List.Elements.All-nil, Bool.{and_parts, eqb-true, false≢true, Decides.nat_tests}}
+use Rattle.std.proofs.Math.Bool.{and-false, and-true}
 use Rattle.link_wire.specs.Bytes.{IsByte}
 use Rattle.link_transfer.specs.Chunks.{chunk_count, chunks, first_chunks}
 use Rattle.link_transfer.specs.Cutting.{Cutting, beginning, due, due_of, announcement, is_first, is_last, next_chunk, next_cut, after_cut, without_chunk, uncut}
@@ -18,16 +19,13 @@ last_is : (whole : Bool) (segment hold count size : ℕ) → 0 < segment
     → (whole ≡ true → count < due_of whole segment hold size)
     → is_last_of whole segment (size - count * segment)
     ≡ (whole && eqb (count + 1) (chunk_count segment size))
-last_is true segment hold count size some left = last_of segment count size some (left refl)
-last_is false segment hold count size some left = refl
+last_is whole segment hold count size some left =
+    grind (arith, last_of segment count size some)
 
 announced_is : (whole : Bool) (segment hold count size : ℕ)
     → announcement_of (ltb 0 count) whole segment hold (size - count * segment)
     ≡ cond (eqb count 0) (cond (whole && (ltb segment size && leb size hold)) (Some size) None) None
-announced_is whole segment hold zero size =
-    let all : size - 0 * segment ≡ size = omega arith in
-    rw all refl
-announced_is whole segment hold (suc count) size = grind (arith, nat_tests)
+announced_is whole segment hold count size = grind (arith, nat_tests)
 
 first_is : (count : ℕ) → not (ltb 0 count) ≡ eqb count 0
 first_is count = grind (arith, nat_tests)
@@ -156,26 +154,10 @@ kept_after old new so_far last gives at =
     let count = min old.segment (length old.held.bytes) in
     omega (arith, ap length gives.given, ap length gives.bytes, length-take count old.held.bytes, length-drop count old.held.bytes, at.kept)
 
--- the next chunk is the last if the bundle is whole and has that many chunks
-whole_last : (so_far : Cutting) → is_last so_far ≡ true → so_far.whole ≡ true
-whole_last so_far is = both so_far.whole _ is
-  where
-    both : (a b : Bool) → (a && b) ≡ true → a ≡ true
-    both true b is = refl
-    both false b is = is
-
+-- after the last chunk a bundle has had all its chunks
 count_last : (so_far : Cutting) → is_last so_far ≡ true
     → length so_far.given + 1 ≡ chunk_count so_far.segment (length so_far.bundle)
-count_last so_far is = grind (arith, nat_tests, both so_far.whole _ is)
-  where
-    both : (a b : Bool) → (a && b) ≡ true → b ≡ true
-    both true b is = is
-    both false true is = refl
-    both false false is = is
-
-not_last : (so_far : Cutting) → is_last so_far ≡ false → so_far.whole ≡ true
-    → eqb (length so_far.given + 1) (chunk_count so_far.segment (length so_far.bundle)) ≡ false
-not_last so_far is whole = rw whole at is
+count_last so_far is = eqb-true _ _ (and_parts so_far.whole _ is).1
 
 -- a whole bundle has another chunk after each that is not the last
 next_left : (so_far : Cutting) → is_last so_far ≡ false → so_far.whole ≡ true
@@ -183,7 +165,7 @@ next_left : (so_far : Cutting) → is_last so_far ≡ false → so_far.whole ≡
     → length (so_far.given ++ next_chunk so_far ∷ [])
     < due_of so_far.whole so_far.segment so_far.hold (length so_far.bundle)
 next_left so_far is whole below =
-    let apart = not_last so_far is whole in
+    let apart = rw whole at is in
     let count = length_push so_far.given (next_chunk so_far) in
     rw whole (grind (arith, nat_tests))
 
@@ -195,7 +177,6 @@ with_next : (old new : Cutter) (so_far : Cutting) (last : Bool) → is_last so_f
     (record so_far { given = so_far.given ++ next_chunk so_far ∷ []; chunk = Some (next_chunk so_far) }))
 unfolding due
 with_next old new so_far true is gives at few =
-    let whole = whole_last so_far is in
     let below : length so_far.given < chunk_count so_far.segment (length so_far.bundle) = omega (arith, count_last so_far is) in
     let size = length-drop (length so_far.given * so_far.segment) so_far.bundle in
     let all : length (uncut so_far) ≤ so_far.segment =
@@ -211,13 +192,9 @@ with_next old new so_far true is gives at few =
       held = rest_is old new so_far true gives at ∙ drop_all so_far.segment (uncut so_far) all ∙ sym (drop_all (0 * so_far.segment) [] (omega arith));
       chunk = chunk_given old new so_far true gives at few;
       begun = gives.begun;
-      ended = gives.ended ∙ and_false old.ended;
+      ended = gives.ended ∙ and-false old.ended;
       kept = kept_after old new so_far true gives at;
     }
-  where
-    and_false : (a : Bool) → (a && false) ≡ false
-    and_false true = refl
-    and_false false = refl
 with_next old new so_far false is gives at few =
     let count = length_push so_far.given (next_chunk so_far) in
     let shifted : length so_far.given * so_far.segment + so_far.segment ≡ (length so_far.given + 1) * so_far.segment = omega arith in
@@ -237,13 +214,9 @@ with_next old new so_far false is gives at few =
           ∙ ap (λ n. drop n so_far.bundle) next;
       chunk = chunk_given old new so_far false gives at few;
       begun = gives.begun ∙ some;
-      ended = gives.ended ∙ and_true old.ended ∙ at.ended;
+      ended = gives.ended ∙ and-true old.ended ∙ at.ended;
       kept = kept_after old new so_far false gives at;
     }
-  where
-    and_true : (a : Bool) → (a && true) ≡ a
-    and_true true = refl
-    and_true false = refl
 
 pub IsCutterAt-cut : (old new : Cutter) (so_far : Cutting) → cut_waits old ≡ true
     → Gives old new (is_last so_far) → IsCutterAt old so_far

@@ -1,5 +1,5 @@
 -- A chunk that is cut where it lies: the cutter takes none of its bytes.
-use Rattle.std.proofs.Common.{◌≡◌, ℕ, ◌<◌, ◌≤◌, Bool, true, false, not, ◌&&◌, nat_lt, nat_le, List, [], ◌++◌, length, take, min, Some, None, if◌then◌else◌, refl, ap, ap₂, subst, sym, ◌∙◌, arith}
+use Rattle.std.proofs.Common.{◌≡◌, ℕ, ◌<◌, ◌≤◌, Bool, true, false, not, List, [], ◌++◌, length, take, min, Some, None, refl, ap, ap₂, subst, sym, ◌∙◌, arith}
 use Rattle.std.proofs.lemmas.{Bool.false≢true, Bool.Decides.nat_tests}
 use Rattle.std.proofs.lemmas.List.{take_all, drop_all, nil_from_length}
 use Rattle.link_wire.specs.Bytes.{AreBytes}
@@ -7,33 +7,24 @@ use Rattle.link_transfer.specs.Cutting.{Cutting, with_bytes, is_last, next_chunk
 use Rattle.link_transfer.specs.{Cutter.{IsCutterAt, cut_waits}, Held.{waits, cut_of, is_chunk}}
 use Rattle.link_transfer.specs.declared.{cut.Cut.Cut, cutter.Cutter.Cutter}
 use Rattle.link_transfer.proofs.Giving.{Gives, same_cut, next_cut-at, last-at, IsCutterAt-cut, IsCutterAt-unshown}
-use Rattle.link_transfer.proofs.Pushing.{IsCutterAt-pushed}
+use Rattle.link_transfer.proofs.Steps.{IsCutterAt-push}
 
 -- ---- the numbers of bytes that are exactly the next chunk
 
 chunk_some : (begun last : Bool) (segment hold size : ℕ) → 0 < segment
     → is_chunk begun last segment hold size ≡ true → (0 < size) × (size ≤ segment)
-chunk_some begun true segment hold size some is = (grind (arith, nat_tests), grind (arith, nat_tests))
-chunk_some begun false segment hold size some is = (grind (arith, nat_tests), grind (arith, nat_tests))
+chunk_some begun last segment hold size some is =
+    (grind (arith, nat_tests), grind (arith, nat_tests))
 
 chunk_waits : (begun last : Bool) (segment hold size : ℕ)
     → is_chunk begun last segment hold size ≡ true → waits begun last segment hold size ≡ true
-chunk_waits begun true segment hold size is = refl
-chunk_waits begun false segment hold size is = grind (arith, nat_tests)
+chunk_waits begun last segment hold size is = grind (arith, nat_tests)
 
 chunk_cut : (begun last : Bool) (segment hold size : ℕ) → size ≤ segment
     → cut_of begun last segment hold size
     ≡ record { first = not begun; last = last; announce = None }
-chunk_cut begun last segment hold size few = same_cut _ _ _ _ _ _ refl (ends last) (silent begun last)
-  where
-    ends : (last : Bool) → (last && nat_le size segment) ≡ last
-    ends true = grind (arith, nat_tests)
-    ends false = refl
-
-    silent : (begun last : Bool) → (if not begun && (last && (nat_lt segment size && nat_le size hold)) then Some size else None) ≡ None
-    silent true last = refl
-    silent false true = grind (arith, nat_tests)
-    silent false false = refl
+chunk_cut begun last segment hold size few =
+    same_cut _ _ _ _ _ _ refl (grind (arith, nat_tests)) (grind (arith, nat_tests))
 
 -- ---- the history of the cutter
 
@@ -78,7 +69,7 @@ module _ (old : Cutter) (so_far : Cutting) (bytes : List ℕ) (last : Bool)
   }
 
   taken_at : IsCutterAt taken now
-  taken_at = IsCutterAt-pushed old taken so_far bytes last some are quiet
+  taken_at = IsCutterAt-push old taken so_far bytes last some are quiet
       (record {
         segment = refl;
         hold = refl;
@@ -108,12 +99,8 @@ module _ (old : Cutter) (so_far : Cutting) (bytes : List ℕ) (last : Bool)
     given = sym (take_all (min old.segment (length bytes)) bytes (omega (arith, few)));
     bytes = sym (drop_all (min old.segment (length bytes)) bytes (omega (arith, few)));
     begun = refl;
-    ended = ends last;
+    ended = grind arith;
   }
-    where
-      ends : (last : Bool) → false ≡ (last && not last)
-      ends true = refl
-      ends false = refl
 
   cut_at : IsCutterAt cut (after_cut now)
   cut_at = IsCutterAt-cut taken cut now waiting (subst (Gives taken cut) (sym last_same) gives) taken_at

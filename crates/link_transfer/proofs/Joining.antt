@@ -1,13 +1,12 @@
 -- The messages that a joiner has accepted, with one more.
-use Rattle.std.proofs.Common.{◌≡◌, ℕ, Bool, true, false, ◌||◌, cond, List, [], ◌∷◌, ◌++◌, reverse, Option, Some, None, if◌then◌else◌, refl, ap, sym, subst, ◌∙◌}
-use Rattle.std.proofs.lemmas.{List.{map_push, reverse-append}, List.Folds.list_any-append}
+use Rattle.std.proofs.Common.{◌≡◌, ℕ, Bool, false, ◌||◌, cond, List, [], ◌∷◌, ◌++◌, reverse, Option, Some, None, refl, ap, sym, subst, ◌∙◌, arith}
+use Rattle.std.proofs.{Math.Bool.or-false, lemmas.List.{map_push, reverse-append, Folds.list_any-append}}
 use Rattle.std.specs.{List.{list_any, find}, Option.option_and_then}
 use Rattle.link_wire.specs.declared.message.Message.{Message}
 use Rattle.link_transfer.specs.Event.{event_of}
 use Rattle.link_transfer.specs.Order.{is_sess_init, is_sess_term, is_segment, events_of, has_sess_init, has_sess_term, open_after, open_of, refusal, refusal_by, turn_of, turn_by, judged_message, judged_message_by, is_stray, is_stray_by, effect_of, effect_by, with_taken, appended_unless}
 use Rattle.link_transfer.specs.{Joiner.{IsJoinerAt, joiner_after}, declared.event.Event.Event}
-use Rattle.link_transfer.specs.declared.event.Event.TheVariants.{SessInit, SessTerm, Segment, Other}
-use Rattle.link_transfer.specs.declared.fault.OrderFault.TheVariants.{SecondSessInit, SegmentBeforeSessInit, NoSuchOpenTransfer, StartRepeatsOpenId, StartAfterSessTerm}
+use Rattle.link_transfer.specs.declared.event.Event.TheVariants.{Segment}
 use Rattle.link_transfer.specs.declared.joiner.Joiner.{Joiner}
 
 any-push : (test : Event → Bool) (before : List Message) (message : Message)
@@ -16,11 +15,7 @@ any-push : (test : Event → Bool) (before : List Message) (message : Message)
 any-push test before message =
     ap (list_any test) (map_push event_of before message)
     ∙ list_any-append test (events_of before) (event_of message ∷ [])
-    ∙ ap (λ b. list_any test (events_of before) || b) (or_false (test (event_of message)))
-  where
-    or_false : (b : Bool) → (b || false) ≡ b
-    or_false true = refl
-    or_false false = refl
+    ∙ ap (λ b. list_any test (events_of before) || b) (or-false (test (event_of message)))
 
 -- the last segment after one more message
 last-push : (before : List Message) (message : Message)
@@ -29,18 +24,6 @@ last-push : (before : List Message) (message : Message)
 last-push before message =
     ap (λ events. find is_segment (reverse events)) (map_push event_of before message)
     ∙ ap (find is_segment) (reverse-append (events_of before) (event_of message ∷ []))
-
-has_sess_init-push : (before : List Message) (message : Message)
-    → has_sess_init (before ++ message ∷ [])
-    ≡ (has_sess_init before || is_sess_init (event_of message))
-unfolding has_sess_init
-has_sess_init-push before message = any-push is_sess_init before message
-
-has_sess_term-push : (before : List Message) (message : Message)
-    → has_sess_term (before ++ message ∷ [])
-    ≡ (has_sess_term before || is_sess_term (event_of message))
-unfolding has_sess_term
-has_sess_term-push before message = any-push is_sess_term before message
 
 open_of-push : (before : List Message) (message : Message)
     → open_of (before ++ message ∷ [])
@@ -62,15 +45,6 @@ pub after-other : (before : List Message) (message : Message)
 unfolding open_of
 after-other before message is = rw (open_of-push before message, is) refl
 
--- a flag that an event sets, and one that it leaves
-raised : (flag before test : Bool) → flag ≡ (before || test) → test ≡ true → true ≡ flag
-raised flag true test same is = sym same
-raised flag false test same is = sym (same ∙ is)
-
-left_alone : (flag before test : Bool) → flag ≡ (before || test) → test ≡ false → before ≡ flag
-left_alone flag true test same is = sym same
-left_alone flag false test same is = sym (same ∙ is)
-
 pub IsJoinerAt-none : IsJoinerAt (record { initiated = false; terminated = false; transfer = None })
     []
 unfolding has_sess_init has_sess_term open_of
@@ -79,25 +53,11 @@ IsJoinerAt-none = record { initiated = refl; terminated = refl; transfer = refl 
 pub IsJoinerAt-then : (joiner : Joiner) (before : List Message) (message : Message) (event : Event)
     → event_of message ≡ event
     → IsJoinerAt joiner before → IsJoinerAt (joiner_after joiner event) (before ++ message ∷ [])
-IsJoinerAt-then joiner before message SessInit is at = record {
-  initiated = raised _ _ _ (has_sess_init-push before message) (ap is_sess_init is);
-  terminated = at.terminated ∙ left_alone _ _ _ (has_sess_term-push before message) (ap is_sess_term is);
-  transfer = at.transfer ∙ sym (after-other before message (ap is_segment is));
-}
-IsJoinerAt-then joiner before message SessTerm is at = record {
-  initiated = at.initiated ∙ left_alone _ _ _ (has_sess_init-push before message) (ap is_sess_init is);
-  terminated = raised _ _ _ (has_sess_term-push before message) (ap is_sess_term is);
-  transfer = at.transfer ∙ sym (after-other before message (ap is_segment is));
-}
-IsJoinerAt-then joiner before message (Segment flags id) is at = record {
-  initiated = at.initiated ∙ left_alone _ _ _ (has_sess_init-push before message) (ap is_sess_init is);
-  terminated = at.terminated ∙ left_alone _ _ _ (has_sess_term-push before message) (ap is_sess_term is);
-  transfer = sym (after-segment before message flags id is);
-}
-IsJoinerAt-then joiner before message Other is at = record {
-  initiated = at.initiated ∙ left_alone _ _ _ (has_sess_init-push before message) (ap is_sess_init is);
-  terminated = at.terminated ∙ left_alone _ _ _ (has_sess_term-push before message) (ap is_sess_term is);
-  transfer = at.transfer ∙ sym (after-other before message (ap is_segment is));
+unfolding has_sess_init has_sess_term open_of
+IsJoinerAt-then joiner before message event is at = record {
+  initiated = rw (any-push is_sess_init before message, is, ← at.initiated) (grind arith);
+  terminated = rw (any-push is_sess_term before message, is, ← at.terminated) (grind arith);
+  transfer = rw (open_of-push before message, is) (grind arith);
 }
 
 -- the judgement of an event, by the fields of a joiner
@@ -109,22 +69,9 @@ judged-at joiner before event at = rw (at.initiated, at.terminated, at.transfer)
 
 -- ---- a message that is taken whether or not it may come
 
--- the third rule refuses a stray segment
-third_rule : (first second stray fourth fifth : Bool)
-    → (if first then Some SecondSessInit
-    else if second then Some SegmentBeforeSessInit
-    else if stray then Some NoSuchOpenTransfer
-    else if fourth then Some StartRepeatsOpenId
-    else if fifth then Some StartAfterSessTerm
-    else None) ≡ None → stray ≡ false
-third_rule true second stray fourth fifth is = cc
-third_rule false true stray fourth fifth is = cc
-third_rule false false true fourth fifth is = cc
-third_rule false false false fourth fifth is = refl
-
 pub not_stray : (initiated terminated : Bool) (transfer : Option ℕ) (event : Event)
     → refusal_by initiated terminated transfer event ≡ None → is_stray_by transfer event ≡ false
-not_stray initiated terminated transfer event is = third_rule _ _ _ _ _ is
+not_stray initiated terminated transfer event is = grind arith
 
 module _ (joiner : Joiner) (before : List Message) (event : Event)
     (at : IsJoinerAt joiner before) where

@@ -1,7 +1,6 @@
 pub mod Joining
 pub mod Continuing
 pub mod Announcing
-pub mod Holding
 pub mod Due
 pub mod Steps
 pub mod Chunking

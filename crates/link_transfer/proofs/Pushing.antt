@@ -1,20 +1,12 @@
 -- Bytes pushed at once, and one at a time.
-use Rattle.std.proofs.Common.{◌≡◌, ℕ, zero, suc, ◌+◌, ◌-◌, ◌*◌, ◌<◌, ◌≤◌, Bool, true, false, ltb, leb, eqb, cond, ◌&&◌, List, [], ◌∷◌, length, take, min, max, None, is_some, refl, ap, subst, sym, ◌∙◌, arith}
-use Rattle.std.proofs.lemmas.{List.{append_assoc, length_push}, Bool.false≢true}
+use Rattle.std.proofs.Common.{◌≡◌, ℕ, zero, suc, ◌+◌, ◌-◌, ◌*◌, ◌<◌, ◌≤◌, Bool, true, false, ltb, leb, eqb, ◌&&◌, List, [], ◌∷◌, length, take, min, is_some, refl, ap, subst, sym, ◌∙◌, arith}
+use Rattle.std.proofs.{lemmas.{List.{append_assoc, length_push}, Bool.false≢true}, Math.Bool.and-false}
 use Rattle.std.proofs.lemmas.Bool.Decides.{nat_tests}
-use Rattle.link_wire.specs.Bytes.{AreBytes}
-use Rattle.link_transfer.specs.Cutting.{Cutting, due, due_of, next_cut, with_bytes, with_each, is_empty}
+use Rattle.link_transfer.specs.Cutting.{Cutting, due, due_of, next_cut, with_bytes, with_each}
 use Rattle.link_transfer.specs.{Cutter.{IsCutterAt, cut_waits}, Held.{waits, wanted_size}}
 use Rattle.link_transfer.specs.declared.cutter.Cutter.{Cutter}
 use Rattle.link_transfer.proofs.Due.{waits_as_due, given_within, due_more, wanted_some, waits_when_wanted}
-use Rattle.link_transfer.proofs.Steps.{IsCutterAt-push, Pushes, next_cut-is, goes_on, waits-at, size_of}
-
-pub IsCutterAt-pushed : (old new : Cutter) (so_far : Cutting) (pushed : List ℕ) (last : Bool)
-    → 0 < length pushed → AreBytes pushed
-    → cut_waits old ≡ false → Pushes old new pushed last → IsCutterAt old so_far
-    → IsCutterAt new (with_bytes pushed last so_far)
-IsCutterAt-pushed old new so_far [] last some are quiet pushes at = absurd (omega arith)
-IsCutterAt-pushed old new so_far (byte ∷ bytes) last some are quiet pushes at = IsCutterAt-push old new so_far byte bytes last are quiet pushes at
+use Rattle.link_transfer.proofs.Steps.{next_cut-is, goes_on, waits-at, size_of}
 
 -- the bundle is incomplete, and no chunk is ready
 pub record Quiet (so_far : Cutting) : Type 0 where
@@ -86,80 +78,40 @@ quiet_after byte flag so_far quiet going more = record {
 
 wanted_after : (byte : ℕ) (flag : Bool) (so_far : Cutting) → Quiet so_far
     → wanted (after_byte byte flag so_far) ≡ wanted so_far - 1
-wanted_after byte flag so_far quiet =
-    by_full (cond (ltb 0 (length so_far.given)) so_far.segment (max so_far.segment (so_far.hold + 1)))
-  where
-    by_full : (full : ℕ) → full - held (after_byte byte flag so_far) ≡ (full - held so_far) - 1
-    by_full full = omega (arith, held_after byte flag so_far quiet)
-
--- byte by byte: the next byte is the last that is taken, or it is not
-each_stop : (byte : ℕ) (bytes : List ℕ) (last : Bool) (so_far : Cutting)
-    → is_some (next_cut (after_byte byte (last && is_empty bytes) so_far)) ≡ true
-    → with_each (byte ∷ bytes) last so_far ≡ after_byte byte (last && is_empty bytes) so_far
-unfolding with_each
-each_stop byte bytes last so_far stops = rw stops refl
-
-each_go : (byte : ℕ) (bytes : List ℕ) (last : Bool) (so_far : Cutting)
-    → is_some (next_cut (after_byte byte (last && is_empty bytes) so_far)) ≡ false
-    → with_each (byte ∷ bytes) last so_far
-    ≡ with_each bytes last (after_byte byte (last && is_empty bytes) so_far)
-unfolding with_each
-each_go byte bytes last so_far goes = rw goes refl
-
-each_one : (byte : ℕ) (last : Bool) (so_far : Cutting)
-    → with_each (byte ∷ []) last so_far ≡ after_byte byte (last && true) so_far
-unfolding with_each
-each_one byte last so_far = same (is_some (next_cut (after_byte byte (last && true) so_far))) (after_byte byte (last && true) so_far)
-  where
-    same : (test : Bool) (x : Cutting) → cond test x x ≡ x
-    same true x = refl
-    same false x = refl
-
-and_false : (last : Bool) → (last && false) ≡ false
-and_false true = refl
-and_false false = refl
+wanted_after byte flag so_far quiet = omega (arith, held_after byte flag so_far quiet)
 
 eqb-suc : (a b : ℕ) → eqb (suc a) (suc b) ≡ eqb a b
 eqb-suc a b = grind (arith, nat_tests)
 
--- bytes that follow a byte
-with_bytes-cons : (byte next : ℕ) (bytes : List ℕ) (flag last : Bool) (so_far : Cutting)
-    → with_bytes (next ∷ bytes) last (after_byte byte flag so_far)
-    ≡ with_bytes (byte ∷ next ∷ bytes) last so_far
-with_bytes-cons byte next bytes flag last so_far =
-    ap (λ (bundle : List ℕ). record so_far { bundle = bundle; whole = last; chunk = None }) (append_assoc so_far.bundle (byte ∷ []) (next ∷ bytes))
-
 -- Pushing as many bytes as are needed, or all, is pushing these bytes one at a time.
-pub with_each-is : (byte : ℕ) (bytes : List ℕ) (last : Bool) (so_far : Cutting) (count : ℕ)
-    → Quiet so_far
-    → count ≡ min (wanted so_far) (length (byte ∷ bytes))
-    → with_bytes (take count (byte ∷ bytes)) (last && eqb count (length (byte ∷ bytes))) so_far
-    ≡ with_each (byte ∷ bytes) last so_far
-with_each-is byte [] last so_far count quiet is =
-    let some = wanted_first so_far quiet in
-    let one : count ≡ 1 = omega arith in
-    rw one (sym (each_one byte last so_far))
-with_each-is byte (next ∷ bytes) last so_far zero quiet is = absurd (omega (arith, wanted_first so_far quiet))
-with_each-is byte (next ∷ bytes) last so_far (suc zero) quiet is =
-    let test : leb (wanted so_far) 1 ≡ true = grind (arith, nat_tests) in
-    let more : eqb 1 (length (byte ∷ next ∷ bytes)) ≡ false = grind (arith, nat_tests) in
-    rw more (sym (each_stop byte (next ∷ bytes) last so_far (cut_after byte (last && false) so_far quiet (and_false last) ∙ test)))
-with_each-is byte (next ∷ bytes) last so_far (suc (suc count)) quiet is =
-    let test : leb (wanted so_far) 1 ≡ false = grind (arith, nat_tests) in
-    let after = after_byte byte (last && false) so_far in
-    let left : suc count ≡ min (wanted after) (length (next ∷ bytes)) = omega (arith, wanted_after byte (last && false) so_far quiet) in
-    ap (λ all. with_bytes (byte ∷ next ∷ take count bytes) (last && all) so_far) (eqb-suc (suc count) (length (next ∷ bytes)))
-    ∙ sym (with_bytes-cons byte next (take count bytes) (last && false) (last && eqb (suc count) (length (next ∷ bytes))) so_far)
-    ∙ with_each-is next bytes last after (suc count) (quiet_after byte (last && false) so_far quiet (and_false last) test) left
-    ∙ sym (each_go byte (next ∷ bytes) last so_far (cut_after byte (last && false) so_far quiet (and_false last) ∙ test))
-
-pub with_each-slice : (bytes : List ℕ) (last : Bool) (so_far : Cutting) (count : ℕ)
+pub with_each-is : (bytes : List ℕ) (last : Bool) (so_far : Cutting) (count : ℕ)
     → 0 < length bytes → Quiet so_far
     → count ≡ min (wanted so_far) (length bytes)
     → with_bytes (take count bytes) (last && eqb count (length bytes)) so_far
     ≡ with_each bytes last so_far
-with_each-slice [] last so_far count some quiet is = absurd (omega arith)
-with_each-slice (byte ∷ bytes) last so_far count some quiet is = with_each-is byte bytes last so_far count quiet is
+unfolding with_each
+with_each-is [] last so_far count some quiet is = absurd (omega arith)
+with_each-is (byte ∷ bytes) last so_far zero some quiet is =
+    absurd (omega (arith, wanted_first so_far quiet))
+with_each-is (byte ∷ []) last so_far (suc count) some quiet is =
+    let none : count ≡ 0 = omega arith in rw none (grind arith)
+with_each-is (byte ∷ next ∷ bytes) last so_far (suc zero) some quiet is =
+    let test : leb (wanted so_far) 1 ≡ true = grind (arith, nat_tests) in
+    let more : eqb 1 (length (byte ∷ next ∷ bytes)) ≡ false = grind (arith, nat_tests) in
+    rw (more, cut_after byte (last && false) so_far quiet (and-false last), test)
+with_each-is (byte ∷ next ∷ bytes) last so_far (suc (suc count)) some quiet is =
+    let test : leb (wanted so_far) 1 ≡ false = grind (arith, nat_tests) in
+    let after = after_byte byte (last && false) so_far in
+    let left : suc count ≡ min (wanted after) (length (next ∷ bytes)) =
+    omega (arith, wanted_after byte (last && false) so_far quiet) in
+    rw (
+      eqb-suc (suc count) (length (next ∷ bytes)),
+      cut_after byte (last && false) so_far quiet (and-false last),
+      test,
+      ← with_each-is (next ∷ bytes) last after (suc count) (omega arith)
+          (quiet_after byte (last && false) so_far quiet (and-false last) test) left,
+      append_assoc,
+    )
 
 pub with_each-none : (bytes : List ℕ) (last : Bool) (so_far : Cutting) → length bytes ≡ 0
     → so_far ≡ with_each bytes last so_far

@@ -1,6 +1,6 @@
 -- A cutter and its history, after one more step.
-use Rattle.std.proofs.Common.{◌≡◌, ℕ, ◌+◌, ◌-◌, ◌*◌, ◌<◌, ◌≤◌, max, Bool, true, false, ltb, cond, List, [], ◌∷◌, ◌++◌, length, Option, Some, None, is_some, ◌||◌, refl, ap, subst, sym, ◌∙◌, arith}
-use Rattle.std.proofs.lemmas.{List.Elements.{All-nil, All-append}, Bool.false≢true}
+use Rattle.std.proofs.Common.{◌≡◌, ℕ, ◌+◌, ◌-◌, ◌*◌, ◌<◌, ◌≤◌, max, Bool, true, false, ltb, List, [], ◌∷◌, ◌++◌, length, Option, Some, None, is_some, refl, ap, subst, sym, ◌∙◌, arith}
+use Rattle.std.proofs.lemmas.{List.Elements.{All-nil, All-append}, Bool.{false≢true, or_parts}}
 use Rattle.link_wire.specs.Bytes.{IsByte, AreBytes}
 use Rattle.std.specs.Bool.{OnFalse}
 use Rattle.std.proofs.lemmas.Bool.Decides.{nat_tests}
@@ -15,11 +15,7 @@ use Rattle.link_transfer.proofs.Due.{waits_as_due, given_within, due_more, chunk
 pub next_cut-is : (so_far : Cutting)
     → is_some (next_cut so_far) ≡ ltb (length so_far.given) (due so_far)
 unfolding next_cut
-next_cut-is so_far = by_test (ltb (length so_far.given) (due so_far)) _
-  where
-    by_test : {A : Type 0} (test : Bool) (x : A) → is_some (cond test (Some x) None) ≡ test
-    by_test true x = refl
-    by_test false x = refl
+next_cut-is so_far = grind arith
 
 -- the bytes held are those of the bundle without those of the chunks that were cut
 pub size_of : (cutter : Cutter) (so_far : Cutting) → IsCutterAt cutter so_far
@@ -56,11 +52,7 @@ shown_chunk (Some chunk) given left is some = is.0
 
 -- a cutter with no chunk ready has an incomplete bundle
 pub not_ended : (cutter : Cutter) → cut_waits cutter ≡ false → cutter.ended ≡ false
-not_ended cutter quiet = neither cutter.ended _ quiet
-  where
-    neither : (ended other : Bool) → (ended || other) ≡ false → ended ≡ false
-    neither true other is = is
-    neither false other is = refl
+not_ended cutter quiet = (or_parts cutter.ended _ quiet).0
 
 pub goes_on : (cutter : Cutter) (so_far : Cutting) → IsCutterAt cutter so_far
     → cut_waits cutter ≡ false → so_far.whole ≡ false
@@ -102,13 +94,13 @@ pub record Pushes (old new : Cutter) (pushed : List ℕ) (last : Bool) : Type 0 
   pub ended : new.ended ≡ last
   pub room : length old.held.bytes + length pushed ≤ max old.segment (old.hold + 1)
 
-pub IsCutterAt-push : (old new : Cutter) (so_far : Cutting) (byte : ℕ)
-    (bytes : List ℕ) (last : Bool)
-    → AreBytes (byte ∷ bytes)
-    → cut_waits old ≡ false → Pushes old new (byte ∷ bytes) last → IsCutterAt old so_far
-    → IsCutterAt new (with_bytes (byte ∷ bytes) last so_far)
+pub IsCutterAt-push : (old new : Cutter) (so_far : Cutting) (pushed : List ℕ) (last : Bool)
+    → 0 < length pushed → AreBytes pushed
+    → cut_waits old ≡ false → Pushes old new pushed last → IsCutterAt old so_far
+    → IsCutterAt new (with_bytes pushed last so_far)
 unfolding due
-IsCutterAt-push old new so_far byte bytes last are quiet pushes at =
+IsCutterAt-push old new so_far [] last some are quiet pushes at = absurd (omega arith)
+IsCutterAt-push old new so_far (byte ∷ bytes) last some are quiet pushes at =
     let size = length so_far.bundle in
     let count = length so_far.given in
     let more = length (byte ∷ bytes) in
