@@ -1,15 +1,15 @@
 -- Where a recorded stream stops, and which texts of a tool have the line of its fault.
-use Rattle.std.proofs.Common.{◌≡◌, ℕ, ◌+◌, ◌-◌, ◌<◌, ◌≤◌, ◌⊎◌, inl, inr, Bool, true, false, List, [], ◌∷◌, ◌++◌, length, take, Option, Some, None, if◌then◌else◌, ⊎_elim, refl, ap, sym, ◌∙◌, length-append, append-nil, take_all, arith}
-use Rattle.std.proofs.{Math.Seq.take-append-add, lemmas.Bool.{cases_Bool, cases_lt, false≢true}}
+use Rattle.std.proofs.Common.{◌≡◌, ℕ, ◌+◌, ◌-◌, ◌<◌, ◌≤◌, ◌⊎◌, inl, inr, true, false, List, [], ◌∷◌, ◌++◌, length, take, Option, Some, None, ⊎_elim, refl, ap, sym, ◌∙◌, length-append, append-nil, take_all, arith}
+use Rattle.std.proofs.{Math.Seq.take-append-add, lemmas.Bool.{cases_Bool, cases_lt, false≢true, false_from_ne_true}}
 use Rattle.std.proofs.lemmas.List.{take-append-le}
 use Rattle.link_wire.specs.{Device.Input, Limits.window_size, Source.{window_of, Takes}}
-use Rattle.link_wire.specs.Stream.{End, Clean, Cut, Fault, Reading, reading_of}
+use Rattle.link_wire.specs.Stream.{End, Fault, Reading, reading_of}
 use Rattle.link_wire.specs.{Session.{IsLeft, IsUndecided, IsRead}, declared.Source.Source}
 use Rattle.link_wire.specs.declared.fault.WireFault.{WireFault}
 use Rattle.link_wire.specs.declared.fault.WireFault.TheVariants as wire
-use Rattle.link_report.specs.{Fault.fault_text, declared.fault.Fault.Fault as ReportedFault}
+use Rattle.link_report.specs.{Fault.fault_text}
 use Rattle.link_report.proofs.Faults.{some_fault}
-use Rattle.link_run.specs.Made.{StreamStop, Made, IsLasting, with_fault, whole_by, so_far_by, shows_fault, tool_of, is_lasting, stop_of}
+use Rattle.link_run.specs.Made.{StreamStop, Made, IsLasting, whole_by, so_far_by, shows_fault, tool_of, is_lasting, stop_of}
 use Rattle.link_run.specs.Run.{Texts, EndsAtFault}
 use Rattle.link_run.proofs.Runs.{ReportsFaults, few_over}
 
@@ -17,16 +17,12 @@ use Rattle.link_run.proofs.Runs.{ReportsFaults, few_over}
 
 -- an end that more bytes may change shows no fault
 pub undecided_unshown : (end : End) → IsUndecided end → shows_fault (stop_of end) ≡ false
-undecided_unshown Clean is = refl
-undecided_unshown (Cut offset message content) is = refl
-undecided_unshown (Fault offset fault) is = ap is_lasting is
+undecided_unshown end is = grind arith
 
 -- an end at which a session goes on shows no fault
 pub standing_unshown : (offset left : ℕ) (end : End) → IsLeft offset left end
     → shows_fault (stop_of end) ≡ false
-standing_unshown offset left Clean is = refl
-standing_unshown offset left (Cut from message content) is = refl
-standing_unshown offset left (Fault from fault) is = absurd is
+standing_unshown offset left end is = grind arith
 
 -- every fault except `Truncated` lasts
 pub lasts : (fault : WireFault)
@@ -64,30 +60,24 @@ few_at_fault look old new history given offset fault reading takes read ends uns
 -- if no fault is shown, the texts so far have no line of a fault
 pub unshown_sofar : (stop : Option StreamStop) (texts : Texts) → shows_fault stop ≡ false
     → so_far_by stop texts ≡ texts
-unshown_sofar None texts is = refl
-unshown_sofar (Some stop) texts is = rw is refl
+unshown_sofar stop texts is = grind arith
 
 -- if a fault is shown, the texts so far and the whole texts are the same
 pub shown_sofar : (stop : Option StreamStop) (made : Made) → shows_fault stop ≡ true
     → so_far_by stop made.texts ≡ (whole_by stop made).texts
-shown_sofar None made is = absurd (cc)
-shown_sofar (Some stop) made is = rw is refl
-
-no_fault : (good : Bool) → ◌≡◌ {A = ℕ} (if good then 0 else 1) 3 → ⊥
-no_fault true is = omega (arith, is)
-no_fault false is = omega (arith, is)
-
-line_lasts : (lasting : Bool) (fault : ReportedFault) (texts : Texts)
-    → ((lasting ≡ true) × ((if lasting then with_fault fault texts else texts) ≡ with_fault fault texts))
-    ⊎ (length (if lasting then with_fault fault texts else texts).report < length (with_fault fault texts).report)
-line_lasts true fault texts = inl (refl, refl)
-line_lasts false fault texts = inr (omega (arith, length-append texts.report (fault_text fault), some_fault fault))
+shown_sofar stop made is = grind arith
 
 by_stop : (stop : Option StreamStop) (made : Made) → (whole_by stop made).status ≡ 3
     → ((shows_fault stop ≡ true) × (so_far_by stop made.texts ≡ (whole_by stop made).texts))
     ⊎ (length (so_far_by stop made.texts).report < length (whole_by stop made).texts.report)
-by_stop None made is = absurd (no_fault made.good is)
-by_stop (Some stop) made is = line_lasts stop.lasts stop.fault made.texts
+by_stop None made is = absurd (grind arith)
+by_stop (Some stop) made is =
+    ⊎_elim (λ shown. inl (shown, rw shown))
+    (λ hidden. rw hidden (inr (omega (
+      arith,
+      length-append made.texts.report (fault_text stop.fault),
+      some_fault stop.fault,
+    )))) (cases_Bool stop.lasts)
 
 -- the report of an input that a fault stops has the line of that fault
 pub made_reports : (made : List ℕ → Made) → ReportsFaults (tool_of made)
@@ -114,8 +104,7 @@ front_in front rest history given parts within =
 unshown_front : (made : List ℕ → Made) → IsLasting made → (front more : List ℕ)
     → shows_fault (made (front ++ more)).stop ≡ false → shows_fault (made front).stop ≡ false
 unshown_front made lasting front more unshown =
-    ⊎_elim (λ shown. absurd (false≢true (sym unshown ∙ lasting front more shown))) (λ is. is)
-    (cases_Bool (shows_fault (made front).stop))
+    false_from_ne_true _ (λ shown. false≢true (sym unshown ∙ lasting front more shown))
 
 -- bytes that show no fault
 pub ends_unshown : (made : List ℕ → Made) → IsLasting made → (bytes : List ℕ)

@@ -1,15 +1,16 @@
 -- How the texts of the steps make up the texts of a run, and how a run ends.
-use Rattle.std.proofs.Common.{◌≡◌, ℕ, ◌+◌, ◌-◌, min, ◌<◌, ◌≤◌, ◌⊎◌, inl, inr, true, false, List, [], ◌++◌, length, take, drop, Option, Some, None, Result, Ok, Err, ⊎_elim, refl, ap, sym, ◌∙◌, subst, length-append, append-nil, append_assoc, take_all, arith}
+use Rattle.std.proofs.Common.{◌≡◌, ℕ, ◌+◌, min, ◌<◌, ◌≤◌, ◌⊎◌, inl, inr, true, false, List, [], ◌++◌, length, take, Option, Some, None, Result, Ok, Err, ⊎_elim, refl, ap, ap₂, sym, ◌∙◌, length-append, append-nil, append_assoc, take_all, arith}
 use Rattle.std.proofs.{lemmas.Bool.false≢true, Math.Nat.min-le_right, Math.Seq.take-append-add}
 use Rattle.std.proofs.lemmas.List.{take-append-le, take_min}
-use Rattle.std.specs.Io.KnownBytes.{Consumes, prepend_known}
-use Rattle.std.proofs.KnownBytes.{Consumes-nil, Consumes-trans, Appends-nil, Appends-trans}
+use Rattle.std.specs.Io.KnownBytes.{Consumes, Appends, prepend_known}
+use Rattle.std.proofs.KnownBytes.{Consumes-trans, Appends-nil, Appends-trans}
+use Rattle.link_io.proofs.Windows.{range_none}
 use Rattle.link_wire.specs.{Device.{Input, Output}, Limits.window_size}
 use Rattle.link_wire.specs.Source.{reader_of, window_of, ahead, Takes, StopsAfter, IsOver}
 use Rattle.link_wire.specs.declared.IoFault.{IoFault}
 use Rattle.link_wire.specs.declared.IoFault.TheVariants as io
 use Rattle.link_wire.specs.declared.Source.{Source}
-use Rattle.link_run.specs.Run.{Texts, no_texts, ◌then◌, Tool, Looks, Devices, Place, devices_at, NoneFailed, Moves, HasWritten, HandedBack, AllGiven, FinishedRun, AreDue, IsBehind, EndedRun}
+use Rattle.link_run.specs.Run.{Texts, no_texts, ◌then◌, Tool, Looks, Devices, Place, devices_at, NoneFailed, HasWritten, HandedBack, AllGiven, FinishedRun, AreDue, IsBehind, EndedRun}
 use Rattle.link_run.specs.Writers.{place_of, on_output, Writes, WritesPart, AfterWrite, Unsettled}
 use Rattle.link_run.specs.declared.{run.Status.Status, writers.Writers.Writers}
 
@@ -21,10 +22,9 @@ Consumes-ahead window (Some xs) = refl
 
 -- texts are equal if their outputs and their reports are equal
 pub texts_as : {p q : Texts} → p.output ≡ q.output → p.report ≡ q.report → p ≡ q
-texts_as {p} {q} output report =
-    let of_output : List ℕ → Texts = λ xs. record { output = xs; report = p.report } in
-    let of_report : List ℕ → Texts = λ xs. record { output = q.output; report = xs } in
-    ap of_output output ∙ ap of_report report
+texts_as output report =
+    let made : List ℕ → List ℕ → Texts = λ xs ys. record { output = xs; report = ys } in
+    ap₂ made output report
 
 pub then_assoc : (first second third : Texts) → first then (second then third) ≡ (first then second)
     then third
@@ -43,20 +43,6 @@ ReportsFaults tool =
     ⊎ (length (tool.so_far given).report < length (tool.whole given).texts.report)
 
 module _ {R W E : Type 0} (look : Looks R W E) where
-  pub written_then : (start : Devices R W E) (mid new : Place R W E) (xs ys : List ℕ) (p q : Texts)
-      → HasWritten look start mid xs p
-      → Moves look mid new ys q
-      → HasWritten look start new (xs ++ ys) (p then q)
-  written_then start mid new xs ys p q first second =
-      let one = first.count in
-      let two = second.count in
-      record {
-        takes = Consumes-trans (look.input start.reader).left (ahead look.input mid.source) (ahead look.input new.source) xs ys first.takes second.takes;
-        count = omega (arith, length-append xs ys);
-        writes = Appends-trans (look.output start.output).written (look.output mid.output).written (look.output new.output).written p.output q.output first.writes second.writes;
-        reports = Appends-trans (look.report start.report).written (look.report mid.report).written (look.report new.report).written p.report q.report first.reports second.reports;
-      }
-
   -- the devices as the run returns them; the bytes taken include those that were not given
   pub written_left : (start : Devices R W E) (now : Place R W E) (bytes : List ℕ) (texts : Texts)
       → HasWritten look start now bytes texts
@@ -68,17 +54,10 @@ module _ {R W E : Type 0} (look : Looks R W E) where
     reports = written.reports;
   }
 
--- a source that has ended has given all that it read
-none_between : (window : List ℕ) (start end : ℕ) → start ≡ end
-    → take (end - start) (drop start window) ≡ []
-none_between window start end same =
-    let none : end - start ≡ 0 = omega arith in
-    rw none refl
-
 -- less than a window is left of an input that is over
 pub few_over : {R : Type 0} (look : R → Input) (s : Source R) → IsOver look s
     → length (window_of s) < window_size
-few_over look s over = let none = ap length (none_between s.window s.start s.end over.ended.1) in omega arith
+few_over look s over = omega (arith, ap length (range_none s.window s.start s.end over.ended.1))
 
 -- a prefix of the bytes determines these texts
 pub record StoodAt (tool : Tool) (given : List ℕ) (texts : Texts) : Type 0 where
@@ -92,35 +71,10 @@ abbrev pub Stood : Tool → (given : List ℕ) → Texts → Type 0
 Stood tool given texts = (texts.report ≡ []) ⊎ StoodAt tool given texts
 
 module _ {R W E : Type 0} (look : Looks R W E) where
-  -- bytes were given, and nothing was written
-  pub takes_moves : (old new : Source R) (w : Writers W E) (bytes : List ℕ)
-      → Takes look.input old new bytes
-      → Moves look (place_of old w) (place_of new w) bytes no_texts
-  takes_moves old new w bytes takes = record {
-    takes = takes.next;
-    count = takes.count;
-    writes = Appends-nil (look.output w.output).written;
-    reports = Appends-nil (look.report w.report).written;
-  }
-
-  -- texts were written, and nothing was given
-  pub writes_moves : (s : Source R) (old new : Writers W E) (texts : Texts)
-      → Writes look.output look.report old new texts
-      → Moves look (place_of s old) (place_of s new) [] texts
-  writes_moves s old new texts writes = record {
-    takes = Consumes-nil (ahead look.input s);
-    count = omega arith;
-    writes = writes.output;
-    reports = writes.report;
-  }
-
   pub written_as : {start : Devices R W E} {now : Place R W E} {xs ys : List ℕ} {p q : Texts}
       → HasWritten look start now xs p → xs ≡ ys → p ≡ q
       → HasWritten look start now ys q
-  written_as {start} {now} {xs} {ys} {p} {q} written bytes texts =
-      let P : List ℕ → Type 0 = λ b. HasWritten look start now b q in
-      let Q : Texts → Type 0 = λ t. HasWritten look start now xs t in
-      subst P bytes (subst Q texts written)
+  written_as written bytes texts = rw (bytes, texts) at written
 
   -- bytes are given, and the texts written so far stay the same
   pub written_given : (start : Devices R W E) (old new : Source R) (w : Writers W E)
@@ -128,16 +82,30 @@ module _ {R W E : Type 0} (look : Looks R W E) where
       → HasWritten look start (place_of old w) history texts
       → Takes look.input old new bytes
       → HasWritten look start (place_of new w) (history ++ bytes) texts
-  written_given start old new w history bytes texts written takes =
-      written_as (written_then look start (place_of old w) (place_of new w) history bytes texts no_texts written (takes_moves old new w bytes takes)) refl (then_none texts)
+  written_given start old new w history bytes texts written takes = record {
+    takes = Consumes-trans (look.input start.reader).left (ahead look.input old)
+        (ahead look.input new) history bytes written.takes takes.next;
+    count = omega (arith, written.count, takes.count, length-append history bytes);
+    writes = written.writes;
+    reports = written.reports;
+  }
 
-  pub written_more : (start : Devices R W E) (s : Source R) (old new : Writers W E)
-      (history : List ℕ) (before texts : Texts)
+  -- texts are written, and nothing is given
+  pub written_on : (start : Devices R W E) (s : Source R) (old new : Writers W E)
+      (history : List ℕ) (before texts : Texts) {all : Texts}
       → HasWritten look start (place_of s old) history before
-      → Writes look.output look.report old new texts
-      → HasWritten look start (place_of s new) history (before then texts)
-  written_more start s old new history before texts written writes =
-      written_as (written_then look start (place_of s old) (place_of s new) history [] before texts written (writes_moves s old new texts writes)) (append-nil history) refl
+      → Appends (look.output old.output).written (look.output new.output).written texts.output
+      → Appends (look.report old.report).written (look.report new.report).written texts.report
+      → before then texts ≡ all → HasWritten look start (place_of s new) history all
+  written_on start s old new history before texts written output report same =
+      rw (← same) (record {
+        takes = written.takes;
+        count = written.count;
+        writes = Appends-trans (look.output start.output).written (look.output old.output).written
+            (look.output new.output).written before.output texts.output written.writes output;
+        reports = Appends-trans (look.report start.report).written (look.report old.report).written
+            (look.report new.report).written before.report texts.report written.reports report;
+      })
 
   pub sound_given : (old new : Source R) (w : Writers W E) (bytes : List ℕ)
       → NoneFailed look (devices_at (place_of old w))
@@ -156,7 +124,7 @@ module _ {R W E : Type 0} (look : Looks R W E) where
   -- all of the input was given
   pub all_given : (s : Source R) (w : Writers W E) → IsOver look.input s
       → AllGiven look (devices_at (place_of s w)) (window_of s)
-  all_given s w over = (none_between s.window s.start s.end over.ended.1, over.empty)
+  all_given s w over = (range_none s.window s.start s.end over.ended.1, over.empty)
 
   -- the run has written the texts of the whole input
   pub answered : (tool : Tool) (start : Devices R W E) (s : Source R) (w : Writers W E)
@@ -203,14 +171,12 @@ module _ {R W E : Type 0} (look : Looks R W E) where
       → (output < length (tool.whole given).texts.output)
       ⊎ (report < length (tool.whole given).texts.report)
   lacking tool now given unread due output report faults (inl is) most less is_fault =
-      let P : Texts → Type 0 = λ t. (output < length t.output) ⊎ (report < length t.report) in
       ⊎_elim
-      (λ shown. subst P (is ∙ shown.1) less)
+      (λ shown. rw (is, shown.1) at less)
       (λ more. inr (omega (arith, more, ap (λ (t : Texts). length t.report) is)))
       (faults given is_fault)
   lacking tool now given unread due output report faults (inr is) most less is_fault =
-      let P : Texts → Type 0 = λ t. (output < length t.output) ⊎ (report < length t.report) in
-      subst P is.1 less
+      rw is.1 at less
 
   -- a writer failed in the middle of texts that are due
   pub writer_lost : (tool : Tool) → ReportsFaults tool → (start : Devices R W E) (s : Source R)
@@ -225,21 +191,21 @@ module _ {R W E : Type 0} (look : Looks R W E) where
       → EndedRun look tool start (devices_at (place_of s new)) given
       (Err fault)
   writer_lost tool faults start s old new given before texts due fault written sound same are_due few stood part =
-      let last : Moves look (place_of s old) (place_of s new) [] (record { output = take part.output_count texts.output; report = take part.report_count texts.report }) = record {
-        takes = Consumes-nil (ahead look.input s);
-        count = omega arith;
-        writes = part.output;
-        reports = part.report;
+      let front : Texts = record {
+        output = take part.output_count texts.output;
+        report = take part.report_count texts.report;
       } in
       let output = length before.output + part.output_count in
       let report = length before.report + part.report_count in
       let outputs : length due.output ≡ length before.output + length texts.output = ap (λ (t : Texts). length t.output) (sym same) ∙ length-append before.output texts.output in
       let reports : length due.report ≡ length before.report + length texts.report = ap (λ (t : Texts). length t.report) (sym same) ∙ length-append before.report texts.report in
-      let cut : before then (record { output = take part.output_count texts.output; report = take part.report_count texts.report }) ≡ record { output = take output due.output; report = take report due.report } =
+      let cut : before then front
+      ≡ record { output = take output due.output; report = take report due.report } =
       texts_as
       (sym (ap (λ (t : Texts). take output t.output) (sym same) ∙ take-append-add before.output texts.output part.output_count))
       (sym (ap (λ (t : Texts). take report t.report) (sym same) ∙ take-append-add before.report texts.report part.report_count)) in
-      let cut_off = written_as (written_then look start (place_of s old) (place_of s new) given [] before _ written last) (append-nil given) cut in
+      let cut_off =
+      written_on start s old new given before front written part.output part.report cut in
       rw part.kind (record {
         unread = window_of s;
         few = few;
@@ -273,12 +239,6 @@ module _ {R W E : Type 0} (look : Looks R W E) where
       (Err fault)
   settle_lost tool faults start s old new given fault written sound unshown few part =
       let due = tool.so_far given in
-      let kept : Moves look (place_of s old) (place_of s new) [] no_texts = record {
-        takes = Consumes-nil (ahead look.input s);
-        count = omega arith;
-        writes = part.output;
-        reports = part.report;
-      } in
       let all : due then no_texts ≡ record { output = take (length due.output) due.output; report = take (length due.report) due.report } =
       then_none due ∙ texts_as (sym (take_all (length due.output) due.output (omega arith))) (sym (take_all (length due.report) due.report (omega arith))) in
       rw part.kind (record {
@@ -289,7 +249,7 @@ module _ {R W E : Type 0} (look : Looks R W E) where
         output_count = length due.output;
         report_count = length due.report;
         written = written_left look start (place_of s new) given _
-            (written_as (written_then look start (place_of s old) (place_of s new) given [] due no_texts written kept) (append-nil given) all);
+            (written_on start s old new given due no_texts written part.output part.report all);
         reader = sound.reader;
         failed = ⊎_elim
             (λ is. inl (is.0, ap (λ e. (look.report e).failed) is.1 ∙ sound.report, inr (record { front = given; rest = []; parts = sym (append-nil given); output = omega arith; report = omega arith })))
@@ -339,8 +299,8 @@ module _ {R W E : Type 0} (look : Looks R W E) where
         output = sound.output;
         report = sound.report;
       }
-  reader_lost tool start old new w history given texts io.Write written sound due unshown stops = absurd stops.cause
-  reader_lost tool start old new w history given texts io.Memory written sound due unshown stops = absurd stops.cause
+  reader_lost tool start old new w history given texts fault written sound due unshown stops =
+      absurd stops.cause
 
 -- a prefix of a text is also a prefix of that text with more after it
 take_less : (count : ℕ) (text more : List ℕ)
@@ -427,13 +387,3 @@ module _ {W E : Type 0} (out_look : W → Output) (report_look : E → Output) (
       → AfterWrite out_look report_look old new (on_output (first ++ second)) result
   outputs_then first second =
       output_then out_look report_look old mid new first (on_output second)
-
-module _ {R W E : Type 0} (look : Looks R W E) where
-  -- handing on leaves the written texts as they are
-  pub settle_kept : (start : Devices R W E) (s : Source R) (old new : Writers W E)
-      (history : List ℕ) (texts : Texts)
-      → HasWritten look start (place_of s old) history texts
-      → Writes look.output look.report old new no_texts
-      → HasWritten look start (place_of s new) history texts
-  settle_kept start s old new history texts written writes =
-      written_as look (written_more look start s old new history texts no_texts written writes) refl (then_none texts)

@@ -1,5 +1,5 @@
 -- How a run ends if its session stops. The tool depends only on the reading of its input.
-use Rattle.std.proofs.Common.{◌≡◌, ℕ, ◌<◌, ◌≤◌, inl, inr, true, false, List, [], ◌++◌, length, take, Some, None, Result, Err, ⊎_elim, refl, ap, sym, ◌∙◌, subst, append-nil, arith}
+use Rattle.std.proofs.Common.{◌≡◌, ℕ, ◌<◌, ◌≤◌, inl, inr, true, false, List, [], ◌++◌, length, take, Some, None, Result, Err, ⊎_elim, refl, ap, sym, ◌∙◌, append-nil, arith}
 use Rattle.link_wire.specs.Limits.{window_size, longest_head}
 use Rattle.link_wire.specs.Source.{window_of, Takes, StopsAfter}
 use Rattle.link_wire.specs.Stream.{End, Clean, Cut, Fault, Reading, reading_of, ended}
@@ -26,9 +26,7 @@ IsUncut (Cut offset message content) = ⊥
 IsUncut (Fault offset fault) = Unit {0}
 
 undecided_uncut : (end : End) → IsUndecided end → IsUncut end
-undecided_uncut Clean is = tt
-undecided_uncut (Cut offset message content) is = absurd is
-undecided_uncut (Fault offset fault) is = tt
+undecided_uncut end is = grind arith
 
 -- For every reading with the same messages the tool writes the same texts, and it stops where that
 -- reading ends.
@@ -73,9 +71,9 @@ module _ {R W E : Type 0} {look : Looks R W E} {made : List ℕ → Made} {start
       is bytes ∙ ap of (ap reading_of (sym (append-nil bytes)) ∙ read.all [] (λ e. refl)) in
       let stop_is : (made bytes).stop ≡ Some (record { fault = Wire offset fault; lasts = is_lasting fault }) =
       ap (λ (m : Made). m.stop) m_is ∙ stops in
-      let whole : (made history).texts then on_report (fault_text (Wire offset fault)) ≡ (whole_by (made bytes).stop (made bytes)).texts =
-      then_fault (Wire offset fault) (made history).texts ∙ ap (with_fault (Wire offset fault)) (sym (ap (λ (m : Made). m.texts) m_is ∙ texts)) ∙ sym (ap (λ s. (whole_by s (made bytes)).texts) stop_is) in
-      let P : ℕ → Type 0 = λ status. AfterLastWrite look.output look.report before after (on_report (fault_text (Wire offset fault))) status answer in
+      let whole : (made history).texts then on_report (fault_text (Wire offset fault))
+      ≡ (whole_by (made bytes).stop (made bytes)).texts =
+      rw (stop_is, m_is, texts) (then_fault (Wire offset fault) (made history).texts) in
       ends most old new before at takes size few after (on_report (fault_text (Wire offset fault))) whole
       (⊎_elim
       (λ e. inl (read.over e, ap shows_fault stop_is ∙ ap is_lasting e))
@@ -85,7 +83,7 @@ module _ {R W E : Type 0} {look : Looks R W E} {made : List ℕ → Made} {start
         λ count less. ap (λ (m : Made). shows_fault m.stop) (is (history ++ take count given)) ∙ shown_last count less,
       ))
       (lasts fault))
-      answer (subst P (sym (ap (λ s. (whole_by s (made bytes)).status) stop_is)) gives)
+      answer (rw stop_is gives)
 
   -- the reader failed
   reader_fault : {given : List ℕ} (fault : IoFault) (answer : Result Status IoFault)
@@ -151,8 +149,7 @@ module _ {R W E : Type 0} {look : Looks R W E} {made : List ℕ → Made} {start
         → AfterEnd look.output look.report why mid after answer
         → LastStep look (tool_of made) start (devices_at (place_of (source_of new) after)) most history answer
     lost most why answer not_on gives =
-        let P : Stop → Type 0 = λ w. AfterEnd look.output look.report w mid after answer in
-        let as_failed = subst P not_on.is gives in
+        let as_failed = rw not_on.is at gives in
         rw (not_on.unread, as_failed.0, as_failed.1) (not_handed_on (source_of old) before mid at most not_on.fault not_on.few not_on.unsettled)
 
     pub message_ended : SameTexts of (reading_of history) → (why : Stop) (answer : Result Status IoFault)

@@ -8,7 +8,7 @@ use Rattle.link_run.specs.Stages.{Stands, AfterStage, written_by}
 use Rattle.link_run.specs.Writers.{place_of, Writes, WritesPart, AfterWrite, AfterLastWrite, Unsettled}
 use Rattle.link_run.specs.declared.{run.Status.Status, writers.Writers.Writers}
 use Rattle.link_run.proofs.Ends.{unshown_sofar, shown_sofar, made_reports, ends_unshown, ends_shown}
-use Rattle.link_run.proofs.Runs.{Stood, written_as, written_given, written_more, sound_given, sound_written, all_given, answered, writer_lost, settle_lost, settle_kept, reader_lost}
+use Rattle.link_run.proofs.Runs.{Stood, then_none, written_as, written_given, written_on, sound_given, sound_written, all_given, answered, writer_lost, settle_lost, reader_lost}
 
 -- the bytes so far determine what was written, or the report is empty
 stood_by : (begun : Bool) (made : List ℕ → Made) (history given : List ℕ)
@@ -47,7 +47,8 @@ module _ {R W E : Type 0} {look : Looks R W E} {made : List ℕ → Made} {start
       pub stands_on : Writes look.output look.report before after texts
           → Stands look made start true (place_of new after) bytes
       stands_on writes = record {
-        written = written_as look (written_more look start new before after bytes had texts still writes) refl due;
+        written = written_on look start new before after bytes had texts still writes.output
+            writes.report due;
         sound = sound_written look new before after texts still_sound writes;
         unshown = unshown;
         lasting = at.lasting;
@@ -106,7 +107,8 @@ module _ {R W E : Type 0} {look : Looks R W E} {made : List ℕ → Made} {start
           → EndedRun look (tool_of made) start (devices_at (place_of new after)) bytes answer
       end_by (Ok status) gives =
           answered look (tool_of made) start new after bytes status
-          (written_as look (written_more look start new before after bytes had texts still gives.0) refl whole)
+          (written_on look start new before after bytes had texts still gives.0.output
+          gives.0.report whole)
           (sound_written look new before after texts still_sound gives.0)
           gives.1
           (⊎_elim
@@ -153,7 +155,8 @@ module _ {R W E : Type 0} {look : Looks R W E} {made : List ℕ → Made} {start
   pub settled : Writes look.output look.report before after no_texts
       → Stands look made start true (place_of source after) history
   settled writes = record {
-    written = settle_kept look start source before after history (made history).texts at.written writes;
+    written = written_on look start source before after history (made history).texts no_texts
+        at.written writes.output writes.report (then_none (made history).texts);
     sound = sound_written look source before after no_texts at.sound writes;
     unshown = at.unshown;
     lasting = at.lasting;

@@ -1,9 +1,9 @@
 -- Steps, one after another, make a stride.
-use Rattle.std.proofs.Common.{◌≡◌, ℕ, ◌+◌, ◌≤◌, Bool, List, ◌++◌, length, Option, None, Result, Ok, Err, ⊎_elim, sym, subst, append_assoc, length-append, arith}
+use Rattle.std.proofs.Common.{◌≡◌, ℕ, ◌+◌, ◌≤◌, Bool, List, ◌++◌, length, Option, None, Result, Ok, Err, ⊎_elim, append_assoc, length-append, arith}
 use Rattle.std.proofs.lemmas.Bool.{cases_lt}
 use Rattle.link_wire.specs.declared.{IoFault.IoFault, Source.Source}
 use Rattle.link_run.specs.Made.{Made, tool_of}
-use Rattle.link_run.specs.Run.{Tool, Looks, Devices, Place, EndedRun, WentOn, LastStep, AfterStep, EndsAtFault}
+use Rattle.link_run.specs.Run.{Tool, Looks, Devices, Place, WentOn, LastStep, AfterStep}
 use Rattle.link_run.specs.{Stages.{Stands, AfterStage, IsMore}, declared.run.Progress.Progress}
 use Rattle.link_run.specs.declared.run.{Progress.TheVariants.{More, Done}, Status.Status}
 
@@ -41,7 +41,7 @@ went_later {stands} {first} {history} went more =
       size = omega (arith, length-append went.given more.given);
       count = omega (arith, length-append went.given more.given);
       window = more.window;
-      at = subst stands (append_assoc history went.given more.given) more.at;
+      at = rw append_assoc at more.at;
     }
 
 module _ {R W E : Type 0} (look : Looks R W E) (tool : Tool) (start : Devices R W E) where
@@ -52,12 +52,11 @@ module _ {R W E : Type 0} (look : Looks R W E) (tool : Tool) (start : Devices R 
       → LastStep look tool start now (first + second) history answer
   last_later {now} {history} {answer} bytes size last =
       let size_later = last.size in
-      let P : List ℕ → Type 0 = λ given. EndedRun look tool start now given answer in
       record {
         given = bytes ++ last.given;
         size = omega (arith, length-append bytes last.given);
-        gave = subst P (append_assoc history bytes last.given) last.gave;
-        ends = subst (EndsAtFault tool) (append_assoc history bytes last.given) last.ends;
+        gave = rw append_assoc at last.gave;
+        ends = rw append_assoc at last.ends;
       }
 
   module _ (old mid new : Place R W E) (between stands : List ℕ → Type 0) (history : List ℕ) where
@@ -80,9 +79,6 @@ pub stage_kept : {R W E : Type 0} (look : Looks R W E) (made later : List ℕ �
     (λ bytes. (answer ≡ None) × (Stands look later start begun new bytes × knows bytes))
     most history result
 stage_kept look made later start begun old new knows most history answer (Ok More) same none went =
-    let P : (List ℕ → Made) → Type 0 = λ m. Stands look m start begun new (history ++ went.given) in
-    went_with went (none tt, (subst P (sym same) went.at.0, went.at.1))
-stage_kept look made later start begun old new knows most history answer (Ok (Done status)) same
-    none last = last
-stage_kept look made later start begun old new knows most history answer (Err fault) same none
-    last = last
+    went_with went (none tt, (rw same went.at.0, went.at.1))
+stage_kept look made later start begun old new knows most history answer result same none last =
+    last

@@ -1,5 +1,5 @@
 -- When a call waits for its input, and when a step of a run does.
-use Rattle.std.proofs.Common.{◌≡◌, ◌⊎◌, inl, inr, ℕ, Bool, true, false, List, [], ◌∷◌, ◌++◌, length, Result, ⊎_elim, refl, ap, sym, ◌∙◌, subst, append-nil, append_assoc, length-append, arith}
+use Rattle.std.proofs.Common.{◌≡◌, ◌⊎◌, inl, inr, ℕ, Bool, true, false, List, [], ◌∷◌, ◌++◌, length, Result, ⊎_elim, refl, ap, sym, ◌∙◌, append-nil, append_assoc, length-append, arith}
 use Rattle.std.specs.{Prelude.All, Io.KnownBytes.Appends}
 use Rattle.std.proofs.KnownBytes.{Appends-trans}
 use Rattle.std.proofs.lemmas.List.Elements.{All-nil, All-push, All-weaker}
@@ -49,13 +49,11 @@ never_longer before after last same more =
 shown_after : {start now later : Output} (text due : List ℕ)
     → Appends start.written now.written text → HasShown now later [] → text ≡ due
     → HasShown start later due
-shown_after {start} {now} {later} text due wrote shown is =
-    let P : List ℕ → Type 0 = λ all. Appends start.written later.written all in
-    record {
-      written = subst P (append-nil text ∙ is)
-          (Appends-trans start.written now.written later.written text [] wrote shown.written);
-      handed = shown.handed;
-    }
+shown_after {start} {now} {later} text due wrote shown is = record {
+  written = rw (append-nil text, is) at
+      (Appends-trans start.written now.written later.written text [] wrote shown.written);
+  handed = shown.handed;
+}
 
 module _ {R W E : Type 0} {look : Looks R W E} {made : List ℕ → Made} {start : Devices R W E} where
   -- a run waits with nothing in hand
@@ -138,32 +136,22 @@ module _ {R W E : Type 0} (look : Looks R W E) (tool : Tool) (start : Devices R 
       })
       waits
 
--- The last stride of a run: what it gave, and all waits since the run began.
-pub ran_on : {R W E : Type 0} (look : Looks R W E) (tool other : Tool) (start now devices : Devices R W E)
-    {most : ℕ} {spared : Type 0} {place : Place R W E} {before between after later : List (Wait W E)}
-    (history : List ℕ)
-    {answer result : Result Status IoFault}
-    (last : LastStep look tool start now most history answer) → tool ≡ other
-    → Waited look other start history before between
-    → WaitsOnce spared between later
-    (λ wait. IsWaitAt look place wait × IsPrompt look tool start history wait)
-    → devices ≡ now → result ≡ answer → after ≡ later
-    → AfterRunFrom look other start devices before after result
-ran_on {R} {W} {E} look tool other start now devices {most} {spared} {place} {before} {between} {after} {later} history {answer} {result} last same waited waits back is ends =
-    let P : Tool → Type 0 = λ t. LastStep look t start now most history answer in
-    let Q : Tool → Type 0 = λ t. WaitsOnce spared between later
-    (λ wait. IsWaitAt look place wait × IsPrompt look t start history wait) in
-    let D : Devices R W E → Type 0 = λ d. AfterRunFrom look other start d before after result in
-    let S : Result Status IoFault → Type 0 = λ r. AfterRunFrom look other start now before after r in
-    let gave = subst P same last in
-    let all = waited_more look other start history gave.given before between later waited (subst Q same waits) in
-    subst D (sym back) (subst S (sym is) (record {
-      waits = all.since;
-      are = ends ∙ all.are;
-      ran = record {
-        given = history ++ gave.given;
-        gave = gave.gave;
-        ends = gave.ends;
-        prompt = all.prompt;
-      };
-    }))
+  -- the last stride of a run: what it gave, and all waits since the run began
+  pub ran_on : {now : Devices R W E} {most : ℕ} {spared : Type 0} {place : Place R W E}
+      {before between later : List (Wait W E)} {answer : Result Status IoFault} (history : List ℕ)
+      → LastStep look tool start now most history answer → Waited history before between
+      → WaitsOnce spared between later
+      (λ wait. IsWaitAt look place wait × IsPrompt look tool start history wait)
+      → AfterRunFrom look tool start now before later answer
+  ran_on history last waited waits =
+      let all = waited_more history last.given _ _ _ waited waits in
+      record {
+        waits = all.since;
+        are = all.are;
+        ran = record {
+          given = history ++ last.given;
+          gave = last.gave;
+          ends = last.ends;
+          prompt = all.prompt;
+        };
+      }

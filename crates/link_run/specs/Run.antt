@@ -170,14 +170,6 @@ module _ {R W E : Type 0} (look : Looks R W E) where
     pub output : (look.output devices.output).failed ≡ false
     pub report : (look.report devices.report).failed ≡ false
 
-  -- between `old` and `new` these bytes were given, and these texts were written
-  pub record Moves (old new : Place R W E) (bytes : List ℕ) (texts : Texts) : Type 0 where
-    pub takes : Consumes (ahead look.input old.source) (ahead look.input new.source) bytes
-    pub count : given_by new.source ≡ given_by old.source + length bytes
-    pub writes : Appends (look.output old.output).written (look.output new.output).written texts.output
-    pub reports : Appends (look.report old.report).written
-        (look.report new.report).written texts.report
-
   -- since the devices were as in `start`, these bytes were given, and these texts were written
   pub record HasWritten (start : Devices R W E) (now : Place R W E) (bytes : List ℕ)
       (texts : Texts) : Type 0 where

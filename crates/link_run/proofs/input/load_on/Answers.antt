@@ -1,23 +1,7 @@
-use Rattle.std.proofs.{Common.{length, inl, inr, refl, ap, arith}, lemmas.Bool.false≢true}
-use Rattle.std.proofs.lemmas.Result.{err_from_is_err_and}
+use Rattle.std.proofs.{Common.{length, ap, arith}}
 use Rattle.link_run.specs.Run.{looks}
 use Rattle.link_run.proofs.{Readings.{data_given, input_as}, Waiting.waits_enough}
 use Rattle.link_run.proofs.input.load_on.Goals as goal
-
-pub returns-in_err-settle_before : goal.returns-in_err-settle_before
-returns-in_err-settle_before g c =
-    let settled = c.in_err-settle_before.ensures in
-    let exit = err_from_is_err_and c.from_residual.result c.from_residual.ensures.1 in
-    rw (exit.1, exit.2) (record {
-      size = tt;
-      here = λ some. absurd (omega (arith, some, ap length c.requires));
-      opened = λ is. is;
-      gives = λ history at. inr settled.gives;
-      waits = λ history at. inl (ap (λ log. log.items) settled.none, inr refl);
-      left = refl;
-      line = settled.line;
-      stopped = λ why has. absurd (false≢true (settled.stopped why has).2);
-    })
 
 pub returns : goal.returns
 returns g c =

@@ -1,24 +1,7 @@
-use Rattle.std.proofs.{Common.{refl, ap, inl, inr}, lemmas.Bool.false≢true}
-use Rattle.std.proofs.lemmas.Result.{err_from_is_err_and}
 use Rattle.link_run.specs.Run.{looks}
-use Rattle.link_run.proofs.Readings.{opened_to_read, message_given, input_as}
+use Rattle.link_run.proofs.Readings.{message_given, input_as}
 use Rattle.link_run.proofs.Waiting.{waits_enough}
 use Rattle.link_run.proofs.input.read_message.Goals as goal
-
-pub returns-in_err-settle_before : goal.returns-in_err-settle_before
-returns-in_err-settle_before g c =
-    let session = c.args.input.now.feed in
-    let settled = c.in_err-settle_before.ensures in
-    let exit = err_from_is_err_and c.from_residual.result c.from_residual.ensures.1 in
-    rw (exit.1, exit.2) (record {
-      opened = opened_to_read session.phase session.left c.requires;
-      gives = λ history at. inr settled.gives;
-      waits = λ history at. inl (ap (λ log. log.items) settled.none, inr refl);
-      totals = tt;
-      left = refl;
-      line = settled.line;
-      stopped = λ why has. absurd (false≢true (settled.stopped why has).2);
-    })
 
 pub returns : goal.returns
 returns g c =
