@@ -44,21 +44,16 @@ no_eid = record { kind = 0; allocator = 0; node = 0; service = 0; name_length = 
 
 -- an endpoint ID as its kind and numbers
 abbrev pub eid_shown : Eid → EidNumbers
-eid_shown DtnNone =
-    record { kind = 1; allocator = 0; node = 0; service = 0; name_length = 0 }
-eid_shown (Dtn name) =
-    record { kind = 2; allocator = 0; node = 0; service = 0; name_length = length name.items }
-eid_shown (Ipn node service) =
-    record { kind = 3; allocator = 0; node = node; service = service; name_length = 0 }
+eid_shown DtnNone = record no_eid { kind = 1 }
+eid_shown (Dtn name) = record no_eid { kind = 2; name_length = length name.items }
+eid_shown (Ipn node service) = record no_eid { kind = 3; node = node; service = service }
 eid_shown (Ipn3 allocator node service) =
-    record { kind = 4; allocator = allocator; node = node; service = service; name_length = 0 }
+    record no_eid { kind = 4; allocator = allocator; node = node; service = service }
 
 -- the name of a dtn endpoint ID, which the others do not have
 abbrev pub name_of : Eid → List ℕ
-name_of DtnNone = []
 name_of (Dtn name) = name.items
-name_of (Ipn node service) = []
-name_of (Ipn3 allocator node service) = []
+name_of _ = []
 
 -- an endpoint ID that may be missing
 abbrev pub eid_or_none : Option Eid → EidNumbers

@@ -50,10 +50,4 @@ wire_fault fault offset =
 -- TCPCLKIT_TRUNCATED or TCPCLKIT_FAULT
 abbrev pub wire_status : WireFault → ℕ
 wire_status Truncated = 2
-wire_status BadMagic = 4
-wire_status (BadVersion version) = 4
-wire_status (UnknownType kind) = 4
-wire_status (NodeIdTooLong size) = 4
-wire_status (ListTooLong size) = 4
-wire_status TooManyItems = 4
-wire_status ItemsOverrun = 4
+wire_status _ = 4

@@ -1,5 +1,5 @@
 -- Faults by their numbers.
-use Rattle.std.specs.Prelude.{ℕ, ◌==◌, ◌&&◌, nat_lt, Option, Some, None, if◌then◌else◌}
+use Rattle.std.specs.Prelude.{ℕ, ◌==◌, ◌&&◌, nat_lt, Option, Some, None, option_map, if◌then◌else◌}
 use Rattle.link_bundle_types.specs.declared.fault.BundleFault.{BundleFault}
 use Rattle.link_bundle_types.specs.declared.fault.BundleFault.TheVariants.{Cut, Trailing, NotABundle, BadHead, WrongKind, BadCount, BadVersion, BadCheckType, BadScheme, BadSpecificPart, EidTooLong, BadCheckLength, CheckDiffers, BadBlockNumber, RepeatedBlockNumber, TooManyBlocks, NoPayloadLast}
 use Rattle.link_transfer.specs.declared.fault.OrderFault.{OrderFault}
@@ -54,21 +54,9 @@ bundle_by code =
     else if code == 117 then Some NoPayloadLast
     else None
 
-abbrev pub option_wire : Option WireFault → Option Named
-option_wire None = None
-option_wire (Some fault) = Some (named.Wire fault)
-
-abbrev pub option_order : Option OrderFault → Option Named
-option_order None = None
-option_order (Some fault) = Some (named.Order fault)
-
-abbrev pub option_bundle : Option BundleFault → Option Named
-option_bundle None = None
-option_bundle (Some fault) = Some (named.Bundle fault)
-
 -- the fault that has this code and this number
 abbrev pub named_by : ℕ → ℕ → Option Named
 named_by code number =
-    if nat_lt code 51 then option_wire (wire_by code number)
-    else if nat_lt code 101 then option_order (order_by code)
-    else option_bundle (bundle_by code)
+    if nat_lt code 51 then option_map named.Wire (wire_by code number)
+    else if nat_lt code 101 then option_map named.Order (order_by code)
+    else option_map named.Bundle (bundle_by code)

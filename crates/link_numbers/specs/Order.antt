@@ -52,22 +52,20 @@ abbrev pub bit : Bool → ℕ
 bit true = 1
 bit false = 0
 
-abbrev pub begin_shown : Option ℕ → Bool → Turn
-begin_shown None last =
-    record { fault = 0; turn = 1; last = bit last; abandons = 0; abandoned = 0 }
-begin_shown (Some transfer) last =
-    record { fault = 0; turn = 1; last = bit last; abandons = 1; abandoned = transfer }
-
 -- a message that does nothing
 abbrev pub no_turn : Turn
 no_turn = record { fault = 0; turn = 0; last = 0; abandons = 0; abandoned = 0 }
+
+abbrev pub begin_shown : Option ℕ → Bool → Turn
+begin_shown None last = record no_turn { turn = 1; last = bit last }
+begin_shown (Some transfer) last =
+    record no_turn { turn = 1; last = bit last; abandons = 1; abandoned = transfer }
 
 -- what an accepted message does, as numbers
 abbrev pub turn_shown : effect.Turn → Turn
 turn_shown Other = no_turn
 turn_shown (Begin transfer last) = begin_shown transfer last
-turn_shown (Continue last) =
-    record { fault = 0; turn = 2; last = bit last; abandons = 0; abandoned = 0 }
+turn_shown (Continue last) = record no_turn { turn = 2; last = bit last }
 
 -- the open transfer of these numbers
 abbrev pub transfer_by : (is_open transfer : ℕ) → Option ℕ

@@ -1,6 +1,6 @@
 //! The verdict on a bundle, its endpoint IDs and its fields as numbers.
 
-ghost use Rattle.std.specs.Prelude.{◌≡◌, option_map, if◌then◌else◌, IfSome};
+ghost use Rattle.std.specs.Prelude.{◌≡◌, option_map, IfSome};
 ghost use Rattle.link_bundle_types.specs.BundleView.{viewed_info, viewed_verdict};
 ghost use Rattle.link_bundle_types.specs.EidView.{viewed_eid};
 ghost use Rattle.link_bundle_types.specs.ShortNames.{IsShort};
@@ -208,13 +208,6 @@ pub fn name_or_none<'a>(eid: &Option<EidView<'a>>) -> &'a [u8]
     }
 }
 
-/// Whether something holds, as a number.
-fn one_if(holds: bool) -> u64
-    ensures { result ≡ (if holds then 1 else 0) }
-{
-    if holds { 1 } else { 0 }
-}
-
 /// The fields of a primary block up to its first fault, as numbers.
 pub fn primary_shown(verdict: Verdict, primary: &PrimaryView<'_>) -> Bundle
     ensures { result ≡ primary_shown verdict (viewed_fields primary.now) }
@@ -222,7 +215,7 @@ pub fn primary_shown(verdict: Verdict, primary: &PrimaryView<'_>) -> Bundle
     Bundle {
         verdict,
         primary_fields: primary.accepted,
-        primary_whole: one_if(primary.whole),
+        primary_whole: u64::from(primary.whole),
         flags: primary.flags,
         destination: eid_or_none(&primary.destination),
         source: eid_or_none(&primary.source),
@@ -230,7 +223,7 @@ pub fn primary_shown(verdict: Verdict, primary: &PrimaryView<'_>) -> Bundle
         time: primary.time,
         sequence: primary.sequence,
         lifetime: primary.lifetime,
-        is_fragment: one_if(row::is_fragment(primary.flags)),
+        is_fragment: u64::from(row::is_fragment(primary.flags)),
         fragment_offset: primary.fragment_offset,
         fragment_total: primary.fragment_total,
         blocks: 0,
@@ -249,7 +242,7 @@ pub fn bundle_shown(verdict: Verdict, primary: &PrimaryView<'_>, info: &BundleVi
     Bundle {
         verdict,
         primary_fields: primary.accepted,
-        primary_whole: one_if(primary.whole),
+        primary_whole: u64::from(primary.whole),
         flags: info.flags,
         destination: eid_shown(&info.destination),
         source: eid_shown(&info.source),
