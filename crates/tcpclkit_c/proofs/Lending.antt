@@ -5,10 +5,9 @@ use base.Fml.{Lft}
 use base.Logic.{ent, sep}
 use types.Kit.{Item, mean}
 use types.Logic.{Logic}
-use Rattle.tcpclkit_c.specs.declared.scan.MarkedScan.{MarkedScan}
+use Rattle.tcpclkit_c.specs.{declared.scan.MarkedScan.MarkedScan, Scan.{IsScan, HoldsScan}}
 use Rattle.tcpclkit_c.specs.contracts.scan.MarkedScan.{the_row as R}
 use Rattle.tcpclkit_c.proofs.scan.MarkedScan.TheLaws.{the_row_laws, the_within}
-use Rattle.tcpclkit_c.specs.Scan.{IsScan, HoldsScan}
 
 module _ {M : Type 1} {𝓤 : Ura M} (𝓛 : Logic 𝓤) (scan : MarkedScan) (b o : ℕ) where
   -- a reference to the scan for the lifetime κ, the lender's part, and the token of κ

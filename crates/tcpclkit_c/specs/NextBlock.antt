@@ -6,8 +6,8 @@ use Rattle.link_bundle_blocks.specs.Bundle.{bundle_goes, blocks_in}
 use Rattle.link_bundle.specs.Scan.{HasScanned, ending}
 use Rattle.link_bundle.specs.declared.scan.BundleScan.{BundleScan}
 use Rattle.link_numbers.specs.Block.{first_shown}
-use Rattle.tcpclkit_c.specs.Scan.{IsScan, mark, has_room, status_after}
 use Rattle.link_numbers.specs.declared.block.BlockNumbers.{BlockNumbers}
+use Rattle.tcpclkit_c.specs.Scan.{IsScan, mark, has_room, status_after}
 use Rattle.tcpclkit_c.specs.declared.scan.MarkedScan.{MarkedScan}
 
 -- whether more bytes are needed, and no block has ended after the bytes seen

@@ -9,8 +9,8 @@ use Rattle.link_tools.specs.declared.options.Job.{Job}
 use Rattle.link_tools.specs.declared.options.Job.TheVariants as job
 use Rattle.link_unpack.specs.declared.wanted.Wanted.{Wanted}
 use Rattle.tcpclkit_c.specs.declared.options.BlocksNumbers.{BlocksNumbers}
-use Rattle.tcpclkit_c.specs.declared.options.CheckNumbers.{CheckNumbers}
 use Rattle.tcpclkit_c.specs.declared.options.PackNumbers.{PackNumbers}
+use Rattle.tcpclkit_c.specs.declared.options.CheckNumbers.{CheckNumbers}
 use Rattle.tcpclkit_c.specs.declared.options.UnpackNumbers.{UnpackNumbers}
 
 abbrev pub has_nonzero : List ℕ → Bool

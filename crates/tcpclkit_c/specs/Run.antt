@@ -28,26 +28,15 @@ pub record WroteNothing (output report : List ℕ) (fault : IoFault) : Type 0 wh
   pub no_report : report ≡ []
   pub lacks : fault ≡ io.Memory
 
--- no device failed, so a run has an exit status
-abbrev pub WroteWhole : Outcome → (output report : List ℕ) → Result Status IoFault → Type 0
-WroteWhole whole output report (Ok status) = WroteAll whole output report status
-WroteWhole whole output report (Err fault) = ⊥
-
-abbrev pub WroteNone : (output report : List ℕ) → Result Status IoFault → Type 0
-WroteNone output report (Ok status) = ⊥
-WroteNone output report (Err fault) = WroteNothing output report fault
-
--- what a run of the tool over these bytes has written; `None` is a tool that was refused its memory
+-- What a run of the tool over these bytes has written. No device failed, so it has an exit status.
+-- `None` is a tool that was refused its memory.
 abbrev pub HasWritten : Option Tool → (bytes output report : List ℕ) → Result Status IoFault
     → Type 0
-HasWritten (Some tool) bytes output report answer =
-    WroteWhole (tool.whole bytes) output report answer
-HasWritten None bytes output report answer = WroteNone output report answer
-
--- the same of a job, as a record
-pub record HasRun (job : Job) (bytes output report : List ℕ)
-    (answer : Result Status IoFault) : Type 0 where
-  pub wrote : HasWritten (job_tool job) bytes output report answer
+HasWritten (Some tool) bytes output report (Ok status) =
+    WroteAll (tool.whole bytes) output report status
+HasWritten (Some tool) bytes output report (Err fault) = ⊥
+HasWritten None bytes output report (Ok status) = ⊥
+HasWritten None bytes output report (Err fault) = WroteNothing output report fault
 
 -- The slice was `before`, and now is `slice`: the text was written to its start, as far as it fits.
 -- `written` has the length of the whole text, up to 2^64 - 1, and whether all of it fits.

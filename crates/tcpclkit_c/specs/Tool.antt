@@ -10,10 +10,10 @@ use Rattle.link_run.specs.Run.{Tool, Outcome}
 use Rattle.link_unpack.specs.Unpacking.{unpack_tool}
 use Rattle.tcpclkit_c.specs.Options.{unpack_numbers, wanted_of, blocks_numbers, block_options_of, check_numbers, check_options_of, pack_numbers, HasOptions}
 use Rattle.tcpclkit_c.specs.Slice.{HoldsFront, KeepsRest}
-use Rattle.tcpclkit_c.specs.declared.options.BlocksNumbers.{BlocksNumbers}
-use Rattle.tcpclkit_c.specs.declared.options.CheckNumbers.{CheckNumbers}
 use Rattle.tcpclkit_c.specs.declared.running.Run.{Run}
 use Rattle.tcpclkit_c.specs.declared.running.Wants.{Wants}
+use Rattle.tcpclkit_c.specs.declared.options.BlocksNumbers.{BlocksNumbers}
+use Rattle.tcpclkit_c.specs.declared.options.CheckNumbers.{CheckNumbers}
 
 -- the slices for the two texts, before or after a call
 pub record Slices : Type 0 where

@@ -1,9 +1,9 @@
 //! A run of a whole tool over a slice, into two slices.
 
 ghost use Rattle.std.specs.Prelude.{◌≡◌, [], length};
-ghost use Rattle.link_tools.specs.Options.{IsReady};
+ghost use Rattle.link_tools.specs.Options.{IsReady, job_tool};
 ghost use Rattle.tcpclkit_c.specs.Tool.{texts_status};
-ghost use Rattle.tcpclkit_c.specs.Run.{HasRun, IsWrittenOver, RanWhole, ReturnsJob};
+ghost use Rattle.tcpclkit_c.specs.Run.{HasWritten, IsWrittenOver, RanWhole, ReturnsJob};
 
 use crate::device::{SliceReader, SliceWriter};
 use link_numbers::status::{MEMORY, OK, TOO_SMALL};
@@ -67,7 +67,7 @@ fn run_between<'a, 'b, 'c>(
     ensures output_before { result.output.history.before ≡ output.entry.history.before }
     ensures report { result.report.room.ghost_name ≡ report.entry.room.ghost_name }
     ensures report_before { result.report.history.before ≡ report.entry.history.before }
-    ensures run { HasRun job bytes.now result.output.history.text
+    ensures run { HasWritten (job_tool job) bytes.now result.output.history.text
         result.report.history.text result.answer }
 {
     run_tool(job, SliceReader::new(bytes), output, report)
@@ -96,8 +96,8 @@ fn run_into<'a, 'b, 'c>(
     ensures output_before { output.new.history.before ≡ output.old.history.before }
     ensures report { report.new.room.ghost_name ≡ report.old.room.ghost_name }
     ensures report_before { report.new.history.before ≡ report.old.history.before }
-    ensures run { HasRun job bytes.now output.new.history.text report.new.history.text
-        result }
+    ensures run { HasWritten (job_tool job) bytes.now output.new.history.text
+        report.new.history.text result }
 {
     let end = run_between(job, bytes, taken(output), taken(report));
     *output = end.output;

@@ -167,6 +167,7 @@ pub unsafe extern "C" fn tcpclkit_raw_next_block(
 }
 
 /// Gives the verdict on the bytes seen.
+#[tactic(auto, using(link_bundle::proofs::Pieces::all_judged))]
 fn judge(scan: &MarkedScan, answer: &mut Verdict) -> u32
     ensures { JudgesMarked scan.now answer.old answer.new result }
 {

@@ -26,6 +26,7 @@ fn copy_at(slice: &mut [u8], at: usize, bytes: &[u8])
 }
 
 /// Copies the bytes of a text that follow its first `count` ones, as far as there is room.
+#[tactic(auto, using(crate::proofs::Overlays::after_piece))]
 pub fn copy_after(slice: &mut [u8], count: u64, bytes: &[u8])
     ensures { (before text : List ℕ) → slice.old ≡ overlaid before text
         → count ≡ min (length text) (2 ^ 64 - 1)

@@ -1,4 +1,8 @@
 //! Exports that run a whole tool over a slice, into two slices.
+//!
+//! A text is wanted if its number is not 0. Of a text that is not wanted, no room is asked.
+//! `options` has a number for each option that the caller's version of the header has, in the order
+//! of the header.
 
 ghost use Rattle.std.specs.Prelude.{◌≡◌, true, false, None, Some, length};
 ghost use Rattle.link_list.specs.Listing.{list_tool};
@@ -14,8 +18,6 @@ use link_tools::{Job, cutter_for};
 use std::alloc::Global;
 
 /// `list`.
-///
-/// A text is wanted if its number is not 0. Of a text that is not wanted, no room is asked.
 #[unsafe(no_mangle)]
 pub extern "C" fn tcpclkit_raw_list(
     bytes: &[u8],
@@ -38,8 +40,7 @@ pub extern "C" fn tcpclkit_raw_list(
     run_job(Job::List, bytes, wants, output, report, answer)
 }
 
-/// `unpack`. `options` has a number for each option that the caller's version of the header has, in
-/// the order of the header.
+/// `unpack`.
 #[unsafe(no_mangle)]
 pub extern "C" fn tcpclkit_raw_unpack(
     bytes: &[u8],
@@ -68,8 +69,8 @@ pub extern "C" fn tcpclkit_raw_unpack(
     run_job(Job::Unpack(wanted), bytes, wants, output, report, answer)
 }
 
-/// `blocks`. `options` has a number for each option that the caller's version of the header has, in
-/// the order of the header.
+/// `blocks`.
+#[tactic(auto, using(crate::proofs::Runs::in_range))]
 #[unsafe(no_mangle)]
 pub extern "C" fn tcpclkit_raw_blocks(
     bytes: &[u8],
@@ -98,8 +99,8 @@ pub extern "C" fn tcpclkit_raw_blocks(
     run_job(job, bytes, wants, output, report, answer)
 }
 
-/// `check`. `options` has a number for each option that the caller's version of the header has, in
-/// the order of the header.
+/// `check`.
+#[tactic(auto, using(crate::proofs::Runs::in_range))]
 #[unsafe(no_mangle)]
 pub extern "C" fn tcpclkit_raw_check(
     bytes: &[u8],
@@ -128,8 +129,7 @@ pub extern "C" fn tcpclkit_raw_check(
     run_job(job, bytes, wants, output, report, answer)
 }
 
-/// `pack`. `options` has a number for each option that the caller's version of the header has, in
-/// the order of the header.
+/// `pack`.
 #[unsafe(no_mangle)]
 pub extern "C" fn tcpclkit_raw_pack(
     alloc: Global,

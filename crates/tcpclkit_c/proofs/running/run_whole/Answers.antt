@@ -1,5 +1,4 @@
-use Rattle.std.proofs.Common.{◌≡◌, ap, sym, ◌∙◌, rules}
-use Rattle.tcpclkit_c.specs.declared.history.History.{History}
+use Rattle.std.proofs.Common.{◌≡◌, sym, ◌∙◌, rules}
 use Rattle.tcpclkit_c.proofs.Runs.{left_in}
 use Rattle.tcpclkit_c.proofs.running.run_whole.Goals as goal
 
@@ -10,17 +9,15 @@ returns c =
     let output = ran.new.output in
     let report = ran.new.report in
     let output_before : output.history.before ≡ c.args.output.now =
-    ran.ensures.output_before
-    ∙ ap (λ (history : History). history.before) c.new-to_output.ensures.history in
+    rw c.new-to_output.ensures.history at ran.ensures.output_before in
     let report_before : report.history.before ≡ c.args.report.now =
-    ran.ensures.report_before
-    ∙ ap (λ (history : History). history.before) c.new-to_report.ensures.history in
+    rw c.new-to_report.ensures.history at ran.ensures.report_before in
     let same_output = sym (ran.ensures.output ∙ c.new-to_output.ensures.same_reference) in
     let same_report = sym (ran.ensures.report ∙ c.new-to_report.ensures.same_reference) in
     record {
       output_text = output.history.text;
       report_text = report.history.text;
-      wrote = ran.ensures.run.wrote;
+      wrote = ran.ensures.run;
       output = left_in output_before (search (rules, same_output)) c.written_by.ensures;
       report = left_in report_before (search (rules, same_report)) c.written_by-2.ensures;
     }

@@ -1,30 +1,22 @@
 -- The memory is lent to `describe` as a scan to look at, for a lifetime that ends with the call.
-use Rattle.tcpclkit_c.proofs.Walks.{ℕ, [], ◌∷◌, ◌++◌, length, refl, w32, Bor, proved, full_share, emp, id⊢, ftrue, flft, named, vptr, fact, fact_i, tables, lft_new, lft_end, lent_back, whole, sub, agg, ‵, raw, ◌⊛◌, some, later, prop, ◌$◌, ◌∵◌, !, qed, done, move, keep, drop, use0, use1, use2, split, join, fsplit, fpick, pick, await, regoal, suffices, group, enter, of_opd, addr, from, fld, hop, stop, no_more, and_then, returns, alloc_all, pass_all, free_all, look_at, look_in_at, get, get_in, through, sets, lands_as, u8, u32, yes, shows, Is, uint_Lawful, Ptr, RawPtr, block_ptr, lies_at, in_a_block, rawptr_vals, rawptr_Tells, MutRef, mut_vals, mut_Tells, MutSlice, slice_val, mut_slice_vals, mut_slice_Tells, plain, mut_ref_to, mut_slice_of, nothing, heard, peeks, calls_at, Lasts, lasts, triple_of, Stays, walk_of, stay_dropped, Goes-dropped, ends_at, framed, stay_passed, Goes-passed}
+use Rattle.tcpclkit_c.proofs.Walks.{ℕ, [], ◌∷◌, ◌++◌, length, refl, w32, Bor, proved, full_share, id⊢, ftrue, flft, named, vptr, fact, tables, lft_new, lft_end, lent_back, whole, sub, agg, ‵, raw, ◌⊛◌, some, later, prop, ◌$◌, ◌∵◌, !, qed, done, move, drop, use1, use2, split, join, fsplit, fpick, pick, await, regoal, suffices, group, enter, of_opd, addr, from, fld, hop, stop, no_more, and_then, returns, alloc_all, pass_all, free_all, look_at, look_in_at, get, get_in, through, sets, lands_as, u8, u32, shows, Is, uint_Lawful, Ptr, RawPtr, block_ptr, lies_at, in_a_block, rawptr_vals, rawptr_Tells, MutRef, mut_vals, mut_Tells, MutSlice, slice_val, mut_slice_vals, mut_slice_Tells, nothing, heard, peeks, calls_at, Lasts, lasts, triple_of, walk_of, ends_at, framed, states, passed, passed-go}
 use prog.Wp.{WpFn}
 use Rattle.tcpclkit_c.specs.declared.scan.MarkedScan.{MarkedScan}
 use Rattle.tcpclkit_c.specs.contracts.scan.MarkedScan.{the_row as R}
-use Rattle.link_bundle_blocks.specs.Bundle.{verdict, payload_seen}
-use Rattle.link_primary.specs.Fields.{primary_fields}
-use Rattle.tcpclkit_c.specs.Bundle.{Names, three_names, ReturnsInfo}
-use Rattle.tcpclkit_c.specs.Scan.{HoldsScan, DescribesMarked}
+use Rattle.tcpclkit_c.specs.{Bundle.{Names, three_names}, Scan.{HoldsScan, DescribesMarked}}
 use Rattle.tcpclkit_c.proofs.Lending.{lent_scan, lends_scan, held_scan}
 use Rattle.link_numbers.specs.contracts.bundle.Bundle.{the_row as B}
 use Rattle.tcpclkit_c.specs.contracts.scan.tcpclkit_raw_describe_scan as f
-use Rattle.tcpclkit_c.proofs.scan.tcpclkit_raw_describe_scan.Statement.{statement}
-use Rattle.tcpclkit_c.proofs.scan.tcpclkit_raw_describe_scan.Code as code
 use Rattle.tcpclkit_c.specs.contracts.scan.describe as g
-use Rattle.tcpclkit_c.proofs.scan.describe.Met.{met}
-
-abbrev stayed : Stays f.ended.signature.params f.ended.kept
-stayed = (stay_dropped _ yes, (stay_passed _ yes, (stay_passed _ yes, (stay_passed _ yes, (stay_passed _ yes, tt)))))
+use Rattle.tcpclkit_c.proofs.scan.{tcpclkit_raw_describe_scan.Statement.statement, describe.Met.met}
+use Rattle.tcpclkit_c.proofs.scan.tcpclkit_raw_describe_scan.Code as code
 
 pub tcpclkit_raw_describe_scan_spec : {M : Type 1} → statement M
 tcpclkit_raw_describe_scan_spec 𝓤 𝓛 𝓜 𝓡 wired =
-    let c = f.clauses 𝓛 𝓜.mem 𝓡.returns in
+    let c = f.clauses 𝓛 𝓜.mem 𝓡.returns in let stayed = passed f.ended in
     let W = walk_of 𝓛 f.ended stayed c in
     let 𝓣 = tables 𝓤 𝓛.H 𝓜 𝓡 𝓡.env in
-    proved 𝓛 f.ended stayed c 𝓜 𝓡
-    (Goes-dropped 𝓛 4 (plain (λ _. RawPtr)) yes (λ κs x w. refl), (Goes-passed 𝓛 4 (mut_slice_of (0 ∷ []) tt (plain (λ _. u8))) yes, (Goes-passed 𝓛 4 (mut_slice_of (1 ∷ []) tt (plain (λ _. u8))) yes, (Goes-passed 𝓛 4 (mut_slice_of (2 ∷ []) tt (plain (λ _. u8))) yes, (Goes-passed 𝓛 4 (mut_ref_to (3 ∷ []) tt (plain (λ _. B))) yes, tt)))))
+    proved 𝓛 f.ended stayed c 𝓜 𝓡 (passed-go 𝓛 f.ended)
     f.Key.name code.function (code.unfolded 𝓤 𝓛.H 𝓜 𝓡 wired)
     (λ κs. (rawptr_vals, (mut_slice_vals, (mut_slice_vals, (mut_slice_vals, (mut_vals, tt))))))
     (λ κs. (rawptr_Tells, (mut_slice_Tells (named 0) κs.0 u8, (mut_slice_Tells (named 1) κs.1.0 u8, (mut_slice_Tells (named 2) κs.1.1.0 u8, (mut_Tells (named 3) κs.1.1.1.0 B, tt)))))) (λ κs qs bounds a seen are.
@@ -66,16 +58,11 @@ tcpclkit_raw_describe_scan_spec 𝓤 𝓛 𝓜 𝓡 wired =
     raw (fact 𝓤 (DescribesMarked scan before (three_names ws.1.0 ws.1.1.0 ws.1.1.1.0) answer.now ws.1.1.1.1.0 r)))))) (id⊢ 𝓤 _) $
     await ! tt $ pick ! (λ r. split ! $ split ! $ split ! $ lft_end ! tt $
     move ! (2 ∷ []) $ peeks ! u32 (Is u32) (shows 𝓛 u32) r (v ∷ []) (λ is. lands_as ! refl refl ((uint_Lawful 𝓛 w32).typed r _ is).0 $
-    move ! (3 ∷ []) $ pick ! (λ ws. split ! $ move ! (1 ∷ []) $ heard ! _ (λ gives. fsplit ! $
-    -- [what is left of the loan; and of the others; the result; the loan is over; the tokens;
-    -- the lender's part]
-    move ! (3 ∷ 5 ∷ []) $ lent_back ! tt $
-    returns ! (look_at ! 0 refl) $ free_all ! refl $ keep ! (0 ∷ 2 ∷ 3 ∷ 4 ∷ []) $
+    move ! (3 ∷ []) $ pick ! (λ ws. split ! $ move ! (1 ∷ []) $ heard ! _ (λ gives.
+    -- [what is left of the parameters; the result; the loan is over; the tokens; the lender's part]
+    move ! (2 ∷ 4 ∷ []) $ lent_back ! tt $ returns ! (look_at ! 0 refl) $ free_all ! refl $
     -- [the scan; what is left of the parameters; the result; the tokens]
     use1 𝓛 (‵ (HoldsScan (block_ptr b o) seen)) (held_scan 𝓛 scan b o seen has) $
-    move ! (1 ∷ []) $ nothing ! $ join ! $
-    -- [what is left of the parameters; the scan; the result; the tokens]
-    use0 𝓛 (raw (fact 𝓤 (ReturnsInfo (verdict seen) (payload_seen seen) (primary_fields seen) before (three_names ws.1.0 ws.1.1.0 ws.1.1.1.0) ws.1.1.1.1.0 r))) (fact_i 𝓤 (ReturnsInfo (verdict seen) (payload_seen seen) (primary_fields seen) before (three_names ws.1.0 ws.1.1.0 ws.1.1.1.0) ws.1.1.1.1.0 r) (emp 𝓤) (gives.scan seen has)) $
-    move ! (4 ∷ 1 ∷ 3 ∷ 2 ∷ []) $
+    states ! (gives.scan seen has) $ move ! (4 ∷ 2 ∷ 3 ∷ 1 ∷ []) $
     suffices ! _ (ends_at 𝓛 f.ended stayed c (y (block_ptr b o)) v r (tt, ws.1) (tt, (tt, (tt, (tt, (tt, tt)))))) $
     group ! 3 $ done !)))))))))))

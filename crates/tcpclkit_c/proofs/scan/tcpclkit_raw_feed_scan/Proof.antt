@@ -1,26 +1,21 @@
 -- The memory is lent to `feed` as a scan, for a lifetime that ends with the call.
-use Rattle.tcpclkit_c.proofs.Walks.{◌≡◌, ℕ, [], ◌∷◌, ◌++◌, length, refl, w32, MutBor, proved, full_share, emp, id⊢, GName, ftrue, flft, flent, named, vptr, fact, fact_i, tables, Body, lft_new, lft_end, ‵, raw, ◌⊛◌, some, later, prop, ◌$◌, ◌∵◌, !, qed, done, move, keep, drop, use0, use1, use2, use3, split, join, fsplit, fpick, pick, await, regoal, suffices, group, enter, of_opd, addr, stop, no_more, and_then, returns, alloc_all, pass_all, free_all, look_at, get, through, sets, lands_as, u8, u32, u64, yes, shows, Is, lends_ref, ref_back, part_at, mem, uint_Lawful, Ptr, RawPtr, block_ptr, lies_at, in_a_block, rawptr_vals, rawptr_Tells, MutRef, mut_vals, mut_Tells, ShrSlice, slice_val, shr_slice_vals, shr_slice_Tells, plain, shr_slice_of, mut_ref_to, nothing, heard, peeks, calls_at, Lasts, lasts, triple_of, Stays, walk_of, stay_dropped, Goes-dropped, ends_at, framed, stay_passed, Goes-passed}
+use Rattle.tcpclkit_c.proofs.Walks.{ℕ, [], ◌∷◌, ◌++◌, length, refl, w32, MutBor, proved, full_share, id⊢, GName, ftrue, flft, flent, named, vptr, fact, tables, Body, lft_new, lft_end, ‵, raw, ◌⊛◌, some, later, prop, ◌$◌, ◌∵◌, !, qed, done, move, keep, drop, use1, use2, use3, split, join, fsplit, fpick, pick, await, regoal, suffices, group, enter, of_opd, addr, stop, no_more, and_then, returns, alloc_all, pass_all, free_all, look_at, get, through, sets, lands_as, u8, u32, u64, shows, Is, lends_ref, ref_back, part_at, mem, uint_Lawful, Ptr, RawPtr, block_ptr, lies_at, in_a_block, rawptr_vals, rawptr_Tells, MutRef, mut_vals, mut_Tells, ShrSlice, slice_val, shr_slice_vals, shr_slice_Tells, nothing, heard, peeks, calls_at, Lasts, lasts, triple_of, walk_of, ends_at, framed, states, passed, passed-go}
 use prog.Wp.{WpFn}
 use Rattle.tcpclkit_c.specs.declared.scan.MarkedScan.{MarkedScan}
 use Rattle.tcpclkit_c.specs.contracts.scan.MarkedScan.{the_row as R}
-use Rattle.tcpclkit_c.specs.Scan.{HoldsScan, FeedsMarked, fed, fed_status}
+use Rattle.tcpclkit_c.specs.Scan.{HoldsScan, FeedsMarked, fed}
 use Rattle.tcpclkit_c.specs.contracts.scan.tcpclkit_raw_feed_scan as f
-use Rattle.tcpclkit_c.proofs.scan.tcpclkit_raw_feed_scan.Statement.{statement}
+use Rattle.tcpclkit_c.specs.contracts.scan.feed as g
+use Rattle.tcpclkit_c.proofs.scan.{tcpclkit_raw_feed_scan.Statement.statement, feed.Met.met}
 use Rattle.tcpclkit_c.proofs.scan.tcpclkit_raw_feed_scan.Code as code
 use Rattle.tcpclkit_c.proofs.Lending.{held_scan}
-use Rattle.tcpclkit_c.specs.contracts.scan.feed as g
-use Rattle.tcpclkit_c.proofs.scan.feed.Met.{met}
-
-abbrev stayed : Stays f.ended.signature.params f.ended.kept
-stayed = (stay_dropped _ yes, (stay_passed _ yes, (stay_passed _ yes, tt)))
 
 pub tcpclkit_raw_feed_scan_spec : {M : Type 1} → statement M
 tcpclkit_raw_feed_scan_spec 𝓤 𝓛 𝓜 𝓡 wired =
-    let c = f.clauses 𝓛 𝓜.mem 𝓡.returns in
+    let c = f.clauses 𝓛 𝓜.mem 𝓡.returns in let stayed = passed f.ended in
     let W = walk_of 𝓛 f.ended stayed c in
     let 𝓣 = tables 𝓤 𝓛.H 𝓜 𝓡 𝓡.env in
-    proved 𝓛 f.ended stayed c 𝓜 𝓡
-    (Goes-dropped 𝓛 2 (plain (λ _. RawPtr)) yes (λ κs x w. refl), (Goes-passed 𝓛 2 (shr_slice_of (0 ∷ []) tt (plain (λ _. u8))) yes, (Goes-passed 𝓛 2 (mut_ref_to (1 ∷ []) tt (plain (λ _. u64))) yes, tt)))
+    proved 𝓛 f.ended stayed c 𝓜 𝓡 (passed-go 𝓛 f.ended)
     f.Key.name code.function (code.unfolded 𝓤 𝓛.H 𝓜 𝓡 wired)
     (λ κs. (rawptr_vals, (shr_slice_vals, (mut_vals, tt))))
     (λ κs. (rawptr_Tells, (shr_slice_Tells (named 0) κs.0 u8, (mut_Tells (named 1) κs.1.0 u64, tt)))) (λ κs qs bounds a seen are.
@@ -66,8 +61,6 @@ tcpclkit_raw_feed_scan_spec 𝓤 𝓛 𝓜 𝓡 wired =
     (held_scan 𝓛 ws.0 b o (seen ++ fed seen piece.now) end.scanned) $
     move ! (1 ∷ []) $ nothing ! $ join ! $
     -- [what is left of the parameters; the scan; the result; the tokens]
-    use0 𝓛 (raw (fact 𝓤 (r ≡ fed_status seen piece.now))) (fact_i 𝓤 (r ≡ fed_status seen piece.now) (emp 𝓤) end.answers) $
-    use0 𝓛 (raw (fact 𝓤 (ws.1.1.0 ≡ length (fed seen piece.now)))) (fact_i 𝓤 (ws.1.1.0 ≡ length (fed seen piece.now)) (emp 𝓤) end.counts) $
-    move ! (5 ∷ 2 ∷ 4 ∷ 3 ∷ []) $
+    states ! end.answers $ states ! end.counts $ move ! (5 ∷ 2 ∷ 4 ∷ 3 ∷ []) $
     suffices ! _ (ends_at 𝓛 f.ended stayed c (y (block_ptr b o)) v r (tt, ws.1) (tt, (tt, (tt, tt)))) $
     group ! 3 $ done !))))))))))))

@@ -1,21 +1,20 @@
 -- The new scan is written into the room.
-use Rattle.tcpclkit_c.proofs.Walks.{◌≡◌, [], ◌∷◌, ◌++◌, refl, lit<, w32, proved, full_share, emp, id⊢, ftrue, fsep, fex, vint, fact, fact_i, tables, ‵, raw, ◌⊛◌, some, later, prop, ◌$◌, ◌∵◌, !, qed, done, move, drop, use0, use1, use2, split, join, fjoin, fpack, pick, await, regoal, suffices, group, enter, of_opd, lit, stop, init, no_more, assigns, returns, alloc_all, pass_all, free_all, look_at, get, through, sets, lands_as, u32, yes, uint_Makes, shows, Is, part_at, part_in, Ptr, RawPtr, block_ptr, lies_at, room_at, in_a_block, rawptr_vals, rawptr_Tells, plain, nothing, owned, heard, peeks, calls_at, Lasts, lasts, triple_of, Stays, walk_of, stay_dropped, Goes-dropped, ends_at, framed}
+use Rattle.tcpclkit_c.proofs.Walks.{◌≡◌, [], ◌∷◌, ◌++◌, refl, lit<, w32, proved, full_share, id⊢, ftrue, fsep, fex, vint, fact, tables, ‵, raw, ◌⊛◌, some, later, prop, ◌$◌, ◌∵◌, !, qed, done, move, drop, use1, use2, split, join, fjoin, fpack, pick, await, regoal, suffices, group, enter, of_opd, lit, stop, init, no_more, assigns, returns, alloc_all, pass_all, free_all, look_at, get, through, sets, lands_as, u32, uint_Makes, shows, Is, part_at, part_in, Ptr, RawPtr, block_ptr, lies_at, room_at, in_a_block, rawptr_vals, rawptr_Tells, nothing, owned, heard, peeks, calls_at, Lasts, lasts, triple_of, walk_of, ends_at, framed, states, passed, passed-go}
 use prog.Wp.{WpFn}
 use Rattle.tcpclkit_c.specs.{Scan.IsScan, declared.scan.MarkedScan.MarkedScan}
 use Rattle.tcpclkit_c.specs.contracts.scan.MarkedScan.{the_row as R}
-use Rattle.tcpclkit_c.specs.contracts.scan.new_scan as g
 use Rattle.tcpclkit_c.proofs.scan.{new_scan.Met.met, MarkedScan.TheLaws.the_row_laws}
 use Rattle.tcpclkit_c.specs.contracts.scan.tcpclkit_raw_start_scan as f
+use Rattle.tcpclkit_c.specs.contracts.scan.new_scan as g
 use Rattle.tcpclkit_c.proofs.scan.tcpclkit_raw_start_scan.Statement.{statement}
 use Rattle.tcpclkit_c.proofs.scan.tcpclkit_raw_start_scan.Code as code
 
-abbrev stayed : Stays f.ended.signature.params f.ended.kept
-stayed = (stay_dropped _ yes, tt)
-
 pub tcpclkit_raw_start_scan_spec : {M : Type 1} → statement M
 tcpclkit_raw_start_scan_spec 𝓤 𝓛 𝓜 𝓡 wired =
-    let c = f.clauses 𝓛 𝓜.mem 𝓡.returns in let W = walk_of 𝓛 f.ended stayed c in let 𝓣 = tables 𝓤 𝓛.H 𝓜 𝓡 𝓡.env in
-    proved 𝓛 f.ended stayed c 𝓜 𝓡 (Goes-dropped 𝓛 0 (plain (λ _. RawPtr)) yes (λ κs x w. refl), tt)
+    let c = f.clauses 𝓛 𝓜.mem 𝓡.returns in let stayed = passed f.ended in
+    let W = walk_of 𝓛 f.ended stayed c in
+    let 𝓣 = tables 𝓤 𝓛.H 𝓜 𝓡 𝓡.env in
+    proved 𝓛 f.ended stayed c 𝓜 𝓡 (passed-go 𝓛 f.ended)
     f.Key.name code.function (code.unfolded 𝓤 𝓛.H 𝓜 𝓡 wired)
     (λ κs. (rawptr_vals, tt)) (λ κs. (rawptr_Tells, tt)) (λ κs qs bounds a u are.
     let y : Ptr → W.Ghost = λ p. ((κs, qs, bounds, (p, tt), (rawptr_vals p, tt)), u) in
@@ -41,7 +40,7 @@ tcpclkit_raw_start_scan_spec 𝓤 𝓛 𝓜 𝓡 wired =
     move ! (1 ∷ 0 ∷ []) $ use2 𝓛 (‵ (part_at R full_share scan b o)) (part_in 𝓛 R refl full_share scan b o v) $
     nothing ! $ fpack ! (IsScan scan []) (λ _. ftrue) has $ move ! (1 ∷ 0 ∷ []) $ fjoin ! $
     fpack ! MarkedScan (λ x. fsep (lies_at R full_share (block_ptr b o) x) (fex (IsScan x []) (λ _. ftrue))) scan $
-    use0 𝓛 (raw (fact 𝓤 (0 ≡ 0))) (fact_i 𝓤 (0 ≡ 0) (emp 𝓤) refl) $ move ! (1 ∷ []) $
+    states ! {φ = 0 ≡ 0} refl $ move ! (1 ∷ []) $
     owned ! u32 _ (uint_Makes 𝓛 w32) 0 _ (refl, lit< tt) $ nothing ! $ nothing ! $ join ! $ nothing ! $
     -- [no token; nothing of the pointer; the result; the scan; the status]
     suffices ! _ (ends_at 𝓛 f.ended stayed c (y (block_ptr b o)) (vint w32 0) 0 (tt, tt) (tt, tt)) $

@@ -1,13 +1,9 @@
-use Rattle.std.proofs.Common.{subst}
-use Rattle.tcpclkit_c.specs.{Options.HasOptions, declared.options.PackNumbers.PackNumbers}
 use Rattle.tcpclkit_c.proofs.Runs.{packed}
 use Rattle.tcpclkit_c.proofs.tool.tcpclkit_raw_pack.Goals as goal
 
 pub returns-clause-run : goal.returns-clause-run
 returns-clause-run c = λ fits. record {
   options = c.packing_of-packing.result;
-  are = subst (λ (numbers : PackNumbers).
-      HasOptions c.packing_of-packing.result numbers c.args.node.now)
-      c.pack_numbers.ensures c.packing_of-packing.ensures;
+  are = rw c.pack_numbers.ensures at c.packing_of-packing.ensures;
   gave = packed _ c.cutter_for-memory.result _ _ _ _ _ _ c.run_job.ensures;
 }

@@ -1,19 +1,16 @@
 -- The history that the clause names is chosen.
-use Rattle.tcpclkit_c.proofs.Walks.{[], ◌∷◌, ◌++◌, refl, proved, ftrue, flft, named, tables, ‵, ◌⊛◌, ◌$◌, ◌∵◌, !, qed, done, move, keep, split, fjoin, suffices, agg, enter, no_more, returns, alloc_all, pass_all, free_all, look_at, sets, u8, RefOf, yes, ShrSlice, shr_slice_vals, shr_slice_Tells, ShrRef, shr_vals, shr_Tells, plain, shr_slice_of, nothing, Stays, walk_of, says, stay_dropped, Goes-dropped, ends_at, none, none_made}
+use Rattle.tcpclkit_c.proofs.Walks.{[], ◌∷◌, ◌++◌, refl, proved, ftrue, flft, named, ‵, ◌⊛◌, ◌$◌, ◌∵◌, !, qed, done, move, keep, split, fjoin, suffices, agg, enter, no_more, returns, alloc_all, pass_all, free_all, look_at, sets, u8, ShrSlice, shr_slice_vals, shr_slice_Tells, ShrRef, shr_vals, shr_Tells, nothing, walk_of, says, ends_at, none, none_made, passed, passed-go}
 use Rattle.tcpclkit_c.specs.contracts.history.History as History
 use Rattle.tcpclkit_c.specs.contracts.history.History.and as f
 use Rattle.tcpclkit_c.proofs.history.History.and.Statement.{statement}
 use Rattle.tcpclkit_c.proofs.history.History.and.Code as code
 
-abbrev stayed : Stays f.ended.signature.params f.ended.kept
-stayed = (stay_dropped _ yes, (stay_dropped _ yes, tt))
-
 pub and_spec : {M : Type 1} → statement M
 and_spec 𝓤 𝓛 𝓜 𝓡 wired =
-    let c = f.clauses 𝓛 𝓜.mem 𝓡.returns in let W = walk_of 𝓛 f.ended stayed c in let 𝓣 = tables 𝓤 𝓛.H 𝓜 𝓡 𝓡.env in
+    let c = f.clauses 𝓛 𝓜.mem 𝓡.returns in let stayed = passed f.ended in
+    let W = walk_of 𝓛 f.ended stayed c in
     let R = History.the_row in
-    proved 𝓛 f.ended stayed c 𝓜 𝓡
-    (Goes-dropped 𝓛 2 (RefOf (0 ∷ []) tt (plain (λ _. R)) (λ _. tt)) yes (λ κs x w. refl), (Goes-dropped 𝓛 2 (shr_slice_of (1 ∷ []) tt (plain (λ _. u8))) yes (λ κs x w. refl), tt))
+    proved 𝓛 f.ended stayed c 𝓜 𝓡 (passed-go 𝓛 f.ended)
     f.Key.name code.function (code.unfolded 𝓤 𝓛.H 𝓜 𝓡 wired)
     (λ κs. (shr_vals, (shr_slice_vals, tt))) (λ κs. (shr_Tells (named 0) κs.0 R, (shr_slice_Tells (named 1) κs.1.0 u8, tt))) (λ κs qs bounds a _ are.
     let this = a.0 in

@@ -1,17 +1,15 @@
 -- The history that the clauses name is chosen.
-use Rattle.tcpclkit_c.proofs.Walks.{[], ◌∷◌, refl, proved, ftrue, flft, named, tables, ‵, ◌⊛◌, ◌$◌, ◌∵◌, !, qed, done, move, keep, split, fjoin, suffices, agg, enter, no_more, returns, alloc_all, pass_all, free_all, look_at, sets, u8, yes, ShrSlice, shr_slice_vals, shr_slice_Tells, plain, shr_slice_of, nothing, Stays, walk_of, says, stay_dropped, Goes-dropped, ends_at, none, none_made}
+use Rattle.tcpclkit_c.proofs.Walks.{[], ◌∷◌, refl, proved, ftrue, flft, named, ‵, ◌⊛◌, ◌$◌, ◌∵◌, !, qed, done, move, keep, split, fjoin, suffices, agg, enter, no_more, returns, alloc_all, pass_all, free_all, look_at, sets, u8, ShrSlice, shr_slice_vals, shr_slice_Tells, nothing, walk_of, says, ends_at, none, none_made, passed, passed-go}
 use Rattle.tcpclkit_c.specs.contracts.history.History as History
 use Rattle.tcpclkit_c.specs.contracts.history.History.new as f
 use Rattle.tcpclkit_c.proofs.history.History.new.Statement.{statement}
 use Rattle.tcpclkit_c.proofs.history.History.new.Code as code
 
-abbrev stayed : Stays f.ended.signature.params f.ended.kept
-stayed = (stay_dropped _ yes, tt)
-
 pub new_spec : {M : Type 1} → statement M
 new_spec 𝓤 𝓛 𝓜 𝓡 wired =
-    let c = f.clauses 𝓛 𝓜.mem 𝓡.returns in let W = walk_of 𝓛 f.ended stayed c in let 𝓣 = tables 𝓤 𝓛.H 𝓜 𝓡 𝓡.env in
-    proved 𝓛 f.ended stayed c 𝓜 𝓡 (Goes-dropped 𝓛 1 (shr_slice_of (0 ∷ []) tt (plain (λ _. u8))) yes (λ κs x w. refl), tt)
+    let c = f.clauses 𝓛 𝓜.mem 𝓡.returns in let stayed = passed f.ended in
+    let W = walk_of 𝓛 f.ended stayed c in
+    proved 𝓛 f.ended stayed c 𝓜 𝓡 (passed-go 𝓛 f.ended)
     f.Key.name code.function (code.unfolded 𝓤 𝓛.H 𝓜 𝓡 wired)
     (λ κs. (shr_slice_vals, tt)) (λ κs. (shr_slice_Tells (named 0) κs.0 u8, tt)) (λ κs qs bounds a _ are.
     let slice = a.0 in

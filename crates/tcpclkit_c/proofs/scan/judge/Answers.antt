@@ -1,8 +1,0 @@
-use Rattle.link_bundle.proofs.Pieces.{all_judged}
-use Rattle.tcpclkit_c.proofs.scan.judge.Goals as goal
-
-pub returns : goal.returns
-returns c = record {
-  scan = λ seen has. c.give_verdict.ensures seen (all_judged _ seen has.scanned);
-  other = λ not. absurd (not c.if-scan.false);
-}
