@@ -1,32 +1,28 @@
--- The walk of a reading that goes on: with a head, with data of a segment, or with messages that
--- lie whole in the window.
-use Rattle.std.proofs.Common.{◌≡◌, ℕ, zero, suc, ◌+◌, ◌<◌, Bool, true, false, not, ◌&&◌, ◌||◌, ◌==◌, nat_lt, is_some, All, List, [], ◌∷◌, ◌++◌, length, Option, Some, None, if◌then◌else◌, refl, ap, sym, ◌∙◌, subst, ⊎_elim, append-nil, append_assoc, length-append, arith}
+-- The walk of a reading that goes on: with a head, with data of a segment, or with quiet messages.
+use Rattle.std.proofs.Common.{◌≡◌, ℕ, zero, suc, ◌+◌, ◌<◌, Bool, true, false, not, ◌&&◌, ◌||◌, ◌==◌, nat_lt, is_some, All, List, [], ◌∷◌, ◌++◌, length, Option, Some, None, if◌then◌else◌, refl, ap, sym, ◌∙◌, ⊎_elim, append-nil, append_assoc, length-append, arith}
 use Rattle.std.specs.List.{fold}
 use Rattle.std.proofs.Math.Bool.{and-true}
-use Rattle.std.proofs.lemmas.Bool.{cases_Bool, and_right, eq-eqb, ne_eqb, lt-ltb}
+use Rattle.std.proofs.lemmas.Bool.{cases_Bool, and_right, eq-eqb, ne_eqb, lt-ltb, Decides.nat_tests}
 use Rattle.std.proofs.lemmas.{Grind.fold-append, List.map-append}
 use Rattle.std.proofs.lemmas.List.Elements.{All-head, All-tail}
-use Rattle.link_wire.specs.{Inner.inner_segment, Message.data_length}
-use Rattle.link_wire.specs.Session.{joined, with_message, data_after, with_data, IsLeft}
-use Rattle.link_wire.specs.Stream.{Entry, End, Clean, Cut, Fault, Stream, ended, with_entry, Reading, cut_heads, heads_of}
+use Rattle.link_wire.specs.{Message.data_length, Session.{joined, with_message, with_data, IsLeft}}
+use Rattle.link_wire.specs.Stream.{Entry, End, Clean, Cut, Fault, Stream, ended, with_entry, Reading, heads_of}
 use Rattle.link_wire.specs.{Whole.{is_quiet, IsQuiet}, declared.message.Contact.Contact}
 use Rattle.link_wire.specs.declared.message.Message.{Message}
 use Rattle.link_wire.specs.declared.message.Message.TheVariants as message
 use Rattle.link_transfer.specs.{Event.event_of, Joiner.IsJoinerAt}
-use Rattle.link_transfer.specs.Order.{continuable, effect_of, open_of, refusal, with_taken}
+use Rattle.link_transfer.specs.Order.{effect_of, open_of, refusal, with_taken}
 use Rattle.link_transfer.specs.declared.event.Event.TheVariants as event
 use Rattle.link_transfer.specs.declared.{fault.OrderFault.OrderFault, joiner.Joiner.Joiner}
 use Rattle.link_transfer.specs.declared.joiner.Turn.{Turn}
 use Rattle.link_transfer.specs.declared.joiner.Turn.TheVariants as turn
-use Rattle.link_transfer.proofs.Continuing.{may_continue, continues_open, joiner_stays}
 use Rattle.link_transfer.proofs.Joining.{IsJoinerAt-then, refusal-at, effect-at, taken-at}
 use Rattle.link_walk.specs.Walk.{Head, head_at, is_last, is_beginning, closes, is_plain, WalkEvent, MessageHead, Data, Whole, data_events, open_with, open_after_event, has_open, Walked, head_events, content_events, contact_events, taken_with, with_judged, with_entry_unless, with_next, none_walked, walked_of, walked, Telling}
-use Rattle.link_walk.specs.Telling.{data_ends, inner_events, inner_head}
 use Rattle.link_walk.specs.declared.consumer.Manner.{Manner}
 use Rattle.link_walk.specs.WalkRun.{stage_in, stage_by, IsWaiting, is_open_at, walked_before, IsAt}
 use Rattle.link_walk.specs.declared.walk.Stage.{Stage}
 use Rattle.link_walk.specs.declared.walk.Stage.TheVariants as stage
-use Rattle.link_walk.proofs.Heads.{entry, heads_clean, with_head, heads_with, is_whole, other_has_none, continues_some, open_then, has_open-append, data_keeps}
+use Rattle.link_walk.proofs.Heads.{entry, heads_clean, with_head, heads_with, other_has_none, continues_some, open_then, has_open-append, data_keeps}
 
 -- ---- one more head
 
@@ -112,8 +108,8 @@ module _ {telling : Telling} {now : Stage} {joiner : Joiner} {reading : Reading}
   knows_at at knows known = record {
     unrefused = at.has.unrefused;
     judges = at.has.judges;
-    known = subst knows (sym at.has.known) known;
-    opened = ap has_open at.has.known ∙ at.has.opened;
+    known = rw at.has.known known;
+    opened = rw at.has.known at.has.opened;
     waits = at.waits;
   }
 
@@ -173,13 +169,13 @@ with_comes : (telling : Telling) (joiner : Joiner) (reading : Reading) (offset :
     (with_head reading offset sent content left) events
 with_comes telling joiner reading offset sent content left {events} was same has =
     let manner = telling.manner in
-    let P : Walked → Type 0 =
-    Has events (stage_by (effect_of was.taken (event_of sent)) left) joiner in
+    let head = entry offset sent content in
     record {
-      has = subst P (sym (ap (walked_of manner reading.contact)
-          (heads_with reading offset sent content left)
-          ∙ walked_all manner reading.contact reading.entries (entry offset sent content ∷ [])
-          ∙ ap (λ w. with_next manner w (entry offset sent content)) (sym same))) has;
+      has = rw (
+        heads_with reading offset sent content left,
+        walked_all manner reading.contact reading.entries (head ∷ []),
+        ← same,
+      ) has;
       waits = rw same (waits_with manner reading.contact reading.entries offset sent content left);
     }
 
@@ -227,9 +223,7 @@ no_content (Some effect) size =
     ap whole_events (and_right (is_last (Some effect)) _ (not_both size))
   where
     not_both : (n : ℕ) → (not (n == 0) && (0 == n)) ≡ false
-    not_both zero = ap (λ b. not b && (0 == 0)) (eq-eqb 0 0 refl)
-    not_both (suc n) =
-        and_right (not (suc n == 0)) (0 == suc n) (ne_eqb 0 (suc n) (λ same. absurd (omega arith)))
+    not_both n = grind (arith, nat_tests)
 
 module _ (manner : Manner) (was : Walked) (old new : Joiner) {events : List WalkEvent}
     (has : Has events stage.Message old was) (head : Entry)
@@ -245,15 +239,14 @@ module _ (manner : Manner) (was : Walked) (old new : Joiner) {events : List Walk
       ≡ is_open_at (stage_by here.turn (data_length head.message))
       (with_taken was.taken head.message)
   head_opened =
-      has_open-append events told
-      ∙ open_if (manner.all_heads || not (is_plain here)) here (has_open events)
-      (plain_open manner.all_heads (not (is_some here.fault)) here.turn (closes here)
-      (has_open events)
-      (λ last is. has.opened ∙ continues_some was.taken (event_of head.message) last is))
-      ∙ ap (open_with here.turn (closes here)) has.opened
-      ∙ open_stage (is_some (open_of was.taken)) (with_taken was.taken head.message) here.turn
+      let was_open = is_some (open_of was.taken) in
+      rw (has_open-append events told, has.opened)
+      (open_if (manner.all_heads || not (is_plain here)) here was_open
+      (plain_open manner.all_heads (not (is_some here.fault)) here.turn (closes here) was_open
+      (continues_some was.taken (event_of head.message)))
+      ∙ open_stage was_open (with_taken was.taken head.message) here.turn
       (data_length head.message) (open_then was.taken head.message)
-      (other_has_none was.taken head.message)
+      (other_has_none was.taken head.message))
 
   -- the walk takes it
   head_has : (all : List WalkEvent) (later : Stage) → events ++ told ≡ all
@@ -261,13 +254,11 @@ module _ (manner : Manner) (was : Walked) (old new : Joiner) {events : List Walk
       → content_events here.turn (data_length head.message) head.content ≡ []
       → Has all later new (with_next manner was head)
   head_has all later all_is later_is none =
-      let P : Walked → Type 0 = Has all later new in
-      subst P (sym (next_taken manner was head has.unrefused may)) (record {
+      rw (next_taken manner was head has.unrefused may) (record {
         unrefused = refl;
         judges = judges;
         known = rw (none, append-nil, has.known) all_is;
-        opened = ap has_open (sym all_is) ∙ head_opened
-            ∙ ap (λ s. is_open_at s (with_taken was.taken head.message)) later_is;
+        opened = rw (← all_is, ← later_is) head_opened;
       })
 
 module _ (telling : Telling) (old : Joiner) {reading : Reading} {events : List WalkEvent}
@@ -287,13 +278,10 @@ module _ (telling : Telling) (old : Joiner) {reading : Reading} {events : List W
       → Comes telling (stage_by does (data_length sent)) new after
       (events ++ head_events telling.manner.all_heads (head_at had.taken offset sent))
   head_comes new after is may judges =
-      let all = events ++ head_events telling.manner.all_heads (head_at had.taken offset sent) in
-      let now : Stage = stage_by does (data_length sent) in
-      let P : Reading → Type 0 = λ r. Comes telling now new r all in
-      subst P (sym is)
+      rw is
       (with_comes telling new reading offset sent [] (data_length sent) had had_is
-      (head_has telling.manner had old new at.has (entry offset sent []) may judges all now refl
-      refl (no_content does (data_length sent))))
+      (head_has telling.manner had old new at.has (entry offset sent []) may judges _ _ refl refl
+      (no_content does (data_length sent))))
 
   -- the run ends at it
   pub head_refused : (fault : OrderFault) → telling.manner.goes_on ≡ false
@@ -302,10 +290,13 @@ module _ (telling : Telling) (old : Joiner) {reading : Reading} {events : List W
       ≡ record had { refused = Some (offset, fault) }
   head_refused fault stops refused =
       let manner = telling.manner in
-      ap (walked_of manner reading.contact) (heads_with reading offset sent [] (data_length sent))
-      ∙ walked_all manner reading.contact reading.entries (entry offset sent [] ∷ [])
-      ∙ ap (λ w. with_next manner w (entry offset sent [])) (sym had_is)
-      ∙ next_refused manner had (entry offset sent []) fault at.has.unrefused stops refused
+      let head = entry offset sent [] in
+      rw (
+        heads_with reading offset sent [] (data_length sent),
+        walked_all manner reading.contact reading.entries (head ∷ []),
+        ← had_is,
+      )
+      (next_refused manner had head fault at.has.unrefused stops refused)
 
 -- ---- data of a segment
 
@@ -318,15 +309,10 @@ told_in other left bytes = []
 module _ (content bytes : List ℕ) (left size : ℕ)
     (is : size ≡ length content + (length bytes + left)) (some : 0 < length bytes) where
   not_yet : (not (size == 0) && (length content == size)) ≡ false
-  not_yet =
-      and_right (not (size == 0)) (length content == size)
-      (ne_eqb (length content) size (λ same. absurd (omega arith)))
+  not_yet = grind (arith, nat_tests)
 
   now_whole : (not (size == 0) && (length (content ++ bytes) == size)) ≡ (left == 0)
-  now_whole =
-      ap (λ b. not b && (length (content ++ bytes) == size))
-      (ne_eqb size 0 (λ same. absurd (omega arith)))
-      ∙ is_whole (length (content ++ bytes)) left size (omega (arith, length-append content bytes))
+  now_whole = grind (arith, nat_tests, length-append {A = ℕ})
 
   more_by : (last : Bool)
       → data_events (content ++ bytes)
@@ -388,67 +374,59 @@ data_has manner before joiner {events} offset sent content bytes left size some 
     λ is. let none = other_has_none before.taken sent is in omega arith in
     let head = entry offset sent content in
     let since = taken_by manner before head before.refused refl has.unrefused in
-    let was = next_taken manner before head since.0 since.1 in
+    let was = rw (next_taken manner before head since.0 since.1) at has in
     let opened = open_then before.taken sent in
-    let P : Walked → Type 0 = Has (events ++ more) (stage_by does left) joiner in
-    let J : Walked → Type 0 = λ w. IsJoinerAt joiner w.taken in
-    let told : before.events ++ (heads ++ had) ≡ events =
-    sym (ap (λ (w : Walked). w.events) was) ∙ has.known in
-    subst P
-    (sym (next_taken manner before (entry offset sent (content ++ bytes)) since.0 since.1))
-    (record {
+    rw (next_taken manner before (entry offset sent (content ++ bytes)) since.0 since.1) (record {
       unrefused = refl;
-      judges = subst J was has.judges;
-      known = ap (λ xs. before.events ++ (heads ++ xs))
-          (content_more content bytes left (data_length sent) size some does other)
-          ∙ ap (λ xs. before.events ++ xs) (sym (append_assoc heads had more))
-          ∙ sym (append_assoc before.events (heads ++ had) more) ∙ ap (λ xs. xs ++ more) told;
+      judges = was.judges;
+      known = rw (
+        content_more content bytes left (data_length sent) size some does other,
+        ← append_assoc heads had more,
+        ← append_assoc before.events (heads ++ had) more,
+        was.known,
+      );
       opened = has_open-append events more
           ∙ more_open does left bytes (has_open events) (is_some (open_of before.taken))
-          (with_taken before.taken sent)
-          (has.opened ∙ ap (λ (w : Walked). is_open_at (stage_in does) w.taken) was) opened other
+          (with_taken before.taken sent) was.opened opened other
           ∙ open_stage (is_some (open_of before.taken)) (with_taken before.taken sent) does left
           opened (λ is. absurd (other is));
     })
 
-later_is : (effect : Option Turn) (left : ℕ) (now later : Stage) → now ≡ stage_in effect
-    → (0 < left → later ≡ now) → (left ≡ 0 → later ≡ stage.Message) → later ≡ stage_by effect left
-later_is effect zero now later is more over = over refl
-later_is effect (suc left) now later is more over = more (omega arith) ∙ is
+-- segments at the same stage are at the same stage later
+later_is : (effect other : Option Turn) (left : ℕ) → stage_in effect ≡ stage_in other
+    → stage_by effect left ≡ stage_by other left
+later_is effect other zero is = refl
+later_is effect other (suc left) is = is
 
-module _ (telling : Telling) {now : Stage} (later : Stage) {joiner : Joiner}
-    {reading after : Reading} {events : List WalkEvent}
-    (at : Comes telling now joiner reading events) (from left : ℕ) (bytes : List ℕ)
-    (is : after ≡ with_data left bytes reading) (some : 0 < length bytes)
-    (other : now ≡ stage.Message → ⊥) (more : 0 < left → later ≡ now)
-    (over : left ≡ 0 → later ≡ stage.Message) where
+module _ (telling : Telling) (effect : Option Turn) {joiner : Joiner} {reading after : Reading}
+    {events : List WalkEvent} (at : Comes telling (stage_in effect) joiner reading events)
+    (from left : ℕ) (bytes : List ℕ) (is : after ≡ with_data left bytes reading)
+    (some : 0 < length bytes) where
   data_by : (end : End) → reading.end ≡ end
-      → IsWaiting now (walked_before telling.manner reading) end
+      → IsWaiting (stage_in effect) (walked_before telling.manner reading) end
       → IsLeft from (length bytes + left) end
-      → Comes telling later joiner after (events ++ told_in now left bytes)
-  data_by Clean ends waits to_come = absurd (other waits)
+      → Comes telling (stage_by effect left) joiner after
+      (events ++ told_in (stage_in effect) left bytes)
+  data_by Clean ends waits to_come = absurd ((in_segment effect).0 (sym waits))
   data_by (Cut offset sent content) ends waits to_come =
-      let manner = telling.manner in
-      let before = walked_before manner reading in
-      let does : Option Turn = effect_of before.taken (event_of sent) in
-      let P : Reading → Type 0 = λ r.
-      Comes telling later joiner r (events ++ told_in now left bytes) in
-      let H : Walked → Type 0 = Has events now joiner in
-      let S : Stage → Type 0 = λ s.
-      Has events s joiner (with_next manner before (entry offset sent content)) in
-      subst P (sym (is ∙ ap (λ e. joined reading (data_after left bytes e)) ends))
-      (rw (later_is does left now later waits more over, waits)
+      let before = walked_before telling.manner reading in
+      let head = entry offset sent content in
+      rw (
+        is,
+        ends,
+        later_is effect (effect_of before.taken (event_of sent)) left waits,
+        waits,
+      )
       (with_comes telling joiner reading offset sent (content ++ bytes) left before refl
-      (data_has manner before joiner offset sent content bytes left to_come.2 some
-      (subst S waits (subst H
-      (ap (λ e. walked_of manner reading.contact (reading.entries ++ cut_heads e)) ends
-      ∙ walked_all manner reading.contact reading.entries (entry offset sent content ∷ []))
-      at.has)))))
+      (data_has telling.manner before joiner offset sent content bytes left to_come.2 some
+      (rw (ends, walked_all telling.manner reading.contact reading.entries (head ∷ []), waits)
+      at at.has)))
   data_by (Fault offset fault) ends waits to_come = absurd waits
 
   -- data of a segment has come
   pub data_comes : IsLeft from (length bytes + left) reading.end
-      → Comes telling later joiner after (events ++ told_in now left bytes)
+      → Comes telling (stage_by effect left) joiner after
+      (events ++ told_in (stage_in effect) left bytes)
   data_comes to_come = data_by reading.end refl at.waits to_come
 
 pub stage_some : (effect : Option Turn) (left : ℕ) → 0 < left
@@ -497,51 +475,11 @@ module _ (telling : Telling) (unwanted : telling.manner.all_heads ≡ false) (jo
       → after ≡ joined reading (record { entries = entries; end = Clean }) → All IsQuiet entries
       → Comes telling stage.Message joiner after events
   quiet_comes {reading} after entries at is quiet =
-      let contact = reading.contact in
-      let P : Reading → Type 0 = λ r. Comes telling stage.Message joiner r events in
-      let H : Walked → Type 0 = Has events stage.Message joiner in
-      subst P (sym is) (record {
-        has = subst H (sym (ap (walked_of telling.manner contact)
-            (append-nil (reading.entries ++ entries)
-            ∙ ap (λ es. es ++ entries) (sym (heads_clean reading (at_clean at))))
-            ∙ walked_all telling.manner contact (heads_of reading) entries))
-            (all_quiet entries (walked telling.manner reading) at.has quiet);
+      rw is (record {
+        has = rw (
+          append-nil (reading.entries ++ entries),
+          ← heads_clean reading (at_clean at),
+          walked_all telling.manner reading.contact (heads_of reading) entries,
+        ) (all_quiet entries (walked telling.manner reading) at.has quiet);
         waits = refl;
       })
-
--- an inner segment of the open transfer has come, with all of its data
-pub inner_comes : (telling : Telling) (joiner : Joiner) {events : List WalkEvent}
-    {reading : Reading} (mid after : Reading) (offset id : ℕ) (content : List ℕ)
-    → Comes telling stage.Message joiner reading events
-    → continuable (walked telling.manner reading).taken ≡ Some id
-    → mid ≡ with_message offset (inner_segment id (length content)) reading
-    → after ≡ with_data 0 content mid → 0 < length content
-    → Comes telling stage.Message joiner after (events
-    ++ inner_events telling.manner.all_heads (inner_head offset id (length content)) content)
-inner_comes telling joiner {events} {reading} mid after offset id content at is_open headed given
-    some =
-    let sent = inner_segment id (length content) in
-    let taken = (walked telling.manner reading).taken in
-    let may : refusal taken (event_of sent) ≡ None = may_continue taken id is_open in
-    let does : effect_of taken (event_of sent) ≡ Some (turn.Continue false) =
-    continues_open taken id is_open in
-    let told = head_events telling.manner.all_heads (inner_head offset id (length content)) in
-    let M : Stage → List WalkEvent → Type 0 = λ now all. Comes telling now joiner mid all in
-    let first =
-    head_comes telling joiner at offset sent joiner mid headed (λ stops. may)
-    (joiner_stays taken id is_open joiner sent refl at.has.judges) in
-    let is : head_at taken offset sent ≡ inner_head offset id (length content) =
-    rw (may, does) refl in
-    let now : stage_by (effect_of taken (event_of sent)) (length content) ≡ stage.Data false =
-    ap (λ e. stage_by e (length content)) does
-    ∙ stage_some (Some (turn.Continue false)) (length content) some in
-    let Q : Reading → Type 0 = λ r. IsLeft offset (length content + 0) r.end in
-    let R : List WalkEvent → Type 0 = λ all. Comes telling stage.Message joiner after all in
-    let H : Head → Type 0 = λ head.
-    M (stage.Data false) (events ++ head_events telling.manner.all_heads head) in
-    let S : Stage → Type 0 = λ s.
-    M s (events ++ head_events telling.manner.all_heads (head_at taken offset sent)) in
-    subst R (append_assoc events told (data_ends content false))
-    (data_comes telling stage.Message (subst H is (subst S now first))
-    offset 0 content given some (λ e. cc) (λ more. absurd (omega arith)) (λ over. refl)
-    (subst Q (sym headed) (rw (lt-ltb 0 (length content) some) (omega arith, refl, omega arith))))

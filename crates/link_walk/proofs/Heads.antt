@@ -1,7 +1,7 @@
 -- The heads of a reading that goes on, and what a message or an event does to the open transfer.
-use Rattle.std.proofs.Common.{◌≡◌, ℕ, zero, suc, ◌+◌, Bool, true, false, not, ◌&&◌, ◌==◌, nat_lt, is_some, List, [], ◌∷◌, ◌++◌, length, Option, Some, None, if◌then◌else◌, refl, ap, sym, ◌∙◌, append-nil, arith}
+use Rattle.std.proofs.Common.{◌≡◌, ℕ, ◌+◌, Bool, true, false, not, ◌&&◌, ◌==◌, nat_lt, is_some, List, [], ◌∷◌, ◌++◌, length, Option, Some, None, if◌then◌else◌, refl, ap, ◌∙◌, append-nil, arith}
 use Rattle.std.specs.List.{fold}
-use Rattle.std.proofs.lemmas.{Bool.{eq-eqb, ne_eqb}, Grind.fold-append}
+use Rattle.std.proofs.lemmas.{Bool.Decides.nat_tests, Grind.fold-append}
 use Rattle.std.proofs.lemmas.List.Sums.{sum_by-cons, sum_by-append}
 use Rattle.link_wire.specs.{Codes.{is_start, is_end}, Message.data_length, Session.joined}
 use Rattle.link_wire.specs.Stream.{Entry, Clean, Cut, Stream, ended, with_entry, Reading, cut_heads, heads_of}
@@ -48,10 +48,7 @@ heads_with reading offset sent content left =
 
 -- a segment is whole exactly if none of its data is left
 pub is_whole : (content left size : ℕ) → size ≡ content + left → (content == size) ≡ (left == 0)
-is_whole content zero size is = eq-eqb content size (omega arith)
-is_whole content (suc left) size is =
-    ne_eqb content size (λ same. absurd (omega arith))
-    ∙ sym (ne_eqb (suc left) 0 (λ same. absurd (omega arith)))
+is_whole content left size is = grind (arith, nat_tests)
 
 -- ---- the effect of a message
 

@@ -1,11 +1,10 @@
 -- What holds after a step of a walk, or after inner segments, by what its consumer has written.
-use Rattle.std.proofs.Common.{◌≡◌, ℕ, ◌+◌, ◌^◌, ◌<◌, ◌≤◌, inl, inr, Bool, true, false, ◌||◌, ◌&&◌, ◌==◌, not, nat_lt, List, [], ◌∷◌, ◌++◌, length, Some, None, Result, Ok, Err, Option, if◌then◌else◌, refl, ap, sym, ◌∙◌, subst, append-nil, append_assoc, length-append, arith}
-use Rattle.std.specs.Io.KnownBytes.{Consumes}
+use Rattle.std.proofs.Common.{◌≡◌, ℕ, ◌+◌, ◌^◌, ◌<◌, ◌≤◌, inl, inr, Bool, true, false, ◌||◌, ◌&&◌, ◌==◌, not, nat_lt, List, [], ◌∷◌, ◌++◌, length, Some, None, Result, Ok, Err, Option, if◌then◌else◌, refl, ap, sym, ◌∙◌, append-nil, append_assoc, length-append, arith}
 use Rattle.std.proofs.KnownBytes.{Consumes-trans}
 use Rattle.link_io.proofs.Sources.{Takes-none, Takes-then}
-use Rattle.link_wire.specs.{Device.Input, Inner.PassedInner, Limits.longest_head}
+use Rattle.link_wire.specs.{Device.Input, Inner.{PassedInner, inner_segment}, Limits.longest_head}
 use Rattle.link_wire.specs.Message.{data_length}
-use Rattle.link_wire.specs.Session.{source_of, left_of, IsLeft, IsSessionAt, ReadContact, CleanEnd, ReadMessage, LoadedData, PassedBytes, with_message, with_data}
+use Rattle.link_wire.specs.Session.{source_of, left_of, IsSessionAt, ReadContact, CleanEnd, ReadMessage, LoadedData, PassedBytes, with_message}
 use Rattle.link_wire.specs.Source.{Takes, ahead, given_by}
 use Rattle.link_wire.specs.Stream.{Entry, Clean, Cut, Stream, ended, with_entry, Reading, reading_of, cut_heads}
 use Rattle.link_wire.specs.{Whole.PassedQuiet, declared.IoFault.IoFault}
@@ -15,10 +14,13 @@ use Rattle.link_transfer.specs.{Event.event_of, Joiner.IsJoinerAt}
 use Rattle.link_transfer.specs.Order.{continuable, effect_of, with_taken}
 use Rattle.link_transfer.specs.declared.event.Event.TheVariants.{Segment}
 use Rattle.link_transfer.specs.declared.{fault.OrderFault.OrderFault, joiner.Joiner.Joiner}
-use Rattle.link_transfer.proofs.Continuing.{continues_open, may_continue}
+use Rattle.link_transfer.specs.declared.joiner.Turn.{Turn}
+use Rattle.link_transfer.specs.declared.joiner.Turn.TheVariants as turn
+use Rattle.link_transfer.proofs.Continuing.{continues_open, may_continue, joiner_stays}
 use Rattle.link_report.specs.{Fault.fault_text, declared.fault.Fault.TheVariants.Order}
-use Rattle.link_run.specs.Made.{Made, StreamStop, with_fault, whole_by, shows_fault, stop_of, tool_of}
-use Rattle.link_run.specs.{Next.next_of, Run.{Texts, ◌then◌, Looks, Devices, devices_at, LastStep}}
+use Rattle.link_run.specs.Made.{shows_fault, stop_of, tool_of}
+use Rattle.link_run.specs.{Next.next_of, Reading.feed_of}
+use Rattle.link_run.specs.Run.{◌then◌, Looks, Devices, devices_at, LastStep}
 use Rattle.link_run.specs.Writers.{place_of, on_report, AfterLastWrite}
 use Rattle.link_run.specs.declared.{next.Next.Next, run.Status.Status, writers.Writers.Writers}
 use Rattle.link_run.specs.declared.next.Next.TheVariants as next
@@ -26,11 +28,11 @@ use Rattle.link_run.proofs.Ends.{ends_unshown, made_reports, unshown_sofar}
 use Rattle.link_run.proofs.Runs.{few_over, sound_given, writer_lost, written_given}
 use Rattle.link_run.proofs.{Sessions.{then_fault, part_unshown}, Stands.{ends, stands_on}}
 use Rattle.link_walk.specs.Telling.{ComesAfter, Tells, data_ends, inner_events, inner_head}
-use Rattle.link_walk.specs.Walk.{head_at, is_plain, WalkEvent, ContactHeader, MessageHead, Whole, data_events, data_size, data_size_of, has_open, Walked, walked, head_events, Telling, told_by, told_of}
-use Rattle.link_walk.specs.WalkRun.{Walks, WalkStands, StandsAt, StandsNext, AfterWalkStep, IsWaitingAfter, Finishes, TakesInner, most_by, stage_by}
+use Rattle.link_walk.specs.Walk.{head_at, is_plain, WalkEvent, ContactHeader, MessageHead, Whole, data_events, data_size, data_size_of, has_open, Walked, walked, head_events, Telling, told_of}
+use Rattle.link_walk.specs.WalkRun.{Walks, WalkStands, StandsAt, StandsNext, At, AfterWalkStep, IsWaitingAfter, Finishes, TakesAll, most_by, stage_in, stage_by}
 use Rattle.link_walk.specs.declared.walk.Stage.{Stage}
 use Rattle.link_walk.specs.declared.walk.Stage.TheVariants as stage
-use Rattle.link_walk.proofs.Comes.{Comes, MayTake, told_at, knows_at, told_in, contact_comes, head_comes, data_comes, quiet_comes, inner_comes}
+use Rattle.link_walk.proofs.Comes.{Comes, MayTake, told_at, knows_at, told_in, contact_comes, head_comes, data_comes, quiet_comes, stage_some}
 use Rattle.link_walk.proofs.Heads.{continues_some, data_size-append, data_size-data}
 use Rattle.link_walk.proofs.Tellings.{tells_none}
 use Rattle.link_walk.proofs.Texts.{by_reading, made_is, texts_are, stop_is, same_texts, at_unshown, nothing_told}
@@ -38,51 +40,34 @@ use Rattle.link_walk.proofs.Texts.{by_reading, made_is, texts_are, stop_is, same
 abbrev pub events_at : Telling → List ℕ → List WalkEvent
 events_at telling bytes = (walked telling.manner (reading_of bytes)).events
 
--- ---- the events that more bytes add
+-- ---- the events of the bytes that were given
 
--- These bytes were given after the history, whose events `had` were told. The events `added` are to
--- be told of them.
-pub record Grows {R : Type 0} (look : R → Input) (telling : Telling) (new : Session R)
-    (later : Stage) (joiner : Joiner) (history given : List ℕ) (had added : List WalkEvent)
+-- The session was given these bytes. They tell exactly these events, and the walk is at this stage.
+pub record HasCome {R : Type 0} (look : R → Input) (telling : Telling) (now : Stage)
+    (session : Session R) (joiner : Joiner) (history : List ℕ) (events : List WalkEvent)
     : Type 0 where
-  pub were : events_at telling history ≡ had
-  pub few : data_size had ≤ length history
-  pub at : IsSessionAt look new (history ++ given)
-  pub comes : Comes telling later joiner (reading_of (history ++ given)) (had ++ added)
-  pub size : data_size added ≤ length given
+  pub session_at : IsSessionAt look session history
+  pub comes : Comes telling now joiner (reading_of history) events
+  pub size : data_size events ≤ length history
 
-module _ {R : Type 0} {look : R → Input} {telling : Telling} {new : Session R} {later : Stage}
-    {joiner : Joiner} {history given : List ℕ} {had added : List WalkEvent}
-    (grows : Grows look telling new later joiner history given had added) where
-  due : (texts : Texts) → telling.texts had then texts ≡ telling.texts (had ++ added)
-      → (told_of telling history).texts then texts ≡ (told_of telling (history ++ given)).texts
-  due texts said =
-      ap (λ (first : Texts). first then texts)
-      (texts_are telling history ∙ ap telling.texts grows.were)
-      ∙ said ∙ sym (texts_are telling (history ++ given) ∙ ap telling.texts grows.comes.has.known)
+-- the events of the history, and what a walk that has come this far has told
+module _ {R C : Type 0} {look : R → Input} {telling : Telling} {now : Stage} {session : Session R}
+    {joiner : Joiner} {history : List ℕ} where
+  pub come_at : {knows : C → List WalkEvent → Type 0} {consumer : C}
+      → Walks look telling knows now session joiner consumer history
+      → HasCome look telling now session joiner history (events_at telling history)
+  come_at walks =
+      record { session_at = walks.session_at; comes = told_at walks.at; size = walks.size }
 
-  unshown : shows_fault (told_of telling (history ++ given)).stop ≡ false
-  unshown =
-      at_unshown telling later (history ++ given) grows.comes.has.unrefused grows.comes.waits
-
-  walks_on : {C : Type 0} (knows : C → List WalkEvent → Type 0) (consumer : C)
-      → knows consumer (had ++ added)
-      → Walks look telling knows later new joiner consumer (history ++ given)
-  walks_on knows consumer known =
-      let few = grows.few in
-      let size = grows.size in
-      record {
-        session_at = grows.at;
-        at = knows_at grows.comes (knows consumer) known;
-        size = omega (
-          arith,
-          few,
-          size,
-          ap data_size grows.comes.has.known,
-          data_size-append had added,
-          length-append history given,
-        );
-      }
+  walks_on : {events : List WalkEvent}
+      → HasCome look telling now session joiner history events
+      → (knows : C → List WalkEvent → Type 0) (consumer : C) → knows consumer events
+      → Walks look telling knows now session joiner consumer history
+  walks_on come knows consumer known = record {
+    session_at = come.session_at;
+    at = knows_at come.comes (knows consumer) known;
+    size = rw come.comes.has.known come.size;
+  }
 
 -- no event but data has a size
 one_size : (test : Bool) (event : WalkEvent) → data_size_of event ≡ 0
@@ -102,149 +87,137 @@ told_size (stage.Data last) left bytes =
     )
 told_size now left bytes = omega (arith, one_size false Whole refl)
 
-pub contact_grows : {R : Type 0} {look : R → Input} {telling : Telling} {joiner : Joiner}
+-- before any byte, no event
+pub nothing_yet : (telling : Telling) → events_at telling [] ≡ []
+nothing_yet telling = ap (λ (w : Walked). w.events) (nothing_told telling.manner)
+
+-- the contact header has come
+pub contact_come : {R : Type 0} {look : R → Input} (telling : Telling) {joiner : Joiner}
     {old new : Session R} {contact : Contact} → IsJoinerAt joiner []
     → (got : ReadContact look old new contact)
-    → Grows look telling new stage.Message joiner [] got.given [] (ContactHeader contact ∷ [])
-contact_grows {telling = telling} {joiner = joiner} {contact = contact} judges got =
-    let P : Reading → Type 0 = λ r.
-    Comes telling stage.Message joiner r (ContactHeader contact ∷ []) in
-    record {
-      were = ap (λ (w : Walked). w.events) (nothing_told telling.manner);
-      few = omega (arith, one_size false Whole refl);
-      at = got.at;
-      comes = subst P (sym got.reading) (contact_comes telling joiner contact judges);
+    → HasCome look telling stage.Message new joiner got.given
+    (events_at telling [] ++ ContactHeader contact ∷ [])
+contact_come telling {joiner = joiner} {contact = contact} judges got =
+    rw (nothing_yet telling) (record {
+      session_at = got.at;
+      comes = rw got.reading (contact_comes telling joiner contact judges);
       size = omega (arith, one_size true (ContactHeader contact) refl);
-    }
+    })
 
-module _ {R C : Type 0} {look : R → Input} {telling : Telling}
-    {knows : C → List WalkEvent → Type 0} {now : Stage} {old : Session R} {joiner : Joiner}
-    {consumer : C} {history : List ℕ}
-    (walks : Walks look telling knows now old joiner consumer history) where
-  abbrev had : Walked
-  had = walked telling.manner (reading_of history)
+-- data of a segment has come
+pub data_come : {R : Type 0} {look : R → Input} {telling : Telling} {old new : Session R}
+    (effect : Option Turn) {joiner : Joiner} {history bytes : List ℕ} {events : List WalkEvent}
+    {left : ℕ} → HasCome look telling (stage_in effect) old joiner history events
+    → PassedBytes look old new history bytes → left_of new ≡ left → 0 < length bytes
+    → HasCome look telling (stage_by effect left) new joiner (history ++ bytes)
+    (events ++ told_in (stage_in effect) left bytes)
+data_come {old = old} {new = new} effect {bytes = bytes} come gave left_is some =
+    rw (← left_is) (record {
+      session_at = gave.at;
+      comes = data_comes _ effect come.comes old.offset (left_of new) bytes gave.reading some
+          (rw gave.left at come.session_at.left);
+      size = omega (
+        arith,
+        come.size,
+        told_size (stage_in effect) (left_of new) bytes,
+        data_size-append,
+        length-append {A = ℕ},
+      );
+    })
 
-  -- data of a segment was given
-  pub data_grows : {new : Session R} {bytes : List ℕ} → PassedBytes look old new history bytes
-      → 0 < length bytes → (now ≡ stage.Message → ⊥) → (later : Stage)
-      → (0 < left_of new → later ≡ now) → (left_of new ≡ 0 → later ≡ stage.Message)
-      → Grows look telling new later joiner history bytes had.events
-      (told_in now (left_of new) bytes)
-  data_grows {new} {bytes} gave some other later more over =
-      let P : ℕ → Type 0 = λ n. IsLeft old.offset n (reading_of history).end in
-      record {
-        were = refl;
-        few = walks.size;
-        at = gave.at;
-        comes = data_comes telling later (told_at walks.at) old.offset (left_of new) bytes
-            gave.reading some other more over (subst P gave.left walks.session_at.left);
-        size = told_size now (left_of new) bytes;
-      }
-
-module _ {R C : Type 0} {look : R → Input} {telling : Telling}
-    {knows : C → List WalkEvent → Type 0} {old : Session R} {joiner : Joiner} {consumer : C}
-    {history : List ℕ}
-    (walks : Walks look telling knows stage.Message old joiner consumer history) where
-  abbrev before : Walked
-  before = walked telling.manner (reading_of history)
+module _ {R : Type 0} {look : R → Input} {telling : Telling} {old : Session R} {joiner : Joiner}
+    {history : List ℕ} {events : List WalkEvent}
+    (come : HasCome look telling stage.Message old joiner history events) where
+  abbrev taken : List Message
+  taken = (walked telling.manner (reading_of history)).taken
 
   -- the head of a message was taken
-  pub head_grows : {new : Session R} {offset : ℕ} {sent : Message}
+  pub head_come : {new : Session R} {offset : ℕ} {sent : Message}
       (got : ReadMessage look old new history offset sent) (after : Joiner)
-      → MayTake telling.manner before.taken sent → IsJoinerAt after (with_taken before.taken sent)
-      → (later : Stage)
-      → later ≡ stage_by (effect_of before.taken (event_of sent)) (data_length sent)
-      → Grows look telling new later after history got.given before.events
-      (head_events telling.manner.all_heads (head_at before.taken offset sent))
-  head_grows {new} {offset} {sent} got after may judges later later_is =
-      let head = head_at before.taken offset sent in
-      let bytes = history ++ got.given in
-      let all = before.events ++ head_events telling.manner.all_heads head in
-      let P : Stage → Type 0 = λ s. Comes telling s after (reading_of bytes) all in
+      → MayTake telling.manner taken sent → IsJoinerAt after (with_taken taken sent)
+      → (later : Stage) → later ≡ stage_by (effect_of taken (event_of sent)) (data_length sent)
+      → HasCome look telling later new after (history ++ got.given)
+      (events ++ head_events telling.manner.all_heads (head_at taken offset sent))
+  head_come {offset = offset} {sent = sent} got after may judges later later_is =
+      let head = head_at taken offset sent in
       record {
-        were = refl;
-        few = walks.size;
-        at = got.at;
-        comes = subst P (sym later_is)
-            (head_comes telling joiner (told_at walks.at) offset sent after (reading_of bytes)
-            got.reading may judges);
+        session_at = got.at;
+        comes = rw later_is
+            (head_comes telling joiner come.comes offset sent after
+            (reading_of (history ++ got.given)) got.reading may judges);
         size = omega (
           arith,
+          come.size,
           one_size (telling.manner.all_heads || not (is_plain head)) (MessageHead head) refl,
+          data_size-append,
+          length-append {A = ℕ},
         );
       }
 
-  module _ (unwanted : telling.manner.all_heads ≡ false) where
-    -- quiet messages were passed over
-    pub quiet_grows : {new : Session R} {count : ℕ} (got : PassedQuiet look old new history count)
-        → Grows look telling new stage.Message joiner history got.given before.events []
-    quiet_grows got =
-        let after = reading_of (history ++ got.given) in
-        let P : List WalkEvent → Type 0 = Comes telling stage.Message joiner after in
-        record {
-          were = refl;
-          few = walks.size;
-          at = got.passed.at;
-          comes = subst P (sym (append-nil before.events))
-              (quiet_comes telling unwanted joiner after got.entries (told_at walks.at)
-              got.passed.reading got.quiet);
-          size = omega (arith, one_size false Whole refl);
-        }
+  -- quiet messages were passed over
+  pub quiet_come : {new : Session R} {count : ℕ} → telling.manner.all_heads ≡ false
+      → (got : PassedQuiet look old new history count)
+      → HasCome look telling stage.Message new joiner (history ++ got.given) (events ++ [])
+  quiet_come unwanted got = rw (append-nil events) (record {
+    session_at = got.passed.at;
+    comes = quiet_comes telling unwanted joiner (reading_of (history ++ got.given)) got.entries
+        come.comes got.passed.reading got.quiet;
+    size = omega (arith, come.size, length-append history got.given);
+  })
 
-  -- an inner segment was passed
-  pub inner_grows : {new : Session R} (id : ℕ) (content : List ℕ)
-      → continuable before.taken ≡ Some id
+  -- an inner segment was passed, which is a head and then all of its data
+  pub inner_come : {new : Session R} (id : ℕ) (content : List ℕ) → continuable taken ≡ Some id
       → (got : PassedInner look old new history id content)
-      → Grows look telling new stage.Message joiner history (got.read.given ++ content)
-      before.events
-      (inner_events telling.manner.all_heads (inner_head got.offset id (length content)) content)
-  inner_grows {new} id content is_open got =
-      let given = got.read.given in
-      let parts = append_assoc history given content in
+      → HasCome look telling stage.Message new joiner (history ++ (got.read.given ++ content))
+      (events
+      ++ inner_events telling.manner.all_heads (inner_head got.offset id (length content)) content)
+  inner_come id content is_open got =
       let head = inner_head got.offset id (length content) in
-      let told = head_events telling.manner.all_heads head in
-      let all = before.events ++ (told ++ data_ends content false) in
-      let mid = reading_of (history ++ given) in
-      let S : List ℕ → Type 0 = IsSessionAt look new in
-      let P : List ℕ → Type 0 = λ bytes.
-      Comes telling stage.Message joiner (reading_of bytes) all in
-      record {
-        were = refl;
-        few = walks.size;
-        at = subst S parts got.gave.at;
-        comes = subst P parts
-            (inner_comes telling joiner mid (reading_of ((history ++ given) ++ content))
-            got.offset id content (told_at walks.at) is_open got.read.reading
-            (got.gave.reading ∙ ap (λ n. with_data n content mid) got.none) got.some);
-        size = omega (
-          arith,
-          data_size-append told (data_ends content false),
-          one_size (telling.manner.all_heads || not (is_plain head)) (MessageHead head) refl,
-          told_size (stage.Data false) 0 content,
-          length-append given content,
-        );
-      }
+      let inner = Some (turn.Continue false) in
+      let does = continues_open taken id is_open in
+      let headed =
+      head_come got.read joiner (λ stops. may_continue taken id is_open)
+      (joiner_stays taken id is_open joiner (inner_segment id (length content)) refl
+      come.comes.has.judges)
+      (stage.Data false) (rw does (sym (stage_some inner (length content) got.some))) in
+      rw (
+        ← append_assoc history got.read.given content,
+        ← append_assoc events (head_events telling.manner.all_heads head) (data_ends content false),
+      )
+      (rw (may_continue taken id is_open, does) at
+      (data_come inner headed got.gave got.none got.some))
 
 -- ---- what was told of them
+
+module _ {R : Type 0} {look : R → Input} {telling : Telling} {now : Stage} {session : Session R}
+    {joiner : Joiner} {bytes : List ℕ} {events : List WalkEvent}
+    (come : HasCome look telling now session joiner bytes events) where
+  texts_told : (told_of telling bytes).texts ≡ telling.texts events
+  texts_told = texts_are telling bytes ∙ ap telling.texts come.comes.has.known
+
+  unshown : shows_fault (told_of telling bytes).stop ≡ false
+  unshown = at_unshown telling now bytes come.comes.has.unrefused come.comes.waits
 
 -- These bytes were given, and the events that they add were told.
 module _ {R W E C : Type 0} {look : Looks R W E} {start : Devices R W E} {telling : Telling}
     (knows : C → List WalkEvent → Type 0) (old : Session R) {new : Session R} (before : Writers W E)
-    {later : Stage} {joiner : Joiner} {history given : List ℕ} {had added : List WalkEvent}
+    {later : Stage} {joiner : Joiner} {history given : List ℕ} {added : List WalkEvent}
     (stood : WalkStands look start telling old before history)
     (takes : Takes look.input (source_of old) (source_of new) given)
     (some : 0 < length given)
-    (grows : Grows look.input telling new later joiner history given had added)
+    (come : HasCome look.input telling later new joiner (history ++ given)
+    (events_at telling history ++ added))
     (after : Writers W E) (consumer : C) where
   pub told_next : (result : Result (Unit {0}) IoFault)
-      → Tells look.output look.report telling (knows consumer) had added before after result
+      → Tells look.output look.report telling (knows consumer) (events_at telling history) added
+      before after result
       → StandsNext look start telling knows new after joiner consumer (history ++ given)
       (next_of later result)
   told_next (Ok done) tells = (
     stands_on (length given) (source_of old) (source_of new) before stood takes (omega arith)
-        (takes.window.less some) after tells.texts (due grows tells.texts tells.said) (unshown grows)
-        tells.wrote,
-    walks_on grows knows consumer tells.known,
+        (takes.window.less some) after tells.texts
+        (rw (texts_are telling history, texts_told come) tells.said) (unshown come) tells.wrote,
+    walks_on come knows consumer tells.known,
   )
   told_next (Err fault) tells =
       let made = told_of telling in
@@ -254,8 +227,8 @@ module _ {R W E C : Type 0} {look : Looks R W E} {start : Devices R W E} {tellin
             (written_given look start (source_of old) (source_of new) before history given _
             stood.written takes)
             (sound_given look (source_of old) (source_of new) before given stood.sound takes)
-            (due grows tells.texts tells.said)
-            (inl (sym (unshown_sofar (made bytes).stop (made bytes).texts (unshown grows))))
+            (rw (texts_are telling history, texts_told come) tells.said)
+            (inl (sym (unshown_sofar (made bytes).stop (made bytes).texts (unshown come))))
             (takes.window.less some)
             (λ some. inr (record {
               front = history;
@@ -264,13 +237,14 @@ module _ {R W E C : Type 0} {look : Looks R W E} {start : Devices R W E} {tellin
               is = sym (unshown_sofar (made history).stop (made history).texts stood.unshown);
             }))
             tells.wrote,
-        ends_unshown made stood.lasting bytes (unshown grows),
+        ends_unshown made stood.lasting bytes (unshown come),
       )
 
   pub told_step : (piece : ℕ) (now : Stage) → length given ≤ most_by piece now
       → IsWaitingAfter now (reading_of (history ++ given)).end
       → (result : Result (Unit {0}) IoFault)
-      → Tells look.output look.report telling (knows consumer) had added before after result
+      → Tells look.output look.report telling (knows consumer) (events_at telling history) added
+      before after result
       → AfterWalkStep look start telling knows piece now old new after joiner consumer history
       (next_of later result)
   told_step piece now size waiting (Ok done) tells = record {
@@ -312,9 +286,10 @@ passed_on {look = look} {telling = telling} knows {old = old} writers {consumer 
     let walks = stands.1 in
     let size = got.size in
     told_step knows old writers stands.0 got.passed.takes (omega arith)
-    (quiet_grows walks unwanted got) writers consumer count stage.Stray (omega arith) tt (Ok tt)
-    (tells_none look.output look.report telling (knows consumer) (events_at telling history) []
-    writers tt refl walks.at.known)
+    (quiet_come (come_at walks) unwanted got) writers consumer count stage.Stray (omega arith) tt
+    (Ok tt)
+    (tells_none look.output look.report telling (knows consumer) (events_at telling history) writers
+    walks.at.known)
 
 -- ---- the end
 
@@ -331,24 +306,13 @@ module _ {R W E : Type 0} {look : Looks R W E} {start : Devices R W E} (telling 
       → LastStep look (tool_of (told_of telling)) start
       (devices_at (place_of (source_of new) after)) longest_head history answer
   finished got answer gives =
-      let made = by_reading telling (reading_of history) in
-      let P : Option StreamStop → Made → Type 0 = λ stop m.
-      ((told_of telling history).texts then gives.0 ≡ (whole_by stop m).texts)
-      × (shows_fault stop ≡ false)
-      × AfterLastWrite look.output look.report before after gives.0 (whole_by stop m).status
-      answer in
-      let Q : Option StreamStop → Type 0 = λ stop. P stop made in
-      let S : Made → Type 0 = λ m. P m.stop m in
-      let parts =
-      subst S (sym (ap (told_of telling) (append-nil history) ∙ made_is telling history))
-      (subst Q (sym (stop_is telling (reading_of history) unrefused ∙ ap stop_of got.clean)) (
-        ap (λ (had : Texts). had then gives.0) (texts_are telling history) ∙ gives.1,
-        refl,
-        gives.2,
-      )) in
+      let same : told_of telling (history ++ []) ≡ by_reading telling (reading_of history) =
+      ap (told_of telling) (append-nil history) ∙ made_is telling history in
+      let stops = stop_is telling (reading_of history) unrefused ∙ ap stop_of got.clean in
       ends longest_head (source_of old) (source_of new) before stood got.takes (omega arith)
-      (few_over look.input (source_of new) got.over) after gives.0 parts.0 (inl (got.over, parts.1))
-      answer parts.2
+      (few_over look.input (source_of new) got.over) after gives.0
+      (rw (texts_are telling history, same, stops) gives.1)
+      (inl (got.over, rw (same, stops) refl)) answer (rw (same, stops) gives.2)
 
   -- the run ends at a head that is not in order
   pub refused : {offset : ℕ} {sent : Message}
@@ -365,30 +329,19 @@ module _ {R W E : Type 0} {look : Looks R W E} {start : Devices R W E} (telling 
       (devices_at (place_of (source_of new) after)) longest_head history answer
   refused {offset} got clean fault is stays answer gives =
       let bytes = history ++ got.given in
-      let line = on_report (fault_text (Order offset fault)) in
-      let P : Made → Type 0 = λ m.
-      ((told_of telling history).texts then line ≡ (whole_by m.stop m).texts)
-      × (shows_fault m.stop ≡ true)
-      × AfterLastWrite look.output look.report before after line (whole_by m.stop m).status answer in
-      let Q : Walked → Type 0 = λ w. P (told_by telling (reading_of bytes).end w) in
-      let parts =
-      subst P (sym (made_is telling bytes)) (subst Q (sym is) (
-        then_fault (Order offset fault) (told_of telling history).texts
-            ∙ ap (with_fault (Order offset fault)) (texts_are telling history),
-        refl,
-        gives,
-      )) in
       ends longest_head (source_of old) (source_of new) before stood got.takes got.size
-      (got.takes.window.less got.some) after line parts.0
+      (got.takes.window.less got.some) after (on_report (fault_text (Order offset fault)))
+      (rw (texts_are telling history, made_is telling bytes, is)
+      (then_fault (Order offset fault) (telling.texts here.events)))
       (inr (
-        parts.1,
+        rw (made_is telling bytes, is) refl,
         stays,
         λ count less.
-            ap (λ (m : Made). shows_fault m.stop) (made_is telling _)
-            ∙ part_unshown (by_reading telling) history got.given
-            (same_texts telling (reading_of history) unrefused clean) got.shown_last count less,
+            rw made_is
+            (part_unshown (by_reading telling) history got.given
+            (same_texts telling (reading_of history) unrefused clean) got.shown_last count less),
       ))
-      answer parts.2
+      answer (rw (made_is telling bytes, is) gives)
 
 -- ---- data is made ready in the window, and then a step takes it
 
@@ -400,11 +353,9 @@ module _ {R W E C : Type 0} {look : Looks R W E} {start : Devices R W E} {tellin
     (ready : LoadedData look.input old mid history n) where
   stands_ready : WalkStands look start telling mid writers history
   stands_ready =
-      let P : List ℕ → Type 0 = λ bytes.
-      Consumes (look.input start.reader).left (ahead look.input (source_of mid)) bytes in
       record {
         written = record {
-          takes = subst P (append-nil history)
+          takes = rw append-nil at
               (Consumes-trans (look.input start.reader).left (ahead look.input (source_of old))
               (ahead look.input (source_of mid)) history [] stood.written.takes ready.readies.next);
           count = ready.readies.count ∙ stood.written.count;
@@ -451,90 +402,76 @@ module _ {R W E C : Type 0} {look : Looks R W E} {start : Devices R W E} {tellin
 
 -- ---- a loop over inner segments
 
-module _ {R W E C : Type 0} (look : Looks R W E) (telling : Telling)
-    (knows : C → List WalkEvent → Type 0) (first : Session R) (begun : Writers W E)
-    (joiner : Joiner) (one : C) where
-  -- inner segments were taken since then
-  abbrev pub HasTaken : (now : Session R) → (written : Writers W E) → C → Next Stage → Type 0
-  HasTaken now written consumer result =
-      (start : Devices R W E) (history : List ℕ)
-      → WalkStands look start telling first begun history
-      → Walks look.input telling knows stage.Message first joiner one history
-      → TakesInner look start telling knows first now written joiner consumer history result
-
-  pub none_taken : HasTaken first begun one (next.Stage stage.Message)
-  none_taken = λ start history stood at.
-      let P : List ℕ → Type 0 =
-      StandsAt look start telling knows stage.Message first begun joiner one in
-      record {
-        given = [];
-        takes = Takes-none look.input (source_of first);
-        stands = subst P (sym (append-nil history)) (stood, at);
-      }
+module _ {R W E C : Type 0} {look : Looks R W E} {telling : Telling}
+    {knows : C → List WalkEvent → Type 0} where
+  pub none_taken : (first : At R W E C)
+      → TakesAll look telling knows first first (next.Stage stage.Message)
+  none_taken first = record {
+    holds = λ start history stood walks. record {
+      given = [];
+      takes = Takes-none look.input (source_of (feed_of first.input));
+      stands = rw append-nil (stood, walks);
+    };
+  }
 
   -- One more is taken. Its head is at the next offset, and comes after the events so far.
-  pub turn_taken : (old new : Session R) (before after : Writers W E) (consumer later : C)
-      (offset id : ℕ) (content : List ℕ) → offset ≡ given_by (source_of old)
-      → HasTaken old before consumer (next.Stage stage.Message)
-      → ((taken : List Message) → IsJoinerAt joiner taken → Some id ≡ continuable taken)
-      → ((history : List ℕ) → IsSessionAt look.input old history
-      → PassedInner look.input old new history id content)
+  pub turn_taken : {first old new : At R W E C} (offset id : ℕ) (content : List ℕ)
+      → TakesAll look telling knows first old (next.Stage stage.Message)
+      → new.walker.joiner ≡ old.walker.joiner → offset ≡ given_by (source_of (feed_of old.input))
+      → ((taken : List Message) → IsJoinerAt old.walker.joiner taken → Some id ≡ continuable taken)
+      → ((history : List ℕ) → IsSessionAt look.input (feed_of old.input) history
+      → PassedInner look.input (feed_of old.input) (feed_of new.input) history id content)
       → (result : Result (Unit {0}) IoFault)
-      → ((events : List WalkEvent) → knows consumer events
+      → ((events : List WalkEvent) → knows old.walker.consumer events
       → ComesAfter events (inner_head offset id (length content))
       → has_open events ≡ true → data_size events + length content < 2 ^ 63
-      → Tells look.output look.report telling (knows later) events
+      → Tells look.output look.report telling (knows new.walker.consumer) events
       (inner_events telling.manner.all_heads (inner_head offset id (length content)) content)
-      before after result)
-      → HasTaken new after later (next_of stage.Message result)
-  turn_taken old new before after consumer later offset id content is kept opened passes result
-      tells =
-      λ start history stood at.
-      let so_far = kept start history stood at in
-      let here = history ++ so_far.given in
-      let walks = so_far.stands.1 in
-      let got = passes here walks.session_at in
-      let had = walked telling.manner (reading_of here) in
-      let is_open : continuable had.taken ≡ Some id = sym (opened had.taken walks.at.judges) in
-      let more = got.read.given ++ content in
-      let takes =
-      Takes-then look.input (source_of old) (source_of got.mid) (source_of new) got.read.given content
-      got.read.takes got.gave.takes in
-      let size = walks.size in
-      let within = (source_of new).within in
-      let given = got.gave.at.at.given in
-      let some = got.some in
-      let here_is : offset ≡ got.offset =
-      is ∙ walks.session_at.at.given ∙ sym got.read.offset_is in
-      let N : List ℕ → Type 0 = λ bytes.
-      StandsNext look start telling knows new after joiner later bytes
-      (next_of stage.Message result) in
-      let T : ℕ → Type 0 = λ n.
-      Tells look.output look.report telling (knows later) had.events
-      (inner_events telling.manner.all_heads (inner_head n id (length content)) content)
-      before after result in
-      record {
-        given = so_far.given ++ more;
-        takes = Takes-then look.input (source_of first) (source_of old) (source_of new) so_far.given
-            more so_far.takes takes;
-        stands = subst N (append_assoc history so_far.given more)
-            (told_next knows old before so_far.stands.0 takes
-            (omega (arith, length-append got.read.given content))
-            (inner_grows walks id content is_open got) after later result
-            (subst T here_is (tells had.events walks.at.known
-            (record {
-              taken = had.taken;
-              is = rw (may_continue had.taken id is_open, continues_open had.taken id is_open) refl;
-              opened = walks.at.opened;
-            })
-            (walks.at.opened
-            ∙ continues_some had.taken (Segment 0 id) false (continues_open had.taken id is_open))
-            (omega (
-              arith,
-              size,
-              within,
-              given,
-              length-append (here ++ got.read.given) content,
-              length-append here got.read.given,
-            )))));
-      }
+      old.writers new.writers result)
+      → TakesAll look telling knows first new (next_of stage.Message result)
+  turn_taken {first} {old} {new} offset id content was same is opened passes result tells = record {
+    holds = λ start history stood walks.
+        let so_far = was.holds start history stood walks in
+        let here = history ++ so_far.given in
+        let had = so_far.stands.1 in
+        let got = passes here had.session_at in
+        let taken = (walked telling.manner (reading_of here)).taken in
+        let is_open : continuable taken ≡ Some id = sym (opened taken had.at.judges) in
+        let does = continues_open taken id is_open in
+        let more = got.read.given ++ content in
+        let takes =
+        Takes-then look.input (source_of (feed_of old.input)) (source_of got.mid)
+        (source_of (feed_of new.input)) got.read.given content got.read.takes got.gave.takes in
+        let size = had.size in
+        let within = (source_of (feed_of new.input)).within in
+        let given = got.gave.at.at.given in
+        let some = got.some in
+        let here_is : offset ≡ got.offset =
+        is ∙ had.session_at.at.given ∙ sym got.read.offset_is in
+        record {
+          given = so_far.given ++ more;
+          takes = Takes-then look.input (source_of (feed_of first.input))
+              (source_of (feed_of old.input)) (source_of (feed_of new.input)) so_far.given more
+              so_far.takes takes;
+          stands = rw (← append_assoc history so_far.given more, same)
+              (told_next knows (feed_of old.input) old.writers so_far.stands.0 takes
+              (omega (arith, length-append got.read.given content))
+              (inner_come (come_at had) id content is_open got) new.writers new.walker.consumer
+              result
+              (rw here_is at (tells (events_at telling here) had.at.known
+              (record {
+                taken = taken;
+                is = rw (may_continue taken id is_open, does) refl;
+                opened = had.at.opened;
+              })
+              (had.at.opened ∙ continues_some taken (Segment 0 id) false does)
+              (omega (
+                arith,
+                size,
+                within,
+                given,
+                length-append (here ++ got.read.given) content,
+                length-append here got.read.given,
+              )))));
+        };
+  }

@@ -4,7 +4,7 @@ use Rattle.std.proofs.Common.{◌≡◌, ℕ, ◌<◌, Bool, true, false, List, 
 use Rattle.std.specs.List.{fold}
 use Rattle.std.proofs.lemmas.List.Folds.{fold_stays}
 use Rattle.link_wire.specs.{Device.Input, Message.contact_at, Session.{IsLeft, left_of}}
-use Rattle.link_wire.specs.Stream.{Entry, End, Clean, Cut, Fault, Stream, Reading, reading_by, reading_of, cut_heads, heads_of}
+use Rattle.link_wire.specs.Stream.{Entry, End, Clean, Cut, Fault, Stream, Reading, reading_by, reading_of, cut_heads}
 use Rattle.link_wire.specs.declared.{fault.WireFault.WireFault, message.Contact.Contact}
 use Rattle.link_wire.specs.declared.session.Session.{Session}
 use Rattle.link_wire.proofs.Contacts.{reading-none}
@@ -67,9 +67,8 @@ pub at_unshown : (telling : Telling) (now : Stage) (bytes : List ℕ)
     → shows_fault (told_of telling bytes).stop ≡ false
 at_unshown telling now bytes unrefused waits =
     let reading = reading_of bytes in
-    ap (λ (m : Made). shows_fault m.stop) (made_is telling bytes)
-    ∙ ap shows_fault (stop_is telling reading unrefused)
-    ∙ waiting_unshown now (walked_before telling.manner reading) reading.end waits
+    rw (made_is telling bytes, stop_is telling reading unrefused)
+    (waiting_unshown now (walked_before telling.manner reading) reading.end waits)
 
 -- if the reading waits for data, some is to come
 some_left : (now : Stage) (before : Walked) (offset left : ℕ) (end : End)
@@ -100,9 +99,7 @@ module _ (telling : Telling) where
 
   pub nothing_shown : shows_fault (told_of telling []).stop ≡ false
   nothing_shown =
-      ap (λ (m : Made). shows_fault m.stop) (made_is telling [])
-      ∙ ap shows_fault (stop_is telling (reading_of []) nothing_refused)
-      ∙ ap (λ (r : Reading). shows_fault (stop_of r.end)) reading-none
+      rw (made_is telling [], stop_is telling (reading_of []) nothing_refused, reading-none) refl
 
   pub before_all : SameTexts (by_reading telling) (reading_of [])
   before_all =
@@ -177,12 +174,13 @@ module _ (manner : Manner) where
       rw (unread.1, none unread.0) at is in
       absurd (cc))
       on.contact in
-      ap (λ c. with_all manner (none_walked c) (heads_of after)) same
-      ∙ ap (with_all manner (none_walked before.contact))
-      (ap (λ (s : Stream). s.entries ++ cut_heads s.end) on.messages.are
-      ∙ append_assoc before.entries rest.entries (cut_heads rest.end))
-      ∙ parts_same before.entries (cut_heads before.end) (rest.entries ++ cut_heads rest.end)
-      (none_walked before.contact) stop on.messages.follows is
+      rw (
+        same,
+        ap (λ (s : Stream). s.entries ++ cut_heads s.end) on.messages.are,
+        append_assoc before.entries rest.entries (cut_heads rest.end),
+      )
+      (parts_same before.entries (cut_heads before.end) (rest.entries ++ cut_heads rest.end)
+      (none_walked before.contact) stop on.messages.follows is)
 
 -- without a contact header no message is read
 unread_by : (read : Result (Contact × List ℕ) WireFault) → (reading_by read).contact ≡ None

@@ -62,9 +62,7 @@ module _ {S : Type 0} (keeping : Keeping S) where
   keeps_telling manner out_look report_look before added old new now later texts result is wrote
       said grown = record {
         texts = texts;
-        said = ap (λ (more : Texts). said_from keeping.start before then more)
-            (said ∙ ap (λ kept. said_from kept added) is)
-            ∙ said_from-append keeping.start before added;
+        said = rw (said, is) (said_from-append keeping.start before added);
         wrote = wrote;
         known = on_ok result (grown ∙ ap (λ kept. kept_after kept added) is
             ∙ sym (fold-append keeping.next keeping.start before added));

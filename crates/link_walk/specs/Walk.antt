@@ -35,23 +35,18 @@ head_at before offset message = record {
 
 -- whether the message is the last segment of its transfer
 abbrev pub is_last : Option Turn → Bool
-is_last None = false
-is_last (Some turn.Other) = false
 is_last (Some (turn.Begin abandoned last)) = last
 is_last (Some (turn.Continue last)) = last
+is_last other = false
 
 abbrev pub is_beginning : Option Turn → Bool
-is_beginning None = false
-is_beginning (Some turn.Other) = false
 is_beginning (Some (turn.Begin abandoned last)) = true
-is_beginning (Some (turn.Continue last)) = false
+is_beginning other = false
 
 -- whether the message abandons the transfer that is open
 abbrev pub abandons : Option Turn → Bool
-abandons None = false
-abandons (Some turn.Other) = false
 abandons (Some (turn.Begin abandoned last)) = is_some abandoned
-abandons (Some (turn.Continue last)) = false
+abandons other = false
 
 -- Whether the transfer is over with the head of its last segment, which has no data.
 abbrev pub closes : Head → Bool
@@ -79,11 +74,8 @@ data_events bytes = map Data bytes
 
 -- the number of bytes of data among these events
 abbrev pub data_size_of : WalkEvent → ℕ
-data_size_of (ContactHeader contact) = 0
-data_size_of (MessageHead head) = 0
 data_size_of (Data byte) = 1
-data_size_of Whole = 0
-data_size_of LeftOpen = 0
+data_size_of other = 0
 
 unfoldable pub data_size : List WalkEvent → ℕ
 data_size events = fold (λ size event. size + data_size_of event) 0 events
@@ -92,8 +84,7 @@ data_size events = fold (λ size event. size + data_size_of event) 0 events
 abbrev pub open_with : Option Turn → (closing was : Bool) → Bool
 open_with None closing was = was
 open_with (Some turn.Other) closing was = was
-open_with (Some (turn.Begin abandoned last)) closing was = not closing
-open_with (Some (turn.Continue last)) closing was = not closing
+open_with (Some turn) closing was = not closing
 
 abbrev pub open_after_event : Bool → WalkEvent → Bool
 open_after_event was (ContactHeader contact) = was

@@ -16,7 +16,7 @@ use Rattle.link_transfer.specs.declared.joiner.Turn.{Turn}
 use Rattle.link_report.specs.Fault.{fault_text}
 use Rattle.link_report.specs.declared.fault.Fault.TheVariants.{Order}
 use Rattle.link_run.specs.Made.{tool_of}
-use Rattle.link_run.specs.Run.{Texts, ◌then◌, Looks, Devices, devices_at, EndedRun, EndsAtFault, WentOn, LastStep, AfterStep}
+use Rattle.link_run.specs.Run.{Texts, ◌then◌, Looks, Devices, Place, devices_at, EndedRun, EndsAtFault, WentOn, LastStep, AfterStep}
 use Rattle.link_run.specs.Next.{next_of, progress_of}
 use Rattle.link_run.specs.Reading.{feed_of, SessionWaits}
 use Rattle.link_run.specs.Stages.{Stands}
@@ -38,8 +38,7 @@ use Rattle.link_walk.specs.declared.walk.Walker.{Walker}
 abbrev pub most_by : (piece : ℕ) → Stage → ℕ
 most_by piece stage.Contact = 6
 most_by piece stage.Message = longest_head
-most_by piece (stage.Data last) = piece
-most_by piece stage.Stray = piece
+most_by piece now = piece
 
 abbrev pub most_given : Stage → ℕ
 most_given now = most_by 4096 now
@@ -109,10 +108,8 @@ IsWaiting now before (Fault offset fault) = ⊥
 -- Whether a transfer is open. One whose last segment is being read is open until all of its data
 -- has come.
 abbrev pub is_open_at : Stage → List Message → Bool
-is_open_at stage.Contact taken = is_some (open_of taken)
-is_open_at stage.Message taken = is_some (open_of taken)
 is_open_at (stage.Data last) taken = true
-is_open_at stage.Stray taken = is_some (open_of taken)
+is_open_at now taken = is_some (open_of taken)
 
 -- How the reading ends after a step, if data of a segment is still to come. A step that reads a
 -- head is given none of that data.
@@ -152,18 +149,25 @@ module _ {R C : Type 0} (look : R → Seen) (telling : Telling) (knows : C → L
 
   abbrev pub IsWalking : Stage → Joiner → C → Session R → (history : List ℕ) → Type 0
   IsWalking stage.Contact joiner consumer session history = Begins session joiner consumer history
-  IsWalking stage.Message joiner consumer session history =
-      Walks stage.Message session joiner consumer history
-  IsWalking (stage.Data last) joiner consumer session history =
-      Walks (stage.Data last) session joiner consumer history
-  IsWalking stage.Stray joiner consumer session history =
-      Walks stage.Stray session joiner consumer history
+  IsWalking now joiner consumer session history = Walks now session joiner consumer history
 
 -- `Stands` for a walk
 abbrev pub WalkStands : {R W E : Type 0} → Looks R W E → Devices R W E → Telling → Session R
     → Writers W E → (history : List ℕ) → Type 0
 WalkStands look start telling session writers history =
     Stands look (told_of telling) start true (place_of (source_of session) writers) history
+
+-- what a function of the walk is given and returns: the input, the writers and the walker
+pub record At (R W E C : Type 0) : Type 0 where
+  pub input : Input (Session R) W E
+  pub writers : Writers W E
+  pub walker : Walker C
+
+abbrev pub at : {R W E C : Type 0} → Input (Session R) W E → Writers W E → Walker C → At R W E C
+at input writers walker = record { input = input; writers = writers; walker = walker }
+
+abbrev pub place_at : {R W E C : Type 0} → At R W E C → Place R W E
+place_at now = place_of (source_of (feed_of now.input)) now.writers
 
 module _ {R W E C : Type 0} (look : Looks R W E) (start : Devices R W E) (telling : Telling)
     (knows : C → List WalkEvent → Type 0) where
@@ -185,20 +189,17 @@ module _ {R W E C : Type 0} (look : Looks R W E) (start : Devices R W E) (tellin
       (devices_at (place_of (source_of new) after)) (most_by piece now) history answer
 
   -- the state of the walk if a stage comes next
-  abbrev pub StandsIf : Session R → Writers W E → Joiner → C → Next Stage → (history : List ℕ)
-      → Type 0
-  StandsIf session writers joiner consumer (next.Stage now) history =
-      StandsAt now session writers joiner consumer history
-  StandsIf session writers joiner consumer (next.Ended answer) history = Unit {0}
+  abbrev pub StandsIf : At R W E C → Next Stage → (history : List ℕ) → Type 0
+  StandsIf new (next.Stage now) history =
+      StandsAt now (feed_of new.input) new.writers new.walker.joiner new.walker.consumer history
+  StandsIf new (next.Ended answer) history = Unit {0}
 
   -- what holds after a stride, which was given at most some number of bytes
-  abbrev pub AfterWalkStride : (old new : Session R) → (before after : Writers W E)
-      → Joiner → C → (history : List ℕ) → Next Stage → Type 0
-  AfterWalkStride old new before after joiner consumer history next =
+  abbrev pub AfterWalkStride : (old new : At R W E C) → (history : List ℕ) → Next Stage → Type 0
+  AfterWalkStride old new history next =
       (size : ℕ) × (0 < size)
-      × AfterStep look (tool_of (told_of telling)) start (place_of (source_of old) before)
-      (place_of (source_of new) after) (StandsIf new after joiner consumer next) size history
-      (progress_of next)
+      × AfterStep look (tool_of (told_of telling)) start (place_at old) (place_at new)
+      (StandsIf new next) size history (progress_of next)
 
 -- ---- inner segments
 
@@ -215,22 +216,15 @@ module _ {R W E C : Type 0} (look : Looks R W E) (start : Devices R W E) (tellin
       × EndsAtFault (tool_of (told_of telling)) history
 
   -- some bytes were given, or none; then a stage comes next, or the run has ended
-  pub record TakesInner (old new : Session R) (after : Writers W E) (joiner : Joiner) (consumer : C)
-      (history : List ℕ) (result : Next Stage) : Type 0 where
+  pub record TakesInner (old new : At R W E C) (history : List ℕ) (result : Next Stage)
+      : Type 0 where
     pub given : List ℕ
-    pub takes : Takes look.input (source_of old) (source_of new) given
-    pub stands : StandsNext new after joiner consumer (history ++ given) result
+    pub takes : Takes look.input (source_of (feed_of old.input)) (source_of (feed_of new.input))
+        given
+    pub stands : StandsNext (feed_of new.input) new.writers new.walker.joiner new.walker.consumer
+        (history ++ given) result
 
 -- ---- what the functions of the walk do
-
--- what a function of the walk is given and returns: the input, the writers and the walker
-pub record At (R W E C : Type 0) : Type 0 where
-  pub input : Input (Session R) W E
-  pub writers : Writers W E
-  pub walker : Walker C
-
-abbrev pub at : {R W E C : Type 0} → Input (Session R) W E → Writers W E → Walker C → At R W E C
-at input writers walker = record { input = input; writers = writers; walker = walker }
 
 module _ {R W E C : Type 0} (look : Looks R W E) (telling : Telling)
     (knows : C → List WalkEvent → Type 0) where
@@ -251,18 +245,15 @@ module _ {R W E C : Type 0} (look : Looks R W E) (telling : Telling)
       new.writers new.walker.joiner new.walker.consumer history result)
 
   -- a stride that begins at the stage `now`
-  abbrev pub Strides : (now : Stage) → (old new : At R W E C) → Next Stage → Type 0
-  Strides now old new result =
-      (start : Devices R W E) (history : List ℕ) → ComesTo start now old history
-      (AfterWalkStride look start telling knows (feed_of old.input) (feed_of new.input)
-      old.writers new.writers new.walker.joiner new.walker.consumer history result)
+  pub record Strides (now : Stage) (old new : At R W E C) (result : Next Stage) : Type 0 where
+    pub holds : (start : Devices R W E) (history : List ℕ) → ComesTo start now old history
+        (AfterWalkStride look start telling knows old new history result)
 
   -- inner segments are taken
-  abbrev pub TakesAll : (old new : At R W E C) → Next Stage → Type 0
-  TakesAll old new result =
-      (start : Devices R W E) (history : List ℕ) → ComesTo start stage.Message old history
-      (TakesInner look start telling knows (feed_of old.input) (feed_of new.input) new.writers
-      new.walker.joiner new.walker.consumer history result)
+  pub record TakesAll (old new : At R W E C) (result : Next Stage) : Type 0 where
+    pub holds : (start : Devices R W E) (history : List ℕ)
+        → ComesTo start stage.Message old history
+        (TakesInner look start telling knows old new history result)
 
   -- a step or a stride waits at most once
   abbrev pub WalkWaits : (now : Stage) → (old new : At R W E C) → Type 0

@@ -1,6 +1,6 @@
 //! The stages of a walk over the transfers of a recorded stream.
 
-ghost use Rattle.std.specs.Prelude.{◌≡◌, ◌+◌, ◌^◌, ◌&&◌, ◌==◌, ◌<◌, ◌≤◌, true, false, not, [], ◌∷◌, is_some, ◌++◌, IfSome, IsTrue, List, length, ℕ, if◌then◌else◌, Option, Some, None};
+ghost use Rattle.std.specs.Prelude.{◌≡◌, ◌&&◌, ◌==◌, ◌<◌, ◌≤◌, true, false, [], is_some, IsTrue, List, length, ℕ, Some};
 ghost use Rattle.link_wire.specs.MessageBuffer.{SegmentHasTotals, message_of};
 ghost use Rattle.link_wire.specs.Session.{source_of, may_open, may_read, is_opened, left_of, data_in, IsSessionAt};
 ghost use Rattle.link_transfer.specs.Event.{event_of};
@@ -8,9 +8,9 @@ ghost use Rattle.link_transfer.specs.Joiner.{IsJoinerAt};
 ghost use Rattle.link_transfer.specs.Order.{refusal, open_of, with_taken};
 ghost use Rattle.link_run.specs.Reading.{feed_of, waits_of, SessionWaits, Unread};
 ghost use Rattle.link_run.specs.Made.{tool_of};
-ghost use Rattle.link_run.specs.Run.{Devices, no_texts, devices_at, looks};
+ghost use Rattle.link_run.specs.Run.{no_texts, devices_at, looks};
 ghost use Rattle.link_wire.specs.declared.message.Message.{Message};
-ghost use Rattle.link_walk.specs.Walk.{WalkEvent, Whole, told_of, data_events, data_size, has_open, head_at, head_events};
+ghost use Rattle.link_walk.specs.Walk.{WalkEvent, told_of, has_open, head_at, head_events};
 ghost use Rattle.link_walk.specs.Telling.{ComesAfter, Tells, viewed_head};
 ghost use Rattle.link_walk.specs.WalkRun.{Steps, Strides, WalkWaits, at, PassesQuiet, EndsAtHead, TellsHead, Finishes, may_go_on, may_follow, stage_by};
 

@@ -1,4 +1,4 @@
-use Rattle.std.proofs.Common.{◌≡◌, Bool, [], if◌then◌else◌, true, false, is_some, List, ◌++◌, Ok, refl, ap, sym, ◌∙◌}
+use Rattle.std.proofs.Common.{◌≡◌, Bool, if◌then◌else◌, true, false, is_some, List, ◌++◌, Ok, refl, ap, sym, ◌∙◌}
 use Rattle.link_wire.specs.declared.message.Message.{Message}
 use Rattle.link_transfer.specs.{Joiner.IsJoinerAt, Order.open_of}
 use Rattle.link_run.specs.declared.run.Status.{Status}
@@ -32,8 +32,8 @@ ended g c good status good_is ends taken events at known opened =
           (w.in_ok-event.ensures events known (opened ∙ is ∙ w.if-is_some.true))
       | else-is_some w ↦
           rw (w.walker-is, w.writers-is, is ∙ w.if-is_some.false)
-          (tells_none out_look report_look telling (knows c.args.walker.now.consumer) events [] old
-          tt refl known)
+          (tells_none out_look report_look telling (knows c.args.walker.now.consumer) events old
+          known)
     ] in (
       told.texts,
       told.said,

@@ -1,11 +1,10 @@
-use Rattle.std.proofs.Common.{◌≡◌, ◌<◌, List, ℕ, [], length, take, None, Ok, refl, arith, length-take}
-use Rattle.link_wire.specs.{Session.{source_of, left_of, data_in}, Stream.reading_of}
+use Rattle.std.proofs.Common.{◌≡◌, ◌<◌, List, ℕ, length, take, None, Ok, refl, arith, length-take}
+use Rattle.link_wire.specs.{Session.{source_of, data_in}, Stream.reading_of}
 use Rattle.link_run.specs.Reading.{feed_of}
 use Rattle.link_run.proofs.{Sessions.data_ended, Stands.settled, Waiting.waits_then}
-use Rattle.link_walk.specs.WalkRun.{stage_by}
 use Rattle.link_run.specs.declared.next.Next.TheVariants as next
 use Rattle.link_walk.specs.declared.walk.Stage.TheVariants as stage
-use Rattle.link_walk.proofs.{Comes.stage_some, Steps.{events_at, data_grows, told_step, ready_step}}
+use Rattle.link_walk.proofs.Steps.{events_at, come_at, data_come, told_step, ready_step}
 use Rattle.link_walk.proofs.Tellings.{tells_none}
 use Rattle.link_walk.proofs.Texts.{by_reading, made_is, stop_is, some_to_come}
 use Rattle.link_walk.proofs.walk.pass_stray.Goals as goal
@@ -46,11 +45,10 @@ returns-clause-gives g c = λ options walker start history at walks.
     (omega (arith, size, c.min-size.ensures))
     (λ stands loaded.
     told_step knows mid writers stands gave.takes some
-    (data_grows loaded gave some (λ e. cc) (stage_by None (left_of (feed_of c.pass.new.self)))
-    (stage_some None _) (λ none. rw none refl))
-    writers walker.consumer (length bytes) stage.Stray (omega arith) tt (Ok tt)
+    (data_come None (come_at loaded) gave refl some) writers walker.consumer (length bytes)
+    stage.Stray (omega arith) tt (Ok tt)
     (tells_none g.W.OutDevice.state g.E.OutDevice.state telling (knows walker.consumer)
-    (events_at telling history) [] writers tt refl walks.at.known)))
+    (events_at telling history) writers walks.at.known)))
 
 pub returns-clause-waits : goal.returns-clause-waits
 returns-clause-waits g c = λ history session.

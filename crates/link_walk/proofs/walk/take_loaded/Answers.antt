@@ -1,23 +1,14 @@
-use Rattle.std.proofs.Common.{◌≡◌, ◌+◌, ◌<◌, ◌&&◌, ◌==◌, Bool, List, ℕ, zero, suc, Some, length, take, refl, ap, ◌∙◌, arith, length-take, length-append}
+use Rattle.std.proofs.Common.{◌≡◌, ◌+◌, ◌<◌, ◌&&◌, ◌==◌, List, ℕ, Some, length, take, refl, ap, ◌∙◌, arith, length-take, length-append}
 use Rattle.link_wire.specs.Session.{source_of, left_of, data_in, IsSessionAt, PassedBytes}
-use Rattle.link_wire.specs.{Stream.reading_of, declared.session.Session.Session}
+use Rattle.link_wire.specs.declared.session.Session.{Session}
 use Rattle.link_transfer.specs.declared.joiner.Turn.TheVariants as turn
 use Rattle.link_run.specs.{Next.next_of, Reading.feed_of, declared.input.Input.Input, Run.looks}
-use Rattle.link_walk.specs.{Walk.{WalkEvent, walked}, WalkRun.{Steps, at, stage_by}}
-use Rattle.link_walk.specs.declared.walk.Stage.{Stage}
+use Rattle.link_walk.specs.WalkRun.{Steps, at, stage_by}
 use Rattle.link_walk.specs.declared.walk.Stage.TheVariants as stage
-use Rattle.link_walk.proofs.{Heads.is_whole, Steps.{data_grows, told_step}}
+use Rattle.link_walk.proofs.{Heads.is_whole, Steps.{events_at, come_at, data_come, told_step}}
 use Rattle.link_walk.proofs.walk.take_loaded.Given.{Over}
 use Rattle.link_walk.proofs.walk.take_loaded.Goals as goal
 use Rattle.link_walk.proofs.walk.take_loaded.Goals.{After-event}
-
--- the stage after data of a transfer
-abbrev later : ℕ → Bool → Stage
-later left last = stage_by (Some (turn.Continue last)) left
-
-more_to_come : (left : ℕ) (last : Bool) → 0 < left → later left last ≡ stage.Data last
-more_to_come zero last some = absurd (omega arith)
-more_to_come (suc left) last some = refl
 
 -- the data was told, and then given
 gave_data : (g : Over) (c : After-event g) (given : Input (Session g.row.R.Denot) g.row.W.Denot g.row.E.Denot)
@@ -31,7 +22,8 @@ gave_data : (g : Over) (c : After-event g) (given : Input (Session g.row.R.Denot
     (at c.args.input.now c.args.writers.now c.args.walker.now)
     (at given c.event.new.writers
     (record { joiner = c.args.walker.now.joiner; consumer = c.event.new.self }))
-    (next_of (later (left_of (feed_of given)) c.args.last) c.event.result)
+    (next_of (stage_by (Some (turn.Continue c.args.last)) (left_of (feed_of given)))
+    c.event.result)
 gave_data g c given passed = λ some start history at walks.
     let look = g.R.InDevice.state in
     let telling = g.C.Consumer.telling c.args.options.now in
@@ -42,7 +34,6 @@ gave_data g c given passed = λ some start history at walks.
     let size : length bytes ≡ c.args.size =
     omega (arith, c.requires.size, length-take c.args.size (data_in look old)) in
     let gave = passed history walks.session_at in
-    let before : List WalkEvent = (walked telling.manner (reading_of history)).events in
     let told_size = walks.size in
     let within = (source_of new).within in
     let had = gave.at.at.given in
@@ -54,13 +45,11 @@ gave_data g c given passed = λ some start history at walks.
     (gave.left ∙ ap (λ n. n + left_of new) size)) in
     let one : 0 < length bytes = omega (arith, some, size) in
     told_step knows old c.args.writers.now at gave.takes one
-    (data_grows walks gave one (λ e. cc) (later (left_of new) c.args.last)
-    (more_to_come (left_of new) c.args.last)
-    (λ none. ap (λ left. later left c.args.last) none))
+    (data_come (Some (turn.Continue c.args.last)) (come_at walks) gave refl one)
     c.event.new.writers c.event.new.self c.args.size (stage.Data c.args.last)
     (omega (arith, size)) tt c.event.result
     (rw (c.loaded.ensures, over) at
-    (c.event.ensures before walks.at.known (
+    (c.event.ensures (events_at telling history) walks.at.known (
       walks.at.opened,
       omega (
         arith,

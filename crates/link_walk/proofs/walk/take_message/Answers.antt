@@ -1,17 +1,15 @@
-use Rattle.std.proofs.Common.{◌≡◌, ◌++◌, List, Some, None, Ok, Err, refl, ap, sym, ◌∙◌, ⊎_elim, subst}
+use Rattle.std.proofs.Common.{◌≡◌, ◌++◌, Some, Ok, Err, refl, ap, sym, ◌∙◌, ⊎_elim}
 use Rattle.std.proofs.lemmas.Bool.{cases_Bool}
 use Rattle.link_wire.specs.{Message.data_length, MessageBuffer.message_of, Session.source_of}
-use Rattle.link_wire.specs.{Stream.{reading_of, cut_heads}, declared.message.Message.Message}
-use Rattle.link_transfer.specs.{Event.event_of, Joiner.IsJoinerAt}
-use Rattle.link_transfer.specs.Order.{effect_of, judged_message}
+use Rattle.link_wire.specs.Stream.{reading_of, cut_heads}
+use Rattle.link_transfer.specs.{Event.event_of, Order.{effect_of, judged_message}}
 use Rattle.link_run.specs.Reading.{feed_of}
 use Rattle.link_run.proofs.{Sessions.message_ended, Stands.settled}
-use Rattle.link_walk.specs.{Telling.Tells, Walk.{Head, Walked, head_at, head_events, walked}}
-use Rattle.link_walk.specs.WalkRun.{stage_by}
+use Rattle.link_walk.specs.{Walk.{Walked, walked}, WalkRun.stage_by}
 use Rattle.link_walk.specs.declared.walk.Stage.TheVariants as stage
 use Rattle.link_walk.proofs.Comes.{at_clean, told_at, head_refused}
 use Rattle.link_walk.proofs.Judgements.{accepted, refused_for}
-use Rattle.link_walk.proofs.Steps.{finished, refused, head_grows, told_step, waits_after}
+use Rattle.link_walk.proofs.Steps.{finished, refused, come_at, head_come, told_step, waits_after}
 use Rattle.link_walk.proofs.Texts.{by_reading, made_is, same_texts, told_stays}
 use Rattle.link_walk.proofs.walk.take_message.Goals as goal
 
@@ -38,13 +36,6 @@ returns-in-Err-clause-gives g c = λ start history at walks.
     (ap cut_heads (at_clean (told_at walks.at))))
     c.in-Err.stop _ (c.in-Err.ensures.gives history walks.session_at) c.end.ensures
 
-pub tell_head-requires-clause-totals : goal.tell_head-requires-clause-totals
-tell_head-requires-clause-totals g c = rw c.in-Ok-Some.field-0-is at c.in-Ok-Some.ensures.totals
-
-pub take_refused-requires-clause-totals : goal.take_refused-requires-clause-totals
-take_refused-requires-clause-totals g c =
-    rw c.in-Ok-Some.field-0-is at c.in-Ok-Some.ensures.totals
-
 pub returns-in-Ok-clause-gives : goal.returns-in-Ok-clause-gives
 returns-in-Ok-clause-gives g c = λ start history at walks.
     let telling = g.C.Consumer.telling c.args.options.now in
@@ -60,30 +51,19 @@ returns-in-Ok-clause-gives g c = λ start history at walks.
     let judged : judged_message had.taken (event_of sent) ≡ Ok c.in-Ok.turn =
     ap (judged_message had.taken) (sym event) ∙ sym (c.in-Ok.ensures.judged had.taken walks.at.judges) in
     let may = accepted had.taken sent c.in-Ok.turn judged in
-    let J : List Message → Type 0 = IsJoinerAt c.event.new.self in
-    let head : Head = record {
-      offset = c.in-Ok-Some.offset;
-      message = sent;
-      fault = None;
-      turn = Some c.in-Ok.turn;
-    } in
-    let is : head ≡ head_at had.taken c.in-Ok-Some.offset sent = rw (may.0, may.1) refl in
     let told = c.tell_head.ensures.gives had.events walks.at.known
-    (record { taken = had.taken; is = is; opened = walks.at.opened }) in
-    let T : Head → Type 0 = λ h.
-    Tells g.W.OutDevice.state g.E.OutDevice.state telling (knows c.tell_head.new.consumer) had.events
-    (head_events telling.manner.all_heads h) mid c.tell_head.new.writers told.0 in
+    (record { taken = had.taken; is = rw (may.0, may.1) refl; opened = walks.at.opened }) in
     let got = both.1 in
     rw told.1
     (told_step knows old mid (settled (source_of old) c.args.writers.now mid at both.0) got.takes
     got.some
-    (head_grows walks got c.event.new.self (λ stops. may.0)
-    (subst J (sym may.2) (c.in-Ok.ensures.accepted had.taken sent (sym event) walks.at.judges)) _
+    (head_come (come_at walks) got c.event.new.self (λ stops. may.0)
+    (rw may.2 (c.in-Ok.ensures.accepted had.taken sent (sym event) walks.at.judges)) _
     (ap (stage_by (Some c.in-Ok.turn)) got.left
     ∙ ap (λ turn. stage_by turn (data_length sent)) (sym may.1)))
     c.tell_head.new.writers c.tell_head.new.consumer 4096 stage.Message got.size
     (waits_after c.in-Ok-Some.offset sent (reading_of history) _ got.reading) told.0
-    (subst T is told.2))
+    (simp (may.0, may.1) told.2))
 
 pub returns-in-Err-event-clause-gives : goal.returns-in-Err-event-clause-gives
 returns-in-Err-event-clause-gives g c = λ start history at walks.
@@ -110,7 +90,7 @@ returns-in-Err-event-clause-gives g c = λ start history at walks.
     (rw c.in-Err-event.ensures.refused walks.at.judges) why walks.at.known walks.at.opened in
     rw told.1.1
     (told_step knows old mid stood got.takes got.some
-    (head_grows walks got c.take_refused.new.walker.joiner
+    (head_come (come_at walks) got c.take_refused.new.walker.joiner
     (λ stops. let bad = sym goes ∙ stops in absurd (cc)) told.0 _
     (ap (stage_by (effect_of had.taken (event_of sent))) got.left))
     c.take_refused.new.writers c.take_refused.new.walker.consumer 4096 stage.Message got.size

@@ -1,20 +1,7 @@
-use Rattle.link_run.specs.Reading.{feed_of}
-use Rattle.link_walk.proofs.Strides.{never_none, fits_kept, stride_kept}
+use Rattle.link_walk.proofs.Strides.{stride_kept}
 use Rattle.link_walk.proofs.walk.WalkStagesSession.stride.Goals as goal
 
-pub returns-clause-fits : goal.returns-clause-fits
-returns-clause-fits g c =
-    rw (c.keep.ensures.progress, c.keep.ensures.kept)
-    (fits_kept c.args.self.now.stage c.stride_from-next.result
-    (feed_of c.stride_from-next.new.input)
-    c.stride_from-next.ensures.fits)
-
 pub returns-clause-gives : goal.returns-clause-gives
-returns-clause-gives g c = λ start history at knows.
+returns-clause-gives g c =
     rw (c.keep.ensures.progress, c.keep.ensures.kept)
-    (stride_kept _ start _ _ (feed_of c.args.input.now) _ c.args.writers.now
-    c.stride_from-next.new.writers _ _ history c.args.self.now.stage c.stride_from-next.result
-    (c.stride_from-next.ensures.gives start history at knows))
-
-pub returns-clause-goes_on : goal.returns-clause-goes_on
-returns-clause-goes_on g c = never_none c.keep.new.stage
+    (stride_kept _ _ _ _ _ _ c.stride_from-next.result c.stride_from-next.ensures.gives)

@@ -4,7 +4,7 @@ use Rattle.link_wire.specs.{Session.{source_of, may_read}, Source.window_of}
 use Rattle.link_run.specs.{Reading.{feed_of, Unread}, Run.looks}
 use Rattle.link_run.specs.declared.next.Next.TheVariants as next
 use Rattle.link_walk.specs.declared.walk.Stage.TheVariants as stage
-use Rattle.link_walk.proofs.Steps.{HasTaken}
+use Rattle.link_walk.specs.WalkRun.{TakesAll, at}
 use Rattle.link_walk.proofs.walk.inner.take_inner.Given as goal
 
 -- some inner segments were taken, and their data was told; nothing was read
@@ -16,9 +16,8 @@ invariant-segments g l =
       items : l.message.items.items ≡ [];
       joiner : l.walker.joiner ≡ l.fn.walker.joiner;
       unread : Unread look.input source_of l.fn.input l.input;
-      taken : HasTaken look (g.C.Consumer.telling l.fn.options)
-          (g.C.Consumer.knows l.fn.options) (feed_of l.fn.input) l.fn.writers
-          l.fn.walker.joiner l.fn.walker.consumer (feed_of l.input) l.writers l.walker.consumer
+      taken : TakesAll look (g.C.Consumer.telling l.fn.options) (g.C.Consumer.knows l.fn.options)
+          (at l.fn.input l.fn.writers l.fn.walker) (at l.input l.writers l.walker)
           (next.Stage stage.Message);
     }
 
