@@ -1,6 +1,6 @@
 -- What a head does to the transfers.
-use Rattle.std.proofs.Common.{◌≡◌, ℕ, zero, suc, Bool, true, false, ◌==◌, is_some, List, Option, Some, None, refl, ap, sym, ◌∙◌, ⊎_elim, arith, if◌then◌else◌}
-use Rattle.std.proofs.lemmas.Bool.{ne_eqb}
+use Rattle.std.proofs.Common.{◌≡◌, ℕ, Bool, true, false, ◌==◌, is_some, List, Option, Some, None, refl, ap, sym, ◌∙◌, ⊎_elim, arith, if◌then◌else◌}
+use Rattle.std.proofs.lemmas.Bool.Decides.{nat_tests}
 use Rattle.link_wire.specs.{Codes.{is_start, is_end}, declared.message.Message.Message}
 use Rattle.link_wire.specs.declared.message.Message.TheVariants as message
 use Rattle.link_wire.specs.declared.message.SegmentHead.{SegmentHead}
@@ -28,15 +28,11 @@ module _ (taken : List Message) (happened : Event) where
 
 pub other_turn : (taken : List Message) (happened : Event) → is_segment happened ≡ false
     → turn_by (open_of taken) happened ≡ turn.Other
-other_turn taken event.SessInit is = refl
-other_turn taken event.SessTerm is = refl
 other_turn taken (event.Segment flags id) is = absurd (cc)
-other_turn taken event.Other is = refl
+other_turn taken happened is = refl
 
 pub zero_eq : (size : ℕ) → (0 == size) ≡ (size == 0)
-zero_eq zero = refl
-zero_eq (suc more) =
-    ne_eqb 0 (suc more) (λ is. absurd (omega arith)) ∙ sym (ne_eqb (suc more) 0 (λ is. absurd (omega arith)))
+zero_eq size = grind (arith, nat_tests)
 
 -- ---- what a head does
 

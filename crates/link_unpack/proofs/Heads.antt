@@ -9,24 +9,14 @@ use Rattle.link_unpack.specs.Transfers.{Transfer, closes, continued, after_segme
 -- a message is a segment, or it is not
 pub kind_of : (sent : Message) → ((head : SegmentHead) × (sent ≡ message.Segment head))
     ⊎ (is_segment (event_of sent) ≡ false)
-kind_of (message.SessInit keepalive segment_mru transfer_mru node items) = inr refl
 kind_of (message.Segment head) = inl (head, refl)
-kind_of (message.Ack flags id size) = inr refl
-kind_of (message.Refuse reason id) = inr refl
-kind_of message.Keepalive = inr refl
-kind_of (message.SessTerm flags reason) = inr refl
-kind_of (message.MsgReject reason header) = inr refl
+kind_of sent = inr refl
 
 -- a message other than a segment changes no transfer
 pub transfers_same : (transfers : List Transfer) (sent : Message) (content : List ℕ)
     → is_segment (event_of sent) ≡ false → after_message transfers sent content ≡ transfers
-transfers_same transfers (message.SessInit keepalive segment_mru transfer_mru node items) content is = refl
 transfers_same transfers (message.Segment head) content is = absurd (cc)
-transfers_same transfers (message.Ack flags id size) content is = refl
-transfers_same transfers (message.Refuse reason id) content is = refl
-transfers_same transfers message.Keepalive content is = refl
-transfers_same transfers (message.SessTerm flags reason) content is = refl
-transfers_same transfers (message.MsgReject reason header) content is = refl
+transfers_same transfers sent content is = refl
 
 pub transfer_begins : (transfers : List Transfer) (head : SegmentHead) (content : List ℕ)
     → is_start head.flags ≡ true

@@ -12,6 +12,7 @@ use Rattle.link_run.specs.declared.writers.Writers.{Writers}
 use Rattle.link_run.proofs.Runs.{texts_as}
 use Rattle.link_walk.specs.Walk.{Head, WalkEvent, MessageHead, closes as closes_head, is_last, is_beginning, open_with, open_after_event, data_size_of, data_size, has_open, abandons}
 use Rattle.link_walk.specs.Telling.{ComesAfter, Tells, data_ends}
+use Rattle.link_walk.proofs.Heads.{has_open-append}
 use Rattle.link_unpack.specs.Transfers.{Transfer, closes, continued}
 use Rattle.link_unpack.specs.Unpacking.{part_of, parts_of, order_line, Told, line_due, good_due, transfers_at, told_event, told_after, unpack_telling}
 use Rattle.link_unpack.specs.{TransferJudge.{begun, grown}, TransferScan.IsAtTransfer}
@@ -38,8 +39,7 @@ module _ (before : List WalkEvent) where
 
   pub open_then : (event : WalkEvent)
       → has_open (before ++ event ∷ []) ≡ open_after_event (has_open before) event
-  unfolding has_open
-  open_then event = fold-append open_after_event false before (event ∷ [])
+  open_then event = has_open-append before (event ∷ [])
 
 size_of_data : (bytes : List ℕ) (whole : Bool) (size : ℕ)
     → fold (λ total e. total + data_size_of e) size (data_ends bytes whole) ≡ size + length bytes
@@ -61,10 +61,7 @@ module _ (before : List WalkEvent) (bytes : List ℕ) (whole : Bool) where
       ∙ size_of_data bytes whole _
 
   pub open_with_data : has_open (before ++ data_ends bytes whole) ≡ (not whole && has_open before)
-  unfolding has_open
-  open_with_data =
-      fold-append open_after_event false before (data_ends bytes whole)
-      ∙ open_of_data bytes whole _
+  open_with_data = has_open-append before (data_ends bytes whole) ∙ open_of_data bytes whole _
 
 -- ---- the latest transfer
 
@@ -94,9 +91,8 @@ module _ (wanted : Wanted) where
   begun_parts : (head : SegmentHead) (closed : Bool) (earlier : List Transfer)
       → parts_of wanted (begun head closed ∷ earlier) ≡ parts_of wanted earlier
   begun_parts head closed earlier =
-      parts_more wanted (begun head closed) earlier
-      ∙ ap (λ (xs : List ℕ). parts_of wanted earlier ++ xs) (part_of-begun wanted head closed)
-      ∙ append-nil _
+      rw (parts_more wanted (begun head closed) earlier, part_of-begun wanted head closed)
+      (append-nil _)
 
   -- ---- one more event
 

@@ -3,7 +3,7 @@
 use Rattle.std.specs.Prelude.{ℕ, Bool, ◌&&◌, ◌==◌, List, [], ◌∷◌, ◌++◌, length, if◌then◌else◌}
 use Rattle.link_wire.specs.Codes.{is_start, is_end}
 use Rattle.link_wire.specs.declared.message.Message.{Message}
-use Rattle.link_wire.specs.declared.message.Message.TheVariants.{SessInit, Segment, Ack, Refuse, Keepalive, SessTerm, MsgReject}
+use Rattle.link_wire.specs.declared.message.Message.TheVariants.{Segment}
 use Rattle.link_wire.specs.declared.message.SegmentHead.{SegmentHead}
 
 -- A transfer: the head of its first segment, the joined data of its segments, and whether it is
@@ -33,10 +33,5 @@ after_segment transfers head content =
 
 -- only segments change the transfers; no other message is about a transfer of this direction
 abbrev pub after_message : List Transfer → Message → List ℕ → List Transfer
-after_message transfers (SessInit keepalive segment_mru transfer_mru node items) content = transfers
 after_message transfers (Segment head) content = after_segment transfers head content
-after_message transfers (Ack flags id size) content = transfers
-after_message transfers (Refuse reason id) content = transfers
-after_message transfers Keepalive content = transfers
-after_message transfers (SessTerm flags reason) content = transfers
-after_message transfers (MsgReject reason header) content = transfers
+after_message transfers message content = transfers

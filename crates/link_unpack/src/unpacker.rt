@@ -1,11 +1,11 @@
 //! `unpack`: the data of the transfers of a recorded stream, and a line for each transfer.
 
-ghost use Rattle.std.specs.Prelude.{◌≡◌, ◌+◌, ◌&&◌, true, false, not, [], is_some, List, length, OnOk, Option};
+ghost use Rattle.std.specs.Prelude.{◌≡◌, ◌&&◌, true, false, not, [], is_some, List, Option};
 ghost use Rattle.link_report.specs.Fault.{fault_text};
 ghost use Rattle.link_run.specs.Run.{AfterRun, devices_at, looks};
 ghost use Rattle.link_run.specs.Writers.{AfterWrite, on_report};
 ghost use Rattle.link_unpack.specs.Transfers.{Transfer};
-ghost use Rattle.link_unpack.specs.Unpacking.{parts_of, order_line, line_of, is_good, judgement_of, unpack_telling, unpack_tool, line_due, good_due};
+ghost use Rattle.link_unpack.specs.Unpacking.{order_line, line_of, is_good, judgement_of, unpack_telling, unpack_tool, line_due, good_due};
 ghost use Rattle.link_unpack.specs.TransferScan.{IsAtTransfer};
 ghost use Rattle.link_unpack.specs.Unpacker.{IsAtLatest, KnowsTold};
 ghost use Rattle.link_unpack.specs.declared.wanted.Wanted.{Wanted};

@@ -1,12 +1,6 @@
-use Rattle.std.proofs.Common.{ap}
-use Rattle.link_unpack.specs.Unpacking.{is_good}
 use Rattle.link_unpack.proofs.Transfers.{line_is}
 use Rattle.link_unpack.proofs.transfer.TransferScan.line.Goals as goal
 
 pub returns-clause-text : goal.returns-clause-text
 returns-clause-text c = λ wanted transfer earlier follows over.
     line_is wanted c.args.self.now transfer earlier follows _ (c.judgement.ensures.judged transfer follows.judging over)
-
-pub returns-clause-good : goal.returns-clause-good
-returns-clause-good c = λ wanted transfer earlier follows over.
-    ap is_good (c.judgement.ensures.judged transfer follows.judging over)

@@ -110,9 +110,6 @@ returns-after-begins g c = rw c.in-Head.is (λ before knows comes.
     ) refl)
     (rw latest begun.0))))
 
-pub returns-in-Inner : goal.returns-in-Inner
-returns-in-Inner g c = rw c.in-Inner.is (λ before knows comes. absurd (false≢true comes.told))
-
 -- ---- data
 
 pub returns-in-Err-write_output : goal.returns-in-Err-write_output
