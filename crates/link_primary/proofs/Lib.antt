@@ -1,3 +1,2 @@
 pub mod Known
-mod Heads
 pub mod Short

@@ -20,6 +20,7 @@ pub fn check_holds(check: Option<CheckKind>, bytes: &[u8], offset: usize) -> boo
 }
 
 /// Whether the check field of this kind has the check value of its block, which begins at 1.
+#[tactic(auto, using(crate::proofs::Known::steps), unfolding(link_bundle_blocks::specs::CheckField::field_at, link_bundle_blocks::specs::CheckField::check_of))]
 fn stored_holds(kind: CheckKind, bytes: &[u8], offset: usize) -> bool
     ensures { result ≡ is_some (accepted (field_at (Some kind) 1 bytes.now offset)) }
 {

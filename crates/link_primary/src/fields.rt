@@ -5,8 +5,8 @@
 //!
 //! `accepted` is the number of array elements that were accepted so far. The creation timestamp is
 //! one element, though it has two numbers. The check value is not counted.
-ghost use Rattle.std.specs.Prelude.{◌≡◌, true};
-ghost use Rattle.std.specs.Bool.{then_some};
+ghost use Rattle.std.specs.Prelude.{◌≡◌, None, Some, true};
+ghost use Rattle.std.specs.Bool.{MatchBool};
 ghost use Rattle.link_bundle_blocks.specs.Bundle.{opening_at};
 ghost use Rattle.link_primary.specs.Accepted.{accepted};
 ghost use Rattle.link_primary.specs.Fields.{first_fields, endpoint_fields, time_fields, fragment_fields, last_field, block_fields, primary_fields};
@@ -149,8 +149,10 @@ fn last_field<'a>(
 }
 
 /// Whether the bytes begin with the first byte of a bundle.
+#[tactic(auto, using(std::proofs::lemmas::List::nil_from_length, std::proofs::lemmas::Slice::first_rest), unfolding(link_bundle_blocks::specs::Bundle::opening_at))]
 fn opens(bytes: &[u8]) -> bool
-    ensures { accepted (opening_at bytes.now) ≡ then_some result (true, 1) }
+    ensures { MatchBool result (accepted (opening_at bytes.now) ≡ Some (true, 1))
+        (accepted (opening_at bytes.now) ≡ None) }
 {
     if bytes.is_empty() {
         return false;
@@ -172,6 +174,7 @@ fn block_fields(bytes: &[u8]) -> Result<PrimaryView<'_>, PrimaryView<'_>>
 }
 
 /// The fields of the primary block of the bundle that the bytes begin with, up to its first fault.
+#[tactic(auto, using(crate::proofs::Known::stops), unfolding(crate::specs::Fields::primary_fields))]
 pub fn primary_fields(bytes: &[u8]) -> PrimaryView<'_>
     ensures { viewed_fields result ≡ primary_fields bytes.now }
 {

@@ -1,6 +1,8 @@
 //! Reads the parts of a primary block where they lie in a slice.
 //!
 //! Each function returns the part and the offset after it, or `None` if the part is cut or refused.
+#![tactic(auto, using(crate::proofs::Known::steps), unfolding(link_bundle_blocks::specs::Reading::row_at))]
+
 ghost use Rattle.std.specs.Prelude.{◌≡◌, ◌+◌, ◌<◌, ◌≤◌, IfSome, length, option_map};
 ghost use Rattle.link_bundle_blocks.specs.Reading.{head_at, row_at, bytes_at};
 ghost use Rattle.link_bundle_heads.specs.Rows as row;
@@ -10,6 +12,7 @@ use link_bundle_heads::{Scheme, row};
 use link_cbor::{CheckKind, Head};
 
 /// Reads a head.
+#[tactic(auto, using(crate::proofs::Known::heads))]
 fn head_at(bytes: &[u8], offset: usize) -> Option<(Head, usize)>
     ensures read { result ≡ accepted (head_at bytes.now offset) }
     ensures some { IfSome result (λ read. 0 < read.1) }
@@ -22,7 +25,6 @@ fn head_at(bytes: &[u8], offset: usize) -> Option<(Head, usize)>
 }
 
 /// Reads an unsigned integer.
-#[tactic(auto, using(crate::proofs::Known::rows))]
 pub fn unsigned_at(bytes: &[u8], offset: usize) -> Option<(u64, usize)>
     ensures { result ≡ accepted (row_at row.unsigned bytes.now offset) }
 {
@@ -31,7 +33,6 @@ pub fn unsigned_at(bytes: &[u8], offset: usize) -> Option<(u64, usize)>
 }
 
 /// Reads the head of an array of two elements.
-#[tactic(auto, using(crate::proofs::Known::rows))]
 pub fn pair_at(bytes: &[u8], offset: usize) -> Option<(u64, usize)>
     ensures { result ≡ accepted (row_at row.pair bytes.now offset) }
 {
@@ -40,7 +41,6 @@ pub fn pair_at(bytes: &[u8], offset: usize) -> Option<(u64, usize)>
 }
 
 /// Reads the head of the primary block's array, and returns its number of elements.
-#[tactic(auto, using(crate::proofs::Known::rows))]
 pub fn primary_block_at(bytes: &[u8], offset: usize) -> Option<(u64, usize)>
     ensures { result ≡ accepted (row_at row.primary_block bytes.now offset) }
 {
@@ -49,7 +49,6 @@ pub fn primary_block_at(bytes: &[u8], offset: usize) -> Option<(u64, usize)>
 }
 
 /// Reads the version.
-#[tactic(auto, using(crate::proofs::Known::rows))]
 pub fn version_at(bytes: &[u8], offset: usize) -> Option<(u64, usize)>
     ensures { result ≡ accepted (row_at row.version bytes.now offset) }
 {
@@ -58,7 +57,6 @@ pub fn version_at(bytes: &[u8], offset: usize) -> Option<(u64, usize)>
 }
 
 /// Reads the check type of a primary block with these flags, whose array has `count` elements.
-#[tactic(auto, using(crate::proofs::Known::rows))]
 pub fn check_type_at(
     count: u64,
     flags: u64,
@@ -72,7 +70,6 @@ pub fn check_type_at(
 }
 
 /// Reads the scheme of an endpoint ID.
-#[tactic(auto, using(crate::proofs::Known::rows))]
 pub fn scheme_at(bytes: &[u8], offset: usize) -> Option<(Scheme, usize)>
     ensures { result ≡ accepted (row_at row.scheme bytes.now offset) }
 {
@@ -81,7 +78,6 @@ pub fn scheme_at(bytes: &[u8], offset: usize) -> Option<(Scheme, usize)>
 }
 
 /// Reads the head of a specific part of scheme dtn, and returns the length of its name, if any.
-#[tactic(auto, using(crate::proofs::Known::rows))]
 pub fn dtn_part_at(bytes: &[u8], offset: usize) -> Option<(Option<u64>, usize)>
     ensures { result ≡ accepted (row_at row.dtn_part bytes.now offset) }
 {
@@ -90,7 +86,6 @@ pub fn dtn_part_at(bytes: &[u8], offset: usize) -> Option<(Option<u64>, usize)>
 }
 
 /// Reads the head of a specific part of scheme ipn, and returns its number of elements.
-#[tactic(auto, using(crate::proofs::Known::rows))]
 pub fn ipn_part_at(bytes: &[u8], offset: usize) -> Option<(u64, usize)>
     ensures { result ≡ accepted (row_at row.ipn_part bytes.now offset) }
 {
@@ -99,7 +94,6 @@ pub fn ipn_part_at(bytes: &[u8], offset: usize) -> Option<(u64, usize)>
 }
 
 /// Reads the head of the check field of a block that has a check of this kind.
-#[tactic(auto, using(crate::proofs::Known::rows))]
 pub fn check_field_at(kind: CheckKind, bytes: &[u8], offset: usize) -> Option<(u64, usize)>
     ensures read { result ≡ accepted (row_at (row.check_field kind) bytes.now offset) }
     ensures some { IfSome result (λ read. 0 < read.1) }
