@@ -1,7 +1,11 @@
 -- How many digits a number has.
 use Rattle.std.proofs.Common.{◌≡◌, ℕ, zero, suc, ◌+◌, ◌*◌, ◌/◌, ◌^◌, ◌<◌, ◌≤◌, ◌∙◌, length, ap, length-append, arith}
 use Rattle.std.specs.Fmt.{decimal}
-use Rattle.std.proofs.{Math.Nat.pow-suc, lemmas.Fmt.{decimal_digit, decimal_step}}
+use Rattle.std.proofs.{Math.Nat.pow-suc, lemmas.Fmt.{decimal_digit, decimal_step, length-decimal-le}}
+
+-- a number of 64 bits has at most 20 digits
+pub length_of_decimal : (n : ℕ) → n < 2 ^ 64 → length (decimal n) ≤ 20
+length_of_decimal n fits = length-decimal-le 20 n (omega arith) (omega arith) fits
 
 pub length_of_digit : (n : ℕ) → n < 10 → length (decimal n) ≡ 1
 length_of_digit n few = ap length (decimal_digit n few)

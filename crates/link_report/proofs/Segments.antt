@@ -23,9 +23,7 @@ start_items_text-segment_items flags items =
       | false ↦ refl
     ]
 
-pub segment_text-segment_items : (flags id : ℕ) (items : ArrayVec Item) (size : ℕ) →
+pub text_of_segment : (flags id : ℕ) (items : ArrayVec Item) (size : ℕ) →
     segment_text flags id (segment_items flags items).items size ≡ segment_text flags id items.items size
 unfolding segment_text
-segment_text-segment_items flags id items size = rw start_items_text-segment_items
-
-pub ruleset text_of_segment = (segment_text-segment_items)
+text_of_segment flags id items size = rw start_items_text-segment_items

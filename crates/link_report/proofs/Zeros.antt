@@ -1,52 +1,43 @@
 -- The digits of a number from those of a multiple of 10,000.
-use Rattle.std.proofs.Common.{◌≡◌, ℕ, ◌+◌, ◌-◌, ◌/◌, ◌%◌, ◌^◌, ◌<◌, ◌≤◌, List, [], ◌∷◌, ◌++◌, ◌∙◌, length, take, ap, refl, append_assoc, length-append, eq-zero-or-pos, inl, inr, arith}
+use Rattle.std.proofs.Common.{◌≡◌, ℕ, ◌+◌, ◌-◌, ◌/◌, ◌%◌, ◌^◌, ◌<◌, ◌≤◌, List, [], ◌∷◌, ◌++◌, ◌∙◌, length, take, ap, refl, append_assoc, length-append, ⊎_elim, arith}
 use Rattle.std.specs.Fmt.{decimal}
-use Rattle.std.proofs.{Math.Seq.take-append-add, lemmas.Fmt.{decimal_digit, length-decimal-le}}
+use Rattle.std.proofs.Math.Seq.{take-append-add}
+use Rattle.std.proofs.lemmas.{Bool.cases_lt, Fmt.{decimal_digit, length-decimal-le}}
 use Rattle.itoa.proofs.Decimal.{pair, decimal_two, decimal_pair, decimal_four}
 
 abbrev pub zeros : List ℕ
 zeros = 48 ∷ 48 ∷ 48 ∷ 48 ∷ []
 
 -- a number below 10,000 with leading zeros, by its number of digits
-one : (n : ℕ) → n < 10 → pair (n / 100) ++ pair (n % 100) ≡ take (4 - length (decimal n)) zeros ++ decimal n
-one n few =
+pub with_zeros : (n : ℕ) → n < 10000
+    → pair (n / 100) ++ pair (n % 100) ≡ take (4 - length (decimal n)) zeros ++ decimal n
+with_zeros n few =
+    ⊎_elim
+    (λ one.
     let a : n / 100 / 10 ≡ 0 = omega arith in
     let b : n / 100 % 10 ≡ 0 = omega arith in
     let c : n % 100 / 10 ≡ 0 = omega arith in
     let d : n % 100 % 10 ≡ n = omega arith in
-    rw (decimal_digit n few, a, b, c, d) refl
-
-two : (n : ℕ) → 10 ≤ n → n < 100 → pair (n / 100) ++ pair (n % 100) ≡ take (4 - length (decimal n)) zeros ++ decimal n
-two n many few =
+    rw (decimal_digit n one, a, b, c, d) refl)
+    (λ from_two. ⊎_elim
+    (λ two.
     let a : n / 100 / 10 ≡ 0 = omega arith in
     let b : n / 100 % 10 ≡ 0 = omega arith in
     let c : n % 100 ≡ n = omega arith in
-    rw (decimal_two n many few, a, b, c) refl
-
-three : (n : ℕ) → 100 ≤ n → n < 1000 → pair (n / 100) ++ pair (n % 100) ≡ take (4 - length (decimal n)) zeros ++ decimal n
-three n many few =
+    rw (decimal_two n from_two two, a, b, c) refl)
+    (λ from_three. ⊎_elim
+    (λ (three : n < 1000).
     let a : n / 100 / 10 ≡ 0 = omega arith in
     let b : n / 100 % 10 ≡ n / 100 = omega arith in
-    rw (decimal_pair n many (omega arith), decimal_digit (n / 100) (omega arith), a, b) refl
-
-four : (n : ℕ) → 1000 ≤ n → n < 10000 → pair (n / 100) ++ pair (n % 100) ≡ take (4 - length (decimal n)) zeros ++ decimal n
-four n many few = rw (decimal_pair n (omega arith) (omega arith), decimal_two (n / 100) (omega arith) (omega arith)) refl
-
-pub with_zeros : (n : ℕ) → n < 10000
-    → pair (n / 100) ++ pair (n % 100) ≡ take (4 - length (decimal n)) zeros ++ decimal n
-with_zeros n few =
-    elim (eq-zero-or-pos (n - 9)) [
-      | inl small ↦ one n (omega arith)
-      | inr some ↦
-          elim (eq-zero-or-pos (n - 99)) [
-            | inl small ↦ two n (omega arith) (omega arith)
-            | inr more ↦
-                elim (eq-zero-or-pos (n - 999)) [
-                  | inl small ↦ three n (omega arith) (omega arith)
-                  | inr most ↦ four n (omega arith) few
-                ]
-          ]
-    ]
+    let fits : n < 2 ^ 64 = omega arith in
+    let below : n / 100 < 10 = omega arith in
+    rw (decimal_pair n from_three fits, decimal_digit (n / 100) below, a, b) refl)
+    (λ four.
+    rw (decimal_pair n from_three (omega arith), decimal_two (n / 100) (omega arith) (omega arith))
+    refl)
+    (cases_lt n 1000))
+    (cases_lt n 100))
+    (cases_lt n 10)
 
 -- the text of a multiple of 10,000
 multiple : (round : ℕ) → 0 < round → round < 2 ^ 64 → round % 10000 ≡ 0

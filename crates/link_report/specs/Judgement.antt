@@ -44,11 +44,8 @@ outcome_text (Good info) = codes "good"
 
 -- the identity of a good bundle
 unfoldable pub good_text : Judgement → List ℕ
-good_text Abandoned = []
-good_text BadLengthItem = []
-good_text (LengthDiffers announced) = []
-good_text (Bad fault offset) = []
 good_text (Good info) = codes " " ++ identity_text info
+good_text _ = []
 
 unfoldable pub judgement_text : Judgement → List ℕ
 judgement_text judgement = outcome_text judgement ++ good_text judgement
@@ -63,8 +60,5 @@ viewed_judgement (view.Good info) = Good (viewed_info info)
 
 -- the dtn names in the source and the destination of a good bundle have at most 1,024 bytes each
 abbrev pub IsShortJudgement : Judgement → Type 0
-IsShortJudgement Abandoned = Unit {0}
-IsShortJudgement BadLengthItem = Unit {0}
-IsShortJudgement (LengthDiffers announced) = Unit {0}
-IsShortJudgement (Bad fault offset) = Unit {0}
 IsShortJudgement (Good info) = HasShortNames info
+IsShortJudgement _ = Unit {0}

@@ -1,8 +1,6 @@
 //! The lines of the contact header and of the messages (RFC 9174 sections 4.2 to 6.1).
 
 ghost use Rattle.std.specs.Prelude.{◌≡◌, ◌+◌, ◌*◌, ◌≤◌, [], ◌++◌, length, take, codes};
-ghost use Rattle.std.specs.List.{flat_map};
-ghost use Rattle.arrayvec.specs.ArrayVec.{array_vec_len};
 ghost use Rattle.link_wire.specs.MessageBuffer.{message_of, message_with};
 ghost use Rattle.link_report.specs.Reason.{name_in, refuse_names, term_names, reject_names};
 ghost use Rattle.link_report.specs.Text.{hex2, number_text};
@@ -11,7 +9,7 @@ ghost use Rattle.link_report.specs.Written.{Wrote};
 
 use crate::kept_digits::KeptDigits;
 use crate::page::{write_bytes, write_escaped, write_hex2, write_hex4, write_number, write_text};
-use crate::put::{LINE_MAX, Line, put_bytes, put_hex2, put_text};
+use crate::put::{Line, put_bytes, put_hex2, put_text};
 use crate::reason::{refuse_name, reject_name, term_name};
 use link_wire::{
     Contact, Fields, Item, MAX_ITEMS, MAX_NODE_ID, Message, MessageBuffer, START, TEXT_MAX, Text,
@@ -29,18 +27,6 @@ const REASON_MAX: usize = 80;
 ///
 /// A SESS_INIT can have this length: 114 bytes, the node ID with each byte escaped, and the list.
 const BODY_MAX: usize = 114 + 4 * MAX_NODE_ID + ITEMS_MAX;
-
-/// Appends ` flags=` and the flags.
-#[tactic(auto, unfolding(crate::specs::Message::flags_text))]
-#[inline(always)]
-fn put_flags(line: &mut Line, flags: u8)
-    requires { array_vec_len line.old + 9 ≤ LINE_MAX }
-    ensures items { line.new.items ≡ line.old.items ++ flags_text flags }
-    ensures len { array_vec_len line.new ≡ array_vec_len line.old + 9 }
-{
-    put_text(line, " flags=");
-    put_hex2(line, flags);
-}
 
 /// Writes ` reason=`, the code of a reason and its name.
 #[tactic(auto, unfolding(crate::specs::Message::reason_text))]
@@ -119,14 +105,12 @@ fn write_session(
 /// Writes the items of a segment with START, and nothing for other segments.
 ///
 /// Most transfers begin without items.
-#[tactic(auto, unfolding(crate::specs::Message::start_items_text))]
+#[tactic(auto, using(crate::proofs::Segments::no_items), unfolding(crate::specs::Message::start_items_text))]
 #[inline(always)]
 fn write_start_items(page: &mut [u8], at: usize, flags: u8, items: &[Item]) -> usize
     requires room { at + ITEMS_MAX ≤ length page.old }
     requires items { length items.now ≤ MAX_ITEMS }
-    ensures text { take result page.new ≡ take at page.old ++ start_items_text flags items.now }
-    ensures fits { result ≤ at + ITEMS_MAX }
-    ensures size { length page.new ≡ length page.old }
+    ensures { Wrote page.old page.new at result ITEMS_MAX (start_items_text flags items.now) }
 {
     if flags & START != START {
         return at;
@@ -202,16 +186,14 @@ fn write_msg_reject(page: &mut [u8], at: usize, reason: u8, header: u8) -> usize
 /// Writes the part of a message's line between its offset and its newline.
 ///
 /// Only a SESS_INIT has a node ID, and only a SESS_INIT and a segment have items.
-#[tactic(auto, unfolding(crate::specs::Message::body_text, crate::specs::Message::flags_text))]
+#[tactic(auto, using(crate::proofs::Segments::text_of_segment), unfolding(crate::specs::Message::body_text, crate::specs::Message::flags_text))]
 #[inline(always)]
 fn write_body(page: &mut [u8], at: usize, fields: &Fields, node: &[u8], items: &[Item]) -> usize
     requires room { at + BODY_MAX ≤ length page.old }
     requires node { length node.now ≤ MAX_NODE_ID }
     requires items { length items.now ≤ MAX_ITEMS }
-    ensures text { take result page.new ≡ take at page.old ++ body_text
-        (message_with fields.now (record { items = node.now }) (record { items = items.now })) }
-    ensures fits { result ≤ at + BODY_MAX }
-    ensures size { length page.new ≡ length page.old }
+    ensures { Wrote page.old page.new at result BODY_MAX (body_text (message_with fields.now
+        (record { items = node.now }) (record { items = items.now }))) }
 {
     match *fields {
         Fields::SessInit {
@@ -268,9 +250,6 @@ pub struct MessageText<'a> {
 }
 
 impl<'a> Text for MessageText<'a> {
-    ghost use Rattle.link_wire.specs.MessageBuffer.{message_of};
-    ghost use Rattle.link_report.specs.Message.{message_text};
-
     ghost text = { λ line. message_text line.offset (message_of line.message.now) };
 
     #[inline(always)]
@@ -289,13 +268,14 @@ impl<'a> Text for MessageText<'a> {
 }
 
 /// Writes the line of the contact header into an empty line.
-#[tactic(auto, unfolding(crate::specs::Message::contact_text))]
+#[tactic(auto, unfolding(crate::specs::Message::contact_text, crate::specs::Message::flags_text))]
 pub fn contact_line(line: &mut Line, contact: &Contact)
     requires { line.old.items ≡ [] }
     ensures { line.new.items ≡ contact_text contact.now }
 {
     put_text(line, "0 contact version=4");
-    put_flags(line, contact.flags);
+    put_text(line, " flags=");
+    put_hex2(line, contact.flags);
     put_text(line, "\n");
 }
 

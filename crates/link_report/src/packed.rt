@@ -65,8 +65,6 @@ fn write_packed(page: &mut [u8], at: usize, entry: &PackedView<'_>) -> usize
 }
 
 impl<'a> Text for PackedText<'a> {
-    ghost use Rattle.link_report.specs.Packed.{packed_text, viewed_packed};
-
     ghost text = { λ line. packed_text (viewed_packed line.entry) };
 
     #[inline(always)]

@@ -3,7 +3,6 @@
 //! Each call returns the index after its text.
 
 ghost use Rattle.std.specs.Prelude.{◌≡◌, ◌+◌, ◌*◌, ◌<◌, ◌≤◌, [], ◌∷◌, ◌++◌, length, take, decimal};
-ghost use Rattle.std.specs.List.{flat_map};
 ghost use Rattle.link_report.specs.Text.{hex2, hex4, escaped, escaped_byte, is_plain, number_text};
 ghost use Rattle.link_report.specs.Written.{Wrote};
 
@@ -44,6 +43,7 @@ fn write_byte(page: &mut [u8], at: usize, byte: u8) -> usize
 }
 
 /// Writes `number` in decimal, if that has `count` digits.
+#[tactic(auto, using(crate::proofs::Pages::text_from))]
 #[inline(always)]
 fn write_counted(page: &mut [u8], at: usize, number: u64, count: usize) -> usize
     requires count { count ≡ length (decimal number) }
@@ -58,7 +58,7 @@ fn write_counted(page: &mut [u8], at: usize, number: u64, count: usize) -> usize
 }
 
 /// Writes a number of more than three digits.
-#[tactic(auto, using(crate::proofs::Lengths::length_of_decimal))]
+#[tactic(auto, using(crate::proofs::Digits::length_of_decimal, crate::proofs::Digits::length_from_power))]
 #[inline(never)]
 fn write_long(page: &mut [u8], at: usize, number: u64) -> usize
     requires many { 1000 ≤ number }

@@ -48,7 +48,7 @@ pub(crate) fn put_hex2(line: &mut Line, byte: u8)
 }
 
 /// Appends `label` and `number` in decimal.
-#[tactic(auto, using(crate::proofs::Lengths::length_of_decimal), unfolding(crate::specs::Text::number_text))]
+#[tactic(auto, using(crate::proofs::Digits::length_of_decimal), unfolding(crate::specs::Text::number_text))]
 pub(crate) fn put_number(line: &mut Line, label: &str, number: u64)
     requires { array_vec_len line.old + length label.now + 20 ≤ LINE_MAX }
     ensures items { line.new.items ≡ line.old.items ++ number_text label.now number }

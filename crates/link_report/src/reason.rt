@@ -1,10 +1,10 @@
 //! The names of reason codes.
+#![tactic(auto, unfolding(crate::specs::Reason::name_in))]
 
 ghost use Rattle.std.specs.Prelude.{◌≡◌, ◌≤◌, length};
 ghost use Rattle.link_report.specs.Reason.{refuse_names, term_names, reject_names, name_in};
 
 /// The name of an XFER_REFUSE reason (RFC 9174 section 5.2.4), or `?` for other codes.
-#[tactic(auto, unfolding(crate::specs::Reason::name_in))]
 pub(crate) fn refuse_name(reason: u8) -> &'static str
     ensures name { result.now ≡ name_in refuse_names reason }
     ensures short { length result.now ≤ 20 }
@@ -22,7 +22,6 @@ pub(crate) fn refuse_name(reason: u8) -> &'static str
 }
 
 /// The name of a SESS_TERM reason (RFC 9174 section 6.1), or `?` for other codes.
-#[tactic(auto, unfolding(crate::specs::Reason::name_in))]
 pub(crate) fn term_name(reason: u8) -> &'static str
     ensures name { result.now ≡ name_in term_names reason }
     ensures short { length result.now ≤ 20 }
@@ -39,7 +38,6 @@ pub(crate) fn term_name(reason: u8) -> &'static str
 }
 
 /// The name of a MSG_REJECT reason (RFC 9174 section 5.1.2), or `?` for other codes.
-#[tactic(auto, unfolding(crate::specs::Reason::name_in))]
 pub(crate) fn reject_name(reason: u8) -> &'static str
     ensures name { result.now ≡ name_in reject_names reason }
     ensures short { length result.now ≤ 20 }

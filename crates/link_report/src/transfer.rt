@@ -81,8 +81,6 @@ fn write_transfer(page: &mut [u8], at: usize, entry: &TransferView<'_>) -> usize
 }
 
 impl<'a> Text for TransferText<'a> {
-    ghost use Rattle.link_report.specs.Transfer.{transfer_text, viewed_transfer};
-
     ghost text = { λ line. transfer_text (viewed_transfer line.entry) };
 
     #[inline(always)]

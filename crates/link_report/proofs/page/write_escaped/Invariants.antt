@@ -1,11 +1,8 @@
-use Rattle.std.proofs.Common.{◌≡◌, ◌+◌, ◌*◌, ◌≤◌, ◌++◌, length, take}
+use Rattle.std.proofs.Common.{◌*◌, take}
 use Rattle.std.specs.List.{flat_map}
-use Rattle.link_report.specs.Text.{escaped_byte}
+use Rattle.link_report.specs.{Text.escaped_byte, Written.Wrote}
 use Rattle.link_report.proofs.page.write_escaped.Given as goal
 
 abbrev pub invariant-loop-byte : goal.invariant-loop-byte
-invariant-loop-byte l = record {
-  text : take l.end l.page ≡ take l.initial.end l.initial.page ++ flat_map escaped_byte (take l.byte-index l.bytes);
-  room : l.end ≤ l.initial.end + 4 * l.byte-index;
-  size : length l.page ≡ length l.initial.page;
-}
+invariant-loop-byte l = Wrote l.initial.page l.page l.initial.end l.end (4 * l.byte-index)
+    (flat_map escaped_byte (take l.byte-index l.bytes))
