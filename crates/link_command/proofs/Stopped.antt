@@ -1,20 +1,21 @@
 -- A walk in which `clap` finds nothing wrong does not stop at the name `help`.
-use Rattle.std.proofs.Common.{◌≡◌, ◌∙◌, ℕ, Bool, true, false, true≢false, cond, List, [], ◌∷◌, Option, Some, None, codes, refl, sym}
-use Rattle.std.proofs.lemmas.{Bool.false_from_ne_true, Slice.Eq.bytes_eq-Decides}
-use Rattle.std.specs.{Prelude.{◌&&◌, ◌||◌, ⊤, fold, is_some, not}, Str.bytes_eq}
+use Rattle.std.proofs.Common.{◌≡◌, ℕ, Bool, true, false, true≢false, cond, List, [], ◌∷◌, Option, Some, None, ⊎_elim, codes, refl, sym}
+use Rattle.std.proofs.lemmas.Bool.{cases_Bool, Decides.{Decides-like, same_from_decides}}
+use Rattle.std.proofs.lemmas.Slice.Eq.{bytes_eq-Decides}
+use Rattle.std.specs.{Prelude.{◌&&◌, ⊤, fold, is_some, not}, Str.bytes_eq}
 use Rattle.clap.specs.{Words.{Kinds, Rule, Shape, Text}, Lexer.{long_of, short_of}}
-use Rattle.clap.specs.Walk.{Held, Names, Outcome, Step, Waiting, Walk, after_flag, after_step, answers_to, arg_by_index, arg_by_long, bundle, done, idle, long_met, long_or_other, next, option, plain, plain_word, positional, refused, short_or_plain, subcommand, subcommand_met, subcommand_or_other, to_positional, trailing, value, waits, walk, walk_from, walked, walked_from, word_met}
+use Rattle.clap.specs.Walk.{Held, Names, Outcome, Step, Waiting, Walk, after_flag, after_step, answers_to, arg_by_index, arg_by_long, bundle, done, long_met, long_or_other, next, option, plain_word, short_or_plain, subcommand, subcommand_met, subcommand_or_other, to_positional, trailing, value, waits, walked, walked_from, word_met}
 use Rattle.clap.specs.Kinds.{or_else}
-use Rattle.clap.specs.Faults.{level_fault, other_fault, step_fault, turn_fault, walk_fault, word_fault}
+use Rattle.clap.specs.Faults.{other_fault, step_fault, turn_fault, walk_fault, word_fault}
 use Rattle.clap.specs.declared.error.kind.ErrorKind.TheVariants.{DisplayHelp, InvalidSubcommand}
 
 -- If nothing is wrong in two steps, nothing is in the first ..
-first_empty : (a b : Kinds) → or_else a b ≡ [] → a ≡ []
+pub first_empty : (a b : Kinds) → or_else a b ≡ [] → a ≡ []
 first_empty [] b none = refl
 first_empty (k ∷ ks) b none = none
 
 -- .. nor in the second.
-pub second_empty : (a b : Kinds) → or_else a b ≡ [] → b ≡ []
+second_empty : (a b : Kinds) → or_else a b ≡ [] → b ≡ []
 second_empty [] b none = none
 second_empty (k ∷ ks) b none = cc
 
@@ -33,17 +34,15 @@ StopsElsewhere (Some p) = bytes_eq p.0 (codes "help") ≡ false
 -- a word that is not read as a flag
 plain_step : (c : List Rule) (waiting : Waiting) (word : Text) (h : Held)
     → EntersNoHelp (plain_word c waiting word h).1
-plain_step c idle word h = tt
 plain_step c (option id) word h = tt
-plain_step c positional word h = tt
+plain_step c _ word h = tt
 
 -- a flag word, whatever it comes to
 flag_step : (c : List Rule) (waiting : Waiting) (word : Text) (h : Held) (outcome : Outcome)
     → EntersNoHelp (after_flag c waiting word h outcome).1
 flag_step c waiting word h done = tt
 flag_step c waiting word h (waits id) = tt
-flag_step c waiting word h plain = plain_step c waiting word h
-flag_step c waiting word h refused = plain_step c waiting word h
+flag_step c waiting word h _ = plain_step c waiting word h
 
 -- a word that begins with one hyphen, or with none
 short_step : (c : List Rule) (waiting : Waiting) (word : Text) (flags : Option Text) (h : Held)
@@ -73,12 +72,9 @@ other_step : (s : Shape) (met : Option Text) (waiting : Waiting) (at : ℕ) (wor
     → s.disable_help_subcommand ≡ false → other_fault s met word h ≡ []
     → EntersNoHelp (subcommand_or_other s.rules met waiting at word h).1
 other_step s (Some name) waiting at word h enabled none = help_is_a_fault (bytes_eq name (codes "help")) s.disable_help_subcommand enabled none
-other_step s None waiting at word h enabled none = go (bytes_eq word (45 ∷ 45 ∷ []))
-  where
-    go : (is_end : Bool) → EntersNoHelp (cond is_end (h, trailing at)
-        (long_or_other s.rules waiting word (long_of word) h)).1
-    go true = tt
-    go false = long_step s.rules waiting word (long_of word) h
+other_step s None waiting at word h enabled none =
+    ⊎_elim (λ end. rw end tt) (λ other. rw other (long_step s.rules waiting word (long_of word) h))
+    (cases_Bool (bytes_eq word (45 ∷ 45 ∷ [])))
 
 -- any word
 word_step : (s : Shape) (names : Names) (is_trailing : Bool) (waiting : Waiting) (at : ℕ)
@@ -124,8 +120,9 @@ turn_stops s names w word enabled before none = go w.stopped before none
     go (Some p) elsewhere none = elsewhere
     go None elsewhere none = step_stops s.rules word w met.0 met.1 before (word_step s names w.is_trailing w.waiting w.position word w.held enabled (first_empty here _ none))
 
--- Words in which nothing is wrong do not stop the walk at `help`.
-walk_stops : (s : Shape) (names : Names) (words : List Text) (w : Walk)
+-- Words in which nothing is wrong do not stop the walk at `help`, where the subcommand of that name
+-- is not disabled.
+pub walk_stops : (s : Shape) (names : Names) (words : List Text) (w : Walk)
     → s.disable_help_subcommand ≡ false → StopsElsewhere w.stopped
     → walk_fault s names w words ≡ []
     → StopsElsewhere (fold (walked s.rules names) w words).stopped
@@ -136,23 +133,11 @@ walk_stops s names (word ∷ rest) w enabled before none =
     let after = walk_fault s names (walked s.rules names w word) rest in
     walk_stops s names rest (walked s.rules names w word) enabled (turn_stops s names w word enabled before (first_empty here after none)) (second_empty here after none)
 
--- If nothing is wrong with the words, the walk over them does not stop at the name `help`, where
--- the subcommand of that name is not disabled.
-pub level_stops : (s : Shape) (names : Names) (h : Held) (words : List Text) (has : Bool)
-    (below : Kinds) → s.disable_help_subcommand ≡ false
-    → level_fault s names h words has below ≡ []
-    → StopsElsewhere (walk s.rules names h words).stopped
-level_stops s names h words has below enabled none = walk_stops s names words (walk_from h) enabled tt (first_empty (walk_fault s names (walk_from h) words) _ none)
-
 -- The subcommand `help` does not answer to another name.
 pub not_help : (name : Text) → bytes_eq name (codes "help") ≡ false
     → answers_to name (codes "help", []) ≡ false
-not_help name other = false_from_ne_true (answers_to name (codes "help", [])) (λ same. true≢false (is_help name same ∙ other))
-  where
-    either : (b : Bool) → (b || false) ≡ true → b ≡ true
-    either true same = refl
-    either false same = same
-
-    is_help : (name : Text) → answers_to name (codes "help", []) ≡ true
-        → true ≡ bytes_eq name (codes "help")
-    is_help name same = sym ((bytes_eq-Decides name (codes "help")).1 (sym ((bytes_eq-Decides (codes "help") name).0 (either (bytes_eq (codes "help") name) same))))
+not_help name other =
+    let same : bytes_eq (codes "help") name ≡ bytes_eq name (codes "help") =
+    same_from_decides _ _ (Decides-like _ sym sym (bytes_eq-Decides (codes "help") name))
+    (bytes_eq-Decides name (codes "help")) in
+    rw (same, other) refl

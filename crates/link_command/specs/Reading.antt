@@ -27,7 +27,5 @@ IsToolFault tool fault = ((fault ≡ NodeTooLong) × (1024 < length (node_of too
 abbrev pub StandsFor : ErrorKind → UsageFault → Type 0
 StandsFor kind (Help text) = is_request kind ≡ true
 StandsFor kind (Words text) = (is_request kind ≡ false) × (kind ≡ OutOfMemory → ⊥)
-StandsFor kind NodeTooLong = ⊥
-StandsFor kind MixedInputs = ⊥
-StandsFor kind LimitedBundles = ⊥
 StandsFor kind Memory = ⊤
+StandsFor kind _ = ⊥

@@ -30,30 +30,24 @@ AreAccepted words = fault_of table words ≡ []
 abbrev pub node_of : (tool : Option (Text × List Row)) → Text
 node_of tool = option_map_or (λ t. text_of (codes "node") t.1) tool []
 
-abbrev pub node_named : (words : List Text) → Text
-node_named words = node_of (subcommand_of table words)
-
 -- whether the tool is given `--bundles` and an option for recordings
 abbrev pub mixes_inputs_of : (tool : Option (Text × List Row)) → Bool
 mixes_inputs_of tool = option_map_or (λ t. mixes_inputs t.1) tool false
-
-abbrev pub mixed_inputs_named : (words : List Text) → Bool
-mixed_inputs_named words = mixes_inputs_of (subcommand_of table words)
 
 -- whether the tool is given `--bundles` and a limit of the peer
 abbrev pub limits_bundles_of : (tool : Option (Text × List Row)) → Bool
 limits_bundles_of tool = option_map_or (λ t. limits_bundles t.1) tool false
 
-abbrev pub limited_bundles_named : (words : List Text) → Bool
-limited_bundles_named words = limits_bundles_of (subcommand_of table words)
-
 -- when each fault may be returned; `Memory` may be returned for any words
 abbrev pub IsFaultOf : (words : List Text) → UsageFault → Type 0
 IsFaultOf words (Help text) = Finds is_request true words
 IsFaultOf words (Words text) = Finds is_request false words
-IsFaultOf words NodeTooLong = AreAccepted words × (1024 < length (node_named words))
-IsFaultOf words MixedInputs = AreAccepted words × (mixed_inputs_named words ≡ true)
-IsFaultOf words LimitedBundles = AreAccepted words × (limited_bundles_named words ≡ true)
+IsFaultOf words NodeTooLong =
+    AreAccepted words × (1024 < length (node_of (subcommand_of table words)))
+IsFaultOf words MixedInputs =
+    AreAccepted words × (mixes_inputs_of (subcommand_of table words) ≡ true)
+IsFaultOf words LimitedBundles =
+    AreAccepted words × (limits_bundles_of (subcommand_of table words) ≡ true)
 IsFaultOf words Memory = ⊤
 
 -- ---- the end of the program

@@ -1,4 +1,5 @@
 //! The command of `clap` that describes the program's arguments and help texts.
+#![tactic(auto, using(crate::proofs::Builds::settings))]
 
 ghost use Rattle.std.specs.Prelude.{◌≡◌, [], ◌∷◌, codes, IfOk, true};
 ghost use Rattle.clap.specs.Words.{app_of};
@@ -176,6 +177,7 @@ fn program<'a>(alloc: Global) -> Command<'a>
 }
 
 /// The tool `list`.
+#[tactic(auto, using(crate::proofs::Builds::tools), unfolding(crate::specs::Table::list_words))]
 fn list_command<'a>(alloc: Global) -> Result<Command<'a>, AllocError>
     ensures { IfOk result (IsTool list_words) }
 {
@@ -183,6 +185,7 @@ fn list_command<'a>(alloc: Global) -> Result<Command<'a>, AllocError>
 }
 
 /// The tool `unpack`.
+#[tactic(auto, using(crate::proofs::Builds::tools), unfolding(crate::specs::Table::unpack_words))]
 fn unpack_command<'a>(alloc: Global) -> Result<Command<'a>, AllocError>
     ensures { IfOk result (IsTool unpack_words) }
 {
@@ -193,6 +196,7 @@ fn unpack_command<'a>(alloc: Global) -> Result<Command<'a>, AllocError>
 }
 
 /// Adds the options of `unpack` for the data that is written.
+#[tactic(auto, using(crate::proofs::Builds::adds_two))]
 fn with_selection<'a>(alloc: Global, tool: Command<'a>) -> Result<Command<'a>, AllocError>
     ensures { IfOk result (AddsRules (
         number (codes "transfer") any_u64
@@ -209,6 +213,7 @@ fn with_selection<'a>(alloc: Global, tool: Command<'a>) -> Result<Command<'a>, A
 }
 
 /// The tool `blocks`.
+#[tactic(auto, using(crate::proofs::Builds::tools), unfolding(crate::specs::Table::blocks_words))]
 fn blocks_command<'a>(alloc: Global) -> Result<Command<'a>, AllocError>
     ensures { IfOk result (IsTool blocks_words) }
 {
@@ -219,6 +224,7 @@ fn blocks_command<'a>(alloc: Global) -> Result<Command<'a>, AllocError>
 }
 
 /// Adds the options of `blocks` for recordings.
+#[tactic(auto, using(crate::proofs::Builds::adds_two))]
 fn with_shown<'a>(alloc: Global, tool: Command<'a>) -> Result<Command<'a>, AllocError>
     ensures { IfOk result (AddsRules (
         number (codes "transfer") any_u64
@@ -234,6 +240,7 @@ fn with_shown<'a>(alloc: Global, tool: Command<'a>) -> Result<Command<'a>, Alloc
 }
 
 /// The tool `check`.
+#[tactic(auto, using(crate::proofs::Builds::tools), unfolding(crate::specs::Table::check_words))]
 fn check_command<'a>(alloc: Global) -> Result<Command<'a>, AllocError>
     ensures { IfOk result (IsTool check_words) }
 {
@@ -270,6 +277,7 @@ fn with_judged<'a>(alloc: Global, tool: Command<'a>) -> Result<Command<'a>, Allo
 }
 
 /// The tool `pack`.
+#[tactic(auto, using(crate::proofs::Builds::tools), unfolding(crate::specs::Table::pack_words))]
 fn pack_command<'a>(alloc: Global) -> Result<Command<'a>, AllocError>
     ensures { IfOk result (IsTool pack_words) }
 {

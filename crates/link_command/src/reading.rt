@@ -223,6 +223,7 @@ fn is_set(tool: &ArgMatches<'_>, name: &str) -> bool
 }
 
 /// The value of an argument as text, if it has one.
+#[tactic(auto, using(crate::proofs::Numbers::texts))]
 fn text<'a>(tool: &ArgMatches<'a>, name: &str) -> Option<&'a str>
     ensures { option_map (λ text. text.now) result
         ≡ first_of name.now (rows_of (found_of tool.now)) }
