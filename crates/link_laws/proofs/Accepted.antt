@@ -7,7 +7,7 @@ use Rattle.link_laws.proofs.{Orders.{AreInOrder, all}, Whole.AreRead}
 
 -- These heads have this order: those of it come first, and are in order themselves. If none is
 -- refused, they are all heads.
-record Kept (before : List Message) (heads : List Entry) (order : Ordered) : Type 0 where
+pub record Kept (before : List Message) (heads : List Entry) (order : Ordered) : Type 0 where
   pub read : AreRead heads → AreRead order.heads
   pub again : ordered_after before order.heads ≡ all order.heads
   pub whole : order.refused ≡ None → order ≡ all heads
@@ -55,20 +55,10 @@ kept (head ∷ more) before =
           parts = ap (λ heads. head ∷ heads) later.parts;
         })
 
-module _ (heads : List Entry) where
-  pub accepted_read : AreRead heads → AreRead (ordered heads).heads
-  unfolding ordered
-  accepted_read = (kept heads []).read
+pub accepted_in_order : (heads : List Entry) → AreInOrder (ordered heads).heads
+unfolding ordered
+accepted_in_order heads = (kept heads []).again
 
-  pub accepted_in_order : AreInOrder (ordered heads).heads
-  unfolding ordered
-  accepted_in_order = (kept heads []).again
-
-  pub all_in_order : (ordered heads).refused ≡ None → AreInOrder heads
-  unfolding ordered
-  all_in_order = (kept heads []).whole
-
-  -- they come first
-  pub accepted_first : (rest : List Entry) × (heads ≡ (ordered heads).heads ++ rest)
-  unfolding ordered
-  accepted_first = let all_kept = kept heads [] in (all_kept.rest, all_kept.parts)
+pub all_kept : (heads : List Entry) → Kept [] heads (ordered heads)
+unfolding ordered
+all_kept heads = kept heads []

@@ -1,23 +1,18 @@
 -- The rules that `check` finds broken in events, whether or not they have a line.
-use Rattle.std.proofs.Common.{◌≡◌, Bool, true, false, not, ◌&&◌, List, [], ◌∷◌, ◌++◌, Option, refl, ap, sym, ◌∙◌, arith}
-use Rattle.std.proofs.{Math.Bool.{and-true, and_assoc}, lemmas.Bool.and_parts}
+use Rattle.std.proofs.Common.{◌≡◌, Bool, true, false, not, ◌&&◌, List, [], ◌∷◌, ◌++◌, Option, refl, sym, arith}
+use Rattle.std.proofs.Math.Bool.{and-true, and_assoc}
 use Rattle.std.proofs.lemmas.{Grind.flat_map-append, List.Folds.list_all-append}
 use Rattle.link_run.specs.Writers.{on_output}
 use Rattle.link_run.proofs.Runs.{texts_as}
-use Rattle.link_walk.specs.{Saying.{kept_after, said_from}, Walk.{WalkEvent, MessageHead}}
+use Rattle.link_walk.specs.{Saying.{kept_after, said_from}, Walk.{WalkEvent}}
 use Rattle.link_message_rules.specs.{Heads.JudgedHead, declared.limits.PeerLimits.PeerLimits}
 use Rattle.link_rule_report.specs.declared.line.RuleText.{RuleText}
 use Rattle.link_check.specs.Checking.{Begun, Kept, broken_by, heads_with, latest_with, checking}
-use Rattle.link_check.specs.Lines.{counts, line_of, lines_of, none_counts}
+use Rattle.link_check.specs.Lines.{counts, lines_of, none_counts}
 use Rattle.link_check.specs.declared.options.CheckOptions.{CheckOptions}
 use Rattle.link_laws.proofs.Fronts.{IsFront, front_after, front_none}
 
 -- ---- lines of rules that follow one another
-
-lines_append : (must : Bool) (first second : List RuleText)
-    → lines_of must (first ++ second) ≡ lines_of must first ++ lines_of must second
-unfolding lines_of
-lines_append must first second = flat_map-append (line_of must) first second
 
 pub counts_append : (must : Bool) (first second : List RuleText)
     → none_counts must (first ++ second) ≡ (none_counts must first && none_counts must second)
@@ -57,17 +52,7 @@ module _ (peer : PeerLimits) where
         → none_counts must (broken_from heads latest more) ≡ true
         → none_counts must (broken_from heads latest events) ≡ true
     none_before heads latest events more front none =
-        let first = broken_first heads latest events front.0 in
-        (and_parts (none_counts must (broken_from heads latest events)) (none_counts must first.0)
-        (sym (counts_append must (broken_from heads latest events) first.0)
-        ∙ ap (none_counts must) (sym first.1)
-        ∙ ap (λ all. none_counts must (broken_from heads latest all)) (sym front.1)
-        ∙ none)).0
-
-    broken_same : (kept : Kept) (event : WalkEvent)
-        → broken_by (options must) kept event ≡ broken_with kept.heads kept.latest event
-    broken_same kept (MessageHead head) = refl
-    broken_same kept event = refl
+        let first = broken_first heads latest events front.0 in grind (arith, counts_append)
 
     pub lines_said : (events : List WalkEvent) (kept : Kept)
         → said_from (checking (options must)) kept events
@@ -75,7 +60,7 @@ module _ (peer : PeerLimits) where
     unfolding lines_of
     lines_said [] kept = refl
     lines_said (event ∷ more) kept =
-        grind (arith, broken_same, lines_append, texts_as, lines_said more)
+        grind (arith, flat_map-append, texts_as, lines_said more)
 
     pub good_kept : (events : List WalkEvent) (kept : Kept)
         → (kept_after (checking (options must)) kept events).good
@@ -83,4 +68,4 @@ module _ (peer : PeerLimits) where
     unfolding none_counts
     good_kept [] kept = sym (and-true kept.good)
     good_kept (event ∷ more) kept =
-        grind (arith, and_assoc, broken_same, counts_append, good_kept more)
+        grind (arith, and_assoc, counts_append, good_kept more)

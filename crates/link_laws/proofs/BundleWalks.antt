@@ -1,5 +1,5 @@
 -- What a tool over bundles says of an input, when more bytes follow.
-use Rattle.std.proofs.Common.{◌≡◌, ℕ, zero, suc, ◌-◌, ◌<◌, ◌≤◌, Bool, true, false, List, [], ◌∷◌, ◌++◌, length, take, drop, Option, Some, None, Result, Ok, Err, if◌then◌else◌, refl, ap, sym, ◌∙◌, subst, ⊎_elim, append-nil, append_assoc, length-append, length-drop, arith}
+use Rattle.std.proofs.Common.{◌≡◌, ℕ, zero, suc, ◌-◌, ◌<◌, ◌≤◌, Bool, true, false, List, [], ◌∷◌, ◌++◌, length, take, drop, Option, Some, None, Result, Ok, Err, if◌then◌else◌, refl, ap, sym, ◌∙◌, ⊎_elim, append-nil, append_assoc, length-append, length-drop, arith}
 use Rattle.std.proofs.lemmas.Bool.{cases_lt, false≢true}
 use Rattle.link_cbor.specs.Pieces.{taken}
 use Rattle.link_bundle_types.specs.{Faults.lasts, declared.fault.BundleFault.BundleFault}
@@ -106,10 +106,9 @@ module _ (telling : BundleTelling) (grows : Grows telling) where
     some_begins : 0 < length (begun ++ more) → Begins bundles begun (divided limit (begun ++ more))
     some_begins some =
         let all = begun ++ run in
-        subst (Begins bundles begun)
-        (sym (divided_front limit all (begun ++ more) some (front_more begun more opened.front)))
+        rw (divided_front limit all (begun ++ more) some (front_more begun more opened.front))
         (⊎_elim
-        (λ beyond. subst Judged (sym (beyond_limit limit all beyond))
+        (λ beyond. rw (beyond_limit limit all beyond)
         (refused_begins bundles begun (take (limit - length begun) run) _ (Longer limit)
         (take-append limit begun run opened.within)))
         (λ inside. rw (within_limit limit all inside) (judged_begins (verdict all) refl))
@@ -127,15 +126,11 @@ module _ (telling : BundleTelling) (grows : Grows telling) where
 
   -- ---- what is made of an input
 
-  ended_begins : (input : Divided) → stop_by (length input.bundles) input.rest ≡ None
-      → AreFronts (telling.texts (come_in input)) (telling.ended input.bundles)
-  ended_begins input none = by_rest input.rest none
-    where
-      by_rest : (rest : Option Rest) → stop_by (length input.bundles) rest ≡ None
-          → AreFronts (telling.texts (come_in (record { bundles = input.bundles; rest = rest })))
-          (telling.ended input.bundles)
-      by_rest None none = grows.ended input.bundles
-      by_rest (Some rest) none = absurd (cc)
+  ended_begins : (bundles : List Packed) (rest : Option Rest) → stop_by (length bundles) rest ≡ None
+      → AreFronts (telling.texts (come_in (record { bundles = bundles; rest = rest })))
+      (telling.ended bundles)
+  ended_begins bundles None none = grows.ended bundles
+  ended_begins bundles (Some rest) none = absurd (cc)
 
   module _ (bytes more : List ℕ) (parts : StaysDivided limit bytes) where
     open parts use {bundles, begun, divides}
@@ -146,7 +141,8 @@ module _ (telling : BundleTelling) (grows : Grows telling) where
     ends : (told_of telling (bytes ++ more)).stop ≡ None
         → AreFronts (told_of telling (bytes ++ more)).texts (told_of telling (bytes ++ more)).ended
     unfolding told_of
-    ends none = ended_begins (divided limit (bytes ++ more)) none
+    ends none =
+        let all = divided limit (bytes ++ more) in ended_begins all.bundles all.rest none
 
     -- what follows the bundles is refused
     refused_on : IsRefused limit begun → On

@@ -1,6 +1,6 @@
 -- The messages of a packed stream are in order, and its transfers are the bundles.
 use Rattle.std.specs.Prelude.{◌==◌}
-use Rattle.std.proofs.Common.{◌≡◌, ℕ, zero, suc, ◌+◌, ◌*◌, ◌<◌, ◌≤◌, Bool, true, false, ◌&&◌, List, [], ◌∷◌, ◌++◌, length, take, Option, Some, None, refl, ap, sym, ◌∙◌, subst, append-nil, append_assoc, arith}
+use Rattle.std.proofs.Common.{◌≡◌, ℕ, zero, suc, ◌+◌, ◌*◌, ◌<◌, ◌≤◌, Bool, true, false, ◌&&◌, List, [], ◌∷◌, ◌++◌, length, take, Option, Some, None, refl, ap, append-nil, append_assoc, arith}
 use Rattle.std.proofs.lemmas.{Bool.{eq-eqb, cases_lt}, List.take_all}
 use Rattle.link_wire.specs.Stream.{Entry}
 use Rattle.link_transfer.specs.{Chunks.chunk_count, Cutting.{due, due_of}}
@@ -65,13 +65,10 @@ module _ (options : PackOptions) where
   whole_by number zero bundle heads earlier offset some all at = absurd (omega arith)
   whole_by number (suc count) bundle heads earlier offset some all at =
       let whole = sending options true bundle.bytes in
-      let entries = heads ++ segment_entries number whole 0 (suc count) offset in
-      let first = head_of number whole 0 in
       let last : last_at number whole count ≡ true = eq-eqb (count + 1) (chunk_count (segment_size options) (length bundle.bytes)) (omega (arith, all)) in
       let taken : take (suc count * segment_size options) bundle.bytes ≡ bundle.bytes =
       take_all (suc count * segment_size options) bundle.bytes (rw all (all_bytes (segment_size options) (length bundle.bytes) (some_size options))) in
-      subst (λ (content : List ℕ). Stands entries (carrying None) (record { first = first; content = content; closed = true } ∷ earlier)) taken
-      (rw last at (sent_all number whole earlier count heads offset (omega (arith, all)) at))
+      rw (last, taken) at (sent_all number whole earlier count heads offset (omega (arith, all)) at)
 
   stands_bundle : (number : ℕ) (bundle : Packed) (heads : List Entry) (earlier : List Transfer)
       (offset : ℕ) → 0 < length bundle.bytes
@@ -88,15 +85,14 @@ module _ (options : PackOptions) where
       → Stands (heads ++ bundle_entries options number bundles offset) (carrying None)
       (onto number bundles earlier)
   unfolding onto bundle_entries
-  stands_bundles number [] heads earlier offset are at = subst (λ all. Stands all (carrying None) earlier) (sym (append-nil heads)) at
+  stands_bundles number [] heads earlier offset are at = rw append-nil (at)
   stands_bundles number (bundle ∷ more) heads earlier offset are at =
       let whole = sending options true bundle.bytes in
       let after = offset + length (segments_of number whole) in
       let front = due_entries number whole offset in
-      let rest = bundle_entries options (suc number) more after in
-      subst (λ all. Stands all (carrying None) (onto (suc number) more (transfer_of number bundle ∷ earlier))) (append_assoc heads front rest)
-      (stands_bundles (suc number) more (heads ++ front) (transfer_of number bundle ∷ earlier) after are.1
-      (stands_bundle number bundle heads earlier offset are.0.some at))
+      rw (← append_assoc heads front (bundle_entries options (suc number) more after))
+      (stands_bundles (suc number) more (heads ++ front) (transfer_of number bundle ∷ earlier) after
+      are.1 (stands_bundle number bundle heads earlier offset are.0.some at))
 
   -- ---- to the end
 
@@ -105,18 +101,16 @@ module _ (options : PackOptions) where
     pub in_order : AreInOrder heads
     pub makes : transfers_of heads ≡ transfers
 
-  carried_as : {joiner : _} (heads others : List Entry) (transfers : List Transfer) → heads ≡ others
-      → Stands heads joiner transfers → AreCarried others transfers
-  carried_as heads others transfers same at =
-      subst (λ all. AreCarried all transfers) same (record { in_order = at.in_order; makes = at.makes })
+  carried : {heads : _} {joiner : _} {transfers : _} → Stands heads joiner transfers
+      → AreCarried heads transfers
+  carried at = record { in_order = at.in_order; makes = at.makes }
 
   carried_term : (asked : Bool) (heads : List Entry) (earlier : List Transfer) (offset : ℕ)
       → Stands heads (carrying None) earlier
       → AreCarried (heads ++ [] ++ term_entries options asked offset) earlier
   carried_term true heads earlier offset at =
-      carried_as (heads ++ _) (heads ++ [] ++ _) earlier (ap (λ all. all ++ term_entries options true offset) (sym (append-nil heads)))
-      (stands_more heads (carrying None) earlier _ SessTerm refl refl at)
-  carried_term false heads earlier offset at = carried_as heads (heads ++ [] ++ []) earlier (sym (append-nil heads) ∙ sym (append-nil (heads ++ []))) at
+      rw append-nil (carried (stands_more heads (carrying None) earlier _ SessTerm refl refl at))
+  carried_term false heads earlier offset at = rw (append-nil, append-nil) (carried at)
 
   part_by : (number count : ℕ) (part : Sending) (heads : List Entry) (earlier : List Transfer)
       (offset : ℕ) → part.whole ≡ false → count ≤ chunk_count part.segment (length part.bundle)
@@ -124,12 +118,11 @@ module _ (options : PackOptions) where
       → AreCarried (heads ++ segment_entries number part 0 count offset ++ [])
       (partly number part count earlier)
   unfolding segment_entries
-  part_by number zero part heads earlier offset goes few at = carried_as heads (heads ++ [] ++ []) earlier (sym (append-nil heads) ∙ sym (append-nil (heads ++ []))) at
+  part_by number zero part heads earlier offset goes few at =
+      rw (append-nil, append-nil) (carried at)
   part_by number (suc count) part heads earlier offset goes few at =
       let going : last_at number part count ≡ false = ap (λ whole. whole && (count + 1 == chunk_count part.segment (length part.bundle))) goes in
-      let entries = heads ++ segment_entries number part 0 (suc count) offset in
-      carried_as entries (entries ++ []) (sent number part (suc count) false ∷ earlier) (sym (append-nil entries))
-      (rw going at (sent_all number part earlier count heads offset few at))
+      rw append-nil (carried (rw going at (sent_all number part earlier count heads offset few at)))
 
   carried_rest : (number : ℕ) (rest : Option Rest) (heads : List Entry) (earlier : List Transfer)
       (offset after : ℕ) → Stands heads (carrying None) earlier

@@ -1,6 +1,6 @@
 -- What `unpack` reports of a recording in which `check --must` finds no rule broken.
 use Rattle.std.specs.List.{All, flat_map}
-use Rattle.std.proofs.Common.{◌≡◌, ℕ, Bool, true, false, List, [], ◌∷◌, ◌++◌, map, filter_map, option_map, Option, Some, None, if◌then◌else◌, refl, ap, sym, ◌∙◌, subst, arith}
+use Rattle.std.proofs.Common.{◌≡◌, ℕ, true, false, List, [], ◌∷◌, ◌++◌, map, filter_map, option_map, Option, Some, None, if◌then◌else◌, refl, ap, sym, ◌∙◌, subst, arith}
 use Rattle.std.proofs.lemmas.{Bool.and_parts, Grind.{flat_map-append, fold-append}}
 use Rattle.std.proofs.lemmas.List.Elements.{All-nil, All-append, All-head, All-tail}
 use Rattle.link_wire.specs.{Message.data_length, Stream.{Entry, End, Reading, reading_of, heads_of}}
@@ -15,14 +15,14 @@ use Rattle.link_report.specs.declared.fault.Fault.TheVariants.{Order}
 use Rattle.link_rule_report.specs.{Names.rule_level, declared.line.RuleText.RuleText}
 use Rattle.link_rule_report.specs.declared.rule.BrokenRule.TheVariants as rule
 use Rattle.link_run.specs.Made.{StreamStop, stop_of}
-use Rattle.link_walk.specs.Walk.{head_at, closes, WalkEvent, MessageHead, content_events, Walked, none_walked, with_next, walked_of, end_events, stop_by, told_of}
+use Rattle.link_walk.specs.Walk.{head_at, WalkEvent, MessageHead, content_events, Walked, none_walked, with_next, walked_of, end_events, stop_by, told_of}
 use Rattle.link_unpack.specs.{Transfers.Transfer, Unpacking.Told, declared.wanted.Wanted.Wanted}
-use Rattle.link_check.specs.Checking.{Begun, begun_by, closed_rules, heads_with, judged, latest_with, rules_at, check_tool}
+use Rattle.link_check.specs.Checking.{Begun, heads_with, judged, latest_with, check_tool}
 use Rattle.link_check.specs.Lines.{none_counts, at_offset}
 use Rattle.link_laws.specs.Checked.{IsAllowed, IsSecondInit, MayStop, HasOnlyAllowed}
 use Rattle.link_laws.specs.{Cuts.{fault_at, faults_after, lined}, RoundTrip.all}
 use Rattle.link_laws.specs.Transfers.{ordered_by, ordered_after, ordered, transfers_of, unpacked_of}
-use Rattle.link_laws.proofs.Accepted.{accepted_first, accepted_in_order, accepted_read}
+use Rattle.link_laws.proofs.Accepted.{accepted_in_order, all_kept}
 use Rattle.link_laws.proofs.BrokenRules.{options, broken_with, broken_from, counts_append, good_kept, none_before}
 use Rattle.link_laws.proofs.{DueRules.{due_choice, none_due, all_allowed}, Following.walk_told}
 use Rattle.link_laws.proofs.{Fronts.front_first, InOrder.{not_stray, taken_more, unpacked_in_order}}
@@ -93,8 +93,7 @@ walk_faults (head ∷ more) taken =
 
 heads_faults : (contact : Option Contact) (heads : List Entry)
     → all_faults (walked_of (going true) contact heads).events ≡ faults_after [] heads
-heads_faults None heads = rw (walk_is true None heads, walk_faults heads [])
-heads_faults (Some contact) heads = rw (walk_is true (Some contact) heads, walk_faults heads [])
+heads_faults contact heads = grind (arith, walk_faults, walk_is)
 
 -- ---- rules of messages of level `must`
 
@@ -118,30 +117,18 @@ module _ (offset : ℕ) where
   unfolding none_counts rule_level level_of
   order_rule fault others none = grind arith
 
-  third_rule : (first second : Option MessageRule) (fault : Option OrderFault)
-      (others : List (Option MessageRule))
-      → none_counts true (lines_for (filter_map (λ judged. judged)
-      (first ∷ second ∷ option_map message_rule.Order fault ∷ others))) ≡ true
-      → All IsSecondInit (fault_at offset fault)
-  third_rule first second fault others none = search (later_rules, order_rule)
-
 module _ (peer : PeerLimits) where
   head_allowed : (heads : List JudgedHead) (offset : ℕ) (head : JudgedHead)
       → none_counts true (lines_for offset (broken_rules peer heads head)) ≡ true
       → All IsSecondInit (fault_at offset head.fault)
   unfolding broken_rules order
-  head_allowed heads offset head none = search (third_rule)
+  head_allowed heads offset head none = search (later_rules, order_rule)
 
   event_allowed : (heads : List JudgedHead) (latest : Option Begun) (event : WalkEvent)
       → none_counts true (broken_with peer heads latest event) ≡ true
       → All IsSecondInit (faults_of event)
   event_allowed heads latest (MessageHead head) none =
-      let of_head = lines_for head.offset (broken_rules peer heads (judged head)) in
-      let of_transfer : List RuleText =
-      if closes head then rules_at closed_rules (begun_by head latest) else [] in
-      head_allowed heads head.offset (judged head)
-      (and_parts (none_counts true of_head) (none_counts true of_transfer)
-      (sym (counts_append true of_head of_transfer) ∙ none)).0
+      head_allowed heads head.offset (judged head) (grind (arith, counts_append))
   event_allowed heads latest event none = All-nil IsSecondInit
 
   events_allowed : (events : List WalkEvent) (heads : List JudgedHead) (latest : Option Begun)
@@ -149,13 +136,10 @@ module _ (peer : PeerLimits) where
       → All IsSecondInit (all_faults events)
   events_allowed [] heads latest none = All-nil IsSecondInit
   events_allowed (event ∷ more) heads latest none =
-      let now = broken_with peer heads latest event in
-      let later = broken_from peer (heads_with heads event) (latest_with latest event) more in
-      let both = and_parts (none_counts true now) (none_counts true later)
-      (sym (counts_append true now later) ∙ none) in
       All-append IsSecondInit (faults_of event) (all_faults more)
-      (event_allowed heads latest event both.0)
-      (events_allowed more (heads_with heads event) (latest_with latest event) both.1)
+      (event_allowed heads latest event (grind (arith, counts_append)))
+      (events_allowed more (heads_with heads event) (latest_with latest event)
+      (grind (arith, counts_append)))
 
 -- ---- a run that ends at a fault of the order
 
@@ -182,9 +166,8 @@ may_refuse (head ∷ more) before faults =
     by_refusal (Some fault) is later faults =
         All-head IsSecondInit (head.offset, fault) _ faults
     by_refusal None is later faults =
-        later
-        (subst (λ taken. All IsSecondInit (faults_after taken more))
-        (taken_more before head.message (not_stray before (event_of head.message) is)) faults)
+        let taken = taken_more before head.message (not_stray before (event_of head.message) is) in
+        later (rw taken at faults)
 
 may_stop : (refused : Option (ℕ × OrderFault)) (end : End) → stop_of end ≡ None
     → MayRefuse refused → MayStop (stop_by refused end)
@@ -195,12 +178,9 @@ lined_allowed : (stop : Option StreamStop) (transfers : List Transfer) → All I
     → All IsAllowed (lined stop transfers)
 lined_allowed None transfers allowed = allowed
 lined_allowed (Some stop) [] allowed = allowed
-lined_allowed (Some stop) (latest ∷ earlier) allowed = by_closed latest.closed
-  where
-    by_closed : (closed : Bool)
-        → All IsAllowed (if closed then latest ∷ earlier else earlier)
-    by_closed true = allowed
-    by_closed false = All-tail IsAllowed latest earlier allowed
+lined_allowed (Some stop) (latest ∷ earlier) allowed =
+    elim latest.closed as (λ closed. All IsAllowed (if closed then latest ∷ earlier else earlier))
+    [ true ↦ allowed | false ↦ All-tail IsAllowed latest earlier allowed ]
 
 -- ---- a recording
 
@@ -238,13 +218,13 @@ module _ (peer : PeerLimits) (bytes : List ℕ)
 
   accepted_allowed : All IsAllowed (transfers_of accepted)
   accepted_allowed =
-      let first = accepted_first heads in
-      let read = accepted_read heads (reading_read bytes).heads in
-      let made = (unpacked_in_order all accepted read (accepted_in_order heads)).made in
-      subst (All IsAllowed) made
-      (transfers_allowed peer reading.contact accepted read
-      (first_keep peer reading.contact accepted first.0
-      (subst (KeepsMusts peer reading.contact) first.1 keeps)) all)
+      let first = all_kept heads in
+      let read = first.read (reading_read bytes).heads in
+      rw (unpacked_in_order all accepted read (accepted_in_order heads)).made at (
+      transfers_allowed peer reading.contact accepted read
+      (first_keep peer reading.contact accepted first.rest
+      (subst (KeepsMusts peer reading.contact) first.parts keeps)) all
+      )
 
   pub only_allowed : HasOnlyAllowed bytes
   unfolding ordered

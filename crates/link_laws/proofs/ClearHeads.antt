@@ -1,6 +1,6 @@
 -- The messages of a packed stream break no rule of messages.
 use Rattle.std.specs.{Prelude.IfSome, List.{All, list_any}}
-use Rattle.std.proofs.Common.{◌≡◌, ℕ, suc, ◌+◌, ◌<◌, ◌≤◌, Bool, true, false, ◌==◌, nat_le, is_some, List, [], ◌∷◌, ◌++◌, reverse, filter_map, Option, Some, None, if◌then◌else◌, refl, ap, sym, ◌∙◌, arith}
+use Rattle.std.proofs.Common.{◌≡◌, ℕ, suc, ◌+◌, ◌<◌, ◌≤◌, Bool, true, false, ◌==◌, is_some, List, [], ◌∷◌, ◌++◌, reverse, filter_map, Option, Some, None, refl, sym, ◌∙◌, arith}
 use Rattle.std.proofs.{Math.Bool.and-false, lemmas.Bool.{ne_eqb, le-ltb}}
 use Rattle.std.proofs.lemmas.{List.{map-append, reverse-append}, List.Elements.{All-head, All-tail}}
 use Rattle.link_wire.specs.{Spelling.{segment_with, sess_init_with}, Stream.Entry}
@@ -15,12 +15,11 @@ use Rattle.link_transfer.proofs.Joining.{refusal-at, stray-at, effect-at, IsJoin
 use Rattle.link_transfer.specs.declared.joiner.Turn.TheVariants as turn
 use Rattle.link_message_rules.specs.Flags.{item_flags, segment_flags, term_flags}
 use Rattle.link_message_rules.specs.Heads.{JudgedHead, messages_of, start_id}
-use Rattle.link_message_rules.specs.Lengths.{peer_segment, size_of, if_passed, if_exceeded, peer_transfer, ack_length}
+use Rattle.link_message_rules.specs.Lengths.{peer_segment, size_of, if_exceeded, peer_transfer, ack_length}
 use Rattle.link_message_rules.specs.{MessageRules.broken_rules, NodeIds.node_id}
 use Rattle.link_message_rules.specs.Session.{order, before_session, keepalive}
 use Rattle.link_message_rules.specs.TransferIds.{abandoned_by, interleaved, descending, transfer_id}
 use Rattle.link_message_rules.specs.declared.limits.PeerLimits.{PeerLimits}
-use Rattle.link_message_rules.specs.declared.rule.MessageRule.{MessageRule}
 use Rattle.link_run.proofs.Continued.{entry}
 use Rattle.link_walk.specs.Walk.{head_at}
 use Rattle.link_check.specs.Checking.{judged}
@@ -28,10 +27,6 @@ use Rattle.link_pack.specs.Segments.{flags_of}
 use Rattle.link_laws.proofs.{InOrder.{not_stray, taken_more}, Sent.starts_as}
 
 -- ---- rules, one by one
-
-none_if : (test : Bool) → ◌≡◌ {A = Option MessageRule} (if test then None else None) None
-none_if true = refl
-none_if false = refl
 
 module _ (peer : PeerLimits) (before : List JudgedHead) where
   module _ (first last : Bool) (id size : ℕ) (announce : Option ℕ) (turn : Turn) where
@@ -41,21 +36,13 @@ module _ (peer : PeerLimits) (before : List JudgedHead) where
     abbrev segment_head : JudgedHead
     segment_head = record { message = segment; fault = None; turn = Some turn }
 
-    items_none : item_flags segment ≡ None
-    unfolding item_flags
-    items_none = grind arith
-
-    flags_none : segment_flags segment ≡ None
-    unfolding segment_flags
-    flags_none = grind arith
-
     -- in order, and it abandons no transfer
     pub segment_clear : abandoned_by (Some turn) ≡ None → transfer_id before segment ≡ None
         → peer_segment peer.segment segment ≡ None
         → peer_transfer peer.transfer before segment_head ≡ None
         → broken_rules peer before segment_head ≡ []
-    unfolding broken_rules node_id order before_session interleaved ack_length keepalive term_flags
-    segment_clear none new short within = grind (arith, flags_none, items_none, none_if)
+    unfolding broken_rules node_id item_flags order before_session interleaved segment_flags ack_length keepalive term_flags
+    segment_clear none new short within = grind arith
 
   -- ---- messages that are no segments
 
@@ -68,14 +55,14 @@ module _ (peer : PeerLimits) (before : List JudgedHead) where
 
     pub init_clear : node_id init ≡ None → broken_rules peer before init_head ≡ []
     unfolding broken_rules item_flags order before_session interleaved segment_flags transfer_id peer_segment peer_transfer ack_length keepalive term_flags
-    init_clear keeps = grind (arith, none_if)
+    init_clear keeps = grind arith
 
   abbrev term_head : JudgedHead
   term_head = record { message = message.SessTerm 0 0; fault = None; turn = Some turn.Other }
 
   pub term_clear : broken_rules peer before term_head ≡ []
   unfolding broken_rules node_id item_flags order before_session interleaved segment_flags transfer_id peer_segment peer_transfer ack_length keepalive term_flags
-  term_clear = grind (arith, none_if)
+  term_clear = grind arith
 
 -- ---- transfer IDs
 
@@ -102,15 +89,10 @@ not_among next (id ∷ []) below =
     rw (ne_eqb id next (λ same. absurd (omega arith))) refl
 not_among next (id ∷ second ∷ more) below =
     let first = All-head (λ id. id < next) id (second ∷ more) below in
-    by_test (id == second + 1) (ne_eqb id next (λ same. absurd (omega arith)))
-    (not_among next (second ∷ more) (All-tail (λ id. id < next) id (second ∷ more) below))
-  where
-    by_test : (test : Bool) → (id == next) ≡ false
-        → list_any (λ earlier. earlier == next) (descending (second ∷ more)) ≡ false
-        → list_any (λ earlier. earlier == next)
-        (if test then id ∷ descending (second ∷ more) else id ∷ []) ≡ false
-    by_test true differs rest = rw differs rest
-    by_test false differs rest = rw differs refl
+    let differs = ne_eqb id next (λ same. absurd (omega arith)) in
+    let rest =
+    not_among next (second ∷ more) (All-tail (λ id. id < next) id (second ∷ more) below) in
+    grind arith
 
 module _ (before : List JudgedHead) (last : Bool) (id size : ℕ) (announce : Option ℕ) where
   -- a transfer begins whose ID is above those before it
@@ -131,20 +113,15 @@ IsAtMost limit Absent = Unit {0}
 IsAtMost limit (Total total) = total ≤ limit
 IsAtMost limit Malformed = Unit {0}
 
-passes_none : (limit before size : ℕ) → before + size ≤ limit → if_passed limit before size ≡ None
-passes_none limit before size within =
-    rw (le-ltb limit (before + size) within, and-false (nat_le before limit))
-
 pub exceeds_none : (limit : ℕ) (said : Announced) (head : SegmentHead) (earlier : List SegmentHead)
     → IsAtMost limit said → size_of earlier + head.length ≤ limit
     → if_exceeded limit said head earlier ≡ None
-exceeds_none limit said head earlier most within = grind (arith, le-ltb, passes_none)
+exceeds_none limit said head earlier most within = grind (arith, and-false, le-ltb)
 
 pub short_none : (limit : Option ℕ) (head : SegmentHead) → IfSome limit (λ most. head.length ≤ most)
     → peer_segment limit (message.Segment head) ≡ None
 unfolding peer_segment
-short_none None head short = refl
-short_none (Some limit) head short = rw (le-ltb limit head.length short) refl
+short_none limit head short = grind (arith, le-ltb)
 
 -- ---- one head of a walk
 
@@ -183,10 +160,7 @@ module _ (joiner : Joiner) (taken : List Message) (offset : ℕ) (sent : Message
       fault = None;
       turn = Some (turn_by joiner.transfer (event_of sent));
     }
-    judged_is =
-        ap (λ fault. record { message = sent; fault = fault; turn = effect_of taken (event_of sent) })
-        in_order
-        ∙ ap (λ turn. record { message = sent; fault = None; turn = turn }) turn_at
+    judged_is = rw (in_order, turn_at) refl
 
     pub joins_then : (happened : Event) → event_of sent ≡ happened
         → IsJoinerAt (joiner_after joiner happened) (with_taken taken sent)

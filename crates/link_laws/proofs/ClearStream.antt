@@ -23,7 +23,7 @@ use Rattle.link_laws.specs.PackedRules.{AllowsLimits, KeepsNodeId}
 use Rattle.link_laws.proofs.Carried.{some_chunk}
 use Rattle.link_laws.proofs.ClearHeads.{segment_clear, init_clear, term_clear, ids_of, ids_then, AreBelow, below_more, new_id, no_id, IsAtMost, exceeds_none, short_none, judged_at, AreClear, judged_is, joins_then}
 use Rattle.link_laws.proofs.Divided.{AreBundles}
-use Rattle.link_laws.proofs.Entries.{bundle_entries, due_entries, first_entries, init_bytes, init_entry, last_entries, packed_entries, term_entries, some_size}
+use Rattle.link_laws.proofs.Entries.{bundle_entries, due_entries, init_bytes, init_entry, last_entries, packed_entries, term_entries, some_size}
 use Rattle.link_laws.proofs.{Limits.announces, Segments.{chunk_of, message_of, segment_entries}}
 use Rattle.link_laws.proofs.Sent.{starts_as, first_may, next_may, open_by, opens_by, taken_more, taken_first, head_of, last_at}
 use Rattle.link_laws.proofs.Standing.{fresh, carrying}
@@ -35,10 +35,6 @@ if_some None step holds = tt
 if_some (Some most) step holds = step most holds
 
 -- ---- the segments so far
-
-segments_then : (before : List JudgedHead) (head : JudgedHead)
-    → segments_of (before ++ head ∷ []) ≡ segments_back (head ∷ reverse before)
-segments_then before head = ap segments_back (reverse-append before (head ∷ []))
 
 -- no transfer is open, and the IDs of all are below this one
 record Between (next : ℕ) (taken : List Message) (before : List JudgedHead) : Type 0 where
@@ -95,20 +91,20 @@ module _ (peer : PeerLimits) (id : ℕ) (last : Bool) (offset : ℕ) (chunk : Li
 
   may : (first : Bool)
       → refusal_by true false (before_by id first) (event_of (here first).message) ≡ None
-  may true = first_may last id
-  may false = next_may last id
+  may first = grind (arith, first_may, next_may)
 
   turns : (first : Bool)
       → turn_by (before_by id first) (event_of (here first).message) ≡ turn_for first
-  turns true = rw (starts_as true last) refl
-  turns false = rw (starts_as false last) refl
+  turns first = grind (arith, starts_as)
 
   module _ (first : Bool) (joins : IsJoinerAt (carrying (before_by id first)) taken) where
     is_judged : judged_at peer taken (here first) ≡ judged_for first
     is_judged =
-        judged_is (carrying (before_by id first)) taken offset (here first).message chunk joins
-        (may first)
-        ∙ ap (λ turn. record (judged_for first) { turn = Some turn }) (turns first)
+        rw (
+          judged_is (carrying (before_by id first)) taken offset (here first).message chunk joins
+              (may first),
+          turns first,
+        ) refl
 
     still_joins : IsJoinerAt (carrying (open_by id last)) (with_taken taken (here first).message)
     still_joins =
@@ -134,7 +130,7 @@ module _ (peer : PeerLimits) (id : ℕ) (last : Bool) (offset : ℕ) (chunk : Li
         ids = ids;
         last = segment first;
         earlier = earlier;
-        segments = segments_then before (judged_for first) ∙ segments;
+        segments = rw reverse-append segments;
         sized = sized;
         first = begins;
       });
@@ -250,12 +246,6 @@ module _ (options : PackOptions) (peer : PeerLimits) (allows : AllowsLimits opti
       sym (length-append (take (k * whole.segment) bundle) (chunk_of whole k))
       ∙ ap length (taken_more whole.segment k bundle)
 
-  is_last_at : (k : ℕ) → k + 1 ≡ chunks → last_at id whole k ≡ true
-  is_last_at k is = eq-eqb (k + 1) chunks is
-
-  not_last_at : (k : ℕ) → k + 1 < chunks → last_at id whole k ≡ false
-  not_last_at k fewer = ne_eqb (k + 1) chunks (λ same. absurd (omega arith))
-
   -- before chunk number `k`
   abbrev At : (k : ℕ) → List Message → List JudgedHead → Type 0
   At zero taken before = Between id taken before
@@ -278,32 +268,28 @@ module _ (options : PackOptions) (peer : PeerLimits) (allows : AllowsLimits opti
       (next_after peer id begun (last_at id whole k) offset (chunk_of whole k) (size_at k)
       (size_at (suc k)) taken before at (sizes k) (short_chunk k) (most_at (suc k)))
 
-  -- chunk number `k` and the `count` chunks after it
-  chunks_clear : (count k offset : ℕ) → k + suc count ≡ chunks
+  -- the last `count` chunks, from number `k` on
+  chunks_clear : (count k offset : ℕ) → k + count ≡ chunks → 0 < count
       → (taken : List Message) (before : List JudgedHead) → At k taken before
-      → AreClear peer taken before (segment_entries id whole k (suc count) offset ++ more)
+      → AreClear peer taken before (segment_entries id whole k count offset ++ more)
   unfolding segment_entries
-  chunks_clear zero k offset all taken before at =
+  chunks_clear zero k offset all some taken before at = absurd (omega arith)
+  chunks_clear (suc zero) k offset all some taken before at =
       let now = step k offset taken before at in
-      (now.clear, then_clear _ _ (now.ended (is_last_at k (omega arith))))
-  chunks_clear (suc count) k offset all taken before at =
+      (now.clear, then_clear _ _ (now.ended (eq-eqb (k + 1) chunks (omega arith))))
+  chunks_clear (suc (suc count)) k offset all some taken before at =
       let now = step k offset taken before at in (
         now.clear,
-        chunks_clear count (suc k) _ (omega arith) _ _
-            (now.goes (not_last_at k (omega arith))),
+        chunks_clear (suc count) (suc k) _ (omega arith) (omega arith) _ _
+            (now.goes (ne_eqb (k + 1) chunks (λ same. absurd (omega arith)))),
       )
 
   bundle_clear : (offset : ℕ) → 0 < length bundle
       → ClearAfter peer id (due_entries id whole offset ++ more)
   unfolding due
   bundle_clear offset some =
-      by_count chunks refl (some_chunk whole.segment (length bundle) (some_size options) some)
-    where
-      by_count : (count : ℕ) → count ≡ chunks → 0 < count
-          → ClearAfter peer id (segment_entries id whole 0 count offset ++ more)
-      by_count zero all some taken before at = absurd (omega arith)
-      by_count (suc count) all some taken before at =
-          chunks_clear count 0 offset (omega arith) taken before at
+      chunks_clear chunks 0 offset (omega arith)
+      (some_chunk whole.segment (length bundle) (some_size options) some)
 
 -- ---- a stream
 
@@ -342,9 +328,7 @@ module _ (options : PackOptions) (peer : PeerLimits) (allows : AllowsLimits opti
       let start = 6 + length (init_bytes options) in
       let sent = (init_entry options).message in
       let inits = judged_is fresh [] 6 sent [] IsJoinerAt-none refl in
-      subst (AreClear peer [] [])
-      (ap (λ (entries : List Entry). entries ++ last_entries options input)
-      (sym (append-nil (first_entries options input)))) (
+      rw (append-nil (bundle_entries options 0 bundles start)) (
         ap (broken_rules peer []) inits
             ∙ init_clear peer [] options.keepalive options.segment_mru options.transfer_mru
             options.node.items keeps,

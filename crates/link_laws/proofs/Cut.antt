@@ -1,10 +1,9 @@
 -- The report of `unpack` cuts its output.
-use Rattle.std.proofs.Common.{◌≡◌, ℕ, ◌+◌, ◌≤◌, Bool, true, false, List, [], ◌∷◌, ◌++◌, length, Option, Some, None, if◌then◌else◌, refl, ap, sym, subst, ◌∙◌, append-nil, length-append, arith}
-use Rattle.link_wire.specs.Stream.{End, reading_of}
+use Rattle.std.proofs.Common.{◌≡◌, ℕ, ◌+◌, ◌≤◌, List, [], ◌∷◌, ◌++◌, length, Option, Some, None, if◌then◌else◌, refl, ap, ◌∙◌, append-nil, length-append, arith}
 use Rattle.link_report.specs.declared.transfer.TransferEntry.{TransferEntry}
-use Rattle.link_run.specs.{Made.{StreamStop, Made, whole_by}, Run.Outcome}
-use Rattle.link_laws.specs.Transfers.{Ordered, transfers_of, settled, lines_of, unpacking_by, by_transfers}
-use Rattle.link_laws.specs.Cuts.{order_of, entries_of, Follow, total_written, stream_stop, lined, reported, stop_line, Divides, CutsOutput, stopping}
+use Rattle.link_run.specs.Made.{StreamStop, Made, whole_by}
+use Rattle.link_laws.specs.Transfers.{transfers_of, by_transfers}
+use Rattle.link_laws.specs.Cuts.{order_of, entries_of, Follow, total_written, stream_stop, lined, reported, Divides, CutsOutput, stopping}
 use Rattle.link_laws.proofs.{Prefixes.whole_output, Due.lines_are, Same.whole_is}
 use Rattle.link_unpack.specs.{Transfers.Transfer, Unpacking.{part_of, parts_of, entry_of}}
 use Rattle.link_unpack.specs.declared.wanted.Wanted.{Wanted}
@@ -43,21 +42,15 @@ module _ (wanted : Wanted) where
 
 -- ---- the transfer that has no line
 
-unlined_by : (closed : Bool) (latest : Transfer) (earlier : List Transfer) → closed ≡ latest.closed
-    → (left : List Transfer) × (length left ≤ 1)
-    × (latest ∷ earlier ≡ left ++ (if closed then latest ∷ earlier else earlier))
-unlined_by true latest earlier is = ([], omega arith, refl)
-unlined_by false latest earlier is = (latest ∷ [], omega arith, refl)
+abbrev unlined : Option StreamStop → List Transfer → List Transfer
+unlined None transfers = []
+unlined (Some stop) [] = []
+unlined (Some stop) (latest ∷ earlier) = if latest.closed then [] else latest ∷ []
 
-unlined_settled : (transfers : List Transfer) → (left : List Transfer) × (length left ≤ 1)
-    × (transfers ≡ left ++ settled transfers)
-unlined_settled [] = ([], omega arith, refl)
-unlined_settled (latest ∷ earlier) = unlined_by latest.closed latest earlier refl
-
-unlined_lined : (stop : Option StreamStop) (transfers : List Transfer)
-    → (left : List Transfer) × (length left ≤ 1) × (transfers ≡ left ++ lined stop transfers)
-unlined_lined None transfers = ([], omega arith, refl)
-unlined_lined (Some stop) transfers = unlined_settled transfers
+unlined_first : (stop : Option StreamStop) (transfers : List Transfer)
+    → (length (unlined stop transfers) ≤ 1)
+    × (transfers ≡ unlined stop transfers ++ lined stop transfers)
+unlined_first stop transfers = grind arith
 
 -- ---- the whole
 
@@ -67,20 +60,14 @@ pub cut_by_lines : (wanted : Wanted) (stop : Option StreamStop) (made : Made)
     → made.texts.output ≡ parts_of wanted transfers
     → Divides wanted (whole_by stop made).texts.output (lined stop transfers)
 cut_by_lines wanted stop made transfers same is =
-    let left = unlined_lined stop transfers in
+    let first = unlined_first stop transfers in
     record {
       follow = follows wanted (lined stop transfers);
-      left = left.0;
-      one = left.1;
-      whole = whole_output stop made same ∙ is ∙ ap (parts_of wanted) left.2;
+      left = unlined stop transfers;
+      one = first.0;
+      whole = whole_output stop made same ∙ is ∙ ap (parts_of wanted) first.1;
       size = all_written wanted (lined stop transfers);
     }
-
-report_is : (wanted : Wanted) (stop : Option StreamStop) (end : End) (order : Ordered)
-    → (whole_by stop (unpacking_by wanted end order)).texts.report
-    ≡ lines_of wanted (lined stop (transfers_of order.heads)) ++ stop_line stop
-report_is wanted None end order = sym (append-nil _)
-report_is wanted (Some stop) end order = refl
 
 -- the report cuts the output, for any stream
 pub cuts : (wanted : Wanted) (bytes : List ℕ) → CutsOutput (stopping wanted) bytes
@@ -91,10 +78,8 @@ cuts wanted bytes =
     let stop = stream_stop bytes in
     let whole = whole_is now bytes in
     record {
-      lines = ap (λ (o : Outcome). o.texts.report) whole
-          ∙ report_is now stop (reading_of bytes).end order
-          ∙ ap (λ (lines : List ℕ). lines ++ stop_line stop) (lines_are now (reported bytes));
+      lines = rw (whole, ← lines_are now (reported bytes)) (grind (arith, append-nil));
       divides =
-          subst (λ (o : Outcome). Divides now o.texts.output (reported bytes)) (sym whole)
+          rw whole
           (cut_by_lines now stop (by_transfers now bytes) (transfers_of order.heads) refl refl);
     }

@@ -1,12 +1,11 @@
 -- A stream has no less bytes than its segments have data.
 use Rattle.std.specs.List.{flat_map}
-use Rattle.std.proofs.Common.{ℕ, ◌+◌, ◌≤◌, List, [], ◌∷◌, length, Option, ap, length-append, arith}
+use Rattle.std.proofs.Common.{ℕ, ◌+◌, ◌≤◌, List, [], ◌∷◌, length, ap, length-append, arith}
 use Rattle.std.proofs.lemmas.Grind.{flat_map-append}
-use Rattle.link_wire.specs.{Spelled.Spelled, SpelledStream.{IsStream, IsReadingBy, IsReading}}
-use Rattle.link_wire.specs.{Stream.{Entry, End, Reading}, declared.message.Contact.Contact}
-use Rattle.link_wire.specs.declared.message.Message.{Message}
+use Rattle.link_wire.specs.{Spelled.Spelled, SpelledStream.{IsStream, IsReading}}
+use Rattle.link_wire.specs.{Stream.{Entry, End, Reading}, declared.message.Message.Message}
 use Rattle.link_laws.specs.{Cuts.data_of, Transfers.ordered}
-use Rattle.link_laws.proofs.Accepted.{accepted_first}
+use Rattle.link_laws.proofs.Accepted.{all_kept}
 
 spelled_size : (sent : Message) (content bytes : List ℕ) → Spelled sent content bytes
     → length content ≤ length bytes
@@ -25,13 +24,9 @@ stream_size (entry ∷ entries) end offset bytes stream =
       length-append entry.content (flat_map data_of entries),
     )
 
-reading_by : (contact : Option Contact) (entries : List Entry) (end : End) (bytes : List ℕ)
-    → IsReadingBy contact entries end bytes → length (flat_map data_of entries) ≤ length bytes
-reading_by contact entries end bytes reading = grind (arith, length-append, stream_size)
-
 pub reading_size : (bytes : List ℕ) (reading : Reading) → IsReading bytes reading
     → length (flat_map data_of reading.entries) ≤ length bytes
-reading_size bytes reading is = reading_by reading.contact reading.entries reading.end bytes is
+reading_size bytes reading is = grind (arith, length-append, stream_size)
 
 -- ---- heads in order
 
@@ -42,10 +37,10 @@ data_size heads = length (flat_map data_of heads)
 -- those that are in order have no more data
 pub order_size : (heads : List Entry) → data_size (ordered heads).heads ≤ data_size heads
 order_size heads =
-    let first = accepted_first heads in
+    let kept = all_kept heads in
     omega (
       arith,
-      ap data_size first.1,
-      ap length (flat_map-append data_of (ordered heads).heads first.0),
-      length-append (flat_map data_of (ordered heads).heads) (flat_map data_of first.0),
+      ap data_size kept.parts,
+      ap length (flat_map-append data_of (ordered heads).heads kept.rest),
+      length-append (flat_map data_of (ordered heads).heads) (flat_map data_of kept.rest),
     )

@@ -1,14 +1,13 @@
 -- The parts of an input: bundles that the peer takes, and the rest after them.
 use Rattle.std.specs.Prelude.{IfSome}
-use Rattle.std.proofs.Common.{◌≡◌, ℕ, zero, suc, ◌-◌, ◌<◌, ◌≤◌, Bool, true, false, nat_lt, List, [], ◌∷◌, ◌++◌, length, take, drop, None, Result, Ok, Err, if◌then◌else◌, refl, ap, sym, ◌∙◌, subst, length-take, length-drop, arith}
+use Rattle.std.proofs.Common.{◌≡◌, ℕ, zero, suc, ◌<◌, ◌≤◌, false, List, [], ◌∷◌, ◌++◌, length, take, drop, None, Result, Ok, Err, refl, ap, sym, ◌∙◌, subst, length-take, length-drop, arith}
 use Rattle.std.proofs.lemmas.{Bool.{false≢true, ltb-false}, List.take-append-drop}
 use Rattle.std.proofs.lemmas.List.Elements.{All-take, All-drop}
 use Rattle.link_cbor.specs.PieceLaws.{takes_shortest}
 use Rattle.link_wire.specs.Bytes.{IsByte, AreBytes}
-use Rattle.link_bundle_types.specs.{Faults.lasts, declared.fault.BundleFault.BundleFault}
 use Rattle.link_bundle_types.specs.declared.info.BundleInfo.{BundleInfo}
 use Rattle.link_bundle_blocks.specs.Bundle.{verdict, bundle_goes}
-use Rattle.link_bundle_walk.specs.Bundles.{Packed, Refusal, Longer, Faulty, Rest, Divided, bundle_prefix, refused_by, judged_front, accepted_by, divided_by, divided_in, divided}
+use Rattle.link_bundle_walk.specs.Bundles.{Packed, Refusal, Rest, Divided, bundle_prefix, judged_front, accepted_by, divided_by, divided_in, divided}
 use Rattle.link_bundle_walk.proofs.Dividing.{whole_stops, none_goes}
 
 -- a bundle that the peer takes
@@ -44,38 +43,16 @@ some_bundle : (front : List ℕ) (info : BundleInfo) → verdict front ≡ Ok in
 some_bundle [] info is = absurd (false≢true (sym (whole_stops [] info is) ∙ none_goes))
 some_bundle (byte ∷ bytes) info is = omega arith
 
-taken_by : (beyond : Bool) (limit : ℕ) (front : List ℕ) (said : Result BundleInfo (BundleFault × ℕ))
-    (info : BundleInfo) → nat_lt limit (length front) ≡ beyond
-    → (if beyond then Err (Longer limit) else refused_by said) ≡ Ok info
-    → (length front ≤ limit) × (said ≡ Ok info)
-taken_by beyond limit front said info test is = grind (arith, ltb-false)
-
 taken_whole : (limit : ℕ) (front : List ℕ) (info : BundleInfo) → judged_front limit front ≡ Ok info
     → (length front ≤ limit) × (verdict front ≡ Ok info)
-taken_whole limit front info is = taken_by (nat_lt limit (length front)) limit front (verdict front) info refl is
+taken_whole limit front info is = grind (arith, ltb-false)
 
-accepted_faulty : (stays : Bool) (limit : ℕ) (front : List ℕ) → length front ≤ limit
-    → length (if stays then take (length front - 1) front else front) ≤ limit
-accepted_faulty true limit front within = omega (arith, length-take (length front - 1) front)
-accepted_faulty false limit front within = within
-
-accepted_within : (beyond : Bool) (limit : ℕ) (front : List ℕ)
-    (said : Result BundleInfo (BundleFault × ℕ)) (refusal : Refusal)
-    → nat_lt limit (length front) ≡ beyond
-    → (if beyond then Err (Longer limit) else refused_by said) ≡ Err refusal
-    → length (accepted_by refusal front) ≤ limit
-accepted_within beyond limit front said refusal test is =
-    grind (arith, accepted_faulty, length-take, ltb-false)
-
-faulty_bytes : (stays : Bool) (front : List ℕ) → AreBytes front
-    → AreBytes (if stays then take (length front - 1) front else front)
-faulty_bytes true front are = All-take IsByte (length front - 1) front are
-faulty_bytes false front are = are
+taken_bytes : (count : ℕ) (bytes : List ℕ) → AreBytes bytes → AreBytes (take count bytes)
+taken_bytes count bytes are = All-take IsByte count bytes are
 
 accepted_bytes : (refusal : Refusal) (front : List ℕ) → AreBytes front
     → AreBytes (accepted_by refusal front)
-accepted_bytes (Longer limit) front are = All-take IsByte limit front are
-accepted_bytes (Faulty fault place) front are = faulty_bytes (lasts fault) front are
+accepted_bytes refusal front are = grind (arith, taken_bytes)
 
 -- ---- all bytes
 
@@ -83,7 +60,7 @@ front_first : (bytes : List ℕ) → bundle_prefix bytes ≡ take (length (bundl
 front_first bytes = ((takes_shortest bundle_goes [] bytes (bundle_prefix bytes)).1 refl).is_front
 
 front_bytes : (bytes : List ℕ) → AreBytes bytes → AreBytes (bundle_prefix bytes)
-front_bytes bytes are = subst AreBytes (sym (front_first bytes)) (All-take IsByte (length (bundle_prefix bytes)) bytes are)
+front_bytes bytes are = subst AreBytes (sym (front_first bytes)) (taken_bytes _ bytes are)
 
 module _ (limit : ℕ) (next : List ℕ → Divided) (bytes : List ℕ) (are : AreBytes bytes) where
   abbrev front : List ℕ
@@ -106,7 +83,7 @@ module _ (limit : ℕ) (next : List ℕ → Divided) (bytes : List ℕ) (are : A
         rest = after.rest;
         whole = λ none. ap (λ rest. front ++ rest) (after.whole none) ∙ ap (λ first. first ++ left) (front_first bytes) ∙ take-append-drop (length front) bytes;
       }
-  divides (Err refusal) is later there = grind (arith, accepted_bytes, accepted_within, front_bytes)
+  divides (Err refusal) is later there = grind (arith, accepted_bytes, front_bytes, length-take, ltb-false)
 
 divided_so : (count limit : ℕ) (bytes : List ℕ) → AreBytes bytes → length bytes ≤ count
     → IsDivided limit bytes (divided_in count limit bytes)

@@ -1,6 +1,6 @@
 -- The lines that become due: of the transfer that a head abandons, and of the one that it closes.
 use Rattle.std.specs.List.{flat_map, list_all}
-use Rattle.std.proofs.Common.{◌≡◌, ℕ, Bool, true, false, not, List, [], ◌∷◌, ◌++◌, length, if◌then◌else◌, refl, ap, sym, ◌∙◌, append-nil, arith}
+use Rattle.std.proofs.Common.{◌≡◌, ℕ, Bool, true, false, not, List, [], ◌∷◌, ◌++◌, length, if◌then◌else◌, refl, ap, ◌∙◌, append-nil, arith}
 use Rattle.std.proofs.{Math.Bool.{and-true, and_comm}, lemmas.List.flat_map_more}
 use Rattle.std.proofs.lemmas.List.Folds.{list_all-append}
 use Rattle.link_report.specs.{Transfer.transfer_text, declared.transfer.TransferEntry.TransferEntry}
@@ -40,31 +40,20 @@ module _ (wanted : Wanted) where
       → abandoned_line wanted transfers ≡ line_due wanted (latest_open transfers) transfers
   abandoned_due transfers = grind arith
 
-  pub closed_due : (closed : Bool) (latest : Transfer) (earlier : List Transfer)
-      → (if closed then line_of wanted latest earlier else [])
-      ≡ line_due wanted closed (latest ∷ earlier)
-  closed_due true latest earlier = refl
-  closed_due false latest earlier = refl
-
   -- ---- the entries of all transfers
-
-  entries_more : (latest : Transfer) (earlier : List Transfer)
-      → entries_of wanted (latest ∷ earlier)
-      ≡ entries_of wanted earlier ++ entry_for latest earlier ∷ []
-  unfolding entries_of
-  entries_more latest earlier = refl
 
   -- those of the transfers that are over come first, and then that of the open one
   pub settled_all : (transfers : List Transfer)
       → entries_of wanted (settled transfers) ++ entries_due (latest_open transfers) transfers
       ≡ entries_of wanted transfers
-  settled_all transfers = grind (arith, append-nil, entries_more)
+  unfolding entries_of
+  settled_all transfers = grind (arith, append-nil)
 
   pub closed_last : (closed : Bool) (latest : Transfer) (earlier : List Transfer)
       → entries_of wanted earlier ++ entries_due closed (latest ∷ earlier)
       ≡ entries_of wanted (if closed then latest ∷ earlier else earlier)
-  closed_last true latest earlier = sym (entries_more latest earlier)
-  closed_last false latest earlier = append-nil _
+  unfolding entries_of
+  closed_last closed latest earlier = grind (arith, append-nil)
 
   pub lines_are : (transfers : List Transfer)
       → lines_of wanted transfers ≡ flat_map transfer_text (entries_of wanted transfers)

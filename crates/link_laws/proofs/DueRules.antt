@@ -1,8 +1,8 @@
 -- A closed transfer that breaks no rule of transfers of level `must` is good, or its data may be a
 -- bundle.
 use Rattle.std.specs.List.{All, filter}
-use Rattle.std.proofs.Common.{◌≡◌, ℕ, Bool, true, false, not, List, [], ◌∷◌, ◌++◌, length, map, filter_map, Option, Result, refl, ap, sym, ◌∙◌, arith}
-use Rattle.std.proofs.lemmas.{Bool.and_parts, List.map-append}
+use Rattle.std.proofs.Common.{◌≡◌, ℕ, Bool, true, false, List, [], ◌∷◌, ◌++◌, length, map, filter_map, Option, Result, refl, arith}
+use Rattle.std.proofs.lemmas.List.{map-append}
 use Rattle.std.proofs.lemmas.List.Elements.{All-nil, All-cons, filter-append}
 use Rattle.link_bundle_types.specs.declared.fault.BundleFault.{BundleFault}
 use Rattle.link_bundle_types.specs.declared.info.BundleInfo.{BundleInfo}
@@ -18,10 +18,9 @@ use Rattle.link_rule_report.specs.{Names.rule_level, declared.line.RuleText.Rule
 use Rattle.link_rule_report.specs.declared.rule.BrokenRule.{BrokenRule}
 use Rattle.link_rule_report.specs.declared.rule.BrokenRule.TheVariants as rule
 use Rattle.link_check.specs.Checking.{closed_rules, data_rules}
-use Rattle.link_check.specs.Lines.{is_must, counts, none_counts, at_offset}
+use Rattle.link_check.specs.Lines.{is_must, none_counts, at_offset}
 use Rattle.link_laws.specs.Checked.{MayBeJudged, IsAllowed}
 use Rattle.link_laws.proofs.Placed.{Placed, Choice, transfers_in, begun_of, due_of, rules_of}
-use Rattle.link_laws.proofs.Telling.{closed_not}
 
 -- whether it is a rule of transfers of level `must`
 abbrev pub is_due : BrokenRule → Bool
@@ -42,17 +41,11 @@ due_rules lines = filter (λ (line : RuleText). is_due line.rule) lines
 
 -- ---- no rule of level `must`
 
-allowed_rule : (broken : BrokenRule) → not (is_must (rule_level broken)) ≡ true
-    → is_due broken ≡ false
-unfolding rule_level
-allowed_rule broken is = grind (arith, closed_not)
-
 pub none_due : (lines : List RuleText) → none_counts true lines ≡ true → due_rules lines ≡ []
-unfolding none_counts
+unfolding none_counts rule_level
 none_due [] none = refl
 none_due (line ∷ more) none =
-    let both = and_parts (not (counts true line)) (none_counts true more) none in
-    rw (allowed_rule line.rule both.0) (none_due more both.1)
+    grind (arith, none_due more)
 
 none_both : {A : Type 0} (first second : List A) → first ++ second ≡ []
     → (first ≡ []) × (second ≡ [])
@@ -97,19 +90,10 @@ module _ (peer : PeerLimits) where
   closed_allowed placed none =
       let transfer = placed.transfer in
       let id = transfer.first.id in
-      let size = length transfer.content in
-      let of_length = map (λ one. rule.Transfer id one) (broken_transfer_rules transfer.first size) in
-      let of_data = data_rules id transfer.content (verdict transfer.content) in
-      let both = none_both (due_rules (at_offset placed.offset of_length))
-      (due_rules (at_offset placed.offset of_data))
-      (sym (filter-append (λ (line : RuleText). is_due line.rule)
-      (at_offset placed.offset of_length) (at_offset placed.offset of_data))
-      ∙ ap due_rules (sym (map-append (λ one. record { offset = placed.offset; rule = one })
-      of_length of_data))
-      ∙ none) in
+      let both = none_both _ _ (rw (map-append, filter-append) at none) in
       length_allowed placed.offset id transfer.content (announced_of transfer.first.items.items)
-      size (length_of_one_segment transfer.first) (verdict transfer.content) both.0
-      (data_allowed placed.offset id transfer.content (verdict transfer.content) both.1)
+      (length transfer.content) (length_of_one_segment transfer.first) (verdict transfer.content)
+      both.0 (data_allowed placed.offset id transfer.content (verdict transfer.content) both.1)
 
   transfer_allowed : (placed : Placed) → due placed ≡ [] → IsAllowed placed.transfer
   transfer_allowed placed none = grind (arith, closed_allowed)

@@ -1,6 +1,6 @@
 -- The messages of a packed stream.
 use Rattle.std.specs.Prelude.{IfSome}
-use Rattle.std.proofs.Common.{◌≡◌, ℕ, suc, ◌+◌, ◌^◌, ◌<◌, ◌≤◌, min, Bool, true, false, List, [], ◌∷◌, ◌++◌, length, Option, Some, None, if◌then◌else◌, refl, sym, append-nil, append_assoc, arith}
+use Rattle.std.proofs.Common.{◌≡◌, ℕ, suc, ◌+◌, ◌^◌, ◌<◌, ◌≤◌, min, Bool, true, false, List, [], ◌∷◌, ◌++◌, length, Option, Some, None, if◌then◌else◌, refl, append-nil, append_assoc, arith}
 use Rattle.link_wire.specs.{Bytes.AreBytes, SpelledStream.{IsStream, IsReading}}
 use Rattle.link_wire.specs.Spelling.{sess_init_bytes, sess_term_bytes, sess_init_with}
 use Rattle.link_wire.specs.Stream.{Entry, Clean, Reading}
@@ -10,7 +10,7 @@ use Rattle.link_transfer.specs.Cutting.{due}
 use Rattle.link_run.proofs.Continued.{entry}
 use Rattle.link_bundle_walk.specs.Bundles.{Packed, Rest, Divided}
 use Rattle.link_bundle_walk.proofs.Outcomes.{whole_of}
-use Rattle.link_pack.specs.Packing.{prelude_bytes, sending, transfer_bytes, rest_segments, end_bytes, bundles_output, packing_by}
+use Rattle.link_pack.specs.Packing.{prelude_bytes, sending, transfer_bytes, rest_segments, end_bytes, packing_by}
 use Rattle.link_pack.specs.Segments.{Sending, cutting_of, segments_of}
 use Rattle.link_pack.specs.declared.options.PackOptions.{PackOptions}
 use Rattle.link_laws.specs.Ranges.{OptionsFit}
@@ -83,7 +83,7 @@ some_size options = let some = options.some in omega arith
 module _ (options : PackOptions) where
   pub sending_fits : (whole : Bool) (bundle : List ℕ) → AreBytes bundle
       → SendingFits (sending options whole bundle)
-  sending_fits whole bundle are = record { some = some_size options; small = omega arith; hold = options.hold; are = are }
+  sending_fits whole bundle are = record { small = omega arith; hold = options.hold; are = are }
 
   bundle_stream : (number : ℕ) (bundles : List Packed) (offset : ℕ)
       → AreBundles options.peer_transfer bundles → number + length bundles ≤ 2 ^ 64
@@ -117,15 +117,7 @@ module _ (options : PackOptions) where
 
   end_stream : (rest : Option Rest) (offset : ℕ)
       → IsStream (end_entries options rest offset) Clean offset (last_bytes rest)
-  end_stream None offset = term_stream options.send_term offset
-  end_stream (Some rest) offset = refl
-
-  output_is : (bundles : List Packed) (rest : Option Rest)
-      → (let input : Divided = record { bundles = bundles; rest = rest } in
-      (whole_of (packing_by options input)).texts.output
-      ≡ bundles_output options input ++ last_bytes rest)
-  output_is bundles None = refl
-  output_is bundles (Some rest) = sym (append-nil _)
+  end_stream rest offset = grind (arith, term_stream)
 
   module _ (fit : OptionsFit options) where
     init_stream : IsStream (init_entry options ∷ []) Clean 6 (init_bytes options)
@@ -152,4 +144,4 @@ module _ (options : PackOptions) where
       pub packed_is : IsReading (whole_of (packing_by options input)).texts.output
           (packed_reading options input)
       unfolding prelude_bytes
-      packed_is = grind (arith, contact_spelled, joined, output_is, packed_stream)
+      packed_is = grind (arith, append-nil, contact_spelled, joined, packed_stream)

@@ -15,7 +15,7 @@ use Rattle.link_unpack.proofs.Texts.{parts_more}
 use Rattle.link_laws.specs.Cuts.{data_of, prepended_unless, taken_after, HasEveryByte, HasEveryTakenByte}
 use Rattle.link_laws.specs.RoundTrip.{all}
 use Rattle.link_laws.specs.Transfers.{ordered_after, ordered, transfers_of, Unpacked, transfers_with, with_head, unpacked_of, by_transfers}
-use Rattle.link_laws.proofs.{Accepted.{accepted_read, accepted_in_order}, Due.latest_open}
+use Rattle.link_laws.proofs.{Accepted.{accepted_in_order, all_kept}, Due.latest_open}
 use Rattle.link_laws.proofs.InOrder.{not_stray, taken_more, unpacked_in_order}
 use Rattle.link_laws.proofs.OneHead.{KnowsWhole, stray_is, does, through}
 use Rattle.link_laws.proofs.{Orders.{AreInOrder, all as in_order, first_may}, Prefixes.whole_output, Same.whole_is, Whole.{FitsData, AreRead, reading_read}}
@@ -99,7 +99,7 @@ every_byte bytes =
     let heads = heads_of (reading_of bytes) in
     ap (λ (o : Outcome). o.texts.output) (whole_is all bytes)
     ∙ whole_output made.stop made refl
-    ∙ accepted_bytes (ordered heads).heads (accepted_read heads (reading_read bytes).heads)
+    ∙ accepted_bytes (ordered heads).heads ((all_kept heads).read (reading_read bytes).heads)
     (accepted_in_order heads)
 
 pub every_taken_byte : (bytes : List ℕ) → HasEveryTakenByte bytes

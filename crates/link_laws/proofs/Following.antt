@@ -1,7 +1,7 @@
 -- The events of a stream come one after another: a head is judged after the messages that were
 -- taken, and data comes while a transfer is open.
 use Rattle.std.specs.List.{fold}
-use Rattle.std.proofs.Common.{◌≡◌, ℕ, Bool, true, false, not, ◌&&◌, ◌==◌, is_some, List, [], ◌∷◌, ◌++◌, length, Option, Some, None, if◌then◌else◌, refl, ap, sym, ◌∙◌, ⊎_elim, append-nil, append_assoc, arith}
+use Rattle.std.proofs.Common.{◌≡◌, ℕ, Bool, true, false, ◌&&◌, ◌==◌, is_some, List, [], ◌∷◌, ◌++◌, length, Option, Some, None, if◌then◌else◌, refl, ap, sym, ◌∙◌, ⊎_elim, append-nil, append_assoc, arith}
 use Rattle.std.proofs.{Math.Bool.{and-true, and-false}, lemmas.Bool.{cases_Bool, eq-eqb, eqb-true}}
 use Rattle.std.proofs.lemmas.Grind.{fold-append}
 use Rattle.link_wire.specs.{Message.data_length, Stream.{Entry, Reading, heads_of}}
@@ -9,7 +9,7 @@ use Rattle.link_wire.specs.declared.message.Contact.{Contact}
 use Rattle.link_transfer.specs.{Event.event_of, Order.{refusal, open_of}}
 use Rattle.link_transfer.specs.declared.{fault.OrderFault.OrderFault, joiner.Turn.Turn}
 use Rattle.link_walk.specs.Telling.{ComesAfter}
-use Rattle.link_walk.specs.Walk.{Head, head_at, is_last, closes, WalkEvent, ContactHeader, MessageHead, Data, Whole, LeftOpen, data_events, open_with, open_after_event, has_open, Walked, head_events, content_events, taken_with, with_judged, with_entry_unless, with_next, none_walked, walked_of, walked, end_events}
+use Rattle.link_walk.specs.Walk.{Head, head_at, is_last, closes, WalkEvent, ContactHeader, MessageHead, Data, Whole, data_events, open_with, open_after_event, has_open, Walked, head_events, content_events, taken_with, with_judged, with_entry_unless, with_next, none_walked, walked_of, walked, end_events}
 use Rattle.link_walk.specs.declared.consumer.Manner.{Manner}
 use Rattle.link_walk.proofs.Comes.{plain_open, open_if}
 use Rattle.link_walk.proofs.Heads.{continues_some, open_then, has_open-append, data_keeps}
@@ -53,54 +53,23 @@ data_follow before (byte ∷ bytes) opened =
 abbrev whole_events : Bool → List WalkEvent
 whole_events test = if test then Whole ∷ [] else []
 
-whole_follows : (test : Bool) (before : List WalkEvent) → has_open before ≡ true
-    → AllFollow before (whole_events test)
-whole_follows true before opened = (opened, tt)
-whole_follows false before opened = tt
-
-none_follows : (last : Bool) (before : List WalkEvent)
-    → AllFollow before (whole_events (last && false))
-none_follows true before = tt
-none_follows false before = tt
-
 bytes_follow : (before : List WalkEvent) (bytes : List ℕ) (test : Bool) → has_open before ≡ true
     → AllFollow before (data_events bytes ++ whole_events test)
 bytes_follow before bytes test opened =
-    grind (arith, data_follow, data_keeps, follow_both, has_open-append, whole_follows)
-
--- whether a transfer is open after the data of a head, by the effect of the head
-open_bytes : (last none all : Bool) → (none ≡ true → all ≡ true)
-    → fold open_after_event (not (last && none)) (whole_events (last && (not none && all)))
-    ≡ not (last && all)
-open_bytes last none all known = grind arith
+    grind (arith, data_follow, data_keeps, follow_both, has_open-append)
 
 module _ (was : Bool) (size : ℕ) (content : List ℕ) (fits : size ≡ 0 → content ≡ []) where
-  none_all : (size == 0) ≡ true → (length content == size) ≡ true
-  none_all none = grind (arith, eq-eqb, eqb-true)
-
-  turn_open : (last : Bool)
-      → fold open_after_event (not (last && (size == 0))) (data_events content
-      ++ whole_events (last && (not (size == 0) && (length content == size))))
-      ≡ not (last && (length content == size))
-  turn_open last = grind (arith, data_keeps, fold-append, none_all, open_bytes)
-
   content_open : (effect : Option Turn)
       → fold open_after_event (open_with effect (is_last effect && (size == 0)) was)
       (content_events effect size content)
       ≡ open_with effect (is_last effect && (length content == size)) was
-  content_open effect = grind (arith, turn_open)
+  content_open effect = grind (arith, data_keeps, eq-eqb, eqb-true, fold-append)
 
   -- data comes only of an open transfer
-  bytes_if : (last : Bool) (before : List WalkEvent)
-      → has_open before ≡ not (last && (size == 0))
-      → AllFollow before (data_events content
-      ++ whole_events (last && (not (size == 0) && (length content == size))))
-  bytes_if last before opened = grind (arith, and-false, bytes_follow, eqb-true, none_follows)
-
   content_follow : (effect : Option Turn) (before : List WalkEvent)
       → has_open before ≡ open_with effect (is_last effect && (size == 0)) was
       → AllFollow before (content_events effect size content)
-  content_follow effect before opened = grind (arith, bytes_if)
+  content_follow effect before opened = grind (arith, and-false, bytes_follow, eqb-true)
 
 -- ---- the events of heads
 
@@ -195,8 +164,7 @@ module _ (manner : Manner) where
 
   none_stands : (contact : Option Contact) → Stands (none_walked contact)
   unfolding has_open open_of
-  none_stands None = record { follow = tt; opened = refl }
-  none_stands (Some contact) = record { follow = (refl, tt); opened = refl }
+  none_stands contact = grind arith
 
   -- the events of heads follow one another
   pub walk_told : (contact : Option Contact) (heads : List Entry) → AreRead heads
@@ -224,14 +192,7 @@ module _ (manner : Manner) where
   closed_at_end contact heads whole =
       let was = walked_of manner contact heads in
       let stands = whole_stands heads (none_walked contact) whole (none_stands contact) in
-      has_open-append was.events (end_events was.taken)
-      ∙ ap (λ b. fold open_after_event b (end_events was.taken)) stands.opened
-      ∙ closed_by (is_some (open_of was.taken))
-    where
-      closed_by : (opened : Bool)
-          → fold open_after_event opened (if opened then LeftOpen ∷ [] else []) ≡ false
-      closed_by true = refl
-      closed_by false = refl
+      grind (arith, has_open-append, stands.opened)
 
 pub end_follows : (walked : Walked) → Told walked
     → AllFollow walked.events (end_events walked.taken)

@@ -1,37 +1,25 @@
 -- Unpacking a packed stream returns the bundles.
-use Rattle.std.proofs.Common.{◌≡◌, ℕ, suc, ◌+◌, inl, inr, ◌⊎◌, true, false, ◌&&◌, List, [], ◌∷◌, ◌++◌, length, Result, Ok, if◌then◌else◌, refl, ap, ap₂, sym, ◌∙◌, append-nil, append_assoc, length-append, arith}
+use Rattle.std.proofs.Common.{◌≡◌, ℕ, suc, true, List, [], ◌∷◌, ◌++◌, length, Ok, if◌then◌else◌, sym, append-nil, append_assoc, length-append, arith}
 use Rattle.std.proofs.lemmas.Bool.{eq-eqb}
 use Rattle.link_bundle_blocks.specs.Bundle.{verdict}
-use Rattle.link_bundle_types.specs.declared.fault.BundleFault.{BundleFault}
-use Rattle.link_bundle_types.specs.declared.info.BundleInfo.{BundleInfo}
-use Rattle.link_report.specs.{Judgement.judged_transfer, Transfer.transfer_text}
 use Rattle.link_report.specs.declared.judgement.Judgement.TheVariants.{Good}
 use Rattle.link_run.specs.Run.{Outcome}
-use Rattle.link_transfer.specs.declared.announcement.Announced.{Announced}
-use Rattle.link_transfer.specs.declared.announcement.Announced.TheVariants.{Absent, Total}
 use Rattle.link_laws.specs.Transfers.{lines_of, are_good, by_transfers}
 use Rattle.link_laws.specs.RoundTrip.{all, good_lines, GivesBack}
 use Rattle.link_laws.proofs.{Carried.{onto, transfer_of}, Divided.{AreBundles, contents}}
 use Rattle.link_laws.proofs.{Limits.announces, Same.whole_is}
 use Rattle.link_laws.proofs.Readings.{packed, nothing_left, IsPacked}
-use Rattle.link_unpack.specs.Transfers.{Transfer}
-use Rattle.link_unpack.specs.Unpacking.{parts_of, line_of, judgement_of, is_good, unpack_tool}
+use Rattle.link_unpack.specs.{Transfers.Transfer, Unpacking.{parts_of, judgement_of, unpack_tool}}
 use Rattle.link_unpack.proofs.Texts.{parts_more}
 use Rattle.link_bundle_walk.specs.Bundles.{Packed, divided}
 use Rattle.link_pack.specs.declared.options.PackOptions.{PackOptions}
 
 -- ---- a bundle
 
-good_by : (outcome : Announced) (size : ℕ) (said : Result BundleInfo (BundleFault × ℕ))
-    (info : BundleInfo) → said ≡ Ok info → (outcome ≡ Absent) ⊎ ((true ≡ true) × (outcome ≡ Total size))
-    → judged_transfer false outcome size said ≡ Good info
-good_by outcome size said info is (inl absent) = rw (absent, is) refl
-good_by outcome size said info is (inr total) = rw (total.1, is, eq-eqb size size refl) refl
-
 module _ (options : PackOptions) where
   judged_good : (number : ℕ) (bundle : Packed) → verdict bundle.bytes ≡ Ok bundle.info
       → judgement_of (transfer_of options number bundle) ≡ Good bundle.info
-  judged_good number bundle is = grind (arith, announces, good_by)
+  judged_good number bundle is = grind (arith, announces, eq-eqb)
 
   -- ---- all bundles
 
@@ -42,14 +30,11 @@ module _ (options : PackOptions) where
   parts_onto number [] earlier = sym (append-nil (parts_of all earlier))
   parts_onto number (bundle ∷ more) earlier =
       let latest = transfer_of options number bundle in
-      parts_onto (suc number) more (latest ∷ earlier)
-      ∙ ap (λ parts. parts ++ contents more) (parts_more all latest earlier)
-      ∙ append_assoc (parts_of all earlier) bundle.bytes (contents more)
-
-  parts_length : (number : ℕ) (bundle : Packed) (earlier : List Transfer)
-      → length (parts_of all (transfer_of options number bundle ∷ earlier))
-      ≡ length (parts_of all earlier) + length bundle.bytes
-  parts_length number bundle earlier = ap length (parts_more all (transfer_of options number bundle) earlier) ∙ length-append (parts_of all earlier) bundle.bytes
+      rw (
+        parts_onto (suc number) more (latest ∷ earlier),
+        parts_more all latest earlier,
+        append_assoc,
+      )
 
   lines_onto : (number : ℕ) (bundles : List Packed) (earlier : List Transfer)
       → AreBundles options.peer_transfer bundles
@@ -59,14 +44,13 @@ module _ (options : PackOptions) where
   lines_onto number [] earlier are = sym (append-nil (lines_of all earlier))
   lines_onto number (bundle ∷ more) earlier are =
       let latest = transfer_of options number bundle in
-      let start = length (parts_of all earlier) in
-      let size = length bundle.bytes in
-      let good = judged_good number bundle are.0.is in
-      let rest = good_lines (suc number) (start + size) more in
-      lines_onto (suc number) more (latest ∷ earlier) are.1
-      ∙ cc (parts_length number bundle earlier)
-      ∙ append_assoc (lines_of all earlier) (line_of all latest earlier) rest
-      ∙ ap (λ j. lines_of all earlier ++ (transfer_text (record { id = number; start = start; written = size; length = size; judgement = j }) ++ rest)) good
+      rw (
+        lines_onto (suc number) more (latest ∷ earlier) are.1,
+        parts_more all latest earlier,
+        length-append,
+        judged_good number bundle are.0.is,
+        append_assoc,
+      )
 
   good_onto : (number : ℕ) (bundles : List Packed) (earlier : List Transfer)
       → AreBundles options.peer_transfer bundles → are_good earlier ≡ true
@@ -74,9 +58,8 @@ module _ (options : PackOptions) where
   unfolding onto are_good
   good_onto number [] earlier are good = good
   good_onto number (bundle ∷ more) earlier are good =
-      let latest = transfer_of options number bundle in
-      let one : is_good (judgement_of latest) ≡ true = ap is_good (judged_good number bundle are.0.is) in
-      good_onto (suc number) more (latest ∷ earlier) are.1 (ap₂ (λ a b. a && b) one good)
+      good_onto (suc number) more (transfer_of options number bundle ∷ earlier) are.1
+      (rw (judged_good number bundle are.0.is) good)
 
 -- ---- a stream
 

@@ -1,6 +1,6 @@
 -- Good bundles, one after another: how they are divided, and the lines of their blocks.
 use Rattle.std.specs.List.{All, flat_map}
-use Rattle.std.proofs.Common.{◌≡◌, ℕ, suc, ◌≤◌, Bool, true, false, List, [], ◌∷◌, ◌++◌, length, drop, map, None, Result, Ok, Err, refl, ap, sym, ◌∙◌, ⊎_elim, append-nil, length-append, arith}
+use Rattle.std.proofs.Common.{◌≡◌, ℕ, suc, ◌≤◌, true, false, List, [], ◌∷◌, ◌++◌, length, drop, map, None, Result, Ok, Err, refl, ap, sym, ◌∙◌, ⊎_elim, append-nil, length-append, arith}
 use Rattle.std.proofs.lemmas.{Bool.{cases_Bool, and_parts}, Grind.flat_map-append}
 use Rattle.std.proofs.lemmas.List.{take-append-drop}
 use Rattle.std.proofs.lemmas.List.Elements.{All-nil, All-cons, All-append, All-head, All-tail}
@@ -9,8 +9,6 @@ use Rattle.link_bundle_types.specs.{Faults.lasts, declared.fault.BundleFault.Bun
 use Rattle.link_bundle_types.specs.declared.info.BundleInfo.{BundleInfo}
 use Rattle.link_bundle_blocks.specs.Bundle.{verdict, state_of, is_going, bundle_goes}
 use Rattle.link_bundle_blocks.proofs.Lengths.{FaultLasts-holds, TrailingLasts-holds}
-use Rattle.link_transfer.specs.declared.announcement.Announced.{Announced}
-use Rattle.link_report.specs.Judgement.{judged_transfer, judged_length, judged_data}
 use Rattle.link_report.specs.declared.judgement.Judgement.TheVariants.{Good}
 use Rattle.link_run.specs.Writers.{on_output}
 use Rattle.link_unpack.specs.{Transfers.Transfer, Unpacking.{parts_of, judgement_of, is_good}}
@@ -106,25 +104,6 @@ joined_lines bytes bundles good is few =
 
 -- ---- good transfers
 
--- what a good judgement says
-data_good : (said : Result BundleInfo (BundleFault × ℕ)) → is_good (judged_data said) ≡ true
-    → (info : BundleInfo) × (said ≡ Ok info) × (judged_data said ≡ Good info)
-data_good (Ok info) good = (info, refl, refl)
-data_good (Err (fault, place)) good = absurd (cc)
-
-length_good : (announced : Announced) (size : ℕ) (said : Result BundleInfo (BundleFault × ℕ))
-    → is_good (judged_length announced size said) ≡ true
-    → (info : BundleInfo) × (said ≡ Ok info) × (judged_length announced size said ≡ Good info)
-length_good announced size said good = grind (arith, cases_Bool, data_good)
-
-transfer_good : (abandoned : Bool) (announced : Announced) (size : ℕ)
-    (said : Result BundleInfo (BundleFault × ℕ))
-    → is_good (judged_transfer abandoned announced size said) ≡ true
-    → (info : BundleInfo) × (said ≡ Ok info)
-    × (judged_transfer abandoned announced size said ≡ Good info)
-transfer_good true announced size said good = absurd (cc)
-transfer_good false announced size said good = length_good announced size said good
-
 -- a good transfer is closed, and its data is a good bundle
 pub record IsGoodTransfer (transfer : Transfer) : Type 0 where
   pub info : BundleInfo
@@ -134,7 +113,7 @@ pub record IsGoodTransfer (transfer : Transfer) : Type 0 where
 
 pub good_transfer : (transfer : Transfer) → is_good (judgement_of transfer) ≡ true
     → IsGoodTransfer transfer
-good_transfer transfer good = grind (arith, transfer_good)
+good_transfer transfer good = grind (arith, cases_Bool)
 
 -- These transfers are these bundles, each under its ID. The latest transfer comes first in its list
 -- and last in the other.
@@ -144,33 +123,27 @@ pub record Carries (transfers : List Transfer) : Type 0 where
   pub lines : lines_of None false transfers ≡ lines_under bundles
   pub parts : parts_of all transfers ≡ flat_map bytes_in bundles
 
-one_more : (latest : Transfer) (earlier : List Transfer) (info : BundleInfo)
-    → verdict latest.content ≡ Ok info → judgement_of latest ≡ Good info → Carries earlier
-    → Carries (latest ∷ earlier)
-unfolding lines_of parts_of
-one_more latest earlier info is judged before =
-    let id = latest.first.id in
-    let bundle : Packed = record { bytes = latest.content; info = info } in
-    let one : List Numbered = (id, bundle) ∷ [] in
-    record {
-      bundles = before.bundles ++ one;
-      good = All-append IsGood before.bundles one before.good
-          (All-cons IsGood (id, bundle) [] is (All-nil IsGood));
-      lines =
-          cc (
-            before.lines,
-            judged,
-            append-nil (whole_lines id bundle),
-            flat_map-append (λ (n : Numbered). whole_lines n.0 n.1) before.bundles one,
-          );
-      parts =
-          cc (before.parts, append-nil latest.content, flat_map-append bytes_in before.bundles one);
-    }
-
 pub carries : (transfers : List Transfer) → are_good transfers ≡ true → Carries transfers
 unfolding are_good lines_of parts_of
 carries [] good = record { bundles = []; good = All-nil IsGood; lines = refl; parts = refl }
 carries (latest ∷ earlier) good =
     let both = and_parts (is_good (judgement_of latest)) (are_good earlier) good in
     let first = good_transfer latest both.0 in
-    one_more latest earlier first.info first.is first.judged (carries earlier both.1)
+    let before = carries earlier both.1 in
+    let id = latest.first.id in
+    let bundle : Packed = record { bytes = latest.content; info = first.info } in
+    let one : List Numbered = (id, bundle) ∷ [] in
+    record {
+      bundles = before.bundles ++ one;
+      good = All-append IsGood before.bundles one before.good
+          (All-cons IsGood (id, bundle) [] first.is (All-nil IsGood));
+      lines =
+          cc (
+            before.lines,
+            first.judged,
+            append-nil (whole_lines id bundle),
+            flat_map-append (λ (n : Numbered). whole_lines n.0 n.1) before.bundles one,
+          );
+      parts =
+          cc (before.parts, append-nil latest.content, flat_map-append bytes_in before.bundles one);
+    }

@@ -1,18 +1,15 @@
 -- Heads that are all in order: it makes no difference whether a fault of the order ends the run.
-use Rattle.std.specs.List.{flat_map, fold}
-use Rattle.std.proofs.Common.{◌≡◌, ℕ, true, false, List, [], ◌∷◌, ◌++◌, None, refl, ap, ap₂, sym, ◌∙◌, append-nil, arith}
+use Rattle.std.specs.List.{fold}
+use Rattle.std.proofs.Common.{◌≡◌, true, false, List, [], ◌∷◌, ◌++◌, None, refl, ap, append-nil, arith}
 use Rattle.std.proofs.{Math.Bool.and-true, lemmas.List.Concat.flat_map-append}
 use Rattle.link_wire.specs.{Stream.{Entry, End}, declared.message.Message.Message}
 use Rattle.link_transfer.specs.Event.{event_of}
 use Rattle.link_transfer.specs.Order.{is_stray, has_sess_init, has_sess_term, open_of, refusal, appended_unless, with_taken}
 use Rattle.link_transfer.specs.declared.event.Event.{Event}
 use Rattle.link_transfer.proofs.Joining.{not_stray as never_stray}
-use Rattle.link_report.specs.Transfer.{transfer_text}
-use Rattle.link_unpack.specs.{Transfers.{Transfer, after_message}, Unpacking.order_line}
-use Rattle.link_unpack.specs.declared.wanted.Wanted.{Wanted}
-use Rattle.link_laws.specs.Cuts.{entries_of}
-use Rattle.link_laws.specs.Transfers.{ordered_after, ordered, transfers_of, settled, lines_of, abandoned_line, unpacking_by, Unpacked, transfers_with, with_head, unpacked_of, going_on_by}
-use Rattle.link_laws.proofs.Due.{latest_open, lines_due, abandoned_due, settled_all, lines_are}
+use Rattle.link_unpack.specs.{Transfers.{Transfer, after_message}, declared.wanted.Wanted.Wanted}
+use Rattle.link_laws.specs.Transfers.{ordered_after, ordered, transfers_of, settled, lines_of, abandoned_line, unpacking_by, Unpacked, with_head, unpacked_of, going_on_by}
+use Rattle.link_laws.proofs.Due.{lines_due, abandoned_due, settled_all, lines_are}
 use Rattle.link_laws.proofs.OneHead.{KnowsWhole, added, through}
 use Rattle.link_laws.proofs.{Orders.{AreInOrder, all, first_may}, Whole.{FitsData, AreRead}}
 
@@ -47,19 +44,11 @@ module _ (wanted : Wanted) where
       let first = first_may u.taken head more so.rest in
       let taken = not_stray u.taken (event_of head.message) first.0 in
       let new = added wanted u head whole fits in
-      let after = (with_head wanted u head).transfers in
-      let lines = flat_map transfer_text new.entries in
-      let refused = refusal u.taken (event_of head.message) in
       record {
         in_order = rw (first.0, so.in_order) refl;
-        report = ap (λ (xs : List ℕ). (u.report ++ order_line head.offset refused) ++ xs) new.lines
-            ∙ ap (λ r. (u.report ++ order_line head.offset r) ++ lines) first.0
-            ∙ cc (append-nil u.report, so.report, lines_are wanted (settled u.transfers))
-            ∙ sym (flat_map-append transfer_text (entries_of wanted (settled u.transfers)) _)
-            ∙ ap (flat_map transfer_text) (sym new.settles)
-            ∙ sym (lines_are wanted (settled after));
-        rest = ap (λ ms. ordered_after ms more) (taken_more u.taken head.message taken) ∙ first.1;
-        made = ap (λ stray. after_all (transfers_with stray u.transfers head) more) taken ∙ so.made;
+        report = grind (arith, append-nil, flat_map-append, lines_are);
+        rest = rw (taken_more u.taken head.message taken) first.1;
+        made = rw taken so.made;
       }
 
   pub unpacked_in_order : (heads : List Entry) → AreRead heads → AreInOrder heads
@@ -75,11 +64,8 @@ module _ (wanted : Wanted) where
       → lines_of wanted (settled transfers) ++ abandoned_line wanted transfers
       ≡ lines_of wanted transfers
   lines_abandoned transfers =
-      ap₂ (λ (xs ys : List ℕ). xs ++ ys) (lines_are wanted (settled transfers))
-      (abandoned_due wanted transfers ∙ lines_due wanted (latest_open transfers) transfers)
-      ∙ sym (flat_map-append transfer_text (entries_of wanted (settled transfers)) _)
-      ∙ ap (flat_map transfer_text) (settled_all wanted transfers)
-      ∙ sym (lines_are wanted transfers)
+      rw (lines_are wanted transfers, ← settled_all wanted transfers)
+      (grind (arith, abandoned_due, flat_map-append, lines_are, lines_due))
 
   pub made_in_order : (end : End) (heads : List Entry) → AreRead heads → AreInOrder heads
       → unpacking_by wanted end (ordered heads)

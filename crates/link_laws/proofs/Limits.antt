@@ -1,6 +1,6 @@
 -- A packed stream keeps the limits of the peer.
 use Rattle.std.specs.{Prelude.IfSome, List.All}
-use Rattle.std.proofs.Common.{◌≡◌, ℕ, suc, ◌+◌, ◌≤◌, inl, inr, ◌⊎◌, Bool, true, false, ◌&&◌, nat_lt, nat_le, List, [], ◌∷◌, ◌++◌, length, Option, Some, None, if◌then◌else◌, refl, length-take, arith}
+use Rattle.std.proofs.Common.{◌≡◌, ℕ, suc, ◌+◌, ◌≤◌, ◌⊎◌, Bool, true, List, [], ◌∷◌, ◌++◌, length, Option, Some, refl, length-take, arith}
 use Rattle.std.proofs.lemmas.List.Elements.{All-nil, All-cons, All-append}
 use Rattle.link_wire.specs.{Spelling.announced, Stream.Entry}
 use Rattle.link_list.specs.Listing.{listing_of}
@@ -12,9 +12,9 @@ use Rattle.link_bundle_walk.specs.Bundles.{Packed, Rest, Divided}
 use Rattle.link_pack.specs.{Packing.{segment_size, sending}, Segments.{cutting_of, segments_of}}
 use Rattle.link_pack.specs.declared.options.PackOptions.{PackOptions}
 use Rattle.link_laws.specs.PackedStream.{SegmentFits, TransferFits, KeepsLimits}
-use Rattle.link_laws.proofs.Carried.{onto, rest_onto, partly, transfer_of, due_within}
+use Rattle.link_laws.proofs.Carried.{onto, rest_onto, transfer_of, due_within}
 use Rattle.link_laws.proofs.Divided.{AreBundles, IsRest}
-use Rattle.link_laws.proofs.Entries.{bundle_entries, due_entries, rest_entries, term_entries, end_entries, init_bytes, bundles_bytes, rest_bytes, first_entries, more_entries, last_entries, packed_entries, init_entry, some_size}
+use Rattle.link_laws.proofs.Entries.{bundle_entries, due_entries, rest_entries, end_entries, init_bytes, bundles_bytes, rest_bytes, first_entries, more_entries, last_entries, packed_entries, init_entry, some_size}
 use Rattle.link_laws.proofs.{Readings.{packed, IsPacked}, Segments.segment_entries}
 use Rattle.link_laws.proofs.Sendings.{segments_fit}
 
@@ -46,13 +46,8 @@ module _ (options : PackOptions) where
   unfolding due
   rest_fit number rest offset = grind (arith, due_fit, due_within, some_size)
 
-  term_fits : (asked : Bool) (offset : ℕ) → All Fits (term_entries options asked offset)
-  term_fits true offset = All-cons Fits _ [] tt (All-nil Fits)
-  term_fits false offset = All-nil Fits
-
   end_fits : (rest : Option Rest) (offset : ℕ) → All Fits (end_entries options rest offset)
-  end_fits None offset = term_fits options.send_term offset
-  end_fits (Some rest) offset = All-nil Fits
+  end_fits rest offset = grind (arith, All-cons, All-nil)
 
   packed_fits : (divided : Divided) → All Fits (packed_entries options divided)
   packed_fits divided =
@@ -76,45 +71,27 @@ pub total_announced : (total : ℕ) → announced_of (announced (Some total)) �
 unfolding announced_of
 total_announced total = refl
 
-announces_by : (whole test : Bool) (size : ℕ)
-    → Announces whole size (if whole && test then Some size else None)
-announces_by whole test size = grind (arith, none_announced, total_announced)
-
 pub announces : (so_far : Cutting)
     → Announces so_far.whole (length so_far.bundle) (announcement so_far)
 unfolding announcement
-announces so_far = announces_by so_far.whole (nat_lt so_far.segment (length so_far.bundle) && nat_le (length so_far.bundle) so_far.hold) (length so_far.bundle)
+announces so_far = grind (arith, none_announced, total_announced)
 
 module _ (options : PackOptions) where
-  bundle_kept : (number : ℕ) (bundle : Packed) → length bundle.bytes ≤ options.peer_transfer
-      → TransferFits options (transfer_of options number bundle)
-  bundle_kept number bundle within = (within, announces (cutting_of (sending options true bundle.bytes)))
-
   bundles_kept : (number : ℕ) (bundles : List Packed) (earlier : List Transfer)
       → AreBundles options.peer_transfer bundles → All (TransferFits options) earlier
       → All (TransferFits options) (onto options number bundles earlier)
   unfolding onto
   bundles_kept number [] earlier are kept = kept
   bundles_kept number (bundle ∷ more) earlier are kept =
-      bundles_kept (suc number) more (transfer_of options number bundle ∷ earlier) are.1
-      (All-cons (TransferFits options) (transfer_of options number bundle) earlier (bundle_kept number bundle are.0.within) kept)
-
-  unannounced : (size : ℕ) (announce : Option ℕ) → Announces false size announce
-      → announced_of (announced announce) ≡ Absent
-  unannounced size announce (inl absent) = absent
-  unannounced size announce (inr never) = let not = never.0 in absurd (cc)
-
-  part_kept : (number count : ℕ) (part : List ℕ) (earlier : List Transfer)
-      → length part ≤ options.peer_transfer → All (TransferFits options) earlier
-      → All (TransferFits options) (partly number (sending options false part) count earlier)
-  part_kept number count part earlier within kept =
-      grind (arith, announces, length-take, unannounced)
+      let latest = transfer_of options number bundle in
+      bundles_kept (suc number) more (latest ∷ earlier) are.1
+      (All-cons (TransferFits options) latest earlier
+      (are.0.within, announces (cutting_of (sending options true bundle.bytes))) kept)
 
   rest_kept : (number : ℕ) (rest : Option Rest) (earlier : List Transfer)
       → IfSome rest (IsRest options.peer_transfer) → All (TransferFits options) earlier
       → All (TransferFits options) (rest_onto options number rest earlier)
-  rest_kept number None earlier is kept = kept
-  rest_kept number (Some rest) earlier is kept = part_kept number (due (cutting_of (sending options false rest.accepted))) rest.accepted earlier is.within kept
+  rest_kept number rest earlier is kept = grind (arith, announces, length-take)
 
 -- ---- the whole
 

@@ -1,6 +1,6 @@
 -- A packed stream is listed as it was cut.
-use Rattle.std.proofs.Common.{◌≡◌, ℕ, zero, suc, ◌+◌, Bool, true, false, List, [], ◌∷◌, ◌++◌, length, Option, None, refl, ap, ap₂, ◌∙◌, append-nil, append_assoc, length-append, arith}
-use Rattle.link_wire.specs.Spelling.{announce_bytes, total_bytes, list_bytes, list_size, segment_head_bytes, segment_head_size, sess_init_bytes}
+use Rattle.std.proofs.Common.{◌≡◌, ℕ, zero, suc, ◌+◌, Bool, true, List, [], ◌∷◌, ◌++◌, length, Option, None, refl, ap, ap₂, ◌∙◌, append-nil, append_assoc, length-append, arith}
+use Rattle.link_wire.specs.Spelling.{announce_bytes, total_bytes, segment_head_bytes, sess_init_bytes}
 use Rattle.link_transfer.specs.Cutting.{due}
 use Rattle.link_report.specs.Message.{message_text}
 use Rattle.link_run.specs.Run.{Outcome}
@@ -18,16 +18,6 @@ use Rattle.link_laws.proofs.Segments.{chunk_of, segment_entries}
 
 -- ---- sizes
 
-length-list : (start : Bool) (announce : Option ℕ)
-    → length (list_bytes start announce) ≡ list_size start announce
-unfolding announce_bytes total_bytes
-length-list start announce = grind arith
-
-length-head : (flags id size : ℕ) (announce : Option ℕ)
-    → length (segment_head_bytes flags id size announce) ≡ segment_head_size flags announce
-unfolding segment_head_bytes
-length-head flags id size announce = grind (arith, length-append, length-list)
-
 length-init : (interval segment_mru transfer_mru : ℕ) (node : List ℕ)
     → length (sess_init_bytes interval segment_mru transfer_mru node) ≡ 25 + length node
 unfolding sess_init_bytes
@@ -36,7 +26,8 @@ length-init interval segment_mru transfer_mru node = grind (arith, length-append
 module _ (id : ℕ) (sending : Sending) where
   length-segment : (k : ℕ)
       → length (segment_bytes id (cut_at sending k) (chunk_of sending k)) ≡ size_of_segment sending k
-  length-segment k = grind (arith, length-append, length-head)
+  unfolding segment_head_bytes announce_bytes total_bytes
+  length-segment k = grind (arith, length-append)
 
   length-segments : (k count : ℕ)
       → length (segments_from id sending k count) ≡ size_of_segments sending k count
@@ -59,8 +50,7 @@ module _ (options : PackOptions) where
   term_listed : (asked : Bool) (offset : ℕ)
       → message_lines (term_entries options asked offset) ≡ term_line asked offset
   unfolding message_lines
-  term_listed true offset = append-nil _
-  term_listed false offset = refl
+  term_listed asked offset = grind (arith, append-nil)
 
   bundles_listed : (number : ℕ) (bundles : List Packed) (offset after : ℕ)
       → after ≡ offset + length (transfer_bytes options number bundles)

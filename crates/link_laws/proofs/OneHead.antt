@@ -7,28 +7,23 @@ use Rattle.link_wire.specs.{Codes.{is_start, is_end}, Message.data_length, Strea
 use Rattle.link_wire.specs.declared.message.{Message.Message, SegmentHead.SegmentHead}
 use Rattle.link_wire.specs.declared.message.Message.TheVariants as message
 use Rattle.link_transfer.specs.Event.{event_of}
-use Rattle.link_transfer.specs.Order.{begins, is_segment, is_stray, refusal, effect_of, open_of}
+use Rattle.link_transfer.specs.Order.{is_stray, refusal, effect_of, open_of}
 use Rattle.link_transfer.specs.declared.{event.Event.Event, fault.OrderFault.OrderFault}
 use Rattle.link_transfer.specs.declared.joiner.Turn.{Turn}
-use Rattle.link_transfer.specs.declared.event.Event.TheVariants as event
 use Rattle.link_transfer.specs.declared.joiner.Turn.TheVariants as turn
 use Rattle.link_report.specs.{Transfer.transfer_text, declared.transfer.TransferEntry.TransferEntry}
-use Rattle.link_walk.specs.Walk.{is_last, is_plain, open_with}
+use Rattle.link_walk.specs.Walk.{is_last, open_with}
 use Rattle.link_walk.proofs.Heads.{open_then}
-use Rattle.link_unpack.specs.{Transfers.{Transfer, closes, after_segment}, TransferJudge.grown}
+use Rattle.link_unpack.specs.{Transfers.{Transfer, closes}, TransferJudge.grown}
 use Rattle.link_unpack.specs.Unpacking.{order_line, line_due, good_due}
 use Rattle.link_unpack.specs.declared.wanted.Wanted.{Wanted}
 use Rattle.link_unpack.proofs.Effects.{zero_eq, Does, Strays, Passes, Begins, Continues, what_does}
 use Rattle.link_unpack.proofs.Heads.{transfers_same, transfer_begins, transfer_continues}
 use Rattle.link_laws.specs.Cuts.{entries_of}
 use Rattle.link_laws.specs.Transfers.{settled, Unpacked, none_unpacked, transfers_with, transfer_lines, with_head, unpacked_of}
-use Rattle.link_laws.proofs.Due.{latest_open, all_good, entries_due, lines_due, goods_due, abandoned_due, closed_due, settled_all, closed_last}
+use Rattle.link_laws.proofs.Due.{latest_open, all_good, entries_due, lines_due, goods_due, settled_all, closed_last}
 use Rattle.link_laws.proofs.Whole.{FitsData, AreWhole, AreRead, no_content}
-use Rattle.link_laws.proofs.Telling.{closed_not, told_as, content_told, head_of, said_of, head_told}
-
-begins_none : (happened : Event) → is_segment happened ≡ false → begins happened ≡ false
-begins_none (event.Segment flags id) other = absurd (cc)
-begins_none happened other = refl
+use Rattle.link_laws.proofs.Telling.{content_told, said_of, head_told}
 
 pub stray_is : (taken : List Message) (happened : Event)
     → is_stray taken happened ≡ not (is_some (effect_of taken happened))
@@ -64,13 +59,6 @@ module _ (wanted : Wanted) (offset : ℕ) (fault : Option OrderFault) (content :
     abbrev due : List TransferEntry
     due = entries_due wanted abandoning transfers ++ entries_due wanted closing after
 
-    texts_due : line_due wanted abandoning transfers ++ line_due wanted closing after
-        ≡ flat_map transfer_text due
-    texts_due = grind (arith, entries_due, flat_map-append, lines_due)
-
-    all_due : (good_due abandoning transfers && good_due closing after) ≡ all_good due
-    all_due = grind (arith, entries_due, goods_due, list_all-append)
-
     adds : ((report : List ℕ) (good : Bool)
         → said_of wanted offset fault effect sent content
         (record { transfers = transfers; report = report; good = good })
@@ -88,18 +76,21 @@ module _ (wanted : Wanted) (offset : ℕ) (fault : Option OrderFault) (content :
         → latest_open after ≡ open_with effect (is_last effect) (latest_open transfers))
         → Adds wanted offset fault effect sent content stray transfers after
     adds told lines settles opened =
-        grind (arith, all_due, and_assoc, append_assoc, texts_due, told_as)
+        grind (
+          arith,
+          and_assoc,
+          append_assoc,
+          flat_map-append,
+          goods_due,
+          lines_due,
+          list_all-append,
+        )
 
   -- ---- the kinds of heads
 
   strays : (sent : Message) (transfers : List Transfer)
       → Adds wanted offset fault None sent content true transfers transfers
   strays sent transfers = grind (arith, adds, append-nil, head_told)
-
-  passes : (sent : Message) (transfers : List Transfer) → is_segment (event_of sent) ≡ false
-      → Adds wanted offset fault (Some turn.Other) sent content false transfers transfers
-  passes sent transfers other =
-      grind (arith, adds, append-nil, begins_none, head_told, transfers_same)
 
   module _ (head : SegmentHead) (fits : head.length ≡ 0 → content ≡ []) where
     abbrev last : Bool
@@ -110,8 +101,7 @@ module _ (wanted : Wanted) (offset : ℕ) (fault : Option OrderFault) (content :
     closes_none = ap (λ b. last && b) (zero_eq head.length)
 
     not_closed : length content ≡ head.length → not (closes head content) ≡ not last
-    not_closed all =
-        ap (λ b. not (last && b)) (eq-eqb (length content) head.length all) ∙ ap not (and-true last)
+    not_closed all = rw (eq-eqb (length content) head.length all, and-true) refl
 
     begins_one : (transfers : List Transfer) (abandoned : Option ℕ) → is_start head.flags ≡ true
         → is_some abandoned ≡ latest_open transfers
@@ -126,26 +116,15 @@ module _ (wanted : Wanted) (offset : ℕ) (fault : Option OrderFault) (content :
         (λ report good.
         head_told wanted offset (message.Segment head) transfers report good fault
         (Some (turn.Begin abandoned last)) content
-        (λ plain. absurd (never_plain fault plain))
+        (λ plain. absurd (grind arith))
         ∙ rw (transfer_begins transfers head [] starts, closes_none)
         (content_told wanted head transfers _ _ [] last head.length content fits))
-        (rw (
-          starts,
-          is,
-          abandoned_due wanted transfers,
-          closed_due wanted (closes head content) new transfers,
-        ) refl)
+        (grind arith)
         (rw is (sym (closed_last wanted (closes head content) new transfers)
         ∙ cc (settled_all wanted transfers)
         ∙ append_assoc (entries_of wanted (settled transfers))
         (entries_due wanted (latest_open transfers) transfers) _))
         not_closed
-      where
-        never_plain : (refused : Option OrderFault)
-            → is_plain (head_of wanted offset (message.Segment head) refused
-            (Some (turn.Begin abandoned last))) ≡ true → ⊥
-        never_plain (Some refused) plain = absurd (cc)
-        never_plain None plain = absurd (cc)
 
     continues_one : (latest : Transfer) (earlier : List Transfer) → is_start head.flags ≡ false
         → latest.closed ≡ false
@@ -158,23 +137,14 @@ module _ (wanted : Wanted) (offset : ℕ) (fault : Option OrderFault) (content :
         (λ report good.
         head_told wanted offset (message.Segment head) (latest ∷ earlier) report good fault
         (Some (turn.Continue last)) content
-        (λ plain. still fault plain)
+        (λ plain.
+        rw (transfer_continues (latest ∷ earlier) head [] starts, append-nil, closes_none)
+        (grind arith))
         ∙ rw (transfer_continues (latest ∷ earlier) head [] starts, append-nil, closes_none)
         (content_told wanted latest.first earlier _ _ latest.content last head.length content fits))
-        (rw (starts, closed_due wanted (closes head content) new earlier) refl)
+        (grind arith)
         (rw is_open (sym (closed_last wanted (closes head content) new earlier)))
         not_closed
-      where
-        still : (refused : Option OrderFault)
-            → is_plain (head_of wanted offset (message.Segment head) refused
-            (Some (turn.Continue last))) ≡ true
-            → after_segment (latest ∷ earlier) head [] ≡ latest ∷ earlier
-        still (Some refused) plain = absurd (cc)
-        still None plain =
-            rw (transfer_continues (latest ∷ earlier) head [] starts, append-nil, closes_none)
-            (ap (λ c.
-            record { first = latest.first; content = latest.content; closed = c } ∷ earlier)
-            (closed_not (last && (head.length == 0)) plain ∙ sym is_open))
 
 -- ---- any head
 
@@ -186,7 +156,7 @@ head_adds : (wanted : Wanted) (fault : Option OrderFault) (effect : Option Turn)
 head_adds wanted fault effect stray head transfers fits same (Strays is) =
     rw (same, is) (strays wanted head.offset fault head.content head.message transfers)
 head_adds wanted fault effect stray head transfers fits same (Passes is other) =
-    grind (arith, passes, transfers_same)
+    grind (arith, adds, append-nil, head_told, transfers_same)
 head_adds wanted fault effect stray head transfers fits same
     (Begins first abandoned is starts does also) =
     let own = rw is at fits in
@@ -199,7 +169,7 @@ head_adds wanted fault effect stray head (latest ∷ earlier) fits same
     let own = rw is at fits in
     rw (same, does, is, transfer_continues (latest ∷ earlier) first head.content starts)
     (continues_one wanted head.offset fault head.content first own latest earlier starts
-    (closed_not latest.closed also))
+    (grind arith))
 
 -- all data of the heads so far has come, so the latest transfer is open if one is open
 abbrev pub KnowsWhole : Unpacked → Type 0

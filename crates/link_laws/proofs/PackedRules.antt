@@ -1,32 +1,29 @@
 -- `check` finds only rules of bundles broken in a packed stream.
 use Rattle.std.specs.List.{All, filter}
-use Rattle.std.proofs.Common.{◌≡◌, ℕ, suc, ◌+◌, inl, inr, ◌⊎◌, Bool, true, false, ◌&&◌, nat_lt, nat_le, is_some, List, [], ◌∷◌, ◌++◌, length, map, filter_map, Option, Some, None, Result, Ok, Err, if◌then◌else◌, refl, ap, ap₂, sym, ◌∙◌, subst, append-nil, arith}
-use Rattle.std.proofs.lemmas.{Bool.{eq-eqb, ne_eqb, ltb-true}, List.map-append}
+use Rattle.std.proofs.Common.{◌≡◌, ℕ, suc, ◌<◌, ◌⊎◌, Bool, true, false, ◌&&◌, is_some, List, [], ◌∷◌, ◌++◌, length, map, Option, Some, None, Result, Ok, Err, if◌then◌else◌, refl, ap, sym, ◌∙◌, subst, append-nil, arith}
+use Rattle.std.proofs.lemmas.{Bool.{eq-eqb, Decides.nat_tests}, List.map-append}
 use Rattle.std.proofs.lemmas.List.Elements.{All-nil, All-cons, All-head, All-tail, filter-append}
-use Rattle.link_wire.specs.{Codes.{is_start, is_end}, Message.data_length, Spelling.announced}
+use Rattle.link_wire.specs.{Codes.{is_start, is_end}, Message.data_length}
 use Rattle.link_wire.specs.{Stream.{Entry, reading_of, heads_of}, declared.message.Contact.Contact}
 use Rattle.link_wire.specs.declared.message.{Message.Message, SegmentHead.SegmentHead}
 use Rattle.link_bundle_types.specs.declared.fault.BundleFault.{BundleFault}
 use Rattle.link_bundle_types.specs.declared.info.BundleInfo.{BundleInfo}
 use Rattle.link_bundle_blocks.specs.Bundle.{verdict}
 use Rattle.link_bundle_rules.specs.declared.rule.BundleRule.{BundleRule}
-use Rattle.link_transfer.specs.{Announced.announced_of, Cutting.announcement}
+use Rattle.link_transfer.specs.{Announced.announced_of, Chunks.chunk_count, Cutting.announcement}
 use Rattle.link_transfer.specs.Order.{open_of, with_taken}
-use Rattle.link_transfer.specs.declared.announcement.Announced.{Announced}
 use Rattle.link_transfer.specs.declared.announcement.Announced.TheVariants.{Absent, Total}
 use Rattle.link_transfer.specs.declared.joiner.Turn.{Turn}
 use Rattle.link_transfer.proofs.Due.{chunk_left}
-use Rattle.link_message_rules.specs.{Flags.contact_flags, Heads.JudgedHead}
-use Rattle.link_message_rules.specs.{MessageRules.broken_rules, TransferData.data_rule}
-use Rattle.link_message_rules.specs.TransferRules.{broken_transfer_rules, if_malformed, if_different, has_length_item, length_item, length_differs, length_of_one_segment}
+use Rattle.link_message_rules.specs.{Flags.contact_flags, Heads.JudgedHead, TransferData.data_rule}
+use Rattle.link_message_rules.specs.TransferRules.{broken_transfer_rules, length_item, length_differs, length_of_one_segment}
 use Rattle.link_message_rules.specs.declared.limits.PeerLimits.{PeerLimits}
-use Rattle.link_message_rules.specs.declared.rule.TransferRule.{TransferRule}
 use Rattle.link_message_rules.specs.declared.rule.TransferRule.TheVariants as transfer_rule
 use Rattle.link_rule_report.specs.declared.{line.RuleText.RuleText, rule.BrokenRule.BrokenRule}
 use Rattle.link_rule_report.specs.declared.rule.BundlePlace.{BundlePlace}
 use Rattle.link_rule_report.specs.declared.rule.BrokenRule.TheVariants as rule
 use Rattle.link_rule_report.specs.declared.rule.BundlePlace.TheVariants as place
-use Rattle.link_walk.specs.Walk.{head_at, closes, WalkEvent, MessageHead, Data, Whole, data_events, content_events, walked_of, end_events}
+use Rattle.link_walk.specs.Walk.{head_at, WalkEvent, Data, Whole, data_events, content_events, walked_of, end_events}
 use Rattle.link_unpack.specs.Transfers.{Transfer}
 use Rattle.link_check.specs.BundleRules.{bundle_rules}
 use Rattle.link_check.specs.Checking.{Begun, begun_by, closed_rules, data_rules, latest_with, rules_at}
@@ -36,8 +33,7 @@ use Rattle.link_pack.specs.{Packing.sending, Segments.Sending}
 use Rattle.link_pack.specs.declared.options.PackOptions.{PackOptions}
 use Rattle.link_laws.specs.{PackedRules.{AllowsLimits, KeepsNodeId, BreaksNoMore}, RoundTrip.all}
 use Rattle.link_laws.specs.SameRules.{reports}
-use Rattle.link_laws.proofs.BrokenRules.{broken_with, broken_from}
-use Rattle.link_laws.proofs.Carried.{onto, packed_transfers, transfer_of}
+use Rattle.link_laws.proofs.{BrokenRules.broken_from, Carried.{onto, packed_transfers, transfer_of}}
 use Rattle.link_laws.proofs.{ClearHeads.{judged_at, AreClear}, ClearStream.packed_clear}
 use Rattle.link_laws.proofs.Divided.{AreBundles}
 use Rattle.link_laws.proofs.Entries.{packed_entries, packed_reading, some_size}
@@ -46,7 +42,7 @@ use Rattle.link_laws.proofs.Limits.{none_announced, total_announced}
 use Rattle.link_laws.proofs.Placed.{Placed, Choice, transfers_in, begun_of, AfterAll, due_of, rules_of}
 use Rattle.link_laws.proofs.PlainHeads.{going, walk_events, taken_by, walk_is}
 use Rattle.link_laws.proofs.Readings.{input, packed, nothing_left, IsPacked}
-use Rattle.link_laws.proofs.{Sent.{head_of, last_at, ends_as}, Whole.reading_read}
+use Rattle.link_laws.proofs.{Sent.{head_of, ends_as}, Whole.reading_read}
 use Rattle.link_laws.proofs.SameLines as recording
 use Rattle.link_laws.proofs.SameRules as same
 
@@ -61,18 +57,9 @@ is_of_message (rule.Bundle where_it_is broken) = false
 abbrev of_messages : List RuleText → List RuleText
 of_messages lines = filter (λ (line : RuleText). is_of_message line.rule) lines
 
-messages_both : (first second : List RuleText) → of_messages first ≡ [] → of_messages second ≡ []
-    → of_messages (first ++ second) ≡ []
-messages_both first second one two =
-    cc (filter-append (λ (line : RuleText). is_of_message line.rule) first second, one, two)
-
 module _ (offset : ℕ) where
   abbrev NoneOf : List BrokenRule → Type 0
   NoneOf broken = of_messages (at_offset offset broken) ≡ []
-
-  of_both : (first second : List BrokenRule) → NoneOf first → NoneOf second
-      → NoneOf (first ++ second)
-  of_both first second one two = grind (arith, map-append, messages_both)
 
   of_bundle_rules : (where_it_is : BundlePlace) (broken : List BundleRule)
       → NoneOf (map (λ one. rule.Bundle where_it_is one) broken)
@@ -80,12 +67,6 @@ module _ (offset : ℕ) where
   of_bundle_rules where_it_is (one ∷ more) = of_bundle_rules where_it_is more
 
   module _ (id : ℕ) where
-    of_lengths : (announced : Announced) (size : ℕ) (single : Bool)
-        → NoneOf (map (λ one. rule.Transfer id one) (filter_map (λ judged. judged)
-        (if_malformed announced ∷ if_different announced size
-        ∷ (if single then Some transfer_rule.LengthOfOneSegment else None) ∷ [])))
-    of_lengths announced size single = grind arith
-
     of_data : (content : List ℕ) (said : Result BundleInfo (BundleFault × ℕ))
         → NoneOf (data_rules id content said)
     unfolding data_rule
@@ -95,16 +76,12 @@ module _ (offset : ℕ) where
   of_transfer : (first : SegmentHead) (size : ℕ)
       → NoneOf (map (λ one. rule.Transfer first.id one) (broken_transfer_rules first size))
   unfolding broken_transfer_rules length_item length_differs length_of_one_segment
-  of_transfer first size = of_lengths first.id (announced_of first.items.items) size _
+  of_transfer first size = grind arith
 
 of_latest : (latest : Option Begun) → of_messages (rules_at closed_rules latest) ≡ []
 of_latest None = refl
 of_latest (Some begun) =
-    of_both begun.offset
-    (map (λ one. rule.Transfer begun.first.id one)
-    (broken_transfer_rules begun.first (length begun.content)))
-    (data_rules begun.first.id begun.content (verdict begun.content))
-    (of_transfer begun.offset begun.first (length begun.content))
+    rw (map-append, filter-append, of_transfer begun.offset)
     (of_data begun.offset begun.first.id begun.content (verdict begun.content))
 
 -- ---- the walk over heads
@@ -118,7 +95,7 @@ module _ (peer : PeerLimits) where
   bytes_none : (bytes : List ℕ) (whole : Bool) (before : List JudgedHead) (rest : List WalkEvent)
       → BreakNone before rest
       → BreakNone before ((data_events bytes ++ (if whole then Whole ∷ [] else [])) ++ rest)
-  bytes_none [] true before rest none latest = grind (arith, broken_from, messages_both, of_latest)
+  bytes_none [] true before rest none latest = grind (arith, broken_from, filter-append, of_latest)
   bytes_none [] false before rest none latest = none latest
   bytes_none (byte ∷ bytes) whole before rest none latest =
       bytes_none bytes whole before rest none (latest_with latest (Data byte))
@@ -128,26 +105,18 @@ module _ (peer : PeerLimits) where
       → BreakNone before (content_events effect size content ++ rest)
   content_none effect size content before rest none = grind (arith, bytes_none)
 
-  closing_none : (closing : Bool) (latest : Option Begun)
-      → of_messages (if closing then rules_at closed_rules latest else []) ≡ []
-  closing_none true latest = of_latest latest
-  closing_none false latest = refl
-
   heads_none : (heads : List Entry) (taken : List Message) (before : List JudgedHead)
       → AreClear peer taken before heads → BreakNone before (walk_events true taken heads)
   heads_none [] taken before clear latest = refl
   heads_none (head ∷ more) taken before clear latest =
       let at = head_at taken head.offset head.message in
       let now = judged_at peer taken head in
-      messages_both (broken_with peer before latest (MessageHead at)) _
-      (messages_both
-      (at_offset head.offset (map (λ one. rule.Message one) (broken_rules peer before now))) _
-      (cc clear.0)
-      (closing_none (closes at) (begun_by at latest)))
-      (content_none at.turn (data_length head.message) head.content (before ++ now ∷ [])
+      let later =
+      content_none at.turn (data_length head.message) head.content (before ++ now ∷ [])
       (walk_events true (with_taken taken head.message) more)
       (heads_none more (with_taken taken head.message) (before ++ now ∷ []) clear.1)
-      (begun_by at latest))
+      (begun_by at latest) in
+      grind (arith, filter-append, of_latest)
 
   none_open : (heads : List Entry) (taken : List Message) (before : List JudgedHead)
       → AreClear peer taken before heads → is_some (open_of (taken_by true taken heads)) ≡ false
@@ -193,33 +162,26 @@ of_good_bundle offset where_it_is [] = refl
 of_good_bundle offset where_it_is (one ∷ more) = of_good_bundle offset where_it_is more
 
 module _ (peer : PeerLimits) where
-  abbrev rules : List Placed → List RuleText
-  rules placed = rules_of transfer_choice peer placed
-
   due_none : (placed : Placed) → BreaksNone placed.transfer
       → due_of transfer_choice peer placed ≡ []
-  due_none placed none = by_closed placed.transfer.closed
-    where
-      by_closed : (closed : Bool)
-          → (if closed then of_transfers (at_offset placed.offset (closed_rules (begun_of placed)))
-          else []) ≡ []
-      by_closed false = refl
-      by_closed true =
-          let id = placed.transfer.first.id in
-          ap (λ (broken : List TransferRule). of_transfers (at_offset placed.offset
-          (map (λ one. rule.Transfer id one) broken
-          ++ data_rules id placed.transfer.content (verdict placed.transfer.content)))) none.lengths
-          ∙ ap (λ said. of_transfers (at_offset placed.offset
-          (data_rules id placed.transfer.content said))) none.is
-          ∙ of_good_bundle placed.offset (place.Transfer id)
-          (bundle_rules placed.transfer.content none.info)
+  due_none placed none =
+      elim placed.transfer.closed as (λ closed.
+      (if closed then of_transfers (at_offset placed.offset (closed_rules (begun_of placed)))
+      else []) ≡ []) [
+        | true ↦ rw (none.lengths, none.is) (of_good_bundle placed.offset
+            (place.Transfer placed.transfer.first.id)
+            (bundle_rules placed.transfer.content none.info))
+        | false ↦ refl
+      ]
 
-  rules_none : (placed : List Placed) → All BreaksNone (transfers_in placed) → rules placed ≡ []
+  rules_none : (placed : List Placed) → All BreaksNone (transfers_in placed)
+      → rules_of transfer_choice peer placed ≡ []
   rules_none [] none = refl
   rules_none (latest ∷ earlier) none =
-      ap₂ (λ (first second : List RuleText). first ++ second)
-      (rules_none earlier (All-tail BreaksNone latest.transfer (transfers_in earlier) none))
-      (due_none latest (All-head BreaksNone latest.transfer (transfers_in earlier) none))
+      rw (
+        rules_none earlier (All-tail BreaksNone latest.transfer (transfers_in earlier) none),
+        due_none latest (All-head BreaksNone latest.transfer (transfers_in earlier) none),
+      ) refl
 
 -- rules that are neither of messages nor of transfers are of bundles
 only_bundles : (lines : List RuleText) → of_messages lines ≡ [] → of_transfers lines ≡ []
@@ -228,14 +190,6 @@ only_bundles [] messages transfers = refl
 only_bundles (line ∷ more) messages transfers = grind (arith, only_bundles more)
 
 -- ---- the transfers of a packed stream
-
-lengths_none : (said : Announced) (size : ℕ) (single : Bool)
-    → (said ≡ Absent) ⊎ ((said ≡ Total size) × (single ≡ false))
-    → filter_map (λ (judged : Option TransferRule). judged)
-    (if_malformed said ∷ if_different said size
-    ∷ (if single && has_length_item said then Some transfer_rule.LengthOfOneSegment else None) ∷ [])
-    ≡ []
-lengths_none said size single is = grind (arith, eq-eqb)
 
 module _ (options : PackOptions) (id : ℕ) (bundle : List ℕ) where
   abbrev whole : Sending
@@ -249,29 +203,15 @@ module _ (options : PackOptions) (id : ℕ) (bundle : List ℕ) where
       ⊎ ((announced_of first.items.items ≡ Total (length bundle))
       × ((is_start first.flags && is_end first.flags) ≡ false))
   unfolding announcement
-  announced_only = by_size (nat_lt whole.segment (length bundle)) refl
-      (nat_le (length bundle) whole.hold)
-    where
-      by_size : (more : Bool) → nat_lt whole.segment (length bundle) ≡ more → (held : Bool)
-          → (let total : Option ℕ = if more && held then Some (length bundle) else None in
-          (announced_of (announced total) ≡ Absent)
-          ⊎ ((announced_of (announced total) ≡ Total (length bundle))
-          × ((is_start first.flags && is_end first.flags) ≡ false)))
-      by_size false is held = inl none_announced
-      by_size true is false = inl none_announced
-      by_size true is true =
-          let longer = ltb-true whole.segment (length bundle) is in
-          let second = chunk_left whole.segment 1 (length bundle) (some_size options) (omega arith) in
-          let last : last_at id whole 0 ≡ false = ne_eqb (0 + 1) _ (λ one. absurd (omega arith)) in
-          inr (
-            total_announced (length bundle),
-            rw (ends_as true (last_at id whole 0), last) refl,
-          )
+  announced_only =
+      let second : whole.segment < length bundle → 1 < chunk_count whole.segment (length bundle) =
+      λ more. chunk_left whole.segment 1 (length bundle) (some_size options) (omega arith) in
+      grind (arith, ends_as, nat_tests, none_announced, total_announced)
 
   transfer_none : (info : BundleInfo) → verdict bundle ≡ Ok info
       → BreaksNone (record { first = first; content = bundle; closed = true })
   unfolding broken_transfer_rules length_item length_differs length_of_one_segment
-  transfer_none info is = grind (arith, announced_only, lengths_none)
+  transfer_none info is = grind (arith, announced_only, eq-eqb)
 
 transfers_none : (options : PackOptions) (number : ℕ) (bundles : List Packed)
     (earlier : List Transfer) → AreBundles options.peer_transfer bundles → All BreaksNone earlier
@@ -315,12 +255,11 @@ module _ (options : PackOptions) (bytes : List ℕ) (is_packed : IsPacked option
   messages =
       grind (arith, append-nil, packed_clear, packed_entries, packed_reading, reads, stream_none)
 
-  placed : AfterAll transfer_choice peer [] [] None
+  abbrev placed : AfterAll transfer_choice peer [] [] None
       (same.events peer stream clean)
   placed = same.placed_by peer stream clean transfer_choice
 
   transfers : transfers_in placed.after ≡ onto options 0 bundles []
-  unfolding placed
   transfers =
       same.transfers_by peer stream clean transfer_choice
       ∙ (unpacked_in_order all (heads_of (reading_of stream)) (reading_read stream).heads

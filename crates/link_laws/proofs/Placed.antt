@@ -1,6 +1,6 @@
 -- The transfers of a stream with their offsets, and the rules that they break once they are closed.
 use Rattle.std.specs.List.{filter, fold}
-use Rattle.std.proofs.Common.{◌≡◌, ℕ, Bool, true, false, not, ◌&&◌, ◌==◌, is_some, List, [], ◌∷◌, ◌++◌, map, Option, Some, None, option_map, if◌then◌else◌, refl, ap, sym, ◌∙◌, append-nil, append_assoc, arith}
+use Rattle.std.proofs.Common.{◌≡◌, ℕ, Bool, true, false, ◌&&◌, ◌==◌, List, [], ◌∷◌, ◌++◌, map, Option, Some, None, option_map, if◌then◌else◌, refl, ap, sym, ◌∙◌, append-nil, append_assoc, arith}
 use Rattle.std.proofs.lemmas.List.Elements.{filter-append}
 use Rattle.link_wire.specs.{Codes.{is_start, is_end}, declared.message.Message.Message}
 use Rattle.link_wire.specs.declared.message.SegmentHead.{SegmentHead}
@@ -22,7 +22,7 @@ use Rattle.link_rule_report.specs.declared.rule.BrokenRule.TheVariants as rule
 use Rattle.link_check.specs.Checking.{Begun, closed_rules, heads_with, latest_with, with_bytes}
 use Rattle.link_check.specs.Lines.{at_offset}
 use Rattle.link_laws.proofs.{BrokenRules.{broken_with, broken_from}, Following.{Follows, AllFollow}}
-use Rattle.link_laws.proofs.{PlainHeads.{matters, mattering}, Telling.closed_not}
+use Rattle.link_laws.proofs.PlainHeads.{matters, mattering}
 
 -- ---- the transfers after an event
 
@@ -37,16 +37,10 @@ abbrev pub after_events : List Transfer → List WalkEvent → List Transfer
 after_events transfers events = fold after_event transfers events
 
 module _ (wanted : Wanted) where
-  told_one : (told : Told) (event : WalkEvent)
-      → (told_event wanted told event).transfers ≡ after_event told.transfers event
-  told_one told (MessageHead head) = refl
-  told_one told event = refl
-
   told_all : (events : List WalkEvent) (told : Told)
       → (fold (told_event wanted) told events).transfers ≡ after_events told.transfers events
   told_all [] told = refl
-  told_all (event ∷ more) told =
-      cc (told_all more (told_event wanted told event), told_one told event)
+  told_all (event ∷ more) told = grind (arith, told_all more (told_event wanted told event))
 
   -- the transfers that `unpack` has told
   pub told_transfers : (events : List WalkEvent)
@@ -88,11 +82,6 @@ module _ (choice : Choice) (peer : PeerLimits) where
   abbrev pub chosen_in : List RuleText → List RuleText
   chosen_in lines = filter (λ (line : RuleText). choice.chosen line.rule) lines
 
-  choice_both : (first second : List RuleText)
-      → chosen_in (first ++ second) ≡ chosen_in first ++ chosen_in second
-  choice_both first second =
-      filter-append (λ (line : RuleText). choice.chosen line.rule) first second
-
   -- the chosen rules that a transfer breaks, if it is closed
   abbrev pub due_of : Placed → List RuleText
   due_of placed =
@@ -127,7 +116,7 @@ module _ (choice : Choice) (peer : PeerLimits) where
   head_choice : (offset : ℕ) (broken : List MessageRule) (closing : Bool) (others : List RuleText)
       → chosen_in (at_offset offset (map (λ one. rule.Message one) broken)
       ++ (if closing then others else [])) ≡ (if closing then chosen_in others else [])
-  head_choice offset broken closing others = grind (arith, choice_both, none_of_messages)
+  head_choice offset broken closing others = grind (arith, filter-append, none_of_messages)
 
   -- a transfer that is not closed adds nothing
   open_rules : (placed : Placed) (earlier : List Placed) → placed.transfer.closed ≡ false
@@ -161,14 +150,9 @@ module _ (choice : Choice) (peer : PeerLimits) where
             after = record { offset = offset; transfer = transfer } ∷ placed;
             are = rw (transfer_begins (transfers_in placed) first [] starts, zero_eq first.length);
             rules = rw (head_choice offset _ closing _);
-            opens = λ open_now. (closed_not closing open_now, refl);
-            quiet = λ plain. absurd (never_plain fault plain);
+            opens = λ open_now. (grind arith, refl);
+            quiet = λ plain. absurd (grind arith);
           }
-        where
-          never_plain : (refused : Option OrderFault)
-              → not (not (is_some refused) && false) ≡ false → ⊥
-          never_plain (Some refused) plain = absurd (cc)
-          never_plain None plain = absurd (cc)
 
       continues_after : (one : Placed) (earlier : List Placed) (first : SegmentHead)
           → is_start first.flags ≡ false → IsOpenAt latest (one ∷ earlier)
@@ -189,18 +173,12 @@ module _ (choice : Choice) (peer : PeerLimits) where
             after = record one { transfer = record one.transfer { closed = closing } } ∷ earlier;
             are = are;
             rules = rw (open_rules one earlier at.0, head_choice offset _ closing _, at.1);
-            opens = λ open_now. (closed_not closing open_now, at.1);
+            opens = λ open_now. (grind arith, at.1);
             quiet = λ plain.
                 sym are
                 ∙ ap (λ closed. record one.transfer { closed = closed } ∷ transfers_in earlier)
-                (plain_open fault closing plain ∙ sym at.0);
+                (grind arith);
           }
-        where
-          plain_open : (refused : Option OrderFault) (closing : Bool)
-              → not (not (is_some refused) && not closing) ≡ false → closing ≡ false
-          plain_open refused false plain = refl
-          plain_open (Some fault) true plain = absurd (cc)
-          plain_open None true plain = absurd (cc)
 
       head_after : (placed : List Placed) (sent : Message) (effect : Option Turn)
           → (opened ≡ true → IsOpenAt latest placed) → Does effect sent opened
@@ -270,13 +248,6 @@ module _ (choice : Choice) (peer : PeerLimits) where
     pub are : transfers_in after ≡ after_events (transfers_in placed) (mattering more)
     pub rules : rules_of after ≡ rules_of placed ++ chosen_in (broken_from peer heads latest more)
 
-  -- an event that does not matter changes no transfer
-  quiet_one : (transfers : List Transfer) (event : WalkEvent) (more : List WalkEvent)
-      → (matters event ≡ false → after_event transfers event ≡ transfers)
-      → after_events (after_event transfers event) (mattering more)
-      ≡ after_events transfers (mattering (event ∷ more))
-  quiet_one transfers event more quiet = grind arith
-
   pub all_after : (more before : List WalkEvent) (placed : List Placed) (heads : List JudgedHead)
       (latest : Option Begun) → AllFollow before more
       → (has_open before ≡ true → IsOpenAt latest placed) → AfterAll placed heads latest more
@@ -293,8 +264,8 @@ module _ (choice : Choice) (peer : PeerLimits) where
       (λ opened. now.opens (sym (has_open-append before (event ∷ [])) ∙ opened)) in
       record {
         after = rest.after;
-        are = cc (rest.are, now.are, quiet_one (transfers_in placed) event more now.quiet);
-        rules = rw (rest.rules, now.rules, choice_both broken)
+        are = grind arith;
+        rules = rw (rest.rules, now.rules, filter-append)
             (append_assoc (rules_of placed) (chosen_in broken) _);
       }
 

@@ -1,12 +1,12 @@
 -- The events of a walk that tells of every head, and those of one that tells of no plain head.
 use Rattle.std.specs.List.{filter, flat_map, fold}
-use Rattle.std.proofs.Common.{◌≡◌, ℕ, Bool, true, false, not, List, [], ◌∷◌, ◌++◌, Option, Some, None, if◌then◌else◌, refl, ap, ap₂, sym, ◌∙◌, append-nil, append_assoc, arith}
+use Rattle.std.proofs.Common.{◌≡◌, ℕ, Bool, true, false, not, List, [], ◌∷◌, ◌++◌, Option, None, if◌then◌else◌, refl, ap, append-nil, append_assoc, arith}
 use Rattle.std.proofs.lemmas.List.Elements.{filter-append}
 use Rattle.link_wire.specs.{Message.data_length, Stream.Entry, declared.message.Contact.Contact}
 use Rattle.link_wire.specs.declared.message.Message.{Message}
 use Rattle.link_transfer.specs.{Event.event_of, Order.{refusal, with_taken}}
 use Rattle.link_transfer.specs.declared.{fault.OrderFault.OrderFault, joiner.Turn.Turn}
-use Rattle.link_walk.specs.Walk.{head_at, is_plain, WalkEvent, MessageHead, Data, Whole, LeftOpen, data_events, head_events, content_events, Walked, taken_with, with_judged, with_next, contact_events, walked_of, end_events}
+use Rattle.link_walk.specs.Walk.{head_at, is_plain, WalkEvent, MessageHead, Data, Whole, data_events, head_events, content_events, Walked, taken_with, with_judged, with_next, contact_events, walked_of, end_events}
 use Rattle.link_walk.specs.declared.consumer.Manner.{Manner}
 
 -- whether a tool that is not told of plain heads is told of this
@@ -23,20 +23,6 @@ data_matter : (bytes : List ℕ) → mattering (data_events bytes) ≡ data_even
 data_matter [] = refl
 data_matter (byte ∷ bytes) = ap (λ events. Data byte ∷ events) (data_matter bytes)
 
-whole_matters : (test : Bool)
-    → mattering (if test then Whole ∷ [] else []) ≡ (if test then Whole ∷ [] else [])
-whole_matters true = refl
-whole_matters false = refl
-
-bytes_matter : (bytes : List ℕ) (test : Bool)
-    → mattering (data_events bytes ++ (if test then Whole ∷ [] else []))
-    ≡ data_events bytes ++ (if test then Whole ∷ [] else [])
-bytes_matter bytes test = grind (arith, data_matter, filter-append, whole_matters)
-
-content_matters : (effect : Option Turn) (size : ℕ) (content : List ℕ)
-    → mattering (content_events effect size content) ≡ content_events effect size content
-content_matters effect size content = grind (arith, bytes_matter)
-
 -- a tool that says nothing of data says nothing of the data of a head
 module _ {A : Type 0} (of : WalkEvent → List A) (no_data : (byte : ℕ) → of (Data byte) ≡ [])
     (no_whole : of Whole ≡ []) where
@@ -50,16 +36,6 @@ module _ {A : Type 0} (of : WalkEvent → List A) (no_data : (byte : ℕ) → of
       → flat_map of (content_events effect size content) ≡ []
   content_none effect size content = grind (arith, bytes_none)
 
-pub end_matters : (opened : Bool)
-    → mattering (if opened then LeftOpen ∷ [] else []) ≡ (if opened then LeftOpen ∷ [] else [])
-end_matters true = refl
-end_matters false = refl
-
-contact_matters : (contact : Option Contact)
-    → mattering (contact_events contact) ≡ contact_events contact
-contact_matters None = refl
-contact_matters (Some contact) = refl
-
 -- ---- a walk that goes on after faults
 
 -- a walk that tells of every head or not
@@ -68,8 +44,7 @@ going all_heads = record { goes_on = true; all_heads = all_heads }
 
 pub judged_taken : (all_heads : Bool) (refused : Option OrderFault) (was : Walked) (head : Entry)
     → with_judged refused (going all_heads) was head ≡ taken_with (going all_heads) was head
-judged_taken all_heads None was head = refl
-judged_taken all_heads (Some fault) was head = refl
+judged_taken all_heads refused was head = grind arith
 
 module _ (all_heads : Bool) where
   -- the events of a head after these messages, and of its data
@@ -123,20 +98,13 @@ walk_matters : (heads : List Entry) (taken : List Message)
     → walk_events false taken heads ≡ mattering (walk_events true taken heads)
 walk_matters [] taken = refl
 walk_matters (head ∷ more) taken =
-    let at = head_at taken head.offset head.message in
-    let content = content_events at.turn (data_length head.message) head.content in
-    let next = with_taken taken head.message in
-    ap₂ (λ (first second : List WalkEvent). first ++ second)
-    (cc (content_matters at.turn (data_length head.message) head.content)
-    ∙ sym (filter-append matters (head_events true at) content))
-    (walk_matters more next)
-    ∙ sym (filter-append matters (events_at true taken head) (walk_events true next more))
+    grind (arith, data_matter, filter-append, walk_matters more (with_taken taken head.message))
 
 pub quieter : (contact : Option Contact) (heads : List Entry)
     → IsQuieter (walked_of (going false) contact heads) (walked_of (going true) contact heads)
-quieter contact heads = grind (arith, contact_matters, filter-append, walk_is, walk_matters)
+quieter contact heads = grind (arith, filter-append, walk_is, walk_matters)
 
 -- the events of a whole stream
 pub all_matter : (few every : Walked) → IsQuieter few every
     → few.events ++ end_events few.taken ≡ mattering (every.events ++ end_events every.taken)
-all_matter few every so = grind (arith, end_matters, filter-append)
+all_matter few every so = grind (arith, filter-append)

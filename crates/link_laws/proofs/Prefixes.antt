@@ -1,5 +1,5 @@
 -- The texts that a tool determines by some bytes are prefixes of its texts for longer inputs.
-use Rattle.std.proofs.Common.{◌≡◌, ℕ, true, List, ◌++◌, Option, Some, None, refl, ⊎_elim}
+use Rattle.std.proofs.Common.{◌≡◌, ℕ, true, List, ◌++◌, Option, Some, None, refl, ⊎_elim, arith}
 use Rattle.std.proofs.lemmas.Bool.{cases_Bool}
 use Rattle.link_run.specs.Made.{StreamStop, Made, whole_by, so_far_by, shows_fault, tool_of}
 use Rattle.link_run.proofs.Ends.{unshown_sofar, shown_sofar}
@@ -22,15 +22,10 @@ texts_first (Some stop) made ended =
     record { output = front_same _ _ refl; report = front_first _ _ }
 
 module _ (before after : Made) (on : MadeOn before after) where
-  shown_first : shows_fault before.stop ≡ true
-      → AreFronts (so_far_by before.stop before.texts) (whole_by after.stop after).texts
-  shown_first shown =
-      fronts_same _ _
-      (cc (shown_sofar before.stop before shown, on.stays shown))
-
   sofar_first : AreFronts (so_far_by before.stop before.texts) (whole_by after.stop after).texts
   sofar_first =
-      ⊎_elim shown_first
+      ⊎_elim
+      (λ shown. fronts_same _ _ (cc (shown_sofar before.stop before shown, on.stays shown)))
       (λ unshown.
       fronts_trans _ _ _ (fronts_same _ _ (unshown_sofar before.stop before.texts unshown))
       (fronts_trans _ _ _ on.texts (texts_first after.stop after on.ended)))
@@ -47,5 +42,4 @@ prefixed made bytes more on =
 -- the output is the same where they stop and where they do not
 pub whole_output : (stop : Option StreamStop) (made : Made) → made.ended.output ≡ made.texts.output
     → (whole_by stop made).texts.output ≡ made.texts.output
-whole_output None made same = same
-whole_output (Some stop) made same = refl
+whole_output stop made same = grind arith

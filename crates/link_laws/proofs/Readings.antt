@@ -1,20 +1,14 @@
 -- The reading of a packed stream.
-use Rattle.std.proofs.Common.{◌≡◌, ℕ, List, length, Option, Some, None, refl, ap, sym, ◌∙◌, arith}
+use Rattle.std.proofs.Common.{◌≡◌, ℕ, List, None, refl, ap, sym, ◌∙◌, arith}
 use Rattle.link_wire.specs.{SpelledStream.IsReading, Stream.{Reading, reading_of, heads_of}}
-use Rattle.link_run.specs.{Made.{Made, whole_by}, Run.Outcome}
+use Rattle.link_run.specs.Run.{Outcome}
 use Rattle.link_walk.proofs.Heads.{heads_clean}
-use Rattle.link_bundle_walk.specs.{Bundles.{Rest, Divided, divided}, Telling.stop_by}
-use Rattle.link_pack.specs.Packing.{packing_by, packing_of, pack_tool}
+use Rattle.link_bundle_walk.specs.Bundles.{Divided, divided}
+use Rattle.link_pack.specs.Packing.{packing_of, pack_tool}
 use Rattle.link_pack.specs.declared.options.PackOptions.{PackOptions}
 use Rattle.link_laws.specs.Ranges.{OptionsFit, InputFits}
 use Rattle.link_laws.proofs.Carried.{AreCarried, packed_carried, packed_transfers}
 use Rattle.link_laws.proofs.{Divided.{IsDivided, is_divided}, Entries.{packed_reading, packed_is}}
-
--- if no bundle is refused, nothing follows the bundles
-no_rest : (number : ℕ) (made : Made) (rest : Option Rest)
-    → (whole_by (stop_by number rest) made).status ≡ 0 → rest ≡ None
-no_rest number made None is = refl
-no_rest number made (Some rest) is = absurd (omega arith)
 
 module _ (options : PackOptions) (bytes : List ℕ) where
   abbrev pub input : Divided
@@ -24,9 +18,10 @@ module _ (options : PackOptions) (bytes : List ℕ) where
   abbrev pub packed : Outcome
   packed = (pack_tool options).whole bytes
 
+  -- if no bundle is refused, nothing follows the bundles
   pub nothing_left : packed.status ≡ 0 → input.rest ≡ None
   unfolding packing_of
-  nothing_left is = no_rest (length input.bundles) (packing_by options input) input.rest is
+  nothing_left is = grind arith
 
   pub record IsPacked : Type 0 where
     pub divides : IsDivided options.peer_transfer bytes input

@@ -1,17 +1,16 @@
 -- The lines of the report of `unpack`, if a fault of the order does not end the run.
 use Rattle.std.specs.List.{flat_map}
-use Rattle.std.proofs.Common.{◌≡◌, ℕ, List, [], ◌∷◌, ◌++◌, Option, Some, None, map, refl, ap, ap₂, sym, ◌∙◌, append-nil, append_assoc}
+use Rattle.std.proofs.Common.{◌≡◌, ℕ, not, ◌&&◌, is_some, List, [], ◌∷◌, ◌++◌, Option, Some, None, map, refl, ap, ◌∙◌, append-nil, append_assoc, arith}
 use Rattle.std.proofs.lemmas.List.Concat.{flat_map-append}
 use Rattle.link_wire.specs.Stream.{Entry, End, reading_of, heads_of}
 use Rattle.link_transfer.specs.{Event.event_of, Order.refusal, declared.fault.OrderFault.OrderFault}
-use Rattle.link_report.specs.{Fault.fault_text, Transfer.transfer_text}
-use Rattle.link_report.specs.declared.transfer.TransferEntry.{TransferEntry}
+use Rattle.link_report.specs.{Transfer.transfer_text, declared.transfer.TransferEntry.TransferEntry}
 use Rattle.link_run.specs.{Made.{StreamStop, stop_of, whole_by}, Run.Outcome}
-use Rattle.link_unpack.specs.{Unpacking.order_line, declared.wanted.Wanted.Wanted}
-use Rattle.link_laws.specs.Cuts.{going_on, entries_of, lined, stop_line, ReportLine, OfHead, OfTransfer, line_text, entry_in, fault_in, fault_at, faults_after, CutsOutputOn}
+use Rattle.link_unpack.specs.declared.wanted.Wanted.{Wanted}
+use Rattle.link_laws.specs.Cuts.{going_on, entries_of, lined, stop_line, ReportLine, OfHead, OfTransfer, line_text, entry_in, fault_in, faults_after, CutsOutputOn}
 use Rattle.link_laws.specs.Transfers.{settled, Unpacked, with_head, unpacked_of, going_on_by, by_transfers}
 use Rattle.link_laws.proofs.Cut.{cut_by_lines}
-use Rattle.link_laws.proofs.Due.{latest_open, entries_due, lines_due, abandoned_due, settled_all}
+use Rattle.link_laws.proofs.Due.{latest_open, entries_due, lines_due, settled_all}
 use Rattle.link_laws.proofs.{OneHead.{KnowsWhole, added, through}, Same.whole_is}
 use Rattle.link_laws.proofs.Whole.{FitsData, AreRead, reading_read}
 
@@ -20,21 +19,6 @@ use Rattle.link_laws.proofs.Whole.{FitsData, AreRead, reading_read}
 abbrev head_line : (offset : ℕ) → Option OrderFault → List ReportLine
 head_line offset None = []
 head_line offset (Some fault) = OfHead offset fault ∷ []
-
-head_text : (offset : ℕ) (fault : Option OrderFault)
-    → flat_map line_text (head_line offset fault) ≡ order_line offset fault
-head_text offset None = refl
-head_text offset (Some fault) = append-nil _
-
-head_entry : (offset : ℕ) (fault : Option OrderFault)
-    → flat_map entry_in (head_line offset fault) ≡ []
-head_entry offset None = refl
-head_entry offset (Some fault) = refl
-
-head_fault : (offset : ℕ) (fault : Option OrderFault)
-    → flat_map fault_in (head_line offset fault) ≡ fault_at offset fault
-head_fault offset None = refl
-head_fault offset (Some fault) = refl
 
 abbrev of_transfers : List TransferEntry → List ReportLine
 of_transfers entries = map OfTransfer entries
@@ -52,11 +36,6 @@ their_entries (entry ∷ more) = ap (λ (es : List TransferEntry). entry ∷ es)
 no_faults : (entries : List TransferEntry) → flat_map fault_in (of_transfers entries) ≡ []
 no_faults [] = refl
 no_faults (entry ∷ more) = no_faults more
-
--- what some lines, and then more lines, have
-joined : {A : Type 0} (f : ReportLine → List A) (lines more : List ReportLine) (a b : List A)
-    → flat_map f lines ≡ a → flat_map f more ≡ b → flat_map f (lines ++ more) ≡ a ++ b
-joined f lines more a b is are = flat_map-append f lines more ∙ ap₂ (λ xs ys. xs ++ ys) is are
 
 module _ (wanted : Wanted) where
   -- These lines are the report so far: of the transfers that are over, and of the heads that are
@@ -76,23 +55,11 @@ module _ (wanted : Wanted) where
       let refused = refusal u.taken (event_of head.message) in
       let first = head_line head.offset refused in
       let last = of_transfers new.entries in
-      let faults = fault_at head.offset refused in
-      let later = faults_after (with_head wanted u head).taken more in
       record {
         lines = so.lines ++ (first ++ last);
-        report = joined line_text so.lines (first ++ last) _ _ so.report
-            (joined line_text first last _ _ (head_text head.offset refused)
-            (their_texts new.entries ∙ sym new.lines))
-            ∙ sym (append_assoc u.report (order_line head.offset refused) _);
-        entries = joined entry_in so.lines (first ++ last) _ _ so.entries
-            (joined entry_in first last _ _ (head_entry head.offset refused)
-            (their_entries new.entries))
-            ∙ sym new.settles;
-        faults = ap (λ (fs : List (ℕ × OrderFault)). fs ++ later)
-            (joined fault_in so.lines (first ++ last) _ _ refl
-            (joined fault_in first last _ _ (head_fault head.offset refused)
-            (no_faults new.entries) ∙ append-nil faults))
-            ∙ append_assoc (flat_map fault_in so.lines) faults later ∙ so.faults;
+        report = grind (arith, append-nil, append_assoc, flat_map-append, their_texts);
+        entries = grind (arith, flat_map-append, their_entries);
+        faults = grind (arith, append-nil, append_assoc, flat_map-append, no_faults);
       }
 
   reports_all : (heads : List Entry) → AreRead heads
@@ -117,26 +84,13 @@ module _ (wanted : Wanted) where
   whole_lines : (stop : Option StreamStop) (end : End) (u : Unpacked)
       (faults : List (ℕ × OrderFault)) → Reports faults u [] → ReportsWhole stop end u faults
   unfolding faults_after
-  whole_lines (Some stop) end u faults so = record {
-    lines = so.lines;
-    report = ap (λ (lines : List ℕ). lines ++ fault_text stop.fault) (sym so.report);
-    entries = so.entries;
-    faults_are = sym (append-nil _) ∙ so.faults;
-  }
-  whole_lines None end u faults so =
-      let open_last = latest_open u.transfers in
-      let entries = entries_due wanted open_last u.transfers in
-      let last = of_transfers entries in
+  whole_lines stop end u faults so =
+      let ends_open = not (is_some stop) && latest_open u.transfers in
       record {
-        lines = so.lines ++ last;
-        report = sym
-            (append-nil _
-            ∙ joined line_text so.lines last _ _ so.report
-            (their_texts entries ∙ sym (lines_due wanted open_last u.transfers)
-            ∙ sym (abandoned_due wanted u.transfers)));
-        entries = joined entry_in so.lines last _ _ so.entries (their_entries entries)
-            ∙ settled_all wanted u.transfers;
-        faults_are = joined fault_in so.lines last _ _ refl (no_faults entries) ∙ so.faults;
+        lines = so.lines ++ of_transfers (entries_due wanted ends_open u.transfers);
+        report = grind (arith, append-nil, flat_map-append, lines_due, their_texts);
+        entries = grind (arith, append-nil, flat_map-append, settled_all, their_entries);
+        faults_are = grind (arith, append-nil, flat_map-append, no_faults);
       }
 
 pub cuts_on : (wanted : Wanted) (bytes : List ℕ) → CutsOutputOn (going_on wanted) bytes

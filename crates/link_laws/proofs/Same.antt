@@ -1,8 +1,7 @@
 -- `unpack` says of the events of a stream what the transfers of the stream make.
 use Rattle.std.specs.List.{fold}
-use Rattle.std.proofs.Common.{◌≡◌, ℕ, Bool, true, false, not, ◌&&◌, is_some, List, [], ◌∷◌, ◌++◌, Option, Some, None, if◌then◌else◌, refl, ap, sym, ◌∙◌, append-nil, arith}
-use Rattle.std.proofs.Math.Bool.{and-true, and-false, and_assoc}
-use Rattle.std.proofs.{lemmas.List.Folds.list_all-append, Math.Path.fun_ext}
+use Rattle.std.proofs.Common.{◌≡◌, ℕ, Bool, true, false, ◌&&◌, List, [], ◌∷◌, ◌++◌, Option, Some, None, if◌then◌else◌, refl, ap, sym, ◌∙◌, append-nil, arith}
+use Rattle.std.proofs.{Math.Bool.and-true, lemmas.List.Folds.list_all-append, Math.Path.fun_ext}
 use Rattle.link_wire.specs.Stream.{Entry, End, Reading, cut_heads, heads_of}
 use Rattle.link_wire.specs.declared.message.{Contact.Contact, Message.Message}
 use Rattle.link_transfer.specs.{Event.event_of, Order.{refusal, with_taken}}
@@ -13,14 +12,14 @@ use Rattle.link_walk.specs.Walk.{WalkEvent, LeftOpen, Walked, with_next, contact
 use Rattle.link_walk.specs.declared.consumer.Manner.{Manner}
 use Rattle.link_laws.specs.Transfers.{Ordered, ordered_after, ordered, settled, are_good, abandoned_line, unpacking_by, Unpacked, none_unpacked, with_head, unpacked_of, going_on_by, made_of, by_transfers}
 use Rattle.link_laws.specs.Cuts.{entries_of}
-use Rattle.link_laws.proofs.Accepted.{accepted_read, accepted_in_order, all_in_order}
-use Rattle.link_laws.proofs.Due.{latest_open, all_good, goods_due, abandoned_due, settled_all, goods_are}
+use Rattle.link_laws.proofs.Accepted.{accepted_in_order, all_kept}
+use Rattle.link_laws.proofs.Due.{all_good, goods_due, settled_all, goods_are}
 use Rattle.link_laws.proofs.InOrder.{not_stray, taken_more, unpacked_in_order, made_in_order}
 use Rattle.link_laws.proofs.OneHead.{KnowsWhole, added, through, heads_whole}
-use Rattle.link_laws.proofs.{PlainHeads.{judged_taken, events_at}, Telling.told_as}
+use Rattle.link_laws.proofs.PlainHeads.{judged_taken, events_at}
 use Rattle.link_laws.proofs.Whole.{FitsData, AreRead, ReadingReads, reading_read}
 use Rattle.link_unpack.specs.Transfers.{Transfer}
-use Rattle.link_unpack.specs.Unpacking.{parts_of, unpack_tool, Told, told_after, unpack_telling, with_line, order_line, good_due}
+use Rattle.link_unpack.specs.Unpacking.{parts_of, unpack_tool, Told, told_after, unpack_telling, with_line}
 use Rattle.link_unpack.specs.declared.wanted.Wanted.{Wanted}
 use Rattle.link_unpack.proofs.Events.{told_then, told_push}
 
@@ -34,11 +33,6 @@ started taken events = record { taken = taken; events = events; refused = None }
 
 abbrev walk_from : Bool → Walked → List Entry → Walked
 walk_from goes_on from heads = fold (with_next (manner goes_on)) from heads
-
-good_parts : (before in_order ordered more : Bool)
-    → (((before && in_order) && ordered) && more) ≡ ((before && more) && (in_order && ordered))
-good_parts before in_order ordered true = simp (and-true, and_assoc)
-good_parts before in_order ordered false = simp and-false
 
 module _ (wanted : Wanted) where
   abbrev settled_good : Unpacked → Bool
@@ -60,25 +54,17 @@ module _ (wanted : Wanted) where
   tells_step all u head more whole fits so =
       let new = added wanted u head whole fits in
       let refused = refusal u.taken (event_of head.message) in
-      let before = u.report ++ order_line head.offset refused in
       record {
         events = so.events ++ events_at false u.taken head;
-        told = told_push wanted so.events (events_at false u.taken head)
-            ∙ ap (λ t. told_then wanted t (events_at false u.taken head)) so.told
-            ∙ new.told u.report (settled_good u && u.in_order)
-            ∙ told_as _ _ _ _ _ (ap (λ (xs : List ℕ). before ++ xs) (sym new.lines))
-            (good_parts (settled_good u) u.in_order (not (is_some refused)) (all_good new.entries)
-            ∙ ap (λ b. b && (u.in_order && not (is_some refused)))
-            (sym (ap all_good new.settles
-            ∙ list_all-append _ (entries_of wanted (settled u.transfers)) new.entries)));
+        told = rw (told_push wanted so.events (events_at false u.taken head), so.told, new.told)
+            (grind (arith, list_all-append));
         walked = cc (judged_taken false refused (started u.taken so.events) head, so.walked);
       }
 
   none_told : (contact : Option Contact)
       → told_after wanted (contact_events contact) ≡ said none_unpacked
   unfolding told_after entries_of
-  none_told None = refl
-  none_told (Some contact) = refl
+  none_told contact = grind arith
 
   heads_tell : (contact : Option Contact) (heads : List Entry) → AreRead heads
       → TellsAll (walked_of (manner true) contact heads) (unpacked_of wanted heads) []
@@ -167,26 +153,13 @@ module _ (wanted : Wanted) where
   end_by : (opened : Bool) (transfers : List Transfer) (report : List ℕ) (good : Bool)
       → (let told : Told = record { transfers = transfers; report = report; good = good } in
       told_then wanted told (if opened then LeftOpen ∷ [] else []) ≡ with_line wanted opened told)
-  end_by opened transfers report good = grind (arith, and-true, append-nil, told_as)
-
-  good_end : (before in_order due : Bool)
-      → ((before && in_order) && due) ≡ ((before && due) && in_order)
-  good_end before in_order true = simp and-true
-  good_end before in_order false = simp and-false
+  end_by opened transfers report good = grind (arith, and-true, append-nil)
 
   end_said : (u : Unpacked) → KnowsWhole u
       → told_then wanted (said wanted u) (end_events u.taken) ≡ at_end u
   end_said u whole =
-      let open_last = latest_open u.transfers in
-      ap (λ b. told_then wanted (said wanted u) (if b then LeftOpen ∷ [] else [])) (sym whole)
-      ∙ end_by open_last u.transfers u.report (settled_good wanted u && u.in_order)
-      ∙ told_as u.transfers _ _ _ _
-      (ap (λ (xs : List ℕ). u.report ++ xs) (sym (abandoned_due wanted u.transfers)))
-      (good_end (settled_good wanted u) u.in_order (good_due open_last u.transfers)
-      ∙ ap (λ b. b && u.in_order)
-      (ap (λ b. settled_good wanted u && b) (goods_due wanted open_last u.transfers)
-      ∙ sym (goods_are wanted u.transfers ∙ ap all_good (sym (settled_all wanted u.transfers))
-      ∙ list_all-append _ (entries_of wanted (settled u.transfers)) _)))
+      rw (← whole, end_by, goods_are wanted u.transfers, ← settled_all wanted u.transfers)
+      (grind (arith, goods_due, list_all-append))
 
   module _ (walked : Walked) (u : Unpacked) (tells : TellsAll wanted walked u []) where
     unrefused : walked.refused ≡ None
@@ -226,7 +199,7 @@ module _ (wanted : Wanted) where
     order = ordered heads
 
     kept_heads : AreRead order.heads
-    kept_heads = accepted_read heads reads.heads
+    kept_heads = (all_kept heads).read reads.heads
 
     walked_ordered : walked_of (manner false) reading.contact heads
         ≡ ended_at order.refused (walked_of (manner true) reading.contact order.heads)
@@ -239,7 +212,7 @@ module _ (wanted : Wanted) where
         ≡ walked_of (manner true) reading.contact heads
     walked_same none =
         let tells = heads_tell wanted reading.contact heads reads.heads in
-        cc (walked_ordered, all_in_order heads none, unrefused _ _ tells)
+        cc (walked_ordered, (all_kept heads).whole none, unrefused _ _ tells)
 
     -- the same, if no head ended the walk
     pub walked_on : (walked_of (manner false) reading.contact heads).refused ≡ None
@@ -263,7 +236,7 @@ module _ (wanted : Wanted) where
     ending_same : (refused : Option (ℕ × OrderFault)) → order.refused ≡ refused
         → SameMade (walk_made false reading) (unpacking_by wanted reading.end order)
     ending_same None is =
-        grind (arith, all_in_order, going_same, made_in_order, walked_same)
+        grind (arith, (all_kept heads).whole, going_same, made_in_order, walked_same)
     ending_same (Some fault) is =
         let made : walk_made false reading ≡ made_at order.refused order.heads =
         ap (told_by (unpack_telling wanted) reading.end) walked_ordered in
@@ -272,12 +245,8 @@ module _ (wanted : Wanted) where
         rw made (record {
           stop = rw is refl;
           texts = ap text_of (walked_told _ _ tells) ∙ rw (so.report, so.made) refl;
-          clean = λ none.
-              absurd (never fault (ap (λ r. stop_by r reading.end) (sym is) ∙ none));
+          clean = λ none. absurd (let never = rw is at none in cc);
         })
-      where
-        never : (fault : ℕ × OrderFault) → stop_by (Some fault) reading.end ≡ None → ⊥
-        never (offset, fault) none = absurd (cc)
 
     same_by : (goes_on : Bool)
         → SameMade (walk_made goes_on reading) (made_of goes_on wanted reading)

@@ -1,7 +1,7 @@
 -- If no head is refused, `unpack` makes the same, whether or not a fault of the order ends the run.
 use Rattle.std.proofs.{Common.{◌≡◌, ℕ, Bool, List, refl, arith}, Math.Path.fun_ext}
 use Rattle.link_wire.specs.Stream.{End}
-use Rattle.link_walk.specs.Walk.{WalkEvent, ContactHeader, MessageHead, Data, Whole, LeftOpen, Walked, told_by, told_of}
+use Rattle.link_walk.specs.Walk.{WalkEvent, MessageHead, Whole, LeftOpen, Walked, told_by, told_of}
 use Rattle.link_unpack.specs.Transfers.{Transfer}
 use Rattle.link_unpack.specs.Unpacking.{parts_of, line_due, Told, told_event, told_after, unpack_telling}
 use Rattle.link_unpack.specs.declared.wanted.Wanted.{Wanted}
@@ -20,11 +20,10 @@ module _ (wanted : Wanted) where
 
   event_same : (told : Told) (event : WalkEvent)
       → told_event (going_on wanted) told event ≡ told_event (stopping wanted) told event
-  event_same told (ContactHeader contact) = refl
   event_same told (MessageHead head) = rw (line_same, line_same) refl
-  event_same told (Data byte) = refl
   event_same told Whole = rw line_same refl
   event_same told LeftOpen = rw line_same refl
+  event_same told event = refl
 
   told_same : (events : List WalkEvent)
       → told_after (going_on wanted) events ≡ told_after (stopping wanted) events

@@ -1,15 +1,13 @@
 -- If every transfer of a recording is over and good, `blocks` writes the lines of the bundles that
 -- `unpack` joins.
 use Rattle.std.specs.List.{flat_map, fold}
-use Rattle.std.proofs.Common.{◌≡◌, ℕ, ◌≤◌, Bool, true, false, List, [], ◌∷◌, ◌++◌, length, Option, Some, None, if◌then◌else◌, refl, ◌∙◌, append-nil, arith}
+use Rattle.std.proofs.Common.{◌≡◌, ℕ, ◌≤◌, true, false, List, [], ◌∷◌, ◌++◌, length, Option, None, refl, ◌∙◌, append-nil, arith}
 use Rattle.std.proofs.lemmas.{Bool.and_parts, Grind.flat_map-append}
 use Rattle.link_wire.specs.{Bytes.AreBytes, SpelledStream.IsReading}
-use Rattle.link_wire.specs.Stream.{Entry, End, Reading, reading_of, heads_of}
-use Rattle.link_wire.specs.declared.message.Contact.{Contact}
-use Rattle.link_transfer.specs.declared.fault.OrderFault.{OrderFault}
+use Rattle.link_wire.specs.Stream.{Entry, Reading, reading_of, heads_of}
 use Rattle.link_run.specs.{Made.{StreamStop, Made, whole_by, stop_of}, Writers.on_output}
 use Rattle.link_run.proofs.Runs.{texts_as}
-use Rattle.link_walk.specs.Walk.{WalkEvent, MessageHead, LeftOpen, Head, head_at, contact_events, Walked, taken_with, with_judged, with_entry_unless, with_next, none_walked, walked_of, walked, end_events, has_open, stop_by, told_of}
+use Rattle.link_walk.specs.Walk.{WalkEvent, Walked, with_next, none_walked, walked_of, walked, end_events, has_open, stop_by, told_of}
 use Rattle.link_walk.specs.declared.consumer.Manner.{Manner}
 use Rattle.link_unpack.specs.Transfers.{Transfer}
 use Rattle.link_unpack.specs.Unpacking.{Told, told_after, unpack_tool, parts_of}
@@ -24,46 +22,26 @@ use Rattle.link_laws.proofs.Whole.{AreWhole, reading_read}
 
 -- ---- heads that are in order have no line
 
-module _ (manner : Manner) (stops : manner.goes_on ≡ false) where
-  abbrev NoLines : List WalkEvent → Type 0
-  NoLines events = flat_map order_line_of events ≡ []
+abbrev pub stopping : Manner
+stopping = record { goes_on = false; all_heads = false }
 
-  no_lines_both : (first second : List WalkEvent) → NoLines first → NoLines second
-      → NoLines (first ++ second)
-  no_lines_both first second one two =
-      rw (flat_map-append order_line_of first second, one, two) refl
+abbrev NoLines : List WalkEvent → Type 0
+NoLines events = flat_map order_line_of events ≡ []
 
-  head_none : (head : Head) (test : Bool) → head.fault ≡ None
-      → NoLines (if test then MessageHead head ∷ [] else [])
-  head_none head true may = rw may refl
-  head_none head false may = refl
+no_lines_both : (first second : List WalkEvent) → NoLines first → NoLines second
+    → NoLines (first ++ second)
+no_lines_both first second one two =
+    rw (flat_map-append order_line_of first second, one, two) refl
 
-  module _ (was : Walked) (head : Entry) (none : NoLines was.events) where
-    abbrev here : Head
-    here = head_at was.taken head.offset head.message
+next_none : (was : Walked) (head : Entry) → NoLines was.events
+    → NoLines (with_next stopping was head).events
+next_none was head none = grind (arith, content_none, no_lines_both)
 
-    taken_none : here.fault ≡ None → NoLines (taken_with manner was head).events
-    taken_none may = grind (arith, content_none, head_none, no_lines_both)
-
-    judged_none : (fault : Option OrderFault) → here.fault ≡ fault
-        → NoLines (with_judged fault manner was head).events
-    judged_none None is = taken_none is
-    judged_none (Some fault) is = rw stops none
-
-    next_none : (refused : Option (ℕ × OrderFault))
-        → NoLines (with_entry_unless refused manner was head).events
-    next_none (Some refused) = none
-    next_none None = judged_none here.fault refl
-
-  heads_none : (heads : List Entry) (was : Walked) → NoLines was.events
-      → NoLines (fold (with_next manner) was heads).events
-  heads_none [] was none = none
-  heads_none (head ∷ more) was none =
-      heads_none more (with_next manner was head) (next_none was head none was.refused)
-
-  end_none : (opened : Bool) → NoLines (if opened then LeftOpen ∷ [] else [])
-  end_none true = refl
-  end_none false = refl
+heads_none : (heads : List Entry) (was : Walked) → NoLines was.events
+    → NoLines (fold (with_next stopping) was heads).events
+heads_none [] was none = none
+heads_none (head ∷ more) was none =
+    heads_none more (with_next stopping was head) (next_none was head none)
 
 -- ---- an input without a fault
 
@@ -71,17 +49,9 @@ pub status_clean : (stop : Option StreamStop) (made : Made) → (whole_by stop m
     → (stop ≡ None) × (made.good ≡ true)
 status_clean stop made is = grind arith
 
-stop_clean : (refused : Option (ℕ × OrderFault)) (end : End) → stop_by refused end ≡ None
-    → (refused ≡ None) × (stop_of end ≡ None)
-stop_clean None end is = (refl, is)
-stop_clean (Some (offset, fault)) end is = absurd (cc)
-
 module _ (bytes : List ℕ) where
   abbrev pub reading : Reading
   reading = reading_of bytes
-
-  abbrev pub stopping : Manner
-  stopping = record { goes_on = false; all_heads = false }
 
   abbrev pub was : Walked
   was = walked stopping reading
@@ -106,7 +76,7 @@ module _ (bytes : List ℕ) where
 
   pub clean : ((unpack_tool all).whole bytes).status ≡ 0 → IsClean
   unfolding told_of
-  clean is = grind (arith, and_parts, clean_told, reading_read, status_clean, stop_clean)
+  clean is = grind (arith, and_parts, clean_told, reading_read, status_clean)
 
   module _ (is : IsClean) where
     pub unpacks : unpacked bytes ≡ parts_of all transfers
@@ -120,15 +90,8 @@ module _ (bytes : List ℕ) where
     no_report : flat_map order_line_of events ≡ []
     unfolding walked_of
     no_report =
-        no_lines_both stopping refl was.events (end_events was.taken)
-        (heads_none stopping refl (heads_of reading) (none_walked reading.contact)
-        (contact_none reading.contact))
-        (end_none stopping refl _)
-      where
-        contact_none : (contact : Option Contact)
-            → flat_map order_line_of (contact_events contact) ≡ []
-        contact_none None = refl
-        contact_none (Some contact) = refl
+        no_lines_both was.events (end_events was.taken)
+        (heads_none (heads_of reading) (none_walked reading.contact) (grind arith)) (grind arith)
 
     said : lines_of None (has_open events) told.transfers ≡ lines_of None false transfers
     said =

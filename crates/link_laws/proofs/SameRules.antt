@@ -1,14 +1,13 @@
 -- If every transfer of a recording is over and good, `check --bundles` finds the same rules broken
 -- in the bundles that `unpack` joins as `check` does in the recording.
 use Rattle.std.specs.List.{All, filter, flat_map}
-use Rattle.std.proofs.Common.{◌≡◌, ℕ, ◌≤◌, Bool, true, false, List, [], ◌∷◌, ◌++◌, length, map, None, Ok, refl, ap, ap₂, sym, ◌∙◌, append-nil, arith}
+use Rattle.std.proofs.Common.{◌≡◌, ℕ, ◌≤◌, Bool, true, false, List, [], ◌∷◌, ◌++◌, length, map, None, Ok, refl, ap, sym, ◌∙◌, append-nil, arith}
 use Rattle.std.proofs.lemmas.{Bool.and_parts, Grind.flat_map-append}
 use Rattle.std.proofs.lemmas.List.Elements.{All-nil, All-cons, All-append, filter-append}
 use Rattle.std.proofs.lemmas.List.{map-append}
 use Rattle.link_bundle_blocks.specs.Bundle.{verdict}
 use Rattle.link_bundle_types.specs.declared.info.BundleInfo.{BundleInfo}
 use Rattle.link_bundle_rules.specs.declared.rule.BundleRule.{BundleRule}
-use Rattle.link_message_rules.specs.TransferRules.{broken_transfer_rules}
 use Rattle.link_message_rules.specs.declared.limits.PeerLimits.{PeerLimits}
 use Rattle.link_message_rules.specs.declared.rule.TransferRule.{TransferRule}
 use Rattle.link_rule_report.specs.declared.{line.RuleText.RuleText, rule.BundlePlace.BundlePlace}
@@ -60,9 +59,6 @@ of_bundle offset where_it_is (one ∷ more) =
 -- ---- good transfers
 
 module _ (peer : PeerLimits) where
-  abbrev due : Placed → List RuleText
-  due placed = due_of bundle_choice peer placed
-
   abbrev pub rules : List Placed → List RuleText
   rules placed = rules_of bundle_choice peer placed
 
@@ -76,22 +72,12 @@ module _ (peer : PeerLimits) where
       bundle = record { bytes = placed.transfer.content; info = info };
     }
 
-    due_broken : due placed ≡ broken_in_transfer carried
+    due_broken : due_of bundle_choice peer placed ≡ broken_in_transfer carried
     due_broken =
         let id = placed.transfer.first.id in
-        let of_length = map (λ one. rule.Transfer id one)
-        (broken_transfer_rules placed.transfer.first (length placed.transfer.content)) in
-        let broken = map (λ one. rule.Bundle (place.Transfer id) one)
-        (bundle_rules placed.transfer.content info) in
-        cc (closed, good)
-        ∙ ap of_bundles (map-append (λ one. record { offset = placed.offset; rule = one }) of_length
-        broken)
-        ∙ filter-append (λ (line : RuleText). is_of_bundle line.rule)
-        (at_offset placed.offset of_length) (at_offset placed.offset broken)
-        ∙ ap₂ (λ (first second : List RuleText). first ++ second)
-        (of_transfer placed.offset id
-        (broken_transfer_rules placed.transfer.first (length placed.transfer.content)))
-        (of_bundle placed.offset (place.Transfer id) (bundle_rules placed.transfer.content info))
+        rw (closed, good, map-append, filter-append, of_transfer placed.offset id) (
+        of_bundle placed.offset (place.Transfer id) (bundle_rules placed.transfer.content info)
+        )
 
   abbrev pub IsGood : Carried → Type 0
   IsGood carried = verdict carried.bundle.bytes ≡ Ok carried.bundle.info
@@ -118,15 +104,13 @@ module _ (peer : PeerLimits) where
         transfers = before.transfers ++ one ∷ [];
         good = All-append IsGood before.transfers (one ∷ []) before.good
             (All-cons IsGood one [] first.is (All-nil IsGood));
-        parts =
-            ap (λ (bytes : List ℕ). bytes ++ latest.transfer.content) before.parts
-            ∙ cc (append-nil latest.transfer.content)
-            ∙ sym (flat_map-append bytes_in before.transfers (one ∷ []));
-        broken =
-            ap₂ (λ (first second : List RuleText). first ++ second) before.broken
-            (due_broken latest first.info first.is first.closed
-            ∙ sym (append-nil (broken_in_transfer one)))
-            ∙ sym (flat_map-append broken_in_transfer before.transfers (one ∷ []));
+        parts = rw (before.parts, flat_map-append, append-nil) refl;
+        broken = rw (
+          before.broken,
+          due_broken latest first.info first.is first.closed,
+          flat_map-append broken_in_transfer,
+          append-nil,
+        ) refl;
       }
 
   -- ---- the output of `unpack`
@@ -187,11 +171,10 @@ module _ (peer : PeerLimits) where
           ∙ sym (told_transfers all (recording.events bytes))
           ∙ clean.are
 
-    pub placed : AfterAll bundle_choice peer [] [] None events
+    abbrev pub placed : AfterAll bundle_choice peer [] [] None events
     placed = placed_by bundle_choice
 
     pub same_transfers : transfers_in placed.after ≡ recording.transfers bytes
-    unfolding placed
     same_transfers = transfers_by bundle_choice
 
     pub carries : CarryAll placed.after

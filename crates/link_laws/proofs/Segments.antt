@@ -1,6 +1,6 @@
 -- The segments of a transfer, as messages of a stream.
 use Rattle.std.specs.Prelude.{IfSome}
-use Rattle.std.proofs.Common.{◌≡◌, ℕ, zero, suc, ◌+◌, ◌*◌, ◌^◌, ◌<◌, ◌≤◌, Bool, true, false, ◌&&◌, nat_lt, nat_le, List, [], ◌∷◌, length, drop, Option, Some, None, if◌then◌else◌, refl, length-take, arith}
+use Rattle.std.proofs.Common.{ℕ, zero, suc, ◌+◌, ◌*◌, ◌^◌, ◌<◌, ◌≤◌, Bool, List, [], ◌∷◌, length, drop, Option, None, if◌then◌else◌, refl, length-take, arith}
 use Rattle.std.proofs.lemmas.{Bool.Decides.nat_tests, List.Elements.{All-take, All-drop}}
 use Rattle.link_wire.specs.{Bytes.{IsByte, AreBytes}, Spelled.HeadSpelled, SpelledStream.IsStream}
 use Rattle.link_wire.specs.{Spelling.{segment_head_bytes, segment_with}, Stream.{Entry, Clean}}
@@ -27,22 +27,15 @@ segment_entries id sending k (suc count) offset =
 
 -- the conditions under which segments are made
 pub record SendingFits (sending : Sending) : Type 0 where
-  pub some : 0 < sending.segment
   pub small : sending.segment ≤ 65536
   pub hold : sending.hold ≤ 1048576
   pub are : AreBytes sending.bundle
 
 -- a length that is announced fits in its field
-fits_by : (test : Bool) (size : ℕ) → (test ≡ true → size ≤ 1048576)
-    → IfSome (if test then Some size else None) (λ total. total < 2 ^ 64)
-fits_by true size most = let small = most refl in omega arith
-fits_by false size most = tt
-
 announcement_fits : (so_far : Cutting) → so_far.hold ≤ 1048576
     → IfSome (announcement so_far) (λ total. total < 2 ^ 64)
 unfolding announcement
-announcement_fits so_far small =
-    fits_by (so_far.whole && (nat_lt so_far.segment (length so_far.bundle) && nat_le (length so_far.bundle) so_far.hold)) (length so_far.bundle) (λ held. grind (arith, nat_tests))
+announcement_fits so_far small = grind (arith, nat_tests)
 
 -- the head of a segment, which announces a length only with the first chunk
 head_spelled : (first last : Bool) (id size : ℕ) (announce : Option ℕ) → id < 2 ^ 64 → size < 2 ^ 64
@@ -50,10 +43,7 @@ head_spelled : (first last : Bool) (id size : ℕ) (announce : Option ℕ) → i
     → (let outcome = if first then announce else None in
     HeadSpelled (segment_with (flags_of first last) id size outcome)
     (segment_head_bytes (flags_of first last) id size outcome))
-head_spelled true true id size announce id_fits size_fits fits = segment_spelled 3 id size announce (omega arith) id_fits size_fits fits (λ some. refl)
-head_spelled true false id size announce id_fits size_fits fits = segment_spelled 2 id size announce (omega arith) id_fits size_fits fits (λ some. refl)
-head_spelled false true id size announce id_fits size_fits fits = segment_spelled 1 id size None (omega arith) id_fits size_fits tt (λ some. absurd (cc))
-head_spelled false false id size announce id_fits size_fits fits = segment_spelled 0 id size None (omega arith) id_fits size_fits tt (λ some. absurd (cc))
+head_spelled first last id size announce id_fits size_fits fits = grind (arith, segment_spelled)
 
 module _ (id : ℕ) (sending : Sending) (fits : SendingFits sending) (id_fits : id < 2 ^ 64) where
   small_chunk : (k : ℕ) → length (chunk_of sending k) < 2 ^ 64

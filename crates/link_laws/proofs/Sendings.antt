@@ -1,7 +1,7 @@
 -- The segments that are due of a transfer.
-use Rattle.std.specs.{Prelude.◌==◌, List.All}
-use Rattle.std.proofs.Common.{◌≡◌, ℕ, zero, suc, ◌+◌, ◌*◌, ◌<◌, ◌≤◌, Bool, true, false, ◌&&◌, List, [], ◌∷◌, ◌++◌, length, drop, None, refl, sym, subst, append-nil, append_assoc, length-take, length-drop, arith}
-use Rattle.std.proofs.lemmas.{Bool.ne_eqb, List.Elements.{All-nil, All-cons}}
+use Rattle.std.specs.List.{All}
+use Rattle.std.proofs.Common.{◌≡◌, ℕ, zero, suc, ◌+◌, ◌*◌, ◌<◌, ◌≤◌, false, List, [], ◌∷◌, ◌++◌, length, drop, None, append-nil, append_assoc, length-take, length-drop, arith}
+use Rattle.std.proofs.lemmas.{Bool.{ne_eqb, Decides.nat_tests}, List.Elements.{All-nil, All-cons}}
 use Rattle.link_wire.specs.Stream.{Entry}
 use Rattle.link_transfer.specs.Chunks.{chunk_count}
 use Rattle.link_transfer.proofs.Due.{byte_left}
@@ -12,10 +12,6 @@ use Rattle.link_laws.specs.PackedStream.{SegmentFits}
 use Rattle.link_laws.proofs.Segments.{chunk_of, segment_entries}
 use Rattle.link_laws.proofs.Sent.{open_by, sent, last_at, segment_at, stands_first, stands_next}
 use Rattle.link_laws.proofs.Standing.{Stands, carrying}
-
-not_last : (whole : Bool) (count all : ℕ) → count < all → (whole && (count == all)) ≡ false
-not_last true count all below = ne_eqb count all (λ same. absurd (omega arith))
-not_last false count all below = refl
 
 module _ (id : ℕ) (sending : Sending) where
   abbrev pub chunks_of : ℕ
@@ -28,42 +24,39 @@ module _ (id : ℕ) (sending : Sending) where
   SentSo earlier count heads = Stands heads (carrying (open_by id (last_at id sending count))) (sent id sending (suc count) (last_at id sending count) ∷ earlier)
 
   module _ (earlier : List Transfer) where
-    sent_as : (count other : ℕ) (heads others : List Entry) → heads ≡ others → count ≡ other
-        → SentSo earlier count heads → SentSo earlier other others
-    sent_as count other heads others same equal at =
-        subst (λ n. SentSo earlier n others) equal (subst (SentSo earlier count) same at)
-
     sent_one : (count : ℕ) (heads : List Entry) (offset : ℕ) → suc count < chunks_of
         → SentSo earlier count heads
         → SentSo earlier (suc count) (heads ++ segment_at id sending (suc count) offset ∷ [])
     sent_one count heads offset below at =
-        let going : last_at id sending count ≡ false = not_last sending.whole (count + 1) chunks_of (omega arith) in
-        stands_next id sending (suc count) (last_at id sending count) heads earlier offset (ne_eqb (suc count) 0 (λ same. absurd (omega arith)))
-        (subst (λ last. Stands heads (carrying (open_by id last)) (sent id sending (suc count) (last_at id sending count) ∷ earlier)) going at)
+        let going : last_at id sending count ≡ false = grind (arith, nat_tests) in
+        stands_next id sending (suc count) heads earlier offset
+        (ne_eqb (suc count) 0 (λ same. absurd (omega arith))) (rw going at (at))
 
     sent_more : (count more : ℕ) (heads : List Entry) (offset : ℕ) → suc count + more ≤ chunks_of
         → SentSo earlier count heads
         → SentSo earlier (count + more) (heads
         ++ segment_entries id sending (suc count) more offset)
     unfolding segment_entries
-    sent_more count zero heads offset within at = sent_as count (count + 0) heads (heads ++ []) (sym (append-nil heads)) (omega arith) at
+    sent_more count zero heads offset within at =
+        let same : count + 0 ≡ count = omega arith in rw (same, append-nil) (at)
     sent_more count (suc more) heads offset within at =
+        let next : count + suc more ≡ suc count + more = omega arith in
         let one = segment_at id sending (suc count) offset in
-        let after = offset + length (segment_bytes id (cut_at sending (suc count)) (chunk_of sending (suc count))) in
-        let rest = segment_entries id sending (suc (suc count)) more after in
-        sent_as (suc count + more) (count + suc more) ((heads ++ one ∷ []) ++ rest) (heads ++ one ∷ rest) (append_assoc heads (one ∷ []) rest) (omega arith)
-        (sent_more (suc count) more (heads ++ one ∷ []) after (omega arith) (sent_one count heads offset (omega arith) at))
+        rw (next, ← append_assoc heads (one ∷ []))
+        (sent_more (suc count) more (heads ++ one ∷ []) _ (omega arith)
+        (sent_one count heads offset (omega arith) at))
 
     pub sent_all : (count : ℕ) (heads : List Entry) (offset : ℕ) → suc count ≤ chunks_of
         → Stands heads (carrying None) earlier
         → SentSo earlier count (heads ++ segment_entries id sending 0 (suc count) offset)
     unfolding segment_entries
     sent_all count heads offset within at =
+        let same : 0 + count ≡ count = omega arith in
         let one = segment_at id sending 0 offset in
         let after = offset + length (segment_bytes id (cut_at sending 0) (chunk_of sending 0)) in
-        let rest = segment_entries id sending 1 count after in
-        sent_as (0 + count) count ((heads ++ one ∷ []) ++ rest) (heads ++ one ∷ rest) (append_assoc heads (one ∷ []) rest) (omega arith)
-        (sent_more 0 count (heads ++ one ∷ []) after (omega arith) (stands_first id sending heads earlier offset at))
+        rw (← append_assoc heads (one ∷ []) (segment_entries id sending 1 count after))
+        (rw same at (sent_more 0 count (heads ++ one ∷ []) after (omega arith)
+        (stands_first id sending heads earlier offset at)))
 
   -- ---- within the limits
 

@@ -1,12 +1,12 @@
 -- The segments of a transfer are in order, and their chunks are its data.
 use Rattle.std.specs.Prelude.{◌==◌}
-use Rattle.std.proofs.Common.{◌≡◌, ℕ, suc, ◌*◌, Bool, true, false, List, [], ◌∷◌, ◌++◌, length, take, Option, Some, None, if◌then◌else◌, refl, ap, sym, ◌∙◌, subst, arith}
+use Rattle.std.proofs.Common.{◌≡◌, ℕ, suc, ◌*◌, Bool, true, false, List, [], ◌∷◌, ◌++◌, length, take, Option, Some, None, if◌then◌else◌, refl, ap, sym, ◌∙◌, arith}
 use Rattle.std.proofs.{Math.Bool.and-true, lemmas.Bool.eq-eqb, Math.Seq.take-add}
 use Rattle.link_wire.specs.{Codes.{is_start, is_end}, Stream.Entry, Spelling.announced}
 use Rattle.link_wire.specs.declared.message.SegmentHead.{SegmentHead}
 use Rattle.link_transfer.specs.{Chunks.chunk_at, Order.{refusal_by, open_after}}
 use Rattle.link_transfer.specs.declared.event.Event.TheVariants.{Segment}
-use Rattle.link_unpack.specs.Transfers.{Transfer, closes, after_message}
+use Rattle.link_unpack.specs.Transfers.{Transfer, after_message}
 use Rattle.link_unpack.proofs.Heads.{transfer_begins, transfer_continues}
 use Rattle.link_run.proofs.Continued.{entry}
 use Rattle.link_pack.specs.Segments.{Sending, cut_at, flags_of}
@@ -24,13 +24,11 @@ ends_as first last = grind arith
 -- a first segment may come if no transfer is open, and another one if its own transfer is open
 pub first_may : (last : Bool) (id : ℕ)
     → refusal_by true false None (Segment (flags_of true last) id) ≡ None
-first_may true id = refl
-first_may false id = refl
+first_may last id = grind arith
 
 pub next_may : (last : Bool) (id : ℕ)
     → refusal_by true false (Some id) (Segment (flags_of false last) id) ≡ None
-next_may true id = rw (eq-eqb id id refl) refl
-next_may false id = rw (eq-eqb id id refl) refl
+next_may last id = grind (arith, eq-eqb)
 
 -- the transfer that is open after a segment
 abbrev pub open_by : (id : ℕ) (last : Bool) → Option ℕ
@@ -50,11 +48,6 @@ head_of id sending k = record {
   length = length (chunk_of sending k);
 }
 
-closes_as : (head : SegmentHead) (content : List ℕ) (last : Bool) → is_end head.flags ≡ last
-    → length content ≡ head.length → closes head content ≡ last
-closes_as head content last ends size =
-    rw (ends, eq-eqb (length content) head.length size) (and-true last)
-
 -- a transfer after `count` of its chunks were sent
 abbrev pub sent : (id : ℕ) → Sending → (count : ℕ) → (closed : Bool) → Transfer
 sent id sending count closed = record { first = head_of id sending 0; content = take (count * sending.segment) sending.bundle; closed = closed }
@@ -70,13 +63,6 @@ pub taken_first : (segment : ℕ) (bundle : List ℕ)
 taken_first segment bundle =
     ap (λ n. take n bundle ++ chunk_at segment 0 bundle) {x = 0} {y = 0 * segment} (omega arith) ∙ taken_more segment 0 bundle
 
-transfer_as : (first : SegmentHead) (content taken : List ℕ) (closed last : Bool)
-    (earlier : List Transfer) → content ≡ taken → closed ≡ last
-    → ◌≡◌ {A = List Transfer}
-    (record { first = first; content = content; closed = closed } ∷ earlier)
-    (record { first = first; content = taken; closed = last } ∷ earlier)
-transfer_as first content taken closed last earlier same ends = cc
-
 -- one segment
 module _ (id : ℕ) (sending : Sending) where
   abbrev pub last_at : (k : ℕ) → Bool
@@ -85,44 +71,32 @@ module _ (id : ℕ) (sending : Sending) where
   abbrev pub segment_at : (k offset : ℕ) → Entry
   segment_at k offset = entry offset (message_of id sending k) (chunk_of sending k)
 
-  closes_at : (k : ℕ) → closes (head_of id sending k) (chunk_of sending k) ≡ last_at k
-  closes_at k = closes_as (head_of id sending k) (chunk_of sending k) (last_at k) (ends_as (k == 0) (last_at k)) refl
-
   first_sent : (earlier : List Transfer)
       → after_message earlier (message_of id sending 0) (chunk_of sending 0)
       ≡ sent id sending 1 (last_at 0) ∷ earlier
   first_sent earlier =
-      grind (arith, closes_at, starts_as, taken_first, transfer_as, transfer_begins)
+      grind (arith, and-true, ends_as, eq-eqb, starts_as, taken_first, transfer_begins)
 
-  next_sent : (k : ℕ) (closed : Bool) (earlier : List Transfer) → (k == 0) ≡ false
-      → after_message (sent id sending k closed ∷ earlier) (message_of id sending k)
+  next_sent : (k : ℕ) (earlier : List Transfer) → (k == 0) ≡ false
+      → after_message (sent id sending k false ∷ earlier) (message_of id sending k)
       (chunk_of sending k) ≡ sent id sending (suc k) (last_at k) ∷ earlier
-  next_sent k closed earlier later =
-      transfer_continues (sent id sending k closed ∷ earlier) (head_of id sending k) (chunk_of sending k) (starts_as (k == 0) (last_at k) ∙ later)
-      ∙ transfer_as (head_of id sending 0) (take (k * sending.segment) sending.bundle ++ chunk_of sending k) (take (suc k * sending.segment) sending.bundle)
-      (closes (head_of id sending k) (chunk_of sending k)) (last_at k) earlier
-      (taken_more sending.segment k sending.bundle) (closes_at k)
-
-  stands_as : (heads : List Entry) (transfer other : Option ℕ) (transfers others : List Transfer)
-      → transfer ≡ other → transfers ≡ others
-      → Stands heads (carrying transfer) transfers → Stands heads (carrying other) others
-  stands_as heads transfer other transfers others same_open same at =
-      subst (λ t. Stands heads (carrying t) others) same_open (subst (λ ts. Stands heads (carrying transfer) ts) same at)
+  next_sent k earlier later =
+      grind (arith, and-true, ends_as, eq-eqb, starts_as, taken_more, transfer_continues)
 
   pub stands_first : (heads : List Entry) (earlier : List Transfer) (offset : ℕ)
       → Stands heads (carrying None) earlier
       → Stands (heads ++ segment_at 0 offset ∷ []) (carrying (open_by id (last_at 0)))
       (sent id sending 1 (last_at 0) ∷ earlier)
   stands_first heads earlier offset at =
-      stands_as (heads ++ segment_at 0 offset ∷ []) _ _ _ _ (opens_by true (last_at 0) id) (first_sent earlier)
-      (stands_more heads (carrying None) earlier (segment_at 0 offset) (Segment (flags_of true (last_at 0)) id) refl (first_may (last_at 0) id) at)
+      rw (opens_by true (last_at 0) id, first_sent earlier) at (stands_more heads (carrying None)
+      earlier (segment_at 0 offset) (Segment (flags_of true (last_at 0)) id) refl
+      (first_may (last_at 0) id) at)
 
-  pub stands_next : (k : ℕ) (closed : Bool) (heads : List Entry) (earlier : List Transfer)
-      (offset : ℕ) → (k == 0) ≡ false
-      → Stands heads (carrying (Some id)) (sent id sending k closed ∷ earlier)
+  pub stands_next : (k : ℕ) (heads : List Entry) (earlier : List Transfer) (offset : ℕ)
+      → (k == 0) ≡ false → Stands heads (carrying (Some id)) (sent id sending k false ∷ earlier)
       → Stands (heads ++ segment_at k offset ∷ []) (carrying (open_by id (last_at k)))
       (sent id sending (suc k) (last_at k) ∷ earlier)
-  stands_next k closed heads earlier offset later at =
-      stands_as (heads ++ segment_at k offset ∷ []) _ _ _ _ (opens_by (k == 0) (last_at k) id) (next_sent k closed earlier later)
-      (stands_more heads (carrying (Some id)) (sent id sending k closed ∷ earlier) (segment_at k offset) (Segment (flags_of (k == 0) (last_at k)) id) refl
-      (ap (λ first. refusal_by true false (Some id) (Segment (flags_of first (last_at k)) id)) later ∙ next_may (last_at k) id) at)
+  stands_next k heads earlier offset later at =
+      rw (opens_by (k == 0) (last_at k) id, next_sent k earlier later) at (stands_more heads
+      (carrying (Some id)) (sent id sending k false ∷ earlier) (segment_at k offset)
+      (Segment (flags_of (k == 0) (last_at k)) id) refl (rw later (next_may (last_at k) id)) at)

@@ -1,5 +1,5 @@
 -- Heads that are in order and their transfers, with one more head.
-use Rattle.std.proofs.Common.{◌≡◌, ℕ, true, false, List, [], ◌∷◌, ◌++◌, Option, None, refl, ap, sym, ◌∙◌, subst}
+use Rattle.std.proofs.Common.{◌≡◌, ℕ, true, false, List, [], ◌∷◌, ◌++◌, Option, None, refl, ap, ◌∙◌}
 use Rattle.std.proofs.lemmas.{Grind.fold-append, List.map_push}
 use Rattle.link_wire.specs.Stream.{Entry}
 use Rattle.link_transfer.specs.{Event.event_of, Joiner.{IsJoinerAt, joiner_after}, Order.refusal_by}
@@ -41,8 +41,7 @@ stands_more heads joiner transfers head event is may at =
     record {
       in_order = in_order_more heads head at.in_order
           (cc (is, refusal-at joiner (messages_of heads) event at.joins, may));
-      joins = subst (IsJoinerAt (joiner_after joiner event))
-          (sym (map_push (λ (h : Entry). h.message) heads head))
+      joins = rw (map_push (λ (h : Entry). h.message) heads head)
           (IsJoinerAt-then joiner (messages_of heads) head.message event is at.joins);
       makes = fold-append after [] heads (head ∷ []) ∙ ap (λ ts. after ts head) at.makes;
     }

@@ -1,25 +1,14 @@
 -- What `unpack` says of the events of a head and of its data.
-use Rattle.std.proofs.Common.{◌≡◌, ℕ, zero, suc, Bool, true, false, not, ◌&&◌, ◌==◌, List, [], ◌∷◌, ◌++◌, length, Option, if◌then◌else◌, refl, ap, sym, ◌∙◌, append-nil, arith}
+use Rattle.std.proofs.Common.{◌≡◌, ℕ, zero, suc, Bool, true, false, not, ◌&&◌, ◌==◌, List, [], ◌∷◌, ◌++◌, length, Option, if◌then◌else◌, refl, ap, ◌∙◌, append-nil, arith}
 use Rattle.std.proofs.{Math.Bool.{and-true, and-false}, lemmas.Bool.ne_eqb}
 use Rattle.link_wire.specs.{Message.data_length, declared.message.Message.Message}
 use Rattle.link_wire.specs.declared.message.SegmentHead.{SegmentHead}
 use Rattle.link_transfer.specs.declared.{fault.OrderFault.OrderFault, joiner.Turn.Turn}
-use Rattle.link_walk.specs.Walk.{Head, WalkEvent, MessageHead, Whole, is_plain, content_events, data_events, head_events}
+use Rattle.link_walk.specs.Walk.{Head, WalkEvent, Whole, is_plain, content_events, data_events, head_events}
 use Rattle.link_unpack.specs.Transfers.{Transfer}
-use Rattle.link_unpack.specs.Unpacking.{Told, transfers_at, with_line, told_head}
+use Rattle.link_unpack.specs.Unpacking.{Told, transfers_at, told_head}
 use Rattle.link_unpack.specs.declared.wanted.Wanted.{Wanted}
-use Rattle.link_unpack.proofs.Events.{told_then, told_both, data_told}
-
-pub closed_not : (closed : Bool) → not closed ≡ true → closed ≡ false
-closed_not true is = absurd (cc)
-closed_not false is = refl
-
-pub told_as : (transfers : List Transfer) (report lines : List ℕ) (good all : Bool)
-    → report ≡ lines → good ≡ all
-    → ◌≡◌ {A = Told}
-    (record { transfers = transfers; report = report; good = good })
-    (record { transfers = transfers; report = lines; good = all })
-told_as transfers report lines good all same is = cc
+use Rattle.link_unpack.proofs.Events.{told_then, told_both, data_told, whole_if, whole_told}
 
 module _ (wanted : Wanted) where
   -- ---- the data of a segment
@@ -27,34 +16,14 @@ module _ (wanted : Wanted) where
   module _ (first : SegmentHead) (earlier : List Transfer) (lines : List ℕ) (good : Bool) where
     -- the segment's transfer has this content, and its line if it is closed
     abbrev pub segment_told : List ℕ → Bool → Told
-    segment_told content closed = with_line wanted closed (record {
-      transfers = record { first = first; content = content; closed = closed } ∷ earlier;
-      report = lines;
-      good = good;
-    })
-
-    whole_told : (content : List ℕ) (whole : Bool)
-        → told_then wanted (record {
-          transfers = record { first = first; content = content; closed = false } ∷ earlier;
-          report = lines;
-          good = good;
-        }) (if whole then Whole ∷ [] else [])
-        ≡ segment_told content whole
-    whole_told content whole = grind (arith, and-true, append-nil, told_as)
+    segment_told content closed = whole_if wanted first content earlier lines good closed
 
     no_line : (content : List ℕ) → segment_told content false ≡ record {
       transfers = record { first = first; content = content; closed = false } ∷ earlier;
       report = lines;
       good = good;
     }
-    no_line content = told_as _ _ _ _ _ (append-nil lines) (and-true good)
-
-    none : (content : List ℕ) (last : Bool)
-        → told_then wanted (segment_told content (last && true))
-        (if last && false then Whole ∷ [] else [])
-        ≡ segment_told content (last && true)
-    none content true = refl
-    none content false = refl
+    no_line content = rw (append-nil, and-true) refl
 
     -- once the head is told, its data comes
     pub content_told : (before : List ℕ) (last : Bool) (size : ℕ) (content : List ℕ)
@@ -62,7 +31,7 @@ module _ (wanted : Wanted) where
         → told_then wanted (segment_told before (last && (size == 0))) (data_events content
         ++ (if last && (not (size == 0) && (length content == size)) then Whole ∷ [] else []))
         ≡ segment_told (before ++ content) (last && (length content == size))
-    content_told before last zero content fits = rw (fits refl, append-nil) (none before last)
+    content_told before last zero content fits = rw (fits refl, append-nil) (grind arith)
     content_told before last (suc more) content fits =
         let some = ne_eqb (suc more) 0 (λ none. absurd (omega arith)) in
         let ends : List WalkEvent =
@@ -71,7 +40,8 @@ module _ (wanted : Wanted) where
         (ap (λ told. told_then wanted told (data_events content ++ ends)) (no_line before)
         ∙ told_both wanted _ (data_events content) _
         ∙ ap (λ told. told_then wanted told ends) (data_told wanted content _ lines good refl)
-        ∙ whole_told (before ++ content) (last && (length content == suc more)))
+        ∙ whole_told wanted first (before ++ content) earlier lines good
+        (last && (length content == suc more)))
 
   -- ---- a head
 
@@ -92,27 +62,6 @@ module _ (wanted : Wanted) where
     abbrev told : Told
     told = record { transfers = transfers; report = report; good = good }
 
-    plain_none : (after : List Transfer) (closing : Bool) → after ≡ transfers → closing ≡ false
-        → with_line wanted closing (record {
-          transfers = after;
-          report = (report ++ []) ++ [];
-          good = (good && true) && true;
-        }) ≡ told
-    plain_none after closing same is = grind (arith, and-true, append-nil)
-
-    plain_told : (fault : Option OrderFault) (effect : Option Turn)
-        → is_plain (head_of offset sent fault effect) ≡ true
-        → transfers_at effect transfers sent ≡ transfers
-        → told_head wanted told (head_of offset sent fault effect) ≡ told
-    plain_told fault effect is same = grind (arith, closed_not, plain_none)
-
-    head_by : (head : Head) (plain : Bool) → is_plain head ≡ plain
-        → (is_plain head ≡ true → told_head wanted told head ≡ told)
-        → told_then wanted told (if not plain then MessageHead head ∷ [] else [])
-        ≡ told_head wanted told head
-    head_by head true is same = sym (same is)
-    head_by head false is same = refl
-
     -- the head is told, and then its data
     pub head_told : (fault : Option OrderFault) (effect : Option Turn) (content : List ℕ)
         → (is_plain (head_of offset sent fault effect) ≡ true
@@ -120,4 +69,4 @@ module _ (wanted : Wanted) where
         → said_of offset fault effect sent content told
         ≡ told_then wanted (told_head wanted told (head_of offset sent fault effect))
         (content_events effect (data_length sent) content)
-    head_told fault effect content same = grind (arith, head_by, plain_told, told_both)
+    head_told fault effect content same = grind (arith, and-true, append-nil, told_both)
