@@ -5,12 +5,12 @@ use Rattle.std.proofs.lemmas.List.{length-take-le, take-append-drop}
 use Rattle.link_cbor.specs.{declared.check.CheckKind.CheckKind, Head.head_front}
 use Rattle.link_bundle_blocks.specs.{declared.block.CanonicalBlock.CanonicalBlock, Blocks.Primary}
 use Rattle.link_bundle_blocks.specs.Reading.{Stop, ReadAt, head_at, row_at}
-use Rattle.link_bundle_blocks.specs.Canonical.{heads_at, content_at}
+use Rattle.link_bundle_blocks.specs.Canonical.{heads_at}
 use Rattle.link_bundle_blocks.specs.Bundle.{Bundle, opening_at, bundle_at}
 use Rattle.link_bundle_blocks.specs.Whole.{whole_primary, whole_canonical}
-use Rattle.link_bundle_blocks.proofs.Steady.{Onward, EndsCut, Reads, GoesTo, EndsWithin, Lasts, cuts, same, reads_last, short, whole, ended, reads-then, reads-then-of, content_at-reads, heads_at-reads, whole_primary-reads}
+use Rattle.link_bundle_blocks.proofs.Steady.{EndsCut, Reads, GoesTo, EndsWithin, Lasts, cuts, same, reads_last, ended, reads-then, reads-then-of, content_at-reads, heads_at-reads, whole_primary-reads, data_before}
 use Rattle.link_bundle_blocks.proofs.Keeping.{begun-of-either, bundle_at-lasts}
-use Rattle.link_bundle_blocks.proofs.Readings.{has_parts}
+use Rattle.link_bundle_blocks.proofs.Readings.{was_read, has_parts}
 
 pub whole_canonical-reads : (numbers bytes more : List ℕ) (start : ℕ)
     → Reads bytes start (whole_canonical numbers bytes start)
@@ -21,7 +21,7 @@ whole_canonical-reads numbers bytes more start =
     (heads_at numbers (bytes ++ more) start) _ _
     (heads_at-reads numbers bytes more start)
     (λ (block, next) read.
-    rw (begun-of-either numbers bytes more start block next read).place
+    rw (begun-of-either numbers bytes more start (block, next) read).place
     (reads-then
     (content_at-reads block.data_length block.check block.start bytes more block.data_start)
     (λ (_, next). ended bytes block next)))
@@ -89,14 +89,6 @@ module _ {A : Type 0} (size : A → ℕ) (read : List ℕ → Result A Stop) (va
             (omega (arith, length-take-le count bytes (omega arith)));
       }
 
-onward_read : {A : Type 0} (bytes : List ℕ) (offset : ℕ) (value : A) (next : ℕ)
-    (now later : ReadAt A)
-    → Reads bytes offset now later → now ≡ Ok (value, next) → offset ≤ next
-onward_read bytes offset value next (Ok read) later (short cut onward past) is = absurd cut
-onward_read bytes offset value next (Err stop) later (short cut onward past) is = cc
-onward_read bytes offset value next now later (whole stays onward within) is =
-    let here : Onward offset (Ok (value, next)) = rw is at onward in here
-
 block_stays : (numbers bytes more : List ℕ)
     → Lasts (λ read. read.1) bytes (whole_canonical numbers bytes 0)
     (whole_canonical numbers (bytes ++ more) 0)
@@ -123,11 +115,12 @@ pub data_begins : (numbers bytes : List ℕ) (start : ℕ) (block : CanonicalBlo
     → whole_canonical numbers bytes start ≡ Ok (block, next) → block.data_start ≤ next
 data_begins numbers bytes start block next is =
     let parts = has_parts numbers bytes start (block, next) is in
-    let at = block.data_start in
-    onward_read bytes at parts.same next
-    (content_at block.data_length block.check block.start bytes at)
-    (content_at block.data_length block.check block.start (bytes ++ []) at)
-    (content_at-reads block.data_length block.check block.start bytes [] at) parts.content
+    omega (
+      arith,
+      was_read _ _ _
+          (data_before block.data_length block.check block.start bytes block.data_start)
+          parts.content,
+    )
 
 no_block : (numbers : List ℕ) → EndsCut (whole_canonical numbers [] 0)
 unfolding whole_canonical heads_at row_at head_at head_front

@@ -1,19 +1,20 @@
 -- A bundle that is read from some bytes, and from those bytes with more after them.
 
-use Rattle.std.proofs.Common.{◌≡◌, ℕ, zero, suc, ◌+◌, ◌<◌, ◌≤◌, ◌⊎◌, inl, inr, Bool, true, List, [], ◌∷◌, ◌++◌, length, Option, None, Some, Result, Ok, Err, refl, sym, ap, subst, ◌∙◌, ⊎_elim, arith, ltb}
-use Rattle.std.specs.Prelude.{◌==◌, if◌then◌else◌}
-use Rattle.std.proofs.lemmas.Bool.{cases_lt, lt-ltb}
+use Rattle.std.proofs.Common.{◌≡◌, ℕ, zero, suc, ◌+◌, ◌<◌, ◌≤◌, ◌⊎◌, inl, inr, Bool, List, [], ◌∷◌, ◌++◌, length, Option, None, Some, Result, Ok, Err, refl, sym, ap, ◌∙◌, ⊎_elim, arith}
+use Rattle.std.specs.Prelude.{◌==◌, IfOk}
+use Rattle.std.proofs.lemmas.Bool.{cases_lt}
+use Rattle.link_cbor.specs.declared.head.Head.{Head as HeadItem}
+use Rattle.link_bundle_types.specs.declared.fault.BundleFault.{BundleFault}
 use Rattle.link_bundle_types.specs.declared.fault.BundleFault.TheVariants.{Cut}
-use Rattle.link_bundle_types.specs.declared.info.BundleInfo.{BundleInfo}
 use Rattle.link_bundle_heads.specs.Rows.{◌>>=◌, unsigned, byte_string, block as block_head, block_too_many, block_number, block_check_type, closing}
 use Rattle.link_bundle_blocks.specs.declared.block.CanonicalBlock.{CanonicalBlock}
 use Rattle.link_bundle_blocks.specs.Blocks.{Primary, Block, PrimaryOf, CanonicalOf, ended}
-use Rattle.link_bundle_blocks.specs.Reading.{Stop, ReadAt, stopped, cut_short, row_at, bytes_at}
+use Rattle.link_bundle_blocks.specs.Reading.{Stop, ReadAt, stopped, cut_short, row_at}
 use Rattle.link_bundle_blocks.specs.Canonical.{heads_at, content_at}
-use Rattle.link_bundle_blocks.specs.Bundle.{Bundle, with_payload, with_blocks, cut_in, inside as inside_block, info_of, rest_of, payload_at, blocks_at, bundle_at, payload_of}
-use Rattle.link_bundle_blocks.proofs.Blocks.{payload_of-blocks}
-use Rattle.link_bundle_blocks.proofs.Steady.{EndsCut, Reads, GoesTo, EndsWithin, Lasts, short, whole, cuts, same, both_either, row_at-reads, content_at-reads, heads_at-reads, whole_primary-reads}
-use Rattle.link_bundle_blocks.proofs.Readings.{bundle_parts}
+use Rattle.link_bundle_blocks.specs.Bundle.{Bundle, with_payload, with_blocks, cut_in, inside as inside_block, info_of, payload_at, blocks_at, bundle_at, payload_of}
+use Rattle.link_bundle_blocks.proofs.{Blocks.payload_of-blocks, Runs.content_at-cut}
+use Rattle.link_bundle_blocks.proofs.Steady.{EndsCut, Reads, GoesTo, EndsWithin, Lasts, short, whole, cuts, same, both_either, row_at-reads, content_at-reads, heads_at-reads, whole_primary-reads, on_by, Onward, onward_of}
+use Rattle.link_bundle_blocks.proofs.Readings.{then_read, was_read, bundle_parts}
 
 -- ---- the offsets of the payload and of the bundle's end
 
@@ -90,73 +91,49 @@ sooner offset start reading lower from = record {
 nowhere : (offset : ℕ) (stop : Stop) → stop.payload_span ≡ None → BundleFrom offset (Err stop)
 nowhere offset stop plain = record { payload = rw plain tt; end = tt }
 
--- a part that stops as `change` says, and what follows it
-abbrev bound : {A : Type 0} → (Stop → Stop) → ReadAt A → (A × ℕ → Result Bundle Stop)
-    → Result Bundle Stop
-bound change (Ok value) next = next value
-bound change (Err stop) next = Err (change stop)
+-- A part, and what follows it. If the part stops, `cut` says which block the stop cuts short.
+abbrev bound : {A : Type 0} → (Stop → Option CanonicalBlock) → ReadAt A
+    → (A × ℕ → Result Bundle Stop) → Result Bundle Stop
+bound cut (Ok value) next = next value
+bound cut (Err stop) next = Err (record stop { cut_block = cut stop })
 
--- a change of stops that keeps their fault and their payload
-record Harmless (change : Stop → Stop) : Type 0 where
-  fault : (stop : Stop) → (change stop).fault ≡ stop.fault
-  payload : (stop : Stop) → (change stop).payload_span ≡ stop.payload_span
-
-no_payload : (change : Stop → Stop) → Harmless change → (stop : Stop)
-    → stop ≡ stopped stop.fault stop.offset → (change stop).payload_span ≡ None
-no_payload change harmless stop plain =
-    harmless.payload stop ∙ ap (λ (stop : Stop). stop.payload_span) plain
-
-cut_before : (change : Stop → Stop) → Harmless change → (bytes : List ℕ) (stop : Stop)
-    → stop ≡ stopped Cut (length bytes) → EndsBefore (Err (change stop))
-cut_before change harmless bytes stop cut = (
-  harmless.fault stop ∙ ap (λ (stop : Stop). stop.fault) cut,
-  harmless.payload stop ∙ ap (λ (stop : Stop). stop.payload_span) cut,
-)
-
-keeps-bound : {A : Type 0} (change : Stop → Stop) → Harmless change
-    → (bytes : List ℕ) (offset : ℕ) (now later : ReadAt A)
+keeps-bound : {A : Type 0} (cut : Stop → Option CanonicalBlock)
+    (bytes : List ℕ) (offset : ℕ) (now later : ReadAt A)
     (next next_later : A × ℕ → Result Bundle Stop) → Reads bytes offset now later
     → ((value : A × ℕ) → (now ≡ Ok value) ⊎ (later ≡ Ok value)
     → Keeps bytes value.1 (next value) (next_later value))
-    → Keeps bytes offset (bound change now next) (bound change later next_later)
-keeps-bound change harmless bytes offset (Ok value) later next next_later (short cut onward past)
-    each = absurd cut
-keeps-bound change harmless bytes offset (Err stop) (Err other) next next_later
-    (short cut onward past) each =
-    let none = no_payload change harmless other onward in
+    → Keeps bytes offset (bound cut now next) (bound cut later next_later)
+keeps-bound cut bytes offset (Ok value) later next next_later (short ends onward past) each =
+    absurd ends
+keeps-bound cut bytes offset (Err stop) (Err other) next next_later (short ends onward past) each =
+    let none = ap (λ (stop : Stop). stop.payload_span) onward in
     record {
-      from = nowhere offset (change other) none;
-      ends = before (cut_before change harmless bytes stop cut)
-          (nowhere (suc (length bytes)) (change other) none);
+      from = nowhere offset _ none;
+      ends = before (rw ends (refl, refl)) (nowhere (suc (length bytes)) _ none);
     }
-keeps-bound change harmless bytes offset (Err stop) (Ok (value, end)) next next_later
-    (short cut onward past) each =
+keeps-bound cut bytes offset (Err stop) (Ok (value, end)) next next_later
+    (short ends onward past) each =
     let rest = next_later (value, end) in
     let from = (each (value, end) (inr refl)).from in
     record {
       from = sooner offset end rest onward from;
-      ends = before (cut_before change harmless bytes stop cut)
+      ends = before (rw ends (refl, refl))
           (sooner (suc (length bytes)) end rest (omega arith) from);
     }
-keeps-bound change harmless bytes offset (Ok (value, end)) later next next_later
-    (whole is onward within) each =
+keeps-bound cut bytes offset (Ok (value, end)) later next next_later (whole is onward within) each =
     let rest = each (value, end) (inl refl) in
     rw is (record {
       from = sooner offset end (next_later (value, end)) onward rest.from;
       ends = rest.ends;
     })
-keeps-bound change harmless bytes offset (Err stop) later next next_later
-    (whole is onward within) each =
-    let none = no_payload change harmless stop onward in
-    let within_now : BundleWithin bytes (Err (change stop)) =
+keeps-bound cut bytes offset (Err stop) later next next_later (whole is onward within) each =
+    let none = ap (λ (stop : Stop). stop.payload_span) onward in
+    let within_now : BundleWithin bytes (Err (record stop { cut_block = cut stop })) =
     record { payload = rw none tt; end = tt } in
-    rw is (record { from = nowhere offset (change stop) none; ends = after refl within_now })
-
-unchanged : Harmless (λ stop. stop)
-unchanged = record { fault = λ stop. refl; payload = λ stop. refl }
+    rw is (record { from = nowhere offset _ none; ends = after refl within_now })
 
 bound_plain : {A : Type 0} (reading : ReadAt A) (next : A × ℕ → Result Bundle Stop)
-    → bound (λ stop. stop) reading next ≡ (reading >>= next)
+    → bound (λ stop. stop.cut_block) reading next ≡ (reading >>= next)
 bound_plain (Ok value) next = refl
 bound_plain (Err stop) next = refl
 
@@ -168,7 +145,7 @@ keeps-then-of : {A : Type 0} {bytes : List ℕ} {offset : ℕ} {now later : Read
 keeps-then-of {bytes = bytes} {offset = offset} {now = now} {later = later} {next = next}
     {next_later = next_later} reads each =
     rw (sym (bound_plain now next), sym (bound_plain later next_later))
-    (keeps-bound (λ stop. stop) unchanged bytes offset now later next next_later reads each)
+    (keeps-bound (λ stop. stop.cut_block) bytes offset now later next next_later reads each)
 
 keeps-then : {A : Type 0} {bytes : List ℕ} {offset : ℕ} {now later : ReadAt A}
     {next next_later : A × ℕ → Result Bundle Stop} → Reads bytes offset now later
@@ -177,17 +154,9 @@ keeps-then : {A : Type 0} {bytes : List ℕ} {offset : ℕ} {now later : ReadAt 
 keeps-then reads each = keeps-then-of reads (λ value read. each value)
 
 -- a stop inside a block
-in_this : CanonicalBlock → Stop → Stop
-in_this block stop = record stop { cut_block = cut_in stop.fault block }
-
-in_this-harmless : (block : CanonicalBlock) → Harmless (in_this block)
-unfolding in_this
-in_this-harmless block = record { fault = λ stop. refl; payload = λ stop. refl }
-
 bound_inside : (block : CanonicalBlock) (reading : ReadAt Bool)
     (next : Bool × ℕ → Result Bundle Stop)
-    → bound (in_this block) reading next ≡ (inside_block block reading >>= next)
-unfolding in_this
+    → bound (λ stop. cut_in stop.fault block) reading next ≡ (inside_block block reading >>= next)
 bound_inside block (Ok value) next = refl
 bound_inside block (Err stop) next = refl
 
@@ -198,8 +167,8 @@ keeps-inside : (block : CanonicalBlock) {bytes : List ℕ} {offset : ℕ} {now l
 keeps-inside block {bytes = bytes} {offset = offset} {now = now} {later = later} {next = next}
     {next_later = next_later} reads each =
     rw (sym (bound_inside block now next), sym (bound_inside block later next_later))
-    (keeps-bound (in_this block) (in_this-harmless block) bytes offset now later next next_later
-    reads (λ value read. each value))
+    (keeps-bound (λ stop. cut_in stop.fault block) bytes offset now later next next_later reads
+    (λ value read. each value))
 
 -- the blocks before a reading do not change where it ends
 from-blocks : (blocks : List Block) (offset : ℕ) (reading : Result Bundle Stop)
@@ -252,280 +221,148 @@ keeps-cut bytes more offset =
 
 -- ---- the payload block
 
--- What is read from the payload on, of some bytes and of those bytes with more after them: the
--- first bytes end inside it, or it is the same.
-data Tail : List ℕ → ℕ → Result Bundle Stop → Result Bundle Stop → Type 0 where
-  tail_cut : {bytes : List ℕ} {offset : ℕ} {now later : Result Bundle Stop}
-      → EndsCut now → EndFrom (suc (length bytes)) later → Tail bytes offset now later
-  tail_same : {bytes : List ℕ} {offset : ℕ} {now later : Result Bundle Stop}
-      → later ≡ now → (offset ≤ length bytes → EndWithin bytes now) → Tail bytes offset now later
+module _ (primary : Primary) (blocks : ℕ) (block : CanonicalBlock) where
+  -- the break after the payload block, which ends at `end`
+  abbrev broken : ℕ → ReadAt Bool → Result Bundle Stop
+  broken end break =
+      with_blocks (CanonicalOf (ended block end) ∷ []) (break >>= λ (_, last). Ok (record {
+        info = info_of primary blocks block.data_length;
+        length = last;
+        payload_span = (block.data_start, block.data_length);
+        blocks = [];
+      }))
 
-record HasTail (bytes : List ℕ) (offset : ℕ) (now later : Result Bundle Stop) : Type 0 where
-  from : EndFrom offset later
-  tail : Tail bytes offset now later
+  abbrev closed : ℕ → ReadAt Bool → Result Bundle Stop
+  closed end break = with_payload (block.data_start, block.data_length) (broken end break)
 
-tail-reach : (bytes : List ℕ) (offset start : ℕ) (now later : Result Bundle Stop)
-    → (offset ≤ length bytes → start ≤ length bytes) → Tail bytes start now later
-    → Tail bytes offset now later
-tail-reach bytes offset start now later reach (tail_cut cut past) = tail_cut cut past
-tail-reach bytes offset start now later reach (tail_same is within) =
-    tail_same is (λ here. within (reach here))
+  closed-known : (end : ℕ) (break : ReadAt Bool)
+      → payload_of (closed end break) ≡ Some (block.data_start, block.data_length)
+  closed-known end (Ok value) = refl
+  closed-known end (Err stop) = refl
 
-tail-bound : (change : Stop → Stop) → Harmless change
-    → (bytes : List ℕ) (offset : ℕ) (now later : ReadAt Bool)
-    (next next_later : Bool × ℕ → Result Bundle Stop) → Reads bytes offset now later
-    → ((value : Bool × ℕ) → HasTail bytes value.1 (next value) (next_later value))
-    → HasTail bytes offset (bound change now next) (bound change later next_later)
-tail-bound change harmless bytes offset (Ok value) later next next_later (short cut onward past)
-    each = absurd cut
-tail-bound change harmless bytes offset (Err stop) (Err other) next next_later
-    (short cut onward past) each =
-    record { from = tt; tail = tail_cut (cut_before change harmless bytes stop cut).0 tt }
-tail-bound change harmless bytes offset (Err stop) (Ok (value, end)) next next_later
-    (short cut onward past) each =
-    let rest = next_later (value, end) in
-    let from = (each (value, end)).from in
-    record {
-      from = end-sooner offset end rest onward from;
-      tail = tail_cut (cut_before change harmless bytes stop cut).0
-          (end-sooner (suc (length bytes)) end rest (omega arith) from);
-    }
-tail-bound change harmless bytes offset (Ok (value, end)) later next next_later
-    (whole is onward within) each =
-    let rest = each (value, end) in
-    rw is (record {
-      from = end-sooner offset end (next_later (value, end)) onward rest.from;
-      tail = tail-reach bytes offset end (next (value, end)) (next_later (value, end)) within
-          rest.tail;
-    })
-tail-bound change harmless bytes offset (Err stop) later next next_later
-    (whole is onward within) each =
-    rw is (record { from = tt; tail = tail_same refl (λ here. tt) })
+  closed-from : (offset end : ℕ) (break : ReadAt Bool) → offset ≤ end → Onward end break
+      → EndFrom offset (closed end break)
+  closed-from offset end (Ok (read, last)) lower onward = omega arith
+  closed-from offset end (Err stop) lower onward = tt
 
-tail-blocks : (blocks : List Block) (bytes : List ℕ) (offset : ℕ)
-    (now later : Result Bundle Stop) → Tail bytes offset now later
-    → Tail bytes offset (with_blocks blocks now) (with_blocks blocks later)
-tail-blocks blocks bytes offset (Ok bundle) later (tail_cut cut past) = absurd cut
-tail-blocks blocks bytes offset (Err stop) later (tail_cut cut past) =
-    tail_cut cut (end-blocks blocks (suc (length bytes)) later past)
-tail-blocks blocks bytes offset (Ok bundle) later (tail_same is within) =
-    tail_same (ap (λ (reading : Result Bundle Stop). with_blocks blocks reading) is) within
-tail-blocks blocks bytes offset (Err stop) later (tail_same is within) =
-    tail_same (ap (λ (reading : Result Bundle Stop). with_blocks blocks reading) is) within
+  -- the break, after data that is there
+  closed-ends : (bytes : List ℕ) (end : ℕ) (now later : ReadAt Bool) → Reads bytes end now later
+      → block.data_start + block.data_length ≤ length bytes → end ≤ length bytes
+      → Ends bytes (closed end now) (closed end later)
+  closed-ends bytes end (Ok value) later (short cut onward past) there here = absurd cut
+  closed-ends bytes end (Err stop) (Ok (read, last)) (short cut onward past) there here =
+      inside (rw cut refl) refl (omega arith)
+  closed-ends bytes end (Err stop) (Err other) (short cut onward past) there here =
+      inside (rw cut refl) refl tt
+  closed-ends bytes end (Ok (read, last)) later (whole is onward within) there here =
+      rw is (after refl (record { payload = there; end = within here }))
+  closed-ends bytes end (Err stop) later (whole is onward within) there here =
+      rw is (after refl (record { payload = there; end = tt }))
 
--- the break after the payload block
-closed : BundleInfo → ℕ × ℕ → ℕ → Bundle
-closed info payload end =
-    record { info = info; length = end; payload_span = payload; blocks = [] }
+  -- the payload block, by its content, and the break
+  abbrev paid : ReadAt Bool → (ℕ → ReadAt Bool) → Result Bundle Stop
+  paid content break =
+      with_payload (block.data_start, block.data_length)
+      (inside_block block content >>= λ (_, end). broken end (break end))
 
-closed_at : BundleInfo → ℕ × ℕ → Bool × ℕ → Result Bundle Stop
-closed_at info payload (_, end) = Ok (closed info payload end)
+  paid-from : (content : ReadAt Bool) (break : ℕ → ReadAt Bool) → Onward block.data_start content
+      → ((end : ℕ) → Onward end (break end)) → BundleFrom block.data_start (paid content break)
+  paid-from (Ok (read, end)) break onward each = record {
+    payload = rw (closed-known end (break end)) (omega arith);
+    end = closed-from block.data_start end (break end) onward (each end);
+  }
+  paid-from (Err stop) break onward each = record { payload = omega arith; end = tt }
 
-closing-tail : (info : BundleInfo) (payload : ℕ × ℕ) (bytes : List ℕ) (offset : ℕ)
-    (now later : ReadAt Bool) → Reads bytes offset now later
-    → HasTail bytes offset (now >>= closed_at info payload) (later >>= closed_at info payload)
-unfolding closed closed_at
-closing-tail info payload bytes offset now later reads =
-    rw (sym (bound_plain now (closed_at info payload)), sym (bound_plain later (closed_at info payload)))
-    (tail-bound (λ stop. stop) unchanged bytes offset now later (closed_at info payload)
-    (closed_at info payload) reads
-    (λ (_, end). record { from = omega arith; tail = tail_same refl (λ here. here) }))
-
--- a bundle has this payload
-abbrev HasPayload : ℕ × ℕ → Result Bundle Stop → Type 0
-HasPayload payload (Ok bundle) = bundle.payload_span ≡ payload
-HasPayload payload (Err stop) = Unit {0}
-
-has-then : (payload : ℕ × ℕ) (reading : ReadAt Bool) (next : Bool × ℕ → Result Bundle Stop)
-    → ((value : Bool × ℕ) → HasPayload payload (next value)) → HasPayload payload (reading >>= next)
-has-then payload (Ok value) next each = each value
-has-then payload (Err stop) next each = tt
-
-has-blocks : (payload : ℕ × ℕ) (blocks : List Block) (reading : Result Bundle Stop)
-    → HasPayload payload reading → HasPayload payload (with_blocks blocks reading)
-has-blocks payload blocks (Ok bundle) has = has
-has-blocks payload blocks (Err stop) has = tt
-
--- the rest of a bundle from its payload on, without the payload
-after_data : Primary → ℕ → CanonicalBlock → List ℕ → Bool × ℕ → Result Bundle Stop
-after_data primary blocks block bytes (_, end) =
-    with_blocks (CanonicalOf (ended block end) ∷ []) (row_at closing bytes end
-    >>= closed_at (info_of primary blocks block.data_length) (block.data_start, block.data_length))
-
-rest_at : Primary → ℕ → CanonicalBlock → List ℕ → Result Bundle Stop
-rest_at primary blocks block bytes = rest_of block bytes >>= after_data primary blocks block bytes
-
-rest_at-has : (primary : Primary) (blocks : ℕ) (block : CanonicalBlock) (bytes : List ℕ)
-    → HasPayload (block.data_start, block.data_length) (rest_at primary blocks block bytes)
-unfolding rest_at after_data closed_at closed
-rest_at-has primary blocks block bytes =
-    let payload : ℕ × ℕ = (block.data_start, block.data_length) in
-    let info = info_of primary blocks block.data_length in
-    has-then payload (rest_of block bytes) (after_data primary blocks block bytes)
-    (λ (_, end). has-blocks payload (CanonicalOf (ended block end) ∷ [])
-    (row_at closing bytes end >>= closed_at info payload)
-    (has-then payload (row_at closing bytes end) (closed_at info payload) (λ value. refl)))
-
-rest_at-tail : (primary : Primary) (blocks : ℕ) (block : CanonicalBlock) (bytes more : List ℕ)
-    → HasTail bytes block.data_start (rest_at primary blocks block bytes)
-    (rest_at primary blocks block (bytes ++ more))
-unfolding rest_at after_data
-rest_at-tail primary blocks block bytes more =
-    let at = block.data_start in
-    let content = content_at block.data_length block.check block.start bytes at in
-    let content_later = content_at block.data_length block.check block.start (bytes ++ more) at in
-    let after = after_data primary blocks block in
-    rw (
-      sym (bound_inside block content (after bytes)),
-      sym (bound_inside block content_later (after (bytes ++ more))),
-    )
-    (tail-bound (in_this block) (in_this-harmless block) bytes at content content_later
-    (after bytes) (after (bytes ++ more))
-    (content_at-reads block.data_length block.check block.start bytes more at)
-    (λ (_, end).
-    let last = CanonicalOf (ended block end) ∷ [] in
-    let info = info_of primary blocks block.data_length in
-    let payload : ℕ × ℕ = (at, block.data_length) in
-    let now = row_at closing bytes end in
-    let later = row_at closing (bytes ++ more) end in
-    let rest = closing-tail info payload bytes end now later (row_at-reads closing bytes more end) in
-    record {
-      from = end-blocks last end (later >>= closed_at info payload) rest.from;
-      tail = tail-blocks last bytes end (now >>= closed_at info payload)
-          (later >>= closed_at info payload) rest.tail;
-    }))
-
--- bytes that end before the end of the payload end inside the bundle
-rest_at-cut : (primary : Primary) (blocks : ℕ) (block : CanonicalBlock) (bytes : List ℕ)
-    → length bytes < block.data_start + block.data_length
-    → EndsCut (rest_at primary blocks block bytes)
-unfolding rest_at content_at bytes_at
-rest_at-cut primary blocks block bytes missing =
-    let short_now : ltb (length bytes) (block.data_start + block.data_length) ≡ true =
-    lt-ltb (length bytes) (block.data_start + block.data_length) missing in
-    rw short_now refl
-
-known_payload : (payload : ℕ × ℕ) (reading : Result Bundle Stop) → HasPayload payload reading
-    → payload_of (with_payload payload reading) ≡ Some payload
-known_payload payload (Ok bundle) has = ap Some has
-known_payload payload (Err stop) has = refl
-
-end-payload : (payload : ℕ × ℕ) (offset : ℕ) (reading : Result Bundle Stop)
-    → EndFrom offset reading → EndFrom offset (with_payload payload reading)
-end-payload payload offset (Ok bundle) from = from
-end-payload payload offset (Err stop) from = tt
-
-within-payload : (payload : ℕ × ℕ) (bytes : List ℕ) (reading : Result Bundle Stop)
-    → EndWithin bytes reading → EndWithin bytes (with_payload payload reading)
-within-payload payload bytes (Ok bundle) within = within
-within-payload payload bytes (Err stop) within = tt
-
-cut-payload : (payload : ℕ × ℕ) (reading : Result Bundle Stop) → EndsCut reading
-    → EndsCut (with_payload payload reading)
-cut-payload payload (Ok bundle) cut = absurd cut
-cut-payload payload (Err stop) cut = cut
-
-cut-nowhere : (offset : ℕ) (reading : Result Bundle Stop) → EndsCut reading
-    → EndFrom offset reading
-cut-nowhere offset (Ok bundle) cut = absurd cut
-cut-nowhere offset (Err stop) cut = tt
-
-payload-inside : (payload : ℕ × ℕ) (bytes : List ℕ) (now later : Result Bundle Stop)
-    → HasPayload payload now → HasPayload payload later → EndsCut now
-    → EndFrom (suc (length bytes)) later
-    → Ends bytes (with_payload payload now) (with_payload payload later)
-payload-inside payload bytes now later has has_later cut past =
-    inside (cut-payload payload now cut)
-    (known_payload payload later has_later ∙ sym (known_payload payload now has))
-    (end-payload payload (suc (length bytes)) later past)
-
-payload-ends : (at size : ℕ) (bytes : List ℕ) (now later : Result Bundle Stop)
-    → HasPayload (at, size) now → HasPayload (at, size) later → Tail bytes at now later
-    → (length bytes < at + size → EndsCut now)
-    → Ends bytes (with_payload (at, size) now) (with_payload (at, size) later)
-payload-ends at size bytes now later has has_later (tail_cut cut past) lacks =
-    payload-inside (at, size) bytes now later has has_later cut past
-payload-ends at size bytes now later has has_later (tail_same is within) lacks =
-    ⊎_elim
-    (λ missing. payload-inside (at, size) bytes now later has has_later (lacks missing)
-    (rw is (cut-nowhere (suc (length bytes)) now (lacks missing))))
-    (λ there. after (ap (λ (reading : Result Bundle Stop). with_payload (at, size) reading) is)
-    (record {
-      payload = rw (known_payload (at, size) now has) there;
-      end = within-payload (at, size) bytes now (within (omega arith));
-    }))
-    (cases_lt (length bytes) (at + size))
+  paid-ends : (bytes : List ℕ) (now later : ReadAt Bool) (break break_later : ℕ → ReadAt Bool)
+      → Reads bytes block.data_start now later
+      → (length bytes < block.data_start + block.data_length → EndsCut now)
+      → ((end : ℕ) → Reads bytes end (break end) (break_later end))
+      → Ends bytes (paid now break) (paid later break_later)
+  paid-ends bytes (Ok value) later break break_later (short cut onward past) lacks each = absurd cut
+  paid-ends bytes (Err stop) (Err other) break break_later (short cut onward past) lacks each =
+      inside (rw cut refl) refl tt
+  paid-ends bytes (Err stop) (Ok (read, end)) break break_later (short cut onward past) lacks each =
+      inside (rw cut refl) (closed-known end (break_later end))
+      (closed-from (suc (length bytes)) end (break_later end) (omega arith)
+      (onward_of bytes end (break end) (break_later end) (each end)))
+  paid-ends bytes (Ok (read, end)) later break break_later (whole is onward within) lacks each =
+      ⊎_elim (λ missing. absurd (lacks missing))
+      (λ there. rw is (closed-ends bytes end (break end) (break_later end) (each end) there
+      (within (omega arith))))
+      (cases_lt (length bytes) (block.data_start + block.data_length))
+  paid-ends bytes (Err stop) later break break_later (whole is onward within) lacks each =
+      ⊎_elim (λ missing. rw is (inside (lacks missing) refl tt))
+      (λ there. rw is (after refl (record { payload = there; end = tt })))
+      (cases_lt (length bytes) (block.data_start + block.data_length))
 
 payload_at-keeps : (primary : Primary) (blocks : ℕ) (block : CanonicalBlock)
     (bytes more : List ℕ)
     → Keeps bytes block.data_start (payload_at primary blocks block bytes)
     (payload_at primary blocks block (bytes ++ more))
-unfolding payload_at rest_at after_data closed_at closed
+unfolding payload_at
 payload_at-keeps primary blocks block bytes more =
     let at = block.data_start in
     let size = block.data_length in
-    let now = rest_at primary blocks block bytes in
-    let later = rest_at primary blocks block (bytes ++ more) in
-    let has = rest_at-has primary blocks block bytes in
-    let has_later = rest_at-has primary blocks block (bytes ++ more) in
-    let tail = rest_at-tail primary blocks block bytes more in
+    let now = content_at size block.check block.start bytes at in
+    let later = content_at size block.check block.start (bytes ++ more) at in
+    let reads = content_at-reads size block.check block.start bytes more at in
     record {
-      from = record {
-        payload = rw (known_payload (at, size) later has_later) (omega arith);
-        end = end-payload (at, size) at later tail.from;
-      };
-      ends = payload-ends at size bytes now later has has_later tail.tail
-          (rest_at-cut primary blocks block bytes);
+      from = paid-from primary blocks block later (row_at closing (bytes ++ more))
+          (onward_of bytes at now later reads)
+          (λ end. onward_of bytes end _ _ (row_at-reads closing bytes more end));
+      ends = paid-ends primary blocks block bytes now later (row_at closing bytes)
+          (row_at closing (bytes ++ more)) reads
+          (λ missing. rw (content_at-cut size block.check block.start bytes at missing) refl)
+          (row_at-reads closing bytes more);
     }
 
 -- ---- the blocks before it
 
--- what is known of the heads of a block
-pub record IsBegun (block : CanonicalBlock) (next : ℕ) : Type 0 where
-  pub place : next ≡ block.data_start
-  pub end : block.end ≡ None
+-- what is known of the heads of a block that begins at `start`, and of the offset after them
+pub record IsBegun (start : ℕ) (read : CanonicalBlock × ℕ) : Type 0 where
+  pub begins : read.0.start ≡ start
+  pub onward : start ≤ read.0.data_start
+  pub place : read.1 ≡ read.0.data_start
+  pub end : read.0.end ≡ None
 
-then_gives : {A B : Type 0} (P : B × ℕ → Type 0) (reading : ReadAt A) (next : A × ℕ → ReadAt B)
-    → ((value : A × ℕ) (result : B × ℕ) → next value ≡ Ok result → P result)
-    → (result : B × ℕ) → (reading >>= next) ≡ Ok result → P result
-then_gives P (Ok value) next each result is = each value result is
-then_gives P (Err stop) next each result is = cc
-
-abbrev begun_of : CanonicalBlock × ℕ → Type 0
-begun_of result = IsBegun result.0 result.1
-
-begun_in : ReadAt CanonicalBlock → Type 0
-begun_in (Ok result) = begun_of result
-begun_in (Err stop) = Unit {0}
-
-begun_from : (block : CanonicalBlock) (offset : ℕ) (result : CanonicalBlock × ℕ)
-    → offset ≡ block.data_start → block.end ≡ None
-    → (reading : ReadAt CanonicalBlock) → reading ≡ Ok (block, offset) → reading ≡ Ok result
-    → begun_of result
-unfolding begun_in
-begun_from block offset result place end reading read is =
-    subst begun_in (sym read ∙ is) (record { place = place; end = end })
-
-pub heads_at-begun : (numbers bytes : List ℕ) (start : ℕ) (block : CanonicalBlock) (next : ℕ)
-    → heads_at numbers bytes start ≡ Ok (block, next) → IsBegun block next
+pub heads_begin : (numbers bytes : List ℕ) (start : ℕ)
+    → IfOk (heads_at numbers bytes start) (IsBegun start)
 unfolding heads_at
-heads_at-begun numbers bytes start block next is =
-    then_gives begun_of (row_at block_head bytes start) _
-    (λ (count, offset). then_gives begun_of (row_at unsigned bytes offset) _
-    (λ (type, offset). then_gives begun_of (row_at (block_number type numbers) bytes offset) _
-    (λ (number, offset). then_gives begun_of (row_at unsigned bytes offset) _
-    (λ (flags, offset). then_gives begun_of (row_at (block_check_type count) bytes offset) _
-    (λ (check, offset). then_gives begun_of (row_at byte_string bytes offset) _
-    (λ (size, offset) result last. begun_from _ offset result refl refl _ refl last))))))
-    (block, next) is
+heads_begin numbers bytes start =
+    let holds = IsBegun start in
+    then_read holds (row_at block_head bytes start) _
+    (λ (count, one) is1. then_read holds (row_at unsigned bytes one) _
+    (λ (type, two) is2. then_read holds (row_at (block_number type numbers) bytes two) _
+    (λ (number, three) is3. then_read holds (row_at unsigned bytes three) _
+    (λ (flags, four) is4. then_read holds (row_at (block_check_type count) bytes four) _
+    (λ (check, five) is5. then_read holds (row_at byte_string bytes five) _
+    (λ (size, six) is6. record {
+      begins = refl;
+      onward = omega (
+        arith,
+        row_on block_head bytes _ _ is1,
+        row_on unsigned bytes _ _ is2,
+        row_on (block_number type numbers) bytes _ _ is3,
+        row_on unsigned bytes _ _ is4,
+        row_on (block_check_type count) bytes _ _ is5,
+        row_on byte_string bytes _ _ is6,
+      );
+      place = refl;
+      end = refl;
+    }))))))
+  where
+    row_on : {A : Type 0} (row : HeadItem → Result A BundleFault) (bytes : List ℕ) (offset : ℕ)
+        (value : A × ℕ) → row_at row bytes offset ≡ Ok value → offset ≤ value.1
+    row_on row bytes offset value is =
+        was_read (λ value. offset ≤ value.1) (row_at row bytes offset) value
+        (on_by bytes offset _ _ (row_at-reads row bytes [] offset)) is
 
-pub begun-of-either : (numbers bytes more : List ℕ) (start : ℕ) (block : CanonicalBlock) (next : ℕ)
-    → (heads_at numbers bytes start ≡ Ok (block, next))
-    ⊎ (heads_at numbers (bytes ++ more) start ≡ Ok (block, next))
-    → IsBegun block next
-begun-of-either numbers bytes more start block next either =
-    ⊎_elim (heads_at-begun numbers bytes start block next)
-    (heads_at-begun numbers (bytes ++ more) start block next) either
+pub begun-of-either : (numbers bytes more : List ℕ) (start : ℕ) (read : CanonicalBlock × ℕ)
+    → (heads_at numbers bytes start ≡ Ok read) ⊎ (heads_at numbers (bytes ++ more) start ≡ Ok read)
+    → IsBegun start read
+begun-of-either numbers bytes more start read either =
+    ⊎_elim (was_read (IsBegun start) _ read (heads_begin numbers bytes start))
+    (was_read (IsBegun start) _ read (heads_begin numbers (bytes ++ more) start)) either
 
 blocks_at-keeps : (left : ℕ) (numbers : List ℕ) (primary : Primary)
     (bytes more : List ℕ) (start : ℕ)
@@ -538,7 +375,7 @@ blocks_at-keeps zero numbers primary bytes more start =
 blocks_at-keeps (suc left) numbers primary bytes more start =
     keeps-then-of (heads_at-reads numbers bytes more start)
     (λ (block, next) read.
-    rw (begun-of-either numbers bytes more start block next read).place
+    rw (begun-of-either numbers bytes more start (block, next) read).place
     (both_either (Keeps bytes block.data_start) (block.block_type == 1) _ _ _ _
     (payload_at-keeps primary (length numbers + 1) block bytes more)
     (keeps-inside block

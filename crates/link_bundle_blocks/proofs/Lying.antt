@@ -1,20 +1,20 @@
 -- The whole blocks lie within the bytes.
 
-use Rattle.std.proofs.Common.{◌≡◌, ℕ, zero, suc, ◌+◌, ◌≤◌, Bool, true, List, [], ◌∷◌, ◌++◌, length, Option, Result, Ok, Err, refl, ap, ⊎_elim, arith, ltb}
-use Rattle.std.specs.{Prelude.{◌==◌, if◌then◌else◌}, List.All}
-use Rattle.std.proofs.lemmas.{Bool.{cases_lt, lt-ltb}, List.Elements.{All-nil, All-cons}}
+use Rattle.std.proofs.Common.{◌≡◌, ℕ, zero, suc, ◌+◌, ◌≤◌, Bool, List, [], ◌∷◌, ◌++◌, length, Option, Result, Ok, Err, refl, ap, ⊎_elim, arith}
+use Rattle.std.specs.{Prelude.◌==◌, List.All}
+use Rattle.std.proofs.lemmas.{Bool.cases_lt, List.Elements.{All-nil, All-cons}}
 use Rattle.link_cbor.specs.declared.check.CheckKind.{CheckKind}
 use Rattle.link_bundle_heads.specs.Rows.{◌>>=◌, block_too_many, closing}
 use Rattle.link_bundle_blocks.specs.declared.block.CanonicalBlock.{CanonicalBlock}
 use Rattle.link_bundle_blocks.specs.Blocks.{Primary, Block, PrimaryOf, CanonicalOf, ended, LiesWithin}
-use Rattle.link_bundle_blocks.specs.Reading.{Stop, ReadAt, cut_short, bytes_at}
+use Rattle.link_bundle_blocks.specs.Reading.{Stop, ReadAt, cut_short}
 use Rattle.link_bundle_blocks.specs.Canonical.{content_at}
 use Rattle.link_bundle_blocks.specs.Bundle.{Bundle, with_blocks, inside, rest_of, payload_at, blocks_at, bundle_at, blocks_of}
 use Rattle.link_bundle_blocks.specs.Laws.{BlocksWithin}
 use Rattle.link_bundle_blocks.proofs.Blocks.{blocks_of-blocks}
 use Rattle.link_bundle_blocks.proofs.Showing.{blocks_payload, blocks_judged}
 use Rattle.link_bundle_blocks.proofs.Steady.{Reads, short, whole, of_either, row_at-reads, content_at-reads, heads_at-reads, whole_primary-reads}
-use Rattle.link_bundle_blocks.proofs.Readings.{bundle_parts}
+use Rattle.link_bundle_blocks.proofs.{Readings.bundle_parts, Runs.content_at-cut}
 
 -- the blocks of a reading lie within the bytes
 abbrev Lie : List ℕ → Result Bundle Stop → Type 0
@@ -50,13 +50,11 @@ lies-then {bytes = bytes} {offset = offset} {now = Err stop} {later = later} nex
 content_within : (size : ℕ) (check : Option CheckKind) (start : ℕ) (bytes : List ℕ) (offset : ℕ)
     (value : Bool × ℕ) → content_at size check start bytes offset ≡ Ok value
     → offset + size ≤ length bytes
-unfolding content_at bytes_at
 content_within size check start bytes offset value is =
     ⊎_elim
     (λ missing.
-    let short_now : ltb (length bytes) (offset + size) ≡ true =
-    lt-ltb (length bytes) (offset + size) missing in
-    absurd (let cut : cut_short bytes ≡ Ok value = rw short_now at is in cc))
+    absurd (let cut : cut_short bytes ≡ Ok value =
+    rw (content_at-cut size check start bytes offset missing) at is in cc))
     (λ there. there)
     (cases_lt (length bytes) (offset + size))
 

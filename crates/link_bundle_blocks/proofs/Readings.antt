@@ -1,8 +1,8 @@
 -- A bundle that lies whole in some bytes, part by part.
 
-use Rattle.std.proofs.Common.{◌≡◌, ℕ, suc, ◌+◌, ◌<◌, ◌≤◌, Bool, true, false, List, [], ◌∷◌, ◌++◌, length, take, drop, get_or, Option, Some, Result, Ok, Err, refl, subst, ◌∙◌, arith}
+use Rattle.std.proofs.Common.{◌≡◌, ℕ, suc, ◌+◌, ◌<◌, ◌≤◌, Bool, true, false, List, [], ◌∷◌, ◌++◌, length, take, drop, get_or, Option, Some, Result, Ok, Err, refl, ◌∙◌, arith}
 use Rattle.std.proofs.lemmas.Bool.{le-ltb}
-use Rattle.std.specs.Prelude.{◌==◌, if◌then◌else◌}
+use Rattle.std.specs.Prelude.{◌==◌, IfOk, if◌then◌else◌}
 use Rattle.link_cbor.specs.declared.check.CheckKind.{CheckKind}
 use Rattle.link_bundle_heads.specs.Rows.{◌>>=◌, check_width, check_field, closing}
 use Rattle.link_bundle_blocks.specs.Reading.{Stop, ReadAt, row_at, bytes_at}
@@ -29,13 +29,18 @@ unfolding field_at
 field_at-equal kind start content next count bytes offset stored head there equal =
     rw (head, there, equal) refl
 
--- a canonical block, part by part
+-- what holds of what is read, if anything is
 
-then_read : {A B : Type 0} (P : B × ℕ → Type 0) (reading : ReadAt A) (next : A × ℕ → ReadAt B)
-    → ((value : A × ℕ) → reading ≡ Ok value → (result : B × ℕ) → next value ≡ Ok result → P result)
-    → (result : B × ℕ) → (reading >>= next) ≡ Ok result → P result
-then_read P (Ok value) next each result is = each value refl result is
-then_read P (Err stop) next each result is = cc
+pub then_read : {A B : Type 0} (holds : B → Type 0) (now : Result A Stop) (next : A → Result B Stop)
+    → ((value : A) → now ≡ Ok value → IfOk (next value) holds) → IfOk (now >>= next) holds
+then_read holds (Ok value) next each = each value refl
+then_read holds (Err stop) next each = tt
+
+pub was_read : {A : Type 0} (holds : A → Type 0) (now : Result A Stop) (value : A)
+    → IfOk now holds → now ≡ Ok value → holds value
+was_read holds now value read is = rw is at read
+
+-- a canonical block, part by part
 
 -- the heads, and what comes after them
 pub record HasParts (numbers bytes : List ℕ) (start : ℕ) (read : CanonicalBlock × ℕ) : Type 0 where
@@ -50,19 +55,18 @@ pub has_parts : (numbers bytes : List ℕ) (start : ℕ) (read : CanonicalBlock 
     → whole_canonical numbers bytes start ≡ Ok read → HasParts numbers bytes start read
 unfolding whole_canonical
 has_parts numbers bytes start read is =
-    let parts : CanonicalBlock × ℕ → Type 0 = HasParts numbers bytes start in
-    then_read parts (heads_at numbers bytes start) _
+    let parts = HasParts numbers bytes start in
+    was_read parts _ read
+    (then_read parts (heads_at numbers bytes start) _
     (λ (block, offset) heads. then_read parts
     (content_at block.data_length block.check block.start bytes block.data_start) _
-    (λ (same, next) content result last.
-    let is : (block, next) ≡ result = cc in
-    subst parts is (record {
+    (λ (same, next) content. record {
       offset = offset;
       same = same;
       heads = heads;
       content = content;
       rest = rw content refl;
-    }))) read is
+    }))) is
 
 pub canonical_read : (left : ℕ) (numbers : List ℕ) (primary : Primary) (bytes : List ℕ)
     (start : ℕ) (block : CanonicalBlock) (next : ℕ)

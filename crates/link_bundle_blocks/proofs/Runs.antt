@@ -1,11 +1,12 @@
 -- That many bytes from an offset on, taken in runs.
 
-use Rattle.std.proofs.Common.{◌≡◌, ℕ, ◌+◌, ◌-◌, ◌<◌, ◌≤◌, Bool, true, false, List, [], ◌∷◌, ◌++◌, length, take, drop, Ok, refl, sym, ap, ◌∙◌, arith, add-zero, ltb, length-append, length-drop}
+use Rattle.std.proofs.Common.{◌≡◌, ℕ, ◌+◌, ◌-◌, ◌<◌, ◌≤◌, Bool, true, false, List, [], ◌∷◌, ◌++◌, length, take, drop, Option, Ok, refl, sym, ap, ◌∙◌, arith, add-zero, ltb, length-append, length-drop}
 use Rattle.std.specs.Prelude.{if◌then◌else◌}
 use Rattle.std.proofs.lemmas.{Bool.{le-ltb, lt-ltb}, List.drop-drop}
 use Rattle.std.proofs.Math.Seq.{drop-append_seam, take-append-add}
 use Rattle.link_bundle_heads.specs.Rows.{◌>>=◌}
-use Rattle.link_bundle_blocks.specs.Reading.{ReadAt, cut_short, bytes_at}
+use Rattle.link_cbor.specs.declared.check.CheckKind.{CheckKind}
+use Rattle.link_bundle_blocks.specs.{Reading.{ReadAt, cut_short, bytes_at}, Canonical.content_at}
 
 pub bytes_at-none : (bytes : List ℕ) (offset : ℕ) → offset ≤ length bytes
     → bytes_at 0 bytes offset ≡ Ok ([], offset)
@@ -20,6 +21,11 @@ pub bytes_at-cut : (left : ℕ) (bytes : List ℕ) (offset : ℕ) → length byt
     → bytes_at left bytes offset ≡ cut_short bytes
 unfolding bytes_at
 bytes_at-cut left bytes offset ends = rw (lt-ltb (length bytes) (offset + left) ends) refl
+
+pub content_at-cut : (size : ℕ) (check : Option CheckKind) (start : ℕ) (bytes : List ℕ) (offset : ℕ)
+    → length bytes < offset + size → content_at size check start bytes offset ≡ cut_short bytes
+unfolding content_at
+content_at-cut size check start bytes offset ends = rw (bytes_at-cut size bytes offset ends) refl
 
 pub drop-run : (bytes more run : List ℕ) (offset : ℕ) → drop offset bytes ≡ run ++ more
     → drop (offset + length run) bytes ≡ more

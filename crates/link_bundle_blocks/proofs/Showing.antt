@@ -246,7 +246,7 @@ blocks_at-shows (suc left) numbers primary bytes more start =
     (heads_at numbers (bytes ++ more) start) _ _
     (heads_at-reads numbers bytes more start)
     (λ (block, next) read.
-    let begun = begun-of-either numbers bytes more start block next read in
+    let begun = begun-of-either numbers bytes more start (block, next) read in
     rw begun.place
     (both_either (Shows bytes block.data_start) (block.block_type == 1) _ _ _ _
     (payload_at-shows primary (length numbers + 1) block begun.end bytes more)

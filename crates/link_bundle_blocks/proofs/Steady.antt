@@ -1,7 +1,7 @@
 -- The parts that are read from some bytes, and from those bytes with more after them.
 
 use Rattle.std.proofs.Common.{◌≡◌, ℕ, suc, ◌+◌, ◌-◌, ◌<◌, ◌≤◌, Bool, true, false, List, [], ◌∷◌, ◌++◌, length, drop, Option, None, Some, Result, Ok, Err, refl, ap, ◌⊎◌, inl, inr, ⊎_elim, length-append, length-drop, arith, ltb}
-use Rattle.std.specs.Prelude.{◌==◌, slice_range, if◌then◌else◌}
+use Rattle.std.specs.Prelude.{◌==◌, slice_range, IfOk, if◌then◌else◌}
 use Rattle.std.proofs.lemmas.Bool.{cases_lt, lt-ltb, le-ltb}
 use Rattle.std.proofs.{lemmas.List.{drop-append-le, take-append-le}, Math.ListN.drop_of_length-le}
 use Rattle.link_cbor.specs.declared.{check.CheckKind.CheckKind, head.Head.Head}
@@ -360,6 +360,23 @@ unfolding content_at
 content_at-reads size check start bytes more offset =
     reads-then (bytes_at-reads size bytes more offset)
     (λ (_, offset). field_at-reads check start bytes more offset)
+
+-- a part that is read ends where it begins or after it
+pub on_by : {A : Type 0} (bytes : List ℕ) (offset : ℕ) (now later : ReadAt A)
+    → Reads bytes offset now later → IfOk now (λ value. offset ≤ value.1)
+on_by bytes offset (Ok (value, end)) later (short cut onward past) = absurd cut
+on_by bytes offset (Ok (value, end)) later (whole is onward within) = onward
+on_by bytes offset (Err stop) later reads = tt
+
+-- the data of a block lies before the end of its check field
+pub data_before : (size : ℕ) (check : Option CheckKind) (start : ℕ) (bytes : List ℕ) (offset : ℕ)
+    → IfOk (content_at size check start bytes offset) (λ value. offset + size ≤ value.1)
+unfolding content_at bytes_at
+data_before size check start bytes offset =
+    of_either (λ (taken : ReadAt (List ℕ)).
+    IfOk (taken >>= λ (_, offset). field_at check start bytes offset) (λ value. offset + size ≤ value.1))
+    (ltb (length bytes) (offset + size)) (cut_short bytes) (Ok _) tt
+    (on_by bytes (offset + size) _ _ (field_at-reads check start bytes [] (offset + size)))
 
 pub heads_at-reads : (numbers bytes more : List ℕ) (offset : ℕ)
     → Reads bytes offset (heads_at numbers bytes offset) (heads_at numbers (bytes ++ more) offset)

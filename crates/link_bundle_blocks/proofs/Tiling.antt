@@ -1,45 +1,24 @@
 -- The blocks of a good bundle have all bytes between its first byte and its last.
 
 use Rattle.std.proofs.Common.{◌≡◌, ℕ, zero, suc, ◌+◌, ◌/◌, ◌%◌, ◌≤◌, ◌≢◌, Bool, true, false, ◌&&◌, ◌||◌, List, [], ◌∷◌, ◌++◌, map, length, drop, Option, Result, Ok, Err, refl, sym, ap, ◌∙◌, ⊎_elim, zero-add, length-append, arith}
-use Rattle.std.specs.{Prelude.{◌==◌, nat_lt, if◌then◌else◌}, List.All}
+use Rattle.std.specs.{Prelude.{◌==◌, nat_lt, IfOk, if◌then◌else◌}, List.All}
 use Rattle.std.proofs.lemmas.Bool.{cases_Bool, and_parts, eqb-true, eqb-false}
 use Rattle.std.proofs.lemmas.List.Elements.{All-nil, All-cons}
 use Rattle.link_cbor.specs.declared.{check.CheckKind.CheckKind, head.Head.Head}
 use Rattle.link_cbor.specs.Head.{HeadFront, Cut as CutHead, IllFormed, Whole, with_argument, argument_front, no_argument, front_by, head_front}
 use Rattle.link_bundle_types.specs.declared.fault.BundleFault.{BundleFault}
 use Rattle.link_bundle_types.specs.declared.info.BundleInfo.{BundleInfo}
-use Rattle.link_bundle_heads.specs.Rows.{◌>>=◌, block, unsigned, block_number, block_check_type, byte_string, is_absent, is_break, block_too_many, closing}
+use Rattle.link_bundle_heads.specs.Rows.{◌>>=◌, block, is_absent, is_break, block_too_many, closing}
 use Rattle.link_bundle_blocks.specs.declared.block.CanonicalBlock.{CanonicalBlock}
 use Rattle.link_bundle_blocks.specs.Blocks.{Primary, PrimaryOf, CanonicalOf, ended}
-use Rattle.link_bundle_blocks.specs.Reading.{Stop, ReadAt, head_by, outcome_at, head_at, row_at, bytes_at}
+use Rattle.link_bundle_blocks.specs.Reading.{Stop, ReadAt, head_by, outcome_at, head_at, row_at}
 use Rattle.link_bundle_blocks.specs.{CheckField.field_at, Primary.primary_at}
 use Rattle.link_bundle_blocks.specs.Canonical.{heads_at, content_at}
 use Rattle.link_bundle_blocks.specs.Bundle.{Bundle, with_payload, with_blocks, inside, info_of, rest_of, payload_at, blocks_at, opening_at, bundle_at, if_alone, judged_bundle, verdict_by, verdict, blocks_in, blocks_of}
 use Rattle.link_bundle_blocks.specs.Laws.{Fills, Tiles, IsTiled, GoodBlocksTile}
 use Rattle.link_bundle_blocks.proofs.Showing.{blocks_judged}
-use Rattle.link_bundle_blocks.proofs.Steady.{Reads, short, whole, row_at-reads, field_at-reads, primary_at-reads}
-
--- ---- what holds of a part that is read
-
-abbrev IfRead : {A : Type 0} → (A × ℕ → Type 0) → ReadAt A → Type 0
-IfRead holds (Ok value) = holds value
-IfRead holds (Err stop) = Unit {0}
-
-then-read : {A B : Type 0} (holds : B × ℕ → Type 0) (now : ReadAt A) (next : A × ℕ → ReadAt B)
-    → ((value : A × ℕ) → now ≡ Ok value → IfRead holds (next value)) → IfRead holds (now >>= next)
-then-read holds (Ok value) next each = each value refl
-then-read holds (Err stop) next each = tt
-
-was-read : {A : Type 0} (holds : A × ℕ → Type 0) (now : ReadAt A) (value : A × ℕ) → IfRead holds now
-    → now ≡ Ok value → holds value
-was-read holds now value read is = rw is at read
-
--- a part that is read ends where it begins or after it
-on_by : {A : Type 0} (bytes : List ℕ) (offset : ℕ) (now later : ReadAt A)
-    → Reads bytes offset now later → IfRead (λ value. offset ≤ value.1) now
-on_by bytes offset (Ok (value, end)) later (short cut onward past) = absurd cut
-on_by bytes offset (Ok (value, end)) later (whole is onward within) = onward
-on_by bytes offset (Err stop) later reads = tt
+use Rattle.link_bundle_blocks.proofs.Steady.{field_at-reads, primary_at-reads, on_by, data_before}
+use Rattle.link_bundle_blocks.proofs.{Keeping.{IsBegun, heads_begin}, Readings.{then_read, was_read}}
 
 -- ---- the break
 
@@ -90,7 +69,7 @@ absent_of head is = (and_parts (head.major == 7) (is_absent head.value) is).1
 
 closing_end : (start next size : ℕ) (head : Head) → next ≡ start + size
     → (is_absent head.value ≡ true → size ≡ 1)
-    → IfRead (λ value. value.1 ≡ start + 1) (outcome_at start next (closing head))
+    → IfOk (outcome_at start next (closing head)) (λ value. value.1 ≡ start + 1)
 unfolding closing
 closing_end start next size head is bare =
     ⊎_elim
@@ -99,8 +78,8 @@ closing_end start next size head is bare =
     (cases_Bool (is_break head))
 
 closing_by : (bytes : List ℕ) (start : ℕ) (front : HeadFront) → IsShortIfBare front
-    → IfRead (λ value. value.1 ≡ start + 1)
-    (head_by bytes start front >>= λ (head, next). outcome_at start next (closing head))
+    → IfOk (head_by bytes start front >>= λ (head, next). outcome_at start next (closing head))
+    (λ value. value.1 ≡ start + 1)
 closing_by bytes start CutHead bare = tt
 closing_by bytes start IllFormed bare = tt
 closing_by bytes start (Whole head size) bare =
@@ -108,72 +87,27 @@ closing_by bytes start (Whole head size) bare =
 
 -- the break after the payload block has one byte
 closing_one : (bytes : List ℕ) (start : ℕ)
-    → IfRead (λ value. value.1 ≡ start + 1) (row_at closing bytes start)
+    → IfOk (row_at closing bytes start) (λ value. value.1 ≡ start + 1)
 unfolding row_at head_at
 closing_one bytes start =
     closing_by bytes start (head_front (drop start bytes)) (bare-front (drop start bytes))
 
 -- ---- a canonical block
 
--- the heads of a block that begins at `start`
-abbrev BeginsAt : ℕ → CanonicalBlock × ℕ → Type 0
-BeginsAt start (block, next) = (block.start ≡ start) × (start ≤ block.data_start)
-
-row_on : {A : Type 0} (row : Head → Result A BundleFault) (bytes : List ℕ) (offset : ℕ)
-    (value : A × ℕ) → row_at row bytes offset ≡ Ok value → offset ≤ value.1
-row_on row bytes offset value is =
-    was-read (λ value. offset ≤ value.1) (row_at row bytes offset) value
-    (on_by bytes offset _ _ (row_at-reads row bytes [] offset)) is
-
-heads_begin : (numbers bytes : List ℕ) (start : ℕ)
-    → IfRead (BeginsAt start) (heads_at numbers bytes start)
-unfolding heads_at
-heads_begin numbers bytes start =
-    then-read (BeginsAt start) (row_at block bytes start) _
-    (λ (count, one) is1. then-read (BeginsAt start) (row_at unsigned bytes one) _
-    (λ (type, two) is2. then-read (BeginsAt start) (row_at (block_number type numbers) bytes two) _
-    (λ (number, three) is3. then-read (BeginsAt start) (row_at unsigned bytes three) _
-    (λ (flags, four) is4. then-read (BeginsAt start) (row_at (block_check_type count) bytes four) _
-    (λ (check, five) is5. then-read (BeginsAt start) (row_at byte_string bytes five) _
-    (λ (size, six) is6. (
-      refl,
-      omega (
-        arith,
-        row_on block bytes _ _ is1,
-        row_on unsigned bytes _ _ is2,
-        row_on (block_number type numbers) bytes _ _ is3,
-        row_on unsigned bytes _ _ is4,
-        row_on (block_check_type count) bytes _ _ is5,
-        row_on byte_string bytes _ _ is6,
-      ),
-    )))))))
-
--- the data of a block lies before the end of its check field
-data_before : (size : ℕ) (check : Option CheckKind) (start : ℕ) (bytes : List ℕ) (offset : ℕ)
-    → IfRead (λ value. offset + size ≤ value.1) (content_at size check start bytes offset)
-unfolding content_at bytes_at
-data_before size check start bytes offset =
-    ⊎_elim
-    (λ missing. rw missing tt)
-    (λ there. rw there
-    (on_by bytes (offset + size) _ _ (field_at-reads check start bytes [] (offset + size))))
-    (cases_Bool (nat_lt (length bytes) (offset + size)))
-
 inside_before : (block : CanonicalBlock) (limit : ℕ) (reading : ReadAt Bool)
-    → IfRead (λ value. limit ≤ value.1) reading
-    → IfRead (λ value. limit ≤ value.1) (inside block reading)
+    → IfOk reading (λ value. limit ≤ value.1) → IfOk (inside block reading) (λ value. limit ≤ value.1)
 inside_before block limit (Ok value) read = read
 inside_before block limit (Err stop) read = tt
 
-block_fills : (block : CanonicalBlock) (start : ℕ) (bytes : List ℕ) (value : Bool × ℕ)
-    → (block.start ≡ start) × (start ≤ block.data_start)
+block_fills : (block : CanonicalBlock) (start : ℕ) (bytes : List ℕ) (value : Bool × ℕ) {next : ℕ}
+    → IsBegun start (block, next)
     → rest_of block bytes ≡ Ok value → Fills (CanonicalOf (ended block value.1)) start value.1
 block_fills block start bytes value begins is =
     let limit = block.data_start + block.data_length in
     let reading = content_at block.data_length block.check block.start bytes block.data_start in (
-      begins.0,
-      begins.1,
-      was-read (λ value. limit ≤ value.1) (rest_of block bytes) value
+      begins.begins,
+      begins.onward,
+      was_read (λ value. limit ≤ value.1) (rest_of block bytes) value
           (inside_before block limit reading
           (data_before block.data_length block.check block.start bytes block.data_start)) is,
       refl,
@@ -181,19 +115,9 @@ block_fills block start bytes value begins is =
 
 -- ---- the canonical blocks
 
-abbrev IfWhole : (Bundle → Type 0) → Result Bundle Stop → Type 0
-IfWhole holds (Ok bundle) = holds bundle
-IfWhole holds (Err stop) = Unit {0}
-
-then-whole : {A : Type 0} (holds : Bundle → Type 0) (now : ReadAt A)
-    (next : A × ℕ → Result Bundle Stop)
-    → ((value : A × ℕ) → now ≡ Ok value → IfWhole holds (next value)) → IfWhole holds (now >>= next)
-then-whole holds (Ok value) next each = each value refl
-then-whole holds (Err stop) next each = tt
-
 if-whole : (test : Bool) (holds : Bundle → Type 0) (one other : Result Bundle Stop)
-    → (test ≡ true → IfWhole holds one) → (test ≡ false → IfWhole holds other)
-    → IfWhole holds (if test then one else other)
+    → (test ≡ true → IfOk one holds) → (test ≡ false → IfOk other holds)
+    → IfOk (if test then one else other) holds
 if-whole true holds one other taken passed = taken refl
 if-whole false holds one other taken passed = passed refl
 
@@ -211,7 +135,7 @@ record IsRest (primary : Primary) (count start : ℕ) (bundle : Bundle) : Type 0
   pub size : bundle.length ≡ last + 1
 
 kept_payload : (span : ℕ × ℕ) (holds : Bundle → Type 0) (reading : Result Bundle Stop)
-    → IfWhole holds reading → IfWhole holds (with_payload span reading)
+    → IfOk reading holds → IfOk (with_payload span reading) holds
 kept_payload span holds (Ok bundle) held = held
 kept_payload span holds (Err stop) held = tt
 
@@ -219,8 +143,8 @@ kept_payload span holds (Err stop) held = tt
 more_rest : (primary : Primary) (count start end : ℕ) (block : CanonicalBlock)
     (reading : Result Bundle Stop)
     → block.block_type ≢ 1 → Fills (CanonicalOf block) start end
-    → IfWhole (IsRest primary (suc count) end) reading
-    → IfWhole (IsRest primary count start) (with_blocks (CanonicalOf block ∷ []) reading)
+    → IfOk reading (IsRest primary (suc count) end)
+    → IfOk (with_blocks (CanonicalOf block ∷ []) reading) (IsRest primary count start)
 more_rest primary count start end block (Ok bundle) other fills rest = record {
   others = block ∷ rest.others;
   payload = rest.payload;
@@ -237,24 +161,24 @@ more_rest primary count start end block (Ok bundle) other fills rest = record {
 more_rest primary count start end block (Err stop) other fills rest = tt
 
 payload_rest : (primary : Primary) (count start : ℕ) (block : CanonicalBlock) (bytes : List ℕ)
-    → block.block_type ≡ 1 → (block.start ≡ start) × (start ≤ block.data_start)
-    → IfWhole (IsRest primary count start) (payload_at primary (count + 1) block bytes)
+    {next : ℕ} → block.block_type ≡ 1 → IsBegun start (block, next)
+    → IfOk (payload_at primary (count + 1) block bytes) (IsRest primary count start)
 unfolding payload_at
 payload_rest primary count start block bytes type begins =
     kept_payload (block.data_start, block.data_length) (IsRest primary count start) _
-    (then-whole (IsRest primary count start) (rest_of block bytes) _
+    (then_read (IsRest primary count start) (rest_of block bytes) _
     (λ (read, end) is. closed end (block_fills block start bytes (read, end) begins is)
     (row_at closing bytes end) (closing_one bytes end)))
   where
     closed : (end : ℕ) → Fills (CanonicalOf (ended block end)) start end → (reading : ReadAt Bool)
-        → IfRead (λ value. value.1 ≡ end + 1) reading
-        → IfWhole (IsRest primary count start)
-        (with_blocks (CanonicalOf (ended block end) ∷ []) (reading >>= λ (_, end). Ok (record {
+        → IfOk reading (λ value. value.1 ≡ end + 1)
+        → IfOk (with_blocks (CanonicalOf (ended block end) ∷ []) (reading >>= λ (_, end). Ok (record {
           info = info_of primary (count + 1) block.data_length;
           length = end;
           payload_span = (block.data_start, block.data_length);
           blocks = [];
         })))
+        (IsRest primary count start)
     closed end fills (Err stop) one = tt
     closed end fills (Ok (read, next)) one = record {
       others = [];
@@ -269,22 +193,21 @@ payload_rest primary count start block bytes type begins =
     }
 
 blocks_rest : (left : ℕ) (numbers : List ℕ) (primary : Primary) (bytes : List ℕ) (start : ℕ)
-    → IfWhole (IsRest primary (length numbers) start) (blocks_at left numbers primary bytes start)
+    → IfOk (blocks_at left numbers primary bytes start) (IsRest primary (length numbers) start)
 unfolding blocks_at
 blocks_rest zero numbers primary bytes start =
-    then-whole (IsRest primary (length numbers) start) (row_at block_too_many bytes start) _
+    then_read (IsRest primary (length numbers) start) (row_at block_too_many bytes start) _
     (λ value is. tt)
 blocks_rest (suc left) numbers primary bytes start =
     let holds = IsRest primary (length numbers) start in
-    then-whole holds (heads_at numbers bytes start) _
+    then_read holds (heads_at numbers bytes start) _
     (λ (block, next) begun.
-    let begins : (block.start ≡ start) × (start ≤ block.data_start) =
-    was-read (BeginsAt start) (heads_at numbers bytes start) (block, next)
+    let begins = was_read (IsBegun start) (heads_at numbers bytes start) (block, next)
     (heads_begin numbers bytes start) begun in
     if-whole (block.block_type == 1) holds _ _
     (λ one. payload_rest primary (length numbers) start block bytes
     (eqb-true block.block_type 1 one) begins)
-    (λ other. then-whole holds (rest_of block bytes) _
+    (λ other. then_read holds (rest_of block bytes) _
     (λ (read, end) is.
     more_rest primary (length numbers) start end (ended block end) _
     (eqb-false block.block_type 1 other)
@@ -308,8 +231,8 @@ record IsDivided (bundle : Bundle) : Type 0 where
   pub is : bundle ≡ record rest { blocks = PrimaryOf primary check end ∷ rest.blocks }
 
 primary_before : (primary : Primary) (check : Option CheckKind) (end : ℕ)
-    (reading : Result Bundle Stop) → 1 ≤ end → IfWhole (IsRest primary 0 end) reading
-    → IfWhole IsDivided (with_blocks (PrimaryOf primary check end ∷ []) reading)
+    (reading : Result Bundle Stop) → 1 ≤ end → IfOk reading (IsRest primary 0 end)
+    → IfOk (with_blocks (PrimaryOf primary check end ∷ []) reading) IsDivided
 primary_before primary check end (Ok bundle) late rest = record {
   primary = primary;
   check = check;
@@ -321,31 +244,31 @@ primary_before primary check end (Ok bundle) late rest = record {
 }
 primary_before primary check end (Err stop) late rest = tt
 
-opens_at : (bytes : List ℕ) → IfRead (λ value. value.1 ≡ 1) (opening_at bytes)
+opens_at : (bytes : List ℕ) → IfOk (opening_at bytes) (λ value. value.1 ≡ 1)
 unfolding opening_at
 opens_at [] = tt
 opens_at (first ∷ rest) =
     ⊎_elim (λ is. rw is refl) (λ other. rw other tt) (cases_Bool (first == 0x9f))
 
-bundle_divided : (bytes : List ℕ) → IfWhole IsDivided (bundle_at bytes)
+bundle_divided : (bytes : List ℕ) → IfOk (bundle_at bytes) IsDivided
 unfolding bundle_at
 bundle_divided bytes =
-    then-whole IsDivided (opening_at bytes) _
-    (λ (_, start) opened. then-whole IsDivided (primary_at bytes start) _
-    (λ ((primary, check), offset) read. then-whole IsDivided (field_at check start bytes offset) _
+    then_read IsDivided (opening_at bytes) _
+    (λ (_, start) opened. then_read IsDivided (primary_at bytes start) _
+    (λ ((primary, check), offset) read. then_read IsDivided (field_at check start bytes offset) _
     (λ (_, end) checked.
     let one : start ≡ 1 =
-    was-read (λ value. value.1 ≡ 1) (opening_at bytes) (_, start) (opens_at bytes) opened in
+    was_read (λ value. value.1 ≡ 1) (opening_at bytes) (_, start) (opens_at bytes) opened in
     let two : start ≤ offset =
-    was-read (λ value. start ≤ value.1) (primary_at bytes start) ((primary, check), offset)
+    was_read (λ value. start ≤ value.1) (primary_at bytes start) ((primary, check), offset)
     (on_by bytes start _ _ (primary_at-reads bytes [] start)) read in
     let three : offset ≤ end =
-    was-read (λ value. offset ≤ value.1) (field_at check start bytes offset) (_, end)
+    was_read (λ value. offset ≤ value.1) (field_at check start bytes offset) (_, end)
     (on_by bytes offset _ _ (field_at-reads check start bytes [] offset)) checked in
     primary_before primary check end _ (omega arith) (blocks_rest 64 [] primary bytes end))))
 
 tiled_by : (bytes : List ℕ) (info : BundleInfo) (reading : Result Bundle Stop)
-    → IfWhole IsDivided reading
+    → IfOk reading IsDivided
     → verdict_by (reading >>= λ bundle. if_alone bytes bundle) ≡ Ok info
     → blocks_in bytes ≡ blocks_of reading → IsTiled bytes info
 tiled_by bytes info (Err stop) divided good blocks = absurd (cc)
