@@ -2,7 +2,7 @@
 
 use Rattle.std.proofs.Common.{◌≡◌, ℕ, ◌+◌, ◌<◌, ◌&&◌, Bool, true, false, List, [], ◌∷◌, ◌++◌, length, get_or, take, Ok, Err, refl, sym, ap, subst, ◌∙◌, length-append, append-nil, arith}
 use Rattle.std.specs.Prelude.{◌==◌, is_none, if◌then◌else◌}
-use Rattle.std.proofs.lemmas.{List.{length-take-le, take_more}, List.Elements.All-take}
+use Rattle.std.proofs.lemmas.{Bool.and_parts, List.{length-take-le, take_more}, List.Elements.All-take}
 use Rattle.link_cbor.specs.Head.{AreBytes}
 use Rattle.link_bundle_blocks.specs.Reading.{Stop}
 use Rattle.link_bundle.specs.declared.{cursor.Cursor.Cursor, draft.Draft.Draft}
@@ -14,7 +14,7 @@ use Rattle.link_bundle_blocks.specs.Bundle.{Bundle, with_blocks, bundle_at, bund
 use Rattle.link_bundle_blocks.specs.Blocks.{Block}
 use Rattle.link_bundle.specs.{Left.{bundle_of, stage_left}, Scan.{HasSeen, HasScanned, HasTaken}}
 use Rattle.link_bundle_blocks.proofs.{Beginnings.Begins, Payloads.cut_goes-on}
-use Rattle.link_bundle.proofs.{Fields.{before_and, after_and}, Steps.{all_grown, at_stage, fits_at}}
+use Rattle.link_bundle.proofs.Steps.{all_grown, at_stage, fits_at}
 
 alone_after : (test : Bool) (bundle : Bundle) (stop : Stop) (blocks : List Block)
     → bundle.blocks ≡ [] → stop.blocks ≡ []
@@ -78,9 +78,9 @@ restarted {cursor = cursor} {draft = draft} after come unread fresh = record {
 unread_at : (scan : BundleScan) → scan.stage ≡ Start → is_unread scan.draft.check ≡ true
 unread_at scan start =
     let draft = scan.draft in
-    let none = length draft.numbers == 0 in
-    before_and (is_unread draft.check) none (after_and (is_none draft.payload_span)
-    (is_unread draft.check && none) (fits_at scan Start start))
+    let fresh = is_unread draft.check && (length draft.numbers == 0) in
+    (and_parts (is_unread draft.check) (length draft.numbers == 0)
+    (and_parts (is_none draft.payload_span) fresh (fits_at scan Start start)).1).0
 
 -- what was taken by a scan that has another draft
 pub taken_anew : {old mid new : BundleScan} {run : List ℕ}

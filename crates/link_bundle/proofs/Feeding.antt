@@ -16,12 +16,12 @@ use Rattle.link_bundle.specs.CheckKinds.{kind_of}
 use Rattle.link_bundle_blocks.specs.Blocks.{Block}
 use Rattle.link_bundle_blocks.specs.Bundle.{with_blocks, judged_bundle, verdict_by, verdict, state_of, is_going, bundle_goes}
 use Rattle.link_bundle.specs.Left.{last_block, with_known_payload, stage_left}
-use Rattle.link_bundle_blocks.proofs.{Blocks.verdict_by-blocks, Rests.joined_run}
+use Rattle.link_bundle_blocks.proofs.{Blocks.verdict_by-blocks, Rests.joined_run, Runs.content_at-cut}
 use Rattle.link_bundle.specs.Scan.{HasSeen, HasScanned, Advances, scan_size}
 use Rattle.link_bundle.specs.declared.scan.BundleScan.{BundleScan}
 use Rattle.link_bundle.proofs.{Heads.read_alone-stopped, Steps.{at_head, after_seen}}
 use Rattle.link_bundle.proofs.Stops.{stop_at, stop_at-cut, field_left-stopped}
-use Rattle.link_bundle.proofs.Verdicts.{head_at-cut, cut_at, cut_name, cut_content}
+use Rattle.link_bundle.proofs.Verdicts.{head_at-cut, cut_at, cut_name}
 
 -- the promise of a run that was taken, from its parts
 pub as_taken : {old new : BundleScan} {piece : List ℕ} {count : ℕ}
@@ -143,7 +143,7 @@ goes_in_content {left = left} {draft = draft} {before = before} {seen = seen} ru
     goes-cut draft.payload_span bytes before stop refl
     (come.reads run
     ∙ rw (
-      cut_content left (kind_of draft.check) draft.block.start bytes (length seen)
+      content_at-cut left (kind_of draft.check) draft.block.start bytes (length seen)
           (omega (arith, length-append seen run)),
       read_alone-stopped draft.payload_span bytes stop,
     ) refl)

@@ -1,8 +1,8 @@
 -- The content of a check field.
 
-use Rattle.std.proofs.Common.{◌≡◌, ℕ, zero, suc, ◌+◌, ◌-◌, ◌*◌, ◌^◌, ◌<◌, Bool, true, false, ◌&&◌, List, [], ◌∷◌, drop, None, Some, Ok, Err, refl, arith}
+use Rattle.std.proofs.Common.{◌≡◌, ℕ, zero, suc, ◌+◌, ◌-◌, ◌*◌, ◌^◌, ◌<◌, Bool, true, ◌&&◌, List, [], ◌∷◌, drop, None, Some, Ok, Err, refl, arith}
 use Rattle.std.specs.Prelude.{IsTrue, nat_lt, nat_le, ◌==◌, if◌then◌else◌}
-use Rattle.std.proofs.lemmas.{Bool.Decides.nat_tests, Bool.{ltb-true, false≢true}}
+use Rattle.std.proofs.lemmas.{Bool.Decides.nat_tests, Bool.{ltb-true, and_parts}}
 use Rattle.link_cbor.specs.declared.check.CheckKind.{CheckKind}
 use Rattle.link_cbor.specs.declared.{check.CheckKind.TheVariants.{Crc16, Crc32}, head.Head.Head}
 use Rattle.link_bundle_types.specs.declared.fault.BundleFault.TheVariants.{CheckDiffers}
@@ -97,19 +97,11 @@ has_room_at (suc (suc (suc (suc zero)))) stored byte fits small =
 has_room_at (suc (suc (suc (suc (suc left))))) stored byte fits small =
     absurd (grind (arith, nat_tests))
 
-pub after_and : (a b : Bool) → IsTrue (a && b) → IsTrue b
-after_and true b both = both
-after_and false b both = absurd (false≢true both)
-
-pub before_and : (a b : Bool) → IsTrue (a && b) → IsTrue a
-before_and true b both = refl
-before_and false b both = absurd (false≢true both)
-
 -- some bytes of a content are left
 pub some_left : (left : ℕ) (fits : Bool) → IsTrue (nat_lt 0 left && fits) → 0 < left
-some_left left fits both = ltb-true 0 left (before_and (nat_lt 0 left) fits both)
+some_left left fits both = ltb-true 0 left (and_parts (nat_lt 0 left) fits both).0
 
 pub has_room : (settled : Bool) (left stored byte : ℕ) → IsTrue (settled && room left stored)
     → byte < 256 → HasRoom left stored byte
 has_room settled left stored byte fits small =
-    has_room_at left stored byte (after_and settled (room left stored) fits) small
+    has_room_at left stored byte (and_parts settled (room left stored) fits).1 small

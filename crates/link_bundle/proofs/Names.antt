@@ -93,17 +93,18 @@ name_ends role old new name bytes next within is =
     (eid_ends role old new (Dtn (record { items = name })) bytes next is)
 
 -- an incomplete name, after more of its bytes
-pub name_run_goes_on : (role : Role) (old new : Draft) (run : List ℕ) (left rest : ℕ)
+pub name_run_goes_on : (role : Role) (old new : Draft) (run : List ℕ) (left : ℕ)
     (bytes more : List ℕ) (field offset : ℕ)
-    → drop offset bytes ≡ run ++ more → length run ≤ left → rest ≡ left - length run
+    → drop offset bytes ≡ run ++ more → length run ≤ left
     → new ≡ with_eid role old (Dtn (record { items = kept_name role old ++ run }))
     → stage_left (Name role left) old field bytes offset
-    ≡ stage_left (Name role rest) new (offset + length run) bytes (offset + length run)
+    ≡ stage_left (Name role (left - length run)) new (offset + length run) bytes
+    (offset + length run)
 unfolding stage_left
-name_run_goes_on role old new run left rest bytes more field offset here fits is_rest is =
-    rw (name_left-run (kept_name role old) run left bytes more offset here fits, sym is_rest)
-    (name_goes_on role old new (kept_name role old ++ run) rest bytes (offset + length run)
-    (offset + length run) is)
+name_run_goes_on role old new run left bytes more field offset here fits is =
+    rw (name_left-run (kept_name role old) run left bytes more offset here fits)
+    (name_goes_on role old new (kept_name role old ++ run) (left - length run) bytes
+    (offset + length run) (offset + length run) is)
 
 pub name_run_ends : (role : Role) (old new : Draft) (run : List ℕ) (left : ℕ)
     (bytes more : List ℕ) (field offset : ℕ)

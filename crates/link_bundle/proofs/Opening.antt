@@ -2,7 +2,7 @@
 
 use Rattle.std.proofs.Common.{◌≡◌, ◌≢◌, ℕ, ◌+◌, ◌<◌, ◌&&◌, List, [], ◌∷◌, ◌++◌, length, Option, None, Some, Result, Err, refl, sym, ap, ◌∙◌, arith}
 use Rattle.std.specs.Prelude.{IsTrue, is_none, ◌==◌}
-use Rattle.std.proofs.lemmas.{Bool.{ne_eqb, false≢true}, Bool.Decides.nat_tests}
+use Rattle.std.proofs.lemmas.{Bool.{ne_eqb, false≢true, and_parts}, Bool.Decides.nat_tests}
 use Rattle.link_bundle.specs.declared.{cursor.Cursor.Cursor, draft.Draft.Draft}
 use Rattle.link_bundle_types.specs.declared.fault.BundleFault.TheVariants.{NotABundle}
 use Rattle.link_bundle.specs.declared.stage.Field.TheVariants as field
@@ -15,7 +15,6 @@ use Rattle.link_bundle_blocks.specs.{Blocks.Block, Reading.{Stop, stopped}, Prim
 use Rattle.link_bundle_blocks.specs.Bundle.{Bundle, with_blocks, opening_at, bundle_at, judged_bundle}
 use Rattle.link_bundle.specs.Left.{field_left, stage_left, with_known_payload, primary_block_left, version_left, flags_left, check_type_left, destination_left, source_left, report_to_left, timestamp_left, time_left, sequence_left, lifetime_left}
 use Rattle.link_bundle.specs.Scan.{HasSeen}
-use Rattle.link_bundle.proofs.Fields.{before_and, after_and}
 use Rattle.link_bundle.proofs.Steps.{nothing_yet, narrowed, begun, byte_grown, count_more, failed, grown_reads}
 
 -- a draft without a payload and without block numbers
@@ -32,15 +31,14 @@ empty_of [] outcome = refl
 empty_of (number ∷ numbers) outcome = absurd (grind (arith, nat_tests))
 
 pub blank : (draft : Draft) → IsTrue (stage_fits Start draft) → IsBlank draft
-blank draft fits = record {
-  payload =
-      none_of draft.payload_span (before_and (is_none draft.payload_span)
-      (is_unread draft.check && (length draft.numbers == 0)) fits);
-  numbers = empty_of draft.numbers
-      (after_and (is_unread draft.check) (length draft.numbers == 0)
-      (after_and (is_none draft.payload_span) (is_unread draft.check && (length draft.numbers == 0))
-      fits));
-}
+blank draft fits =
+    let fresh = is_unread draft.check && (length draft.numbers == 0) in
+    let parts = and_parts (is_none draft.payload_span) fresh fits in
+    record {
+      payload = none_of draft.payload_span parts.0;
+      numbers = empty_of draft.numbers
+          (and_parts (is_unread draft.check) (length draft.numbers == 0) parts.1).1;
+    }
 
 open_reads : (draft : Draft) (more : List ℕ) → IsBlank draft
     → judged_bundle (0x9f ∷ more)
@@ -54,10 +52,6 @@ other_reads : (draft : Draft) (byte : ℕ) (more : List ℕ) → IsBlank draft �
     → judged_bundle (byte ∷ more) ≡ with_known_payload draft.payload_span (Err (stopped NotABundle 0))
 unfolding judged_bundle bundle_at opening_at
 other_reads draft byte more blank other = rw (ne_eqb byte 0x9f other, blank.payload) refl
-
--- the first bytes, of whatever is read
-pub first_run : (seen run more : List ℕ) → seen ≡ [] → (seen ++ run) ++ more ≡ run ++ more
-first_run seen run more nothing = ap (λ (seen : List ℕ). (seen ++ run) ++ more) nothing
 
 -- what follows the first bytes is the rest after the blocks before, and there are none of these
 pub after_first : {cursor : Cursor} {draft : Draft} {before : List Block} {seen : List ℕ}
@@ -88,7 +82,7 @@ opened {old = old} {new = new} {draft = draft} {seen = seen} byte come fits is c
           after_first (byte ∷ []) more come
           (ap (λ (byte : ℕ). judged_bundle (byte ∷ more)) is
           ∙ open_reads draft more (blank draft fits))
-          ∙ rw (offset, size, first_run seen (byte ∷ []) more come.stands.nothing, is) refl;
+          ∙ rw (offset, size, come.stands.nothing, is) refl;
       stands = begun (field.Primary primary.Block) new draft.check draft.block.start now here head
           (omega (arith, here))
           (rw (nothing_yet new.offset now here) (narrowed draft.check new.checks [] checks));

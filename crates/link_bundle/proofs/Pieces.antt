@@ -1,6 +1,6 @@
 -- The judging of a bundle in pieces, until no further byte can change the verdict.
 
-use Rattle.std.proofs.Common.{◌≡◌, ℕ, ◌+◌, ◌<◌, ◌≤◌, inl, inr, Bool, true, false, List, [], ◌∷◌, ◌++◌, length, take, drop, get_or, Result, Ok, Err, refl, sym, ap, ◌∙◌, ⊎_elim, append-nil, append_assoc, arith}
+use Rattle.std.proofs.Common.{◌≡◌, ℕ, ◌+◌, ◌<◌, ◌⊎◌, inl, inr, Bool, true, false, List, [], ◌∷◌, ◌++◌, length, take, drop, get_or, Result, Ok, Err, refl, sym, ap, ◌∙◌, ⊎_elim, append-nil, append_assoc, arith}
 use Rattle.std.specs.Prelude.{if◌then◌else◌}
 use Rattle.std.proofs.lemmas.Bool.{cases_lt, false≢true}
 use Rattle.std.proofs.lemmas.List.{take-append-drop, drop_all, drop_more}
@@ -107,15 +107,16 @@ module _ (scan later : BundleScan) (content piece : List ℕ) (count : ℕ)
         shortest.is_front ∙ ap (λ n. take n piece) (sym (size before.seen before.scanned)) in
         rw (append_assoc, taken_is, whole, take-append-drop) refl
 
-    -- the scan took the whole piece
-    judged_whole : length piece ≤ count → HasJudged later (content ++ piece)
+    -- the scan took the whole piece, or no byte can change the verdict
+    judged_front : (drop count piece ≡ []) ⊎ (may_scan later ≡ false)
+        → HasJudged later (content ++ piece)
     unfolding front
-    judged_whole enough = record {
+    judged_front enough = record {
       seen = before.seen ++ front;
       rest = drop count piece;
       parts = seen_front;
       scanned = fed before.seen before.scanned;
-      enough = inl (drop_all count piece enough);
+      enough = enough;
     }
 
     -- the scan stopped before the end of the piece
@@ -124,21 +125,6 @@ module _ (scan later : BundleScan) (content piece : List ℕ) (count : ℕ)
     front_stops short = ⊎_elim (λ stops. stops)
         (λ (all : front ≡ piece).
         absurd (omega (arith, ap length all, size before.seen before.scanned))) shortest.stops
-
-    judged_front : count < length piece
-        → (state_of (verdict (before.seen ++ front)) ≡ state.Ended → ⊥)
-        → HasJudged later (content ++ piece)
-    unfolding front
-    judged_front short other =
-        let come = fed before.seen before.scanned in
-        record {
-          seen = before.seen ++ front;
-          rest = drop count piece;
-          parts = seen_front;
-          scanned = come;
-          enough = inr (may_scan-seen later (before.seen ++ front) come
-              ∙ idle_stuck (state_of (verdict (before.seen ++ front))) (front_stops short) other);
-        }
 
     -- after a byte that follows the bundle, no byte can change the verdict
     trailing_stuck : (byte : ℕ) → state_of (verdict (before.seen ++ front)) ≡ state.Ended
@@ -170,11 +156,14 @@ module _ (scan later : BundleScan) (content piece : List ℕ) (count : ℕ)
       → HasJudged later (content ++ piece)
   unfolding front
   judged_fed other = ⊎_elim
-      (λ (all : before.rest ≡ []). ⊎_elim
-      (λ (short : count < length piece). judged_front all short
-      (other (before.seen ++ front all) (fed before.seen before.scanned) short))
-      (λ (enough : length piece ≤ count). judged_whole all enough)
-      (cases_lt count (length piece)))
+      (λ (all : before.rest ≡ []).
+      let seen = before.seen ++ front all in
+      let come = fed before.seen before.scanned in
+      judged_front all (⊎_elim
+      (λ short. inr (may_scan-seen later seen come
+      ∙ idle_stuck (state_of (verdict seen)) (front_stops all short) (other seen come short)))
+      (λ enough. inl (drop_all count piece enough))
+      (cases_lt count (length piece))))
       (λ stuck. judged_stuck stuck)
       before.enough
 

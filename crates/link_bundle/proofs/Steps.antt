@@ -84,13 +84,8 @@ pub begun : (which : Field) (cursor : Cursor) (check : CheckType) (start : ℕ) 
     → IsInHead which cursor check start seen
 unfolding head_front
 begun which cursor check start seen here head in_block checks = record {
-  at = record {
-    in_bytes = omega arith;
-    head = subst (λ (bytes : List ℕ). HasScannedHead cursor.head bytes)
-        (sym (nothing_yet cursor.offset seen here)) head;
-    in_block = in_block;
-    checks = checks;
-  };
+  at = record { in_bytes = omega arith; in_block = in_block; checks = checks };
+  head = rw (nothing_yet cursor.offset seen here) head;
   cut = rw (nothing_yet cursor.offset seen here) refl;
 }
 
@@ -239,10 +234,12 @@ module _ {which : Field} {old : Cursor} {draft : Draft} {before : List Block} {s
         all_bytes = all_grown seen run come.all_bytes are;
         count = omega (arith, takes.count, come.count, longer);
         reads = rw takes.offset (grown_reads come run);
-        in_bytes = omega (arith, at.in_bytes, takes.offset);
-        in_block = rw takes.offset (omega (arith, at.in_block));
-        checks = rw (takes.offset, drop-append-le begins seen run at.in_block)
-            (takes.checks (drop begins seen) at.checks);
+        at = record {
+          in_bytes = omega (arith, at.in_bytes, takes.offset);
+          in_block = rw takes.offset (omega (arith, at.in_block));
+          checks = rw (takes.offset, drop-append-le begins seen run at.in_block)
+              (takes.checks (drop begins seen) at.checks);
+        };
       }
 
   -- the bytes seen of a head, with one more
@@ -251,9 +248,8 @@ module _ {which : Field} {old : Cursor} {draft : Draft} {before : List Block} {s
       → HasScannedHead new.head (head ++ byte ∷ []))
       → HasScannedHead new.head (drop new.offset (seen ++ byte ∷ []))
   grown_bytes new byte stays heads =
-      let at = come.stands.at in
-      rw (stays, drop-append-le old.offset seen (byte ∷ []) at.in_bytes)
-      (heads (drop old.offset seen) at.head)
+      rw (stays, drop-append-le old.offset seen (byte ∷ []) come.stands.at.in_bytes)
+      (heads (drop old.offset seen) come.stands.head)
 
 -- a run after the bytes seen
 pub after_seen : (offset : ℕ) (seen run : List ℕ) → offset ≡ length seen
@@ -313,15 +309,7 @@ module _ {which : Field} {cursor : Cursor} {draft : Draft} {before : List Block}
     all_bytes = come.all_bytes;
     count = come.count;
     reads = come.reads;
-    stands = record {
-      at = record {
-        in_bytes = come.in_bytes;
-        head = head;
-        in_block = come.in_block;
-        checks = come.checks;
-      };
-      cut = outcome;
-    };
+    stands = record { at = come.at; head = head; cut = outcome };
   }
 
   all : List Block
@@ -340,7 +328,7 @@ module _ {which : Field} {cursor : Cursor} {draft : Draft} {before : List Block}
       come.reads more
       ∙ at_head which draft cursor.offset before bytes (Err stop)
       (field_left-stopped which draft bytes cursor.offset stop
-      (head_at-bad cursor.offset seen more come.in_bytes outcome)
+      (head_at-bad cursor.offset seen more come.at.in_bytes outcome)
       ∙ ap Err (stop_at-bad which draft cursor.offset))
       ∙ ap (λ (reading : Result Bundle Stop). with_blocks all reading)
       (read_alone-stopped draft.payload_span bytes stop))
@@ -361,7 +349,7 @@ module _ {which : Field} {cursor : Cursor} {draft : Draft} {before : List Block}
         refl
         ∙ ap (λ (reading : Result Bundle Stop). with_blocks all reading)
         (rw come.count at judges bytes
-        (head_at-whole cursor.offset seen more head come.in_bytes outcome)
+        (head_at-whole cursor.offset seen more head come.at.in_bytes outcome)
         (omega (arith, length-append seen more)))
 
     pub went_on : {stage : ScanStage} {entered_cursor : Cursor}
@@ -371,7 +359,7 @@ module _ {which : Field} {cursor : Cursor} {draft : Draft} {before : List Block}
         → HasSeen stage entered_cursor new (before ++ last_block which draft cursor.offset) seen
     unfolding all
     went_on {stage = stage} judges begins keeps enters =
-        entered draft.check come.all_bytes come.count come.in_block come.checks begins keeps enters
+        entered draft.check come.all_bytes come.count come.at.in_block come.at.checks begins keeps enters
         (judged_head (Ok stage) judges)
 
     pub refused : {fault : BundleFault}

@@ -1,13 +1,13 @@
 -- A run that was taken, and the block that ended with it.
 
-use Rattle.std.proofs.Common.{◌≡◌, ℕ, ◌+◌, ◌-◌, ◌&&◌, Bool, true, false, List, [], ◌∷◌, ◌++◌, length, take, drop, refl, sym, ap, subst, ◌∙◌, append-nil, length-drop, ⊎_elim, arith}
+use Rattle.std.proofs.Common.{◌≡◌, ℕ, ◌+◌, ◌-◌, ◌&&◌, Bool, true, false, List, [], ◌∷◌, ◌++◌, length, take, drop, refl, sym, ap, ◌∙◌, append-nil, length-drop, ⊎_elim, arith}
 use Rattle.std.specs.Prelude.{◌==◌, if◌then◌else◌}
 use Rattle.std.proofs.lemmas.Bool.{cases_lt, eq-eqb}
 use Rattle.link_bundle.specs.declared.{cursor.Cursor.Cursor, draft.Draft.Draft}
 use Rattle.link_bundle.specs.declared.{scan.BundleScan.BundleScan, stage.ScanStage.ScanStage}
 use Rattle.link_bundle.specs.declared.stage.ScanStage.TheVariants.{Ended}
 use Rattle.link_bundle_blocks.specs.{Blocks.Block, Bundle.{blocks_in, bundle_goes}}
-use Rattle.link_bundle.specs.Left.{block_of, stage_follows, stage_last}
+use Rattle.link_bundle.specs.{Left.{block_of, stage_follows, stage_last}, Moves.Enters}
 use Rattle.link_bundle.specs.Scan.{HasSeen, HasScanned, HasTaken, Advances, AddsBlock, ending_at, ending, scan_size}
 use Rattle.link_bundle_blocks.proofs.Rests.{joined_run}
 use Rattle.link_bundle.proofs.Verdicts.{blocks_of-seen}
@@ -47,18 +47,6 @@ takes_on {old = old} {new = new} {run = run} size ends goes = record {
       (ap (λ (last : List Block). (come.before ++ last_of old) ++ last) (sym ends));
 }
 
--- the same from a stage before which no block ended
-pub takes_plain : {old new : BundleScan} {run : List ℕ}
-    → scan_size new ≡ scan_size old + length run → last_of old ≡ [] → ending new ≡ last_of new
-    → ((before : List Block) (seen : List ℕ) → IsAfter old before seen
-    → IsAfter new before (seen ++ run))
-    → HasTaken old new run
-takes_plain {old = old} {new = new} {run = run} size none ends goes =
-    takes_on size ends
-    (λ before seen come. subst (λ (blocks : List Block). IsAfter new blocks (seen ++ run))
-    (sym (ap (λ (last : List Block). before ++ last) none ∙ append-nil before))
-    (goes before seen come))
-
 -- more bytes of a head
 pub takes_more : {old new : BundleScan} {run : List ℕ}
     → scan_size new ≡ scan_size old + length run → last_of new ≡ last_of old
@@ -77,16 +65,11 @@ takes_more {old = old} {new = new} {run = run} size same none goes = record {
       (sym (none come.before seen come.come)));
 }
 
--- no block ended before this stage
-pub none_last : (scan : BundleScan) (stage : ScanStage) → scan.stage ≡ stage
-    → stage_last stage scan.draft scan.cursor.offset ≡ [] → last_of scan ≡ []
-none_last scan stage is none =
-    ap (λ (stage : ScanStage). stage_last stage scan.draft scan.cursor.offset) is ∙ none
-
 -- a block that ended before a stage ends with the bytes seen, if no byte of its head was seen
-pub ends_here : (stage : ScanStage) (draft : Draft) (cursor : Cursor) → cursor.offset ≡ cursor.count
-    → ending_at stage draft cursor ≡ stage_last stage draft cursor.offset
-ends_here stage draft cursor here = rw (eq-eqb cursor.offset cursor.count here) refl
+pub ends_here : {stage : ScanStage} {old new : Cursor} (draft : Draft) → Enters stage old new
+    → ending_at stage draft new ≡ stage_last stage draft new.offset
+ends_here {new = new} draft enters =
+    rw (eq-eqb new.offset new.count (enters.offset ∙ sym enters.count)) refl
 
 none_chosen : (test : Bool) (none : List Block) → none ≡ [] → (if test then none else []) ≡ []
 none_chosen true none is = is

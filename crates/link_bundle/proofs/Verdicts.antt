@@ -12,7 +12,6 @@ use Rattle.link_bundle.specs.declared.stage.ScanStage.{ScanStage}
 use Rattle.link_bundle.specs.declared.stage.ScanStage.TheVariants.{Start, Head, Name, Content, Stored, Ended, Failed}
 use Rattle.link_bundle.specs.{CheckKinds.{kind_of, is_kind}, Fits.{rest_fits, scan_fits}}
 use Rattle.link_bundle_blocks.specs.Reading.{Stop, stopped, cut_short, head_at}
-use Rattle.link_bundle_blocks.specs.Canonical.{content_at}
 use Rattle.link_bundle.specs.declared.stage.BlockKind.{BlockKind}
 use Rattle.link_bundle.specs.declared.stage.{BlockKind.TheVariants.{Primary, Canonical}, Role.Role}
 use Rattle.link_cbor.specs.declared.check.CheckKind.{CheckKind}
@@ -26,7 +25,7 @@ use Rattle.link_bundle.specs.{declared.scan.BundleScan.BundleScan, Scan.{HasSeen
 use Rattle.link_bundle.specs.Stages.{stage_state}
 use Rattle.link_bundle.proofs.{Fields.{has_room, some_left}, Heads.read_alone-stopped}
 use Rattle.link_bundle.proofs.Opening.{blank}
-use Rattle.link_bundle_blocks.proofs.Runs.{bytes_at-cut}
+use Rattle.link_bundle_blocks.proofs.Runs.{bytes_at-cut, content_at-cut}
 use Rattle.link_bundle.proofs.Stops.{stop_at-cut, field_left-stopped}
 
 -- the reading of the bytes seen, if no more follow
@@ -50,11 +49,6 @@ pub cut_name : (left : ℕ) (role : Role) (draft : Draft) (bytes : List ℕ) (of
     → name_left (kept_name role draft) left bytes offset ≡ cut_short bytes
 unfolding name_left
 cut_name left role draft bytes offset ends = rw (bytes_at-cut left bytes offset ends) refl
-
-pub cut_content : (left : ℕ) (check : Option CheckKind) (start : ℕ) (bytes : List ℕ) (offset : ℕ)
-    → length bytes < offset + left → content_at left check start bytes offset ≡ cut_short bytes
-unfolding content_at
-cut_content left check start bytes offset ends = rw (bytes_at-cut left bytes offset ends) refl
 
 cut_stored : (left stored expected head : ℕ) (seen : List ℕ) → 0 < left
     → stored_left left stored expected head seen (length seen) ≡ cut_short seen
@@ -100,7 +94,7 @@ going_cut (Content left) cursor draft before seen come fits going =
     let some = ltb-true 0 left fits in
     read_now come
     ∙ rw (
-      cut_content left (kind_of draft.check) draft.block.start seen (length seen) (omega arith),
+      content_at-cut left (kind_of draft.check) draft.block.start seen (length seen) (omega arith),
       append-nil before,
       read_alone-stopped draft.payload_span seen (cut_at (Content left) draft (length seen)),
     ) refl

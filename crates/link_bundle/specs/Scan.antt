@@ -18,7 +18,6 @@ use Rattle.link_bundle.specs.Stages.{stage_state, takes_bytes}
 pub record IsAtHead (field : Field) (cursor : Cursor) (check : CheckType) (start : ℕ)
     (seen : List ℕ) : Type 0 where
   pub in_bytes : cursor.offset ≤ length seen
-  pub head : HasScannedHead cursor.head (drop cursor.offset seen)
   pub in_block : block_start field start cursor.offset ≤ length seen
   pub checks : Covers check cursor.checks (drop (block_start field start cursor.offset) seen)
 
@@ -26,6 +25,7 @@ pub record IsAtHead (field : Field) (cursor : Cursor) (check : CheckType) (start
 pub record IsInHead (field : Field) (cursor : Cursor) (check : CheckType) (start : ℕ)
     (seen : List ℕ) : Type 0 where
   pub at : IsAtHead field cursor check start seen
+  pub head : HasScannedHead cursor.head (drop cursor.offset seen)
   pub cut : head_front (drop cursor.offset seen) ≡ Cut
 
 -- in a name or in data, in a block that begins at `start`
@@ -77,10 +77,7 @@ pub record HasSeenHead (which : Field) (cursor : Cursor) (draft : Draft) (before
       → judged_bundle (seen ++ more)
       ≡ with_blocks before
       (stage_left (Head which) draft cursor.offset (seen ++ more) (length seen))
-  pub in_bytes : cursor.offset ≤ length seen
-  pub in_block : block_start which draft.block.start cursor.offset ≤ length seen
-  pub checks : Covers draft.check cursor.checks
-      (drop (block_start which draft.block.start cursor.offset) seen)
+  pub at : IsAtHead which cursor draft.check draft.block.start seen
 
 -- the block that ends with the bytes seen, if one does
 abbrev pub ending_at : ScanStage → Draft → Cursor → List Block

@@ -9,7 +9,7 @@ use Rattle.link_bundle.specs.declared.stage.PrimaryField.TheVariants as primary
 use Rattle.link_bundle.specs.declared.stage.Role.{Role}
 use Rattle.link_bundle.specs.declared.stage.Role.TheVariants.{Destination, Source, ReportTo}
 use Rattle.link_bundle.specs.declared.stage.ScanStage.{ScanStage}
-use Rattle.link_bundle.specs.declared.stage.ScanStage.TheVariants.{Start, Head, Name, Content, Stored, Ended, Failed}
+use Rattle.link_bundle.specs.declared.stage.ScanStage.TheVariants.{Head, Ended, Failed}
 
 abbrev pub stage_state : ScanStage → State
 stage_state Ended = state.Ended

@@ -1,5 +1,5 @@
 //! The scan of a bundle.
-ghost use Rattle.std.specs.Prelude.{◌≡◌, ℕ, ◌+◌, ◌-◌, ◌^◌, ◌<◌, ◌≤◌, IfOk, IsTrue, List, ◌∷◌, [], ◌++◌, length, take, min, true};
+ghost use Rattle.std.specs.Prelude.{◌≡◌, ℕ, ◌+◌, ◌-◌, ◌^◌, ◌<◌, ◌≤◌, IfOk, IsTrue, List, ◌∷◌, [], ◌++◌, length, take, min};
 ghost use Rattle.link_bundle.specs.Fits.{scan_fits};
 ghost use Rattle.link_cbor.specs.Head.{Whole, head_front};
 

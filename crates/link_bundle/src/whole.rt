@@ -2,20 +2,12 @@
 //!
 //! An error means only that no bundle was read: it is cut or has a fault, or a head in it is
 //! spelled at greater length than it has to be. The scan then finds out which, byte by byte.
-ghost use Rattle.std.specs.Prelude.{◌≡◌, ℕ, List, ◌<◌, ◌≤◌, ◌++◌, [], length, replicate, is_some, true, Some, Ok, IfOk, IsTrue};
-ghost use Rattle.link_bundle_types.specs.EidView.{viewed_eid};
-ghost use Rattle.link_bundle_types.specs.ShortNames.{IsShort};
-ghost use Rattle.link_cbor.specs.Crc.{crc};
-ghost use Rattle.link_bundle_heads.specs.Rows.{check_width};
-ghost use Rattle.link_bundle_blocks.specs.EndpointId.{eid_at, specific_at};
-ghost use Rattle.link_bundle_blocks.specs.CheckField.{number_from, field_at};
-ghost use Rattle.link_bundle_blocks.specs.Canonical.{heads_at, content_at};
-ghost use Rattle.link_bundle_blocks.specs.Primary.{fragment_at, primary_at};
-ghost use Rattle.link_bundle_blocks.specs.Blocks.{Primary, Block};
-ghost use Rattle.link_bundle_blocks.specs.Bundle.{blocks_at, bundle_at};
+ghost use Rattle.std.specs.Prelude.{◌≡◌, List, ◌<◌, [], length, is_some, Some, Ok, IfOk, IsTrue};
+ghost use Rattle.link_bundle_blocks.specs.Primary.{primary_at};
+ghost use Rattle.link_bundle_blocks.specs.Blocks.{Block};
+ghost use Rattle.link_bundle_blocks.specs.Bundle.{bundle_at};
 ghost use Rattle.link_bundle.specs.Left.{primary_of, bundle_of};
-ghost use Rattle.link_bundle_blocks.specs.Whole.{whole_primary, whole_canonical, bundle_with};
-ghost use Rattle.link_bundle_heads.specs.declared.endpoint.Scheme.TheVariants.{Dtn, Ipn};
+ghost use Rattle.link_bundle_blocks.specs.Whole.{whole_primary};
 
 use crate::draft::Draft;
 use crate::scan::OPENING;

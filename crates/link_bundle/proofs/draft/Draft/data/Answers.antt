@@ -3,7 +3,8 @@ use Rattle.std.specs.Prelude.{◌==◌, is_none, nat_lt, length}
 use Rattle.link_bundle.specs.Left.{field_left, stage_left, data_left, read_alone, primary_of, current}
 use Rattle.link_bundle.specs.CheckKinds.{kind_of}
 use Rattle.link_bundle_blocks.specs.{Bundle.Bundle, Reading.{Stop, row_at}}
-use Rattle.link_bundle.proofs.{Heads.data_read, Fields.before_and, Judgings.as_judged}
+use Rattle.std.proofs.lemmas.Bool.{and_parts}
+use Rattle.link_bundle.proofs.{Heads.data_read, Judgings.as_judged}
 use Rattle.link_bundle.proofs.draft.Draft.data.Goals as goal
 
 pub returns : goal.returns
@@ -19,6 +20,6 @@ returns c = as_judged (search rules) (search rules) (search rules) (λ offset by
     (ap (λ (r : Result Bundle Stop). read_alone bytes r)
     (data_read now.payload_span c.then_some-self.result (now.block.block_type == 1) now.numbers
     (primary_of now) block bytes
-    (before_and (is_none now.payload_span) (nat_lt (length now.numbers) 64) c.requires)
+    (and_parts (is_none now.payload_span) (nat_lt (length now.numbers) 64) c.requires).0
     c.then_some-self.ensures)
     ∙ rw (sym c.push.ensures) (c.content.ensures.reads bytes c.args.next within)))

@@ -1,4 +1,4 @@
-use Rattle.std.proofs.Common.{◌-◌, length, refl, arith}
+use Rattle.std.proofs.Common.{arith}
 use Rattle.link_bundle.specs.Fits.{rest_fits}
 use Rattle.link_bundle.proofs.{Fields.some_left, Names.{name_run_goes_on, name_run_ends}}
 use Rattle.link_bundle.proofs.draft.Draft.name_run.Goals as goal
@@ -15,5 +15,4 @@ returns-in-0-clause-reads c = λ bytes more field offset here.
 pub returns-in_default-clause-reads : goal.returns-in_default-clause-reads
 returns-in_default-clause-reads c = λ bytes more field offset here.
     name_run_goes_on c.args.role c.args.self.now c.keep_more.new.self c.args.run.now c.args.left
-    (c.args.left - length c.args.run.now) bytes more field offset here
-    c.requires.within refl c.keep_more.ensures
+    bytes more field offset here c.requires.within c.keep_more.ensures
