@@ -3,7 +3,7 @@
 use Rattle.std.proofs.Common.{◌≡◌, ℕ, zero, suc, ◌+◌, ◌-◌, ◌*◌, ◌/◌, ◌%◌, ◌^◌, ◌<◌, ◌≤◌, true, false, List, ◌∷◌, length, take, drop, slice_index, get_or, None, Some, Ok, refl, sym, ap, ◌∙◌, arith}
 use Rattle.std.specs.Prelude.{◌==◌}
 use Rattle.std.proofs.lemmas.{Bool.ne_eqb, List.{drop_more, get_or-drop, length-drop}}
-use Rattle.std.proofs.lemmas.Nat.{div-mul-add, pow-add}
+use Rattle.std.proofs.{lemmas.Nat.{div-mul-add, pow-add}, Math.Pow.pow_mono}
 use Rattle.byteorder.specs.{Endian.big_from, Numbers.big_from-lt}
 use Rattle.link_cbor.specs.declared.head.Head.{Head}
 use Rattle.link_cbor.specs.Head.{Whole, big_endian, with_argument, no_argument, head_front}
@@ -101,8 +101,8 @@ unfolding head_front
 front-argument major information size first rest below is least most size_is within are =
     let by : first / 32 ≡ major = omega arith in
     let left : first % 32 ≡ information = omega arith in
-    let there : 2 ^ (information - 24) ≤ length rest =
-    omega (arith, most_of (information - 24) (omega arith)) in
+    let step : information - 24 ≤ 3 = omega arith in
+    let there : 2 ^ (information - 24) ≤ length rest = omega (arith, pow_mono step) in
     rw (by, left, size_is)
     (front_by-argument major information rest least most
     ∙ argument_front-there major (2 ^ (information - 24)) rest there
@@ -111,13 +111,6 @@ front-argument major information size first rest below is least most size_is wit
     (1 + 2 ^ (information - 24)))
     (big_endian-big_from (2 ^ (information - 24)) rest there
     ∙ sym (shifted (information - 24) rest (omega arith) are)))
-  where
-    most_of : (step : ℕ) → step < 4 → 2 ^ step ≤ 8
-    most_of zero below = omega arith
-    most_of (suc zero) below = omega arith
-    most_of (suc (suc zero)) below = omega arith
-    most_of (suc (suc (suc zero))) below = omega arith
-    most_of (suc (suc (suc (suc step)))) below = absurd (omega arith)
 
 -- `argument` is the number that the eight bytes after the first spell
 pub head_at-argument : (major information size argument : ℕ) (bytes : List ℕ) (offset : ℕ)

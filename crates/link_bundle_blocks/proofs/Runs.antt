@@ -1,12 +1,12 @@
 -- That many bytes from an offset on, taken in runs.
 
-use Rattle.std.proofs.Common.{◌≡◌, ℕ, ◌+◌, ◌-◌, ◌<◌, ◌≤◌, Bool, true, false, List, [], ◌∷◌, ◌++◌, length, take, drop, Option, Ok, refl, sym, ap, ◌∙◌, arith, add-zero, ltb, length-append, length-drop}
+use Rattle.std.proofs.Common.{◌≡◌, ℕ, ◌+◌, ◌-◌, ◌<◌, ◌≤◌, Bool, true, false, List, [], ◌∷◌, ◌++◌, length, take, drop, Option, Result, Ok, Err, refl, sym, ap, ◌∙◌, arith, add-zero, ltb, length-append, length-drop}
 use Rattle.std.specs.Prelude.{if◌then◌else◌}
 use Rattle.std.proofs.lemmas.{Bool.{le-ltb, lt-ltb}, List.drop-drop}
 use Rattle.std.proofs.Math.Seq.{drop-append_seam, take-append-add}
 use Rattle.link_bundle_heads.specs.Rows.{◌>>=◌}
 use Rattle.link_cbor.specs.declared.check.CheckKind.{CheckKind}
-use Rattle.link_bundle_blocks.specs.{Reading.{ReadAt, cut_short, bytes_at}, Canonical.content_at}
+use Rattle.link_bundle_blocks.specs.{Reading.{ReadAt, Stop, cut_short, bytes_at}, Canonical.content_at}
 
 pub bytes_at-none : (bytes : List ℕ) (offset : ℕ) → offset ≤ length bytes
     → bytes_at 0 bytes offset ≡ Ok ([], offset)
@@ -64,6 +64,14 @@ bytes_at-run left bytes more run offset here fits =
     rw (end, split, drop-run bytes more run offset here)
     (with_run-chosen (ltb (length bytes) (offset + length run + (left - length run)))
     (offset + length run + (left - length run)) bytes run (take (left - length run) more))
+
+-- what follows a run and the others
+pub with_run-then : {A : Type 0} (run : List ℕ) (reading : ReadAt (List ℕ))
+    (next later : List ℕ × ℕ → Result A Stop)
+    → ((rest : List ℕ) (offset : ℕ) → next (run ++ rest, offset) ≡ later (rest, offset))
+    → (with_run run reading >>= next) ≡ (reading >>= later)
+with_run-then run (Ok (rest, offset)) next later each = each rest offset
+with_run-then run (Err stop) next later each = refl
 
 -- a run of one byte
 pub bytes_at-step : (left : ℕ) (bytes more : List ℕ) (byte offset : ℕ)

@@ -138,14 +138,26 @@ cut_is : (test : Bool) (block found : CanonicalBlock)
 cut_is true block found is = cc
 cut_is false block found is = cc
 
-grown_after : (blocks new : List Block) (now later : Result Bundle Stop)
-    → blocks_of later ≡ blocks_of now ++ new
-    → blocks_of (with_blocks blocks later) ≡ blocks_of (with_blocks blocks now) ++ new
-grown_after blocks new now later is =
-    blocks_of-blocks blocks later
-    ∙ ap (λ (more : List Block). blocks ++ more) is
-    ∙ sym (append_assoc blocks (blocks_of now) new)
-    ∙ ap (λ (all : List Block). all ++ new) (sym (blocks_of-blocks blocks now))
+-- the same blocks before both readings
+shows-blocks : (blocks : List Block) (bytes : List ℕ) (offset start : ℕ)
+    (now later : Result Bundle Stop) → Shows bytes start now later
+    → ((block : CanonicalBlock)
+    → next_of (blocks_of (with_blocks blocks later)) (cut_block_of (with_blocks blocks later))
+    ≡ Some block → offset ≤ block.data_start)
+    → Shows bytes offset (with_blocks blocks now) (with_blocks blocks later)
+shows-blocks blocks bytes offset start now later shows from = record {
+  new = shows.new;
+  grows = rw (
+    blocks_of-blocks blocks later,
+    blocks_of-blocks blocks now,
+    shows.grows,
+    append_assoc blocks (blocks_of now) shows.new,
+  ) refl;
+  placed = λ block is.
+      rw (cut_block_of-blocks blocks now)
+      (shows.placed block (rw (cut_block_of-blocks blocks later) at is));
+  from = from;
+}
 
 shows-inside : (block : CanonicalBlock) → block.end ≡ None
     → (bytes : List ℕ) (now later : ReadAt Bool) (rest rest_later : ℕ → Result Bundle Stop)
@@ -179,17 +191,10 @@ shows-inside block whole_end bytes (Err stop) (Ok (read, end)) rest rest_later
     }
 shows-inside block whole_end bytes (Ok (read, end)) later rest rest_later
     (whole is onward within) each =
-    let last = CanonicalOf (ended block end) ∷ [] in
-    let shows = each end in
-    rw is (record {
-      new = shows.new;
-      grows = grown_after last shows.new (rest end) (rest_later end) shows.grows;
-      placed = λ found comes.
-          rw (cut_block_of-blocks last (rest end))
-          (shows.placed found (rw (cut_block_of-blocks last (rest_later end)) at comes));
-      from = λ found comes. placed_at block.data_start block found (omega arith)
-          (next_after block end (rest_later end) found whole_end comes);
-    })
+    rw is (shows-blocks (CanonicalOf (ended block end) ∷ []) bytes block.data_start end (rest end)
+    (rest_later end) (each end)
+    (λ found comes. placed_at block.data_start block found (omega arith)
+    (next_after block end (rest_later end) found whole_end comes)))
 shows-inside block whole_end bytes (Err stop) later rest rest_later (whole is onward within) each =
     rw is (both_stop bytes block.data_start _ _ (no_blocks stop onward) (no_blocks stop onward)
     (λ found cuts. (
@@ -256,14 +261,14 @@ blocks_at-shows (suc left) numbers primary bytes more start =
 
 -- ---- the primary block before them
 
-next_primary : (block : Block) (primary : Primary) (check : Option CheckKind) (end : ℕ)
-    (reading : Result Bundle Stop) (found : CanonicalBlock) → block ≡ PrimaryOf primary check end
-    → next_of (blocks_of (with_blocks (block ∷ []) reading))
-    (cut_block_of (with_blocks (block ∷ []) reading)) ≡ Some found → ⊥
-next_primary block primary check end (Ok bundle) found is comes =
-    let none : None ≡ Some found = rw is at comes in cc
-next_primary block primary check end (Err stop) found is comes =
-    let none : None ≡ Some found = rw is at comes in cc
+next_primary : (primary : Primary) (check : Option CheckKind) (end : ℕ)
+    (reading : Result Bundle Stop) (found : CanonicalBlock)
+    → next_of (blocks_of (with_blocks (PrimaryOf primary check end ∷ []) reading))
+    (cut_block_of (with_blocks (PrimaryOf primary check end ∷ []) reading)) ≡ Some found → ⊥
+next_primary primary check end (Ok bundle) found comes =
+    let none : None ≡ Some found = comes in cc
+next_primary primary check end (Err stop) found comes =
+    let none : None ≡ Some found = comes in cc
 
 shows-primary : (primary : Primary) (check : Option CheckKind) (end : ℕ)
     (bytes : List ℕ) (now later : Result Bundle Stop)
@@ -271,15 +276,8 @@ shows-primary : (primary : Primary) (check : Option CheckKind) (end : ℕ)
     → Shows bytes end (with_blocks (PrimaryOf primary check end ∷ []) now)
     (with_blocks (PrimaryOf primary check end ∷ []) later)
 shows-primary primary check end bytes now later shows =
-    let first = PrimaryOf primary check end in
-    record {
-      new = shows.new;
-      grows = grown_after (first ∷ []) shows.new now later shows.grows;
-      placed = λ block is.
-          rw (cut_block_of-blocks (first ∷ []) now)
-          (shows.placed block (rw (cut_block_of-blocks (first ∷ []) later) at is));
-      from = λ block is. absurd (next_primary first primary check end later block refl is);
-    }
+    shows-blocks (PrimaryOf primary check end ∷ []) bytes end end now later shows
+    (λ block is. absurd (next_primary primary check end later block is))
 
 bundle_at-shows : (bytes more : List ℕ)
     → Shows bytes 0 (bundle_at bytes) (bundle_at (bytes ++ more))

@@ -294,7 +294,7 @@ fragment_at-reads true bytes more offset =
     (λ (total, end). ended bytes _ end))
 
 -- a check field: the bytes that are checked come before its content
-slice-stays : (bytes more : List ℕ) (start end : ℕ) → end ≤ length bytes
+pub slice-stays : (bytes more : List ℕ) (start end : ℕ) → end ≤ length bytes
     → slice_range (bytes ++ more) start end ≡ slice_range bytes start end
 slice-stays bytes more start end within =
     ⊎_elim
@@ -343,7 +343,7 @@ compared-reads kind bytes more start offset content =
     (number_from 0 stored == check_of kind start content bytes) (omega arith) (λ here. here))))
     (cases_lt (length bytes) content)
 
-pub field_at-reads : (check : Option CheckKind) (start : ℕ) (bytes more : List ℕ) (offset : ℕ)
+field_at-reads : (check : Option CheckKind) (start : ℕ) (bytes more : List ℕ) (offset : ℕ)
     → Reads bytes offset (field_at check start bytes offset)
     (field_at check start (bytes ++ more) offset)
 unfolding field_at compared
@@ -374,8 +374,8 @@ pub data_before : (size : ℕ) (check : Option CheckKind) (start : ℕ) (bytes :
 unfolding content_at bytes_at
 data_before size check start bytes offset =
     of_either (λ (taken : ReadAt (List ℕ)).
-    IfOk (taken >>= λ (_, offset). field_at check start bytes offset) (λ value. offset + size ≤ value.1))
-    (ltb (length bytes) (offset + size)) (cut_short bytes) (Ok _) tt
+    IfOk (taken >>= λ (_, offset). field_at check start bytes offset)
+    (λ value. offset + size ≤ value.1)) (ltb (length bytes) (offset + size)) (cut_short bytes) (Ok _) tt
     (on_by bytes (offset + size) _ _ (field_at-reads check start bytes [] (offset + size)))
 
 pub heads_at-reads : (numbers bytes more : List ℕ) (offset : ℕ)
@@ -390,7 +390,7 @@ heads_at-reads numbers bytes more offset =
     (λ (check, offset). reads-then (row_at-reads byte_string bytes more offset)
     (λ (size, offset). ended bytes _ offset))))))
 
-pub primary_at-reads : (bytes more : List ℕ) (offset : ℕ)
+primary_at-reads : (bytes more : List ℕ) (offset : ℕ)
     → Reads bytes offset (primary_at bytes offset) (primary_at (bytes ++ more) offset)
 unfolding primary_at
 primary_at-reads bytes more offset =

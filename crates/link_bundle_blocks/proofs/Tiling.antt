@@ -12,13 +12,13 @@ use Rattle.link_bundle_heads.specs.Rows.{◌>>=◌, block, is_absent, is_break, 
 use Rattle.link_bundle_blocks.specs.declared.block.CanonicalBlock.{CanonicalBlock}
 use Rattle.link_bundle_blocks.specs.Blocks.{Primary, PrimaryOf, CanonicalOf, ended}
 use Rattle.link_bundle_blocks.specs.Reading.{Stop, ReadAt, head_by, outcome_at, head_at, row_at}
-use Rattle.link_bundle_blocks.specs.{CheckField.field_at, Primary.primary_at}
+use Rattle.link_bundle_blocks.specs.Whole.{whole_primary}
 use Rattle.link_bundle_blocks.specs.Canonical.{heads_at, content_at}
-use Rattle.link_bundle_blocks.specs.Bundle.{Bundle, with_payload, with_blocks, inside, info_of, rest_of, payload_at, blocks_at, opening_at, bundle_at, if_alone, judged_bundle, verdict_by, verdict, blocks_in, blocks_of}
+use Rattle.link_bundle_blocks.specs.Bundle.{Bundle, with_payload, with_blocks, inside, info_of, rest_of, payload_at, blocks_at, bundle_at, if_alone, judged_bundle, verdict_by, verdict, blocks_in, blocks_of}
 use Rattle.link_bundle_blocks.specs.Laws.{Fills, Tiles, IsTiled, GoodBlocksTile}
 use Rattle.link_bundle_blocks.proofs.Showing.{blocks_judged}
-use Rattle.link_bundle_blocks.proofs.Steady.{field_at-reads, primary_at-reads, on_by, data_before}
-use Rattle.link_bundle_blocks.proofs.{Keeping.{IsBegun, heads_begin}, Readings.{then_read, was_read}}
+use Rattle.link_bundle_blocks.proofs.{Steady.data_before, Keeping.{IsBegun, heads_begin}}
+use Rattle.link_bundle_blocks.proofs.{Beginnings.begins_primary, Readings.{then_read, was_read, bundle_parts}}
 
 -- ---- the break
 
@@ -95,7 +95,8 @@ closing_one bytes start =
 -- ---- a canonical block
 
 inside_before : (block : CanonicalBlock) (limit : ℕ) (reading : ReadAt Bool)
-    → IfOk reading (λ value. limit ≤ value.1) → IfOk (inside block reading) (λ value. limit ≤ value.1)
+    → IfOk reading (λ value. limit ≤ value.1)
+    → IfOk (inside block reading) (λ value. limit ≤ value.1)
 inside_before block limit (Ok value) read = read
 inside_before block limit (Err stop) read = tt
 
@@ -172,7 +173,8 @@ payload_rest primary count start block bytes type begins =
   where
     closed : (end : ℕ) → Fills (CanonicalOf (ended block end)) start end → (reading : ReadAt Bool)
         → IfOk reading (λ value. value.1 ≡ end + 1)
-        → IfOk (with_blocks (CanonicalOf (ended block end) ∷ []) (reading >>= λ (_, end). Ok (record {
+        → IfOk
+        (with_blocks (CanonicalOf (ended block end) ∷ []) (reading >>= λ (_, end). Ok (record {
           info = info_of primary (count + 1) block.data_length;
           length = end;
           payload_span = (block.data_start, block.data_length);
@@ -244,28 +246,14 @@ primary_before primary check end (Ok bundle) late rest = record {
 }
 primary_before primary check end (Err stop) late rest = tt
 
-opens_at : (bytes : List ℕ) → IfOk (opening_at bytes) (λ value. value.1 ≡ 1)
-unfolding opening_at
-opens_at [] = tt
-opens_at (first ∷ rest) =
-    ⊎_elim (λ is. rw is refl) (λ other. rw other tt) (cases_Bool (first == 0x9f))
-
 bundle_divided : (bytes : List ℕ) → IfOk (bundle_at bytes) IsDivided
-unfolding bundle_at
 bundle_divided bytes =
-    then_read IsDivided (opening_at bytes) _
-    (λ (_, start) opened. then_read IsDivided (primary_at bytes start) _
-    (λ ((primary, check), offset) read. then_read IsDivided (field_at check start bytes offset) _
-    (λ (_, end) checked.
-    let one : start ≡ 1 =
-    was_read (λ value. value.1 ≡ 1) (opening_at bytes) (_, start) (opens_at bytes) opened in
-    let two : start ≤ offset =
-    was_read (λ value. start ≤ value.1) (primary_at bytes start) ((primary, check), offset)
-    (on_by bytes start _ _ (primary_at-reads bytes [] start)) read in
-    let three : offset ≤ end =
-    was_read (λ value. offset ≤ value.1) (field_at check start bytes offset) (_, end)
-    (on_by bytes offset _ _ (field_at-reads check start bytes [] offset)) checked in
-    primary_before primary check end _ (omega arith) (blocks_rest 64 [] primary bytes end))))
+    rw (bundle_parts bytes)
+    (then_read IsDivided (whole_primary bytes) _
+    (λ ((primary, check), end) read.
+    primary_before primary check end _
+    (omega (arith, (begins_primary bytes (primary, check) end read).some))
+    (blocks_rest 64 [] primary bytes end)))
 
 tiled_by : (bytes : List ℕ) (info : BundleInfo) (reading : Result Bundle Stop)
     → IfOk reading IsDivided
