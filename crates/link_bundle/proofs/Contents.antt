@@ -1,8 +1,8 @@
 -- More bytes of a name, of data and of a check field's content, and bytes after the bundle.
 
-use Rattle.std.proofs.Common.{◌≡◌, ℕ, ◌+◌, ◌-◌, ◌*◌, ◌<◌, ◌≤◌, Bool, true, false, List, [], ◌∷◌, ◌++◌, length, replicate, take, drop, Option, None, Some, Result, Ok, Err, refl, sym, ap, subst, ◌∙◌, append_assoc, length-append, length-drop, arith}
+use Rattle.std.proofs.Common.{◌≡◌, ℕ, ◌+◌, ◌-◌, ◌*◌, ◌<◌, ◌≤◌, Bool, true, false, List, [], ◌∷◌, ◌++◌, length, replicate, drop, Option, None, Some, Result, Ok, Err, refl, sym, ap, subst, ◌∙◌, append_assoc, length-append, arith}
 use Rattle.std.specs.Prelude.{is_some, ◌==◌, slice_range, if◌then◌else◌}
-use Rattle.std.proofs.lemmas.{Bool.ne_eqb, List.{drop-append-le, take-append-le, replicate_more}}
+use Rattle.std.proofs.lemmas.{Bool.ne_eqb, List.{drop-append-le, replicate_more}}
 use Rattle.link_cbor.specs.{declared.check.CheckKind.CheckKind, Crc.crc, Head.AreBytes}
 use Rattle.link_bundle.specs.declared.{cursor.Cursor.Cursor, draft.Draft.Draft}
 use Rattle.link_bundle_types.specs.declared.fault.BundleFault.TheVariants.{Trailing, CheckDiffers}
@@ -12,8 +12,7 @@ use Rattle.link_bundle.specs.declared.stage.ScanStage.TheVariants.{Name, Content
 use Rattle.link_bundle.specs.declared.stage.{CheckType.CheckType, CheckType.TheVariants.Is}
 use Rattle.link_bundle.specs.{CheckKinds.kind_of, Covers.Covers, Moves.{TakesRun, Enters}}
 use Rattle.link_bundle.specs.Fits.{KeepsCheck}
-use Rattle.link_bundle_heads.specs.Rows.{◌>>=◌}
-use Rattle.link_bundle_blocks.specs.{Reading.{Stop, stopped, ReadAt, bytes_at}, CheckField.field_at}
+use Rattle.link_bundle_blocks.specs.Reading.{Stop, stopped, ReadAt, bytes_at}
 use Rattle.link_bundle_blocks.specs.Canonical.{content_at}
 use Rattle.link_bundle.specs.declared.stage.BlockKind.{BlockKind}
 use Rattle.link_bundle.specs.declared.stage.BlockKind.TheVariants.{Primary, Canonical}
@@ -23,7 +22,7 @@ use Rattle.link_bundle.specs.Left.{primary_of, block_of, block_end, span_of, bun
 use Rattle.link_bundle.specs.Scan.{HasSeen, IsInside, IsInStored}
 use Rattle.link_bundle.proofs.Fields.{stored_left-step, stored_left-last}
 use Rattle.link_bundle.proofs.Heads.{no_content, refused_in}
-use Rattle.link_bundle_blocks.proofs.Runs.{with_run, bytes_at-run}
+use Rattle.link_bundle_blocks.proofs.{Runs.{with_run-then, bytes_at-run}, Steady.slice-stays}
 use Rattle.link_bundle.proofs.Steps.{entered, grown_reads, all_grown, byte_grown, count_more, failed, next_run}
 
 -- the bundle, by the check field of its current block
@@ -32,26 +31,16 @@ by_field block draft check bytes field =
     read_alone bytes
     (with_known_payload draft.payload_span (after_field block draft check bytes field))
 
--- the check field after bytes that were read
-skipped : Option CheckKind → ℕ → List ℕ → ReadAt (List ℕ) → ReadAt Bool
-skipped check start bytes reading = reading >>= λ (_, offset). field_at check start bytes offset
-
-skipped-with_run : (check : Option CheckKind) (start : ℕ) (bytes run : List ℕ)
-    (reading : ReadAt (List ℕ))
-    → skipped check start bytes (with_run run reading) ≡ skipped check start bytes reading
-unfolding skipped
-skipped-with_run check start bytes run (Ok (rest, offset)) = refl
-skipped-with_run check start bytes run (Err stop) = refl
-
 content_at-run : (left : ℕ) (check : Option CheckKind) (start : ℕ)
     (bytes more run : List ℕ) (offset : ℕ)
     → drop offset bytes ≡ run ++ more → length run ≤ left
     → content_at left check start bytes offset
     ≡ content_at (left - length run) check start bytes (offset + length run)
-unfolding content_at skipped
+unfolding content_at
 content_at-run left check start bytes more run offset here fits =
-    rw (bytes_at-run left bytes more run offset here fits) (skipped-with_run check start bytes run
-    (bytes_at (left - length run) bytes (offset + length run)))
+    rw (bytes_at-run left bytes more run offset here fits)
+    (with_run-then run (bytes_at (left - length run) bytes (offset + length run)) _ _
+    (λ rest offset. refl))
 
 -- ---- a run of bytes of a name or of data
 
@@ -135,13 +124,6 @@ grown_name {role = role} {left = left} {old = old} {draft = draft} {after = afte
 
 -- ---- one byte of the content of a check field
 
--- the part of a block that was seen does not change
-slice_kept : (seen more : List ℕ) (start offset : ℕ) → start ≤ length seen → offset ≤ length seen
-    → slice_range (seen ++ more) start offset ≡ slice_range seen start offset
-slice_kept seen more start offset within bound =
-    ap (λ (bytes : List ℕ). take (offset - start) bytes) (drop-append-le start seen more within)
-    ∙ take-append-le (offset - start) (drop start seen) more (omega (arith, length-drop start seen))
-
 -- the expected check value is that of the block, with zeros for the content of its check field
 pub record Checks (kind : CheckKind) (check : CheckType) (cursor : Cursor)
     (expected : ℕ) : Type 0 where
@@ -156,7 +138,7 @@ checked : (kind : CheckKind) (check : CheckType) (cursor : Cursor)
 unfolding zeroed_check
 checked kind check cursor expected start seen more at checks =
     let covered = slice_range seen start cursor.offset ++ replicate (length seen - cursor.offset) 0 in
-    rw (slice_kept seen more start cursor.offset at.in_block at.in_bytes)
+    rw (slice-stays seen more start cursor.offset at.in_bytes)
     (sym (checks.outcome covered (subst (λ (check : CheckType). Covers check cursor.checks covered)
     checks.is at.checks)))
 
@@ -183,7 +165,7 @@ module _ {field left stored : ℕ} {block : BlockKind} {kind : CheckKind} {old g
         in_bytes = omega (arith, longer, at.in_bytes, takes.offset);
         checks = rw (
           takes.offset,
-          slice_kept seen (byte ∷ []) draft.block.start old.offset at.in_block at.in_bytes,
+          slice-stays seen (byte ∷ []) draft.block.start old.offset at.in_bytes,
           more,
         )
             (subst (λ (covered : List ℕ). Covers draft.check grown.checks covered)

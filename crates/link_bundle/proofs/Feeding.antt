@@ -34,14 +34,6 @@ as_taken some within size seen goes =
     record { some = some; within = within; size = size; seen = seen; goes = goes }
 
 -- a run is taken whole if more bytes were needed before each of its bytes
-runs-wanted : (seen run : List ℕ) (byte : ℕ)
-    → ((count : ℕ) → count < length (byte ∷ run)
-    → bundle_goes (seen ++ take count (byte ∷ run)) ≡ true)
-    → (count : ℕ) → count < length run → bundle_goes ((seen ++ byte ∷ []) ++ take count run) ≡ true
-runs-wanted seen run byte wanted count below =
-    ap bundle_goes (append_assoc seen (byte ∷ []) (take count run))
-    ∙ wanted (suc count) (omega arith)
-
 taken-run : (seen run rest : List ℕ)
     → ((count : ℕ) → count < length run → bundle_goes (seen ++ take count run) ≡ true)
     → taken bundle_goes seen (run ++ rest) ≡ run ++ taken bundle_goes (seen ++ run) rest
@@ -50,7 +42,9 @@ taken-run seen (byte ∷ run) rest wanted =
     taken-cons bundle_goes seen byte (run ++ rest)
     (ap bundle_goes (sym (append-nil seen)) ∙ wanted 0 (omega arith))
     ∙ ap (λ (rest : List ℕ). byte ∷ rest)
-    (taken-run (seen ++ byte ∷ []) run rest (runs-wanted seen run byte wanted)
+    (taken-run (seen ++ byte ∷ []) run rest
+    (λ count below. ap bundle_goes (append_assoc seen (byte ∷ []) (take count run))
+    ∙ wanted (suc count) (omega arith))
     ∙ ap (λ (seen : List ℕ). run ++ taken bundle_goes seen rest)
     (append_assoc seen (byte ∷ []) run))
 

@@ -9,12 +9,12 @@ use Rattle.link_bundle_types.specs.declared.fault.BundleFault.TheVariants.{Check
 use Rattle.link_bundle.specs.declared.stage.CheckType.{CheckType}
 use Rattle.link_bundle.specs.declared.stage.CheckType.TheVariants.{Unread, Is}
 use Rattle.link_bundle.specs.CheckKinds.{kind_of, is_kind}
-use Rattle.link_bundle_heads.specs.Rows.{◌>>=◌, check_width, check_field}
-use Rattle.link_bundle_blocks.specs.Reading.{stopped, ReadAt, head_at, bytes_at}
-use Rattle.link_bundle_blocks.specs.CheckField.{number_from, check_of, field_at}
+use Rattle.link_bundle_heads.specs.Rows.{check_width, check_field}
+use Rattle.link_bundle_blocks.specs.Reading.{stopped, head_at, bytes_at}
+use Rattle.link_bundle_blocks.specs.CheckField.{check_of, field_at}
 use Rattle.link_bundle.specs.Left.{zeroed_check, stored_left}
 use Rattle.link_bundle_blocks.proofs.Heads.{row_at-accepted}
-use Rattle.link_bundle_blocks.proofs.Runs.{with_run, bytes_at-step, bytes_at-last}
+use Rattle.link_bundle_blocks.proofs.Runs.{with_run-then, bytes_at-step, bytes_at-last}
 
 -- the check type that was read is that of the check field
 pub same_check : (check : CheckType) (kind : CheckKind) → IsTrue (is_kind (kind_of check) kind)
@@ -43,27 +43,14 @@ field_at-accepted kind bytes start offset next width head count outcome judged i
       is_width,
     ) refl
 
--- the comparison of a content with its check, after some of its bytes
-compared : ℕ → ℕ → ℕ → ReadAt (List ℕ) → ReadAt Bool
-compared stored expected field reading =
-    reading >>= λ (rest, next). if number_from stored rest == expected then Ok (true, next) else Err
-    (stopped CheckDiffers field)
-
-compared-with_run : (stored expected field byte : ℕ) (reading : ReadAt (List ℕ))
-    → compared stored expected field (with_run (byte ∷ []) reading)
-    ≡ compared (stored * 256 + byte) expected field reading
-unfolding compared
-compared-with_run stored expected field byte (Ok (rest, next)) = refl
-compared-with_run stored expected field byte (Err stop) = refl
-
 pub stored_left-step : (left stored expected field : ℕ) (bytes more : List ℕ) (byte offset : ℕ)
     → drop offset bytes ≡ byte ∷ more → 0 < left
     → stored_left left stored expected field bytes offset
     ≡ stored_left (left - 1) (stored * 256 + byte) expected field bytes (offset + 1)
-unfolding stored_left compared
+unfolding stored_left
 stored_left-step left stored expected field bytes more byte offset here some =
     rw (bytes_at-step left bytes more byte offset here some)
-    (compared-with_run stored expected field byte (bytes_at (left - 1) bytes (offset + 1)))
+    (with_run-then (byte ∷ []) (bytes_at (left - 1) bytes (offset + 1)) _ _ (λ rest next. refl))
 
 -- the last byte of a content
 pub stored_left-last : (left stored expected field : ℕ) (bytes more : List ℕ) (byte offset : ℕ)

@@ -10,7 +10,7 @@ use Rattle.link_bundle_heads.specs.Rows.{◌>>=◌}
 use Rattle.link_bundle_blocks.specs.Reading.{ReadAt, Stop, bytes_at}
 use Rattle.link_bundle.specs.Left.{with_eid, after_eid, after_primary, read_alone, with_known_payload, kept_name, name_left, field_left, stage_left, source_left, report_to_left, timestamp_left, time_left, sequence_left, lifetime_left}
 use Rattle.link_bundle.specs.Stages.{stage_after}
-use Rattle.link_bundle_blocks.proofs.Runs.{with_run, bytes_at-none, bytes_at-run, run_within}
+use Rattle.link_bundle_blocks.proofs.Runs.{with_run-then, bytes_at-none, bytes_at-run, run_within}
 
 -- the reading of the whole bundle, by the reading of an endpoint ID
 abbrev pub by_eid : Role → Draft → List ℕ → ReadAt Eid → Result Bundle Stop
@@ -42,13 +42,6 @@ abbrev name_then : List ℕ → ReadAt (List ℕ) → ReadAt Eid
 name_then name reading =
     reading >>= λ (rest, offset). Ok (Dtn (record { items = name ++ rest }), offset)
 
-name_then-with_run : (name run : List ℕ) (reading : ReadAt (List ℕ))
-    → name_then name (with_run run reading) ≡ name_then (name ++ run) reading
-name_then-with_run name run (Ok (rest, offset)) =
-    ap (λ (items : List ℕ). Ok (Dtn (record { items = items }), offset))
-    (sym (append_assoc name run rest))
-name_then-with_run name run (Err stop) = refl
-
 pub name_left-run : (name run : List ℕ) (left : ℕ) (bytes more : List ℕ) (offset : ℕ)
     → drop offset bytes ≡ run ++ more → length run ≤ left
     → name_left name left bytes offset
@@ -56,7 +49,8 @@ pub name_left-run : (name run : List ℕ) (left : ℕ) (bytes more : List ℕ) (
 unfolding name_left
 name_left-run name run left bytes more offset here fits =
     rw (bytes_at-run left bytes more run offset here fits)
-    (name_then-with_run name run (bytes_at (left - length run) bytes (offset + length run)))
+    (with_run-then run (bytes_at (left - length run) bytes (offset + length run)) _ _
+    (λ rest offset. rw (append_assoc name run rest) refl))
 
 -- the bytes so far of a name are in its field
 in_place : (role : Role) (draft : Draft) (name bytes : List ℕ)

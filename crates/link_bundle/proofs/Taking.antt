@@ -9,7 +9,7 @@ use Rattle.link_bundle.specs.declared.stage.ScanStage.TheVariants.{Ended}
 use Rattle.link_bundle_blocks.specs.{Blocks.Block, Bundle.{blocks_in, bundle_goes}}
 use Rattle.link_bundle.specs.{Left.{block_of, stage_follows, stage_last}, Moves.Enters}
 use Rattle.link_bundle.specs.Scan.{HasSeen, HasScanned, HasTaken, Advances, AddsBlock, ending_at, ending, scan_size}
-use Rattle.link_bundle_blocks.proofs.Rests.{joined_run}
+use Rattle.link_bundle_blocks.proofs.{Rests.joined_run, Steady.of_either}
 use Rattle.link_bundle.proofs.Verdicts.{blocks_of-seen}
 
 -- the block that ended before the stage of a scan
@@ -71,12 +71,9 @@ pub ends_here : {stage : ScanStage} {old new : Cursor} (draft : Draft) → Enter
 ends_here {new = new} draft enters =
     rw (eq-eqb new.offset new.count (enters.offset ∙ sym enters.count)) refl
 
-none_chosen : (test : Bool) (none : List Block) → none ≡ [] → (if test then none else []) ≡ []
-none_chosen true none is = is
-none_chosen false none is = refl
-
 pub ends_nowhere : (draft : Draft) (cursor : Cursor) → ending_at Ended draft cursor ≡ []
-ends_nowhere draft cursor = none_chosen (cursor.offset == cursor.count) [] refl
+ends_nowhere draft cursor =
+    of_either (λ (blocks : List Block). blocks ≡ []) (cursor.offset == cursor.count) [] [] refl refl
 
 -- ---- one part after another
 

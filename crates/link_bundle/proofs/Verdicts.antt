@@ -1,6 +1,6 @@
 -- The verdict on the bytes that a scan has seen.
 
-use Rattle.std.proofs.Common.{◌≡◌, ℕ, ◌+◌, ◌-◌, ◌<◌, true, min, List, [], ◌++◌, length, drop, Option, None, Some, Result, Ok, Err, refl, sym, ap, ◌∙◌, append-nil, length-drop, length-take, arith}
+use Rattle.std.proofs.Common.{◌≡◌, ℕ, ◌+◌, ◌-◌, ◌<◌, true, List, [], ◌++◌, length, drop, Option, None, Some, Result, Ok, Err, refl, sym, ap, ◌∙◌, append-nil, arith}
 use Rattle.std.specs.Prelude.{IsTrue, is_some}
 use Rattle.std.proofs.lemmas.Bool.{eq-eqb, ltb-true}
 use Rattle.link_cbor.specs.Head.{Cut as CutHead, head_front}
@@ -17,7 +17,7 @@ use Rattle.link_bundle.specs.declared.stage.{BlockKind.TheVariants.{Primary, Can
 use Rattle.link_cbor.specs.declared.check.CheckKind.{CheckKind}
 use Rattle.link_bundle_types.specs.declared.{fault.State.State, info.BundleInfo.BundleInfo}
 use Rattle.link_bundle_blocks.specs.{declared.block.CanonicalBlock.CanonicalBlock, Blocks.Block}
-use Rattle.link_bundle_blocks.specs.Bundle.{Bundle, with_blocks, opening_at, bundle_at, judged_bundle, verdict_by, verdict, payload_of, payload_in, payload_seen, state_of, blocks_of, blocks_in, cut_block_of, cut_block_in}
+use Rattle.link_bundle_blocks.specs.Bundle.{Bundle, with_blocks, opening_at, bundle_at, judged_bundle, verdict_by, verdict, payload_of, state_of, blocks_of, blocks_in, cut_block_of, cut_block_in}
 use Rattle.link_bundle.specs.Left.{span_of, bundle_of, read_alone, with_known_payload, kept_name, name_left, zeroed_check, stored_left, after_field, kind_block, stage_block, stage_last, stage_left}
 use Rattle.link_bundle_blocks.proofs.Blocks.{verdict_by-blocks, payload_of-blocks, blocks_of-blocks, cut_block_of-blocks}
 use Rattle.link_bundle.proofs.Steps.{at_head}
@@ -230,16 +230,3 @@ module _ {scan : BundleScan} {seen : List ℕ} (come : HasScanned scan seen) whe
   cut_block_of-seen =
       ap cut_block_of scan_reads ∙ cut_block_of-blocks all reading
       ∙ reading_in scan.stage scan.cursor.offset scan.cursor.count scan.draft
-
--- the number of payload bytes that are there
-pub seen_of-none : (seen : List ℕ) (payload : Option (ℕ × ℕ)) → payload_of (judged_bundle seen) ≡ payload
-    → payload ≡ None → payload_seen seen ≡ None
-unfolding payload_seen payload_in
-seen_of-none seen payload is none = rw (is, none) refl
-
-pub seen_of-some : (seen : List ℕ) (payload : Option (ℕ × ℕ)) (offset size count : ℕ)
-    → payload_of (judged_bundle seen) ≡ payload → payload ≡ Some (offset, size)
-    → count ≡ length seen → payload_seen seen ≡ Some (offset, min size (count - offset))
-unfolding payload_seen payload_in
-seen_of-some seen payload offset size count is some counted =
-    rw (is, some, counted, length-take size (drop offset seen), length-drop offset seen) refl

@@ -1,5 +1,7 @@
 //! The parts of a bundle that a scan keeps, and how each head changes them.
 ghost use Rattle.std.specs.Prelude.{◌≡◌, ◌<◌, ◌≤◌, [], ◌++◌, IsTrue, None, length};
+ghost use Rattle.link_bundle.specs.Fits.{stage_fits, rest_fits, KeepsCheck};
+ghost use Rattle.link_bundle.specs.Judged.{Judged, JudgedAfter, JudgedAt, JudgedFrom};
 
 use crate::stage::{
     BlockKind, CanonicalField, CheckType, Field, Part, PrimaryField, Role, ScanStage,
@@ -43,7 +45,6 @@ pub(crate) struct Draft {
 }
 
 impl Draft {
-    ghost use Rattle.link_bundle.specs.Fits.{stage_fits, KeepsCheck};
     ghost use Rattle.link_bundle_blocks.specs.Bundle.{info_of};
     ghost use Rattle.link_bundle_types.specs.BundleView.{viewed_info};
     ghost use Rattle.link_bundle_types.specs.ShortNames.{HasShortNames};
@@ -255,9 +256,6 @@ impl Draft {
 /// Each function without a comment judges the head that it is named after, and returns the next
 /// stage. Most of them keep the value of the head in the draft.
 impl Draft {
-    ghost use Rattle.link_bundle.specs.Fits.{stage_fits};
-    ghost use Rattle.link_bundle.specs.Judged.{Judged, JudgedAfter};
-
     /// Judges a head of the primary block, which begins at `offset`.
     pub fn primary(
         &mut self,
@@ -381,8 +379,6 @@ impl Draft {
 /// stage. Most of them keep the value of the head in the draft. `eid` judges the array that
 /// encloses an endpoint ID, and `dtn` and `ipn` the head of its specific part.
 impl Draft {
-    ghost use Rattle.link_bundle.specs.Fits.{stage_fits, rest_fits, KeepsCheck};
-    ghost use Rattle.link_bundle.specs.Judged.{Judged};
     ghost use Rattle.link_bundle.specs.Left.{EidEnds, NameBegins, NameGoesOn, with_eid, kept_name};
     ghost use Rattle.link_bundle_types.specs.KeptEid.{formed};
     ghost use Rattle.link_bundle_types.specs.declared.eid.Eid.TheVariants.{Dtn};
@@ -544,8 +540,6 @@ impl Draft {
 /// Each function without a comment judges the head that it is named after, and returns the next
 /// stage. Most of them keep the value of the head in the draft.
 impl Draft {
-    ghost use Rattle.link_bundle.specs.Fits.{stage_fits, KeepsCheck};
-    ghost use Rattle.link_bundle.specs.Judged.{Judged, JudgedAfter, JudgedAt, JudgedFrom};
     ghost use Rattle.link_bundle.specs.Left.{ContentBegins};
 
     /// Judges a head of a canonical block, which begins at `offset` and ends before `next`.

@@ -5,8 +5,7 @@ ghost use Rattle.link_bundle.specs.Fits.{scan_fits, stage_fits};
 ghost use Rattle.link_bundle.specs.Judged.{JudgedFrom};
 ghost use Rattle.link_bundle_blocks.specs.Blocks.{Block};
 ghost use Rattle.link_bundle.specs.Left.{last_block, stage_last};
-ghost use Rattle.link_bundle.specs.Scan.{ending_at};
-ghost use Rattle.link_bundle.specs.Scan.{HasSeen, HasSeenHead};
+ghost use Rattle.link_bundle.specs.Scan.{HasSeen, HasSeenHead, ending_at};
 
 use crate::cursor::Cursor;
 use crate::draft::Draft;

@@ -1,7 +1,7 @@
-use Rattle.std.proofs.{Common.{◌∙◌, Bool, Some, sym, ap, rules}, lemmas.Result.err_from_is_err_and}
+use Rattle.std.proofs.{Common.{◌∙◌, sym, refl, rules}, lemmas.Result.err_from_is_err_and}
 use Rattle.link_bundle_heads.specs.Rows.{check_field}
-use Rattle.link_bundle_blocks.specs.{Reading.ReadAt, CheckField.field_at}
-use Rattle.link_bundle.specs.Left.{field_left, stage_left, read_alone, with_known_payload, after_field}
+use Rattle.link_bundle_blocks.specs.CheckField.{field_at}
+use Rattle.link_bundle.specs.Left.{field_left, stage_left}
 use Rattle.link_bundle_blocks.proofs.Heads.{row_at-refused}
 use Rattle.link_bundle.proofs.{Heads.refused_in, Fields.field_at-accepted, Judgings.as_judged}
 use Rattle.link_bundle.proofs.judging.judge.Goals as goal
@@ -27,10 +27,7 @@ returns-in_ok-check_field-in-Check c =
     let cursor = c.args.cursor.now in
     rw c.in-Check.is
     (λ bytes outcome within.
-    ap (λ (field : ReadAt Bool). read_alone bytes
-    (with_known_payload now.payload_span
-    (after_field c.in-Check.block now (Some c.in-Check.kind) bytes field)))
-    (field_at-accepted c.in-Check.kind bytes now.block.start cursor.offset cursor.count c.check_width.result
-    c.args.head c.in_ok-check_field-in-Check.field-0
-    outcome (sym c.check_field.ensures.judged ∙ c.in_ok-check_field-in-Check.was)
-    c.check_width.ensures)))
+    rw (field_at-accepted c.in-Check.kind bytes now.block.start cursor.offset cursor.count
+    c.check_width.result c.args.head c.in_ok-check_field-in-Check.field-0 outcome
+    (sym c.check_field.ensures.judged ∙ c.in_ok-check_field-in-Check.was) c.check_width.ensures)
+    refl))

@@ -1,12 +1,10 @@
-use Rattle.std.proofs.Common.{◌≡◌, List, ℕ, ◌∷◌, [], ◌++◌, drop, refl, ap, sym, ◌∙◌, subst, arith, rules}
+use Rattle.std.proofs.Common.{List, ℕ, ◌∷◌, [], ◌++◌, drop, refl, ap, sym, arith, rules}
 use Rattle.std.proofs.lemmas.Bool.{ne_eqb}
 use Rattle.link_cbor.specs.HeadScan.{HasScannedHead}
-use Rattle.link_bundle_types.specs.declared.fault.BundleFault.TheVariants.{BadHead}
 use Rattle.link_bundle_blocks.specs.Blocks.{Block}
-use Rattle.link_bundle.specs.declared.stage.{ScanStage.ScanStage, ScanStage.TheVariants.Failed}
-use Rattle.link_bundle.specs.{Left.{last_block, stage_last}, Scan.{HasSeen, HasSeenHead}}
+use Rattle.link_bundle.specs.{Left.stage_last, Scan.HasSeenHead}
 use Rattle.link_bundle.proofs.Steps.{at_stage, one_byte, grown_head, grown_bytes, more_head, bad_head}
-use Rattle.link_bundle.proofs.Taking.{last_of, IsAfter, takes_on, takes_more, ends_nowhere}
+use Rattle.link_bundle.proofs.Taking.{IsAfter, takes_on, takes_more, ends_nowhere}
 use Rattle.link_bundle.proofs.scan.BundleScan.head_byte.Goals as goal
 use Rattle.link_bundle.proofs.scan.BundleScan.head_byte.Goals.{After-head_byte}
 
@@ -29,15 +27,6 @@ scanned c before seen come =
     grown_bytes (at_stage now c.requires.stage come) c.head_byte.new.self c.args.byte c.head_byte.ensures.takes.offset
     c.head_byte.ensures.head
 
--- the block that ended before the head, after its byte
-same_last : (c : After-head_byte)
-    → last_block c.args.field c.args.self.now.draft c.head_byte.new.self.offset
-    ≡ last_of c.args.self.now
-same_last c =
-    let now = c.args.self.now in
-    ap (λ (offset : ℕ). last_block c.args.field now.draft offset) c.head_byte.ensures.takes.offset
-    ∙ ap (λ (stage : ScanStage). stage_last stage now.draft now.cursor.offset) (sym c.requires.stage)
-
 pub returns-in-More : goal.returns-in-More
 returns-in-More c =
     let at = (goal.at.returns-in-More c).After-head_byte in
@@ -56,11 +45,10 @@ returns-in-More c =
       (at_stage now c.requires.stage come).stands.at.in_bytes,
     ))) refl)
     (λ before seen come.
-    let bytes = seen ++ c.args.byte ∷ [] in
     let head = scanned at before seen come in
-    subst (λ (stage : ScanStage). HasSeen stage new now.draft before bytes) (sym c.requires.stage)
+    rw c.requires.stage
     (more_head (grown at before seen come) head
-    (c.in-More.ensures.front (drop new.offset bytes) head)))
+    (c.in-More.ensures.front (drop new.offset (seen ++ c.args.byte ∷ [])) head)))
 
 pub returns-in-Bad : goal.returns-in-Bad
 returns-in-Bad c =
@@ -69,10 +57,10 @@ returns-in-Bad c =
     let new = c.head_byte.new.self in
     takes_on (search rules) (ends_nowhere now.draft new)
     (λ before seen come.
-    let bytes = seen ++ c.args.byte ∷ [] in
-    subst (λ (last : List Block). HasSeen (Failed BadHead new.offset) new now.draft (before ++ last) bytes) (same_last at)
+    rw (c.requires.stage, sym c.head_byte.ensures.takes.offset)
     (bad_head (grown at before seen come)
-    (c.in-Bad.ensures.front (drop new.offset bytes) (scanned at before seen come))))
+    (c.in-Bad.ensures.front (drop new.offset (seen ++ c.args.byte ∷ []))
+    (scanned at before seen come))))
 
 pub returns-in-Done : goal.returns-in-Done
 returns-in-Done c =
@@ -80,8 +68,7 @@ returns-in-Done c =
     takes_on (search rules) c.take_head-self.ensures.ends
     (λ before seen come.
     let bytes = seen ++ c.args.byte ∷ [] in
-    subst (λ (last : List Block). HasSeen c.take_head-self.result c.take_head-self.new.cursor
-    c.take_head-self.new.draft (before ++ last) bytes) (same_last at)
+    rw (c.requires.stage, sym c.head_byte.ensures.takes.offset)
     (c.take_head-self.ensures.seen before bytes (grown at before seen come)
     (c.in-Done.ensures.front (drop c.head_byte.new.self.offset bytes)
     (scanned at before seen come))))
