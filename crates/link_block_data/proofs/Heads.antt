@@ -41,12 +41,6 @@ use Rattle.link_block_data.proofs.Names.{then_then, same_then, owner_ends, by_ei
 abbrev pub rest_at : DataStage × Draft → List ℕ → ℕ → Result BlockData ℕ
 rest_at turn bytes next = stage_left turn.0 turn.1 bytes next next
 
-row_at-whole : {A : Type 0} (row : Head → Result A BundleFault) (bytes : List ℕ)
-    (offset next : ℕ) (head : Head) → head_at bytes offset ≡ Ok (head, next)
-    → row_at row bytes offset ≡ outcome_at offset next (row head)
-unfolding row_at
-row_at-whole row bytes offset next head whole = rw whole refl
-
 -- the rest after the outcome of a row
 by_outcome : {A : Type 0} (rest : ReadAt A → Result BlockData Stop) (after : A → DataStage × Draft)
     (outcome : Result A BundleFault) (bytes : List ℕ) (offset next : ℕ)
@@ -65,10 +59,9 @@ by_row : {A : Type 0} (rest : ReadAt A → Result BlockData Stop) (after : A →
     → ((stop : Stop) → rest (Err stop) ≡ Err stop)
     → located (rest (row_at row bytes offset))
     ≡ goes_on (row head >>= λ value. Ok (after value)) bytes offset next
-by_row {A = A} rest after row bytes offset next head whole accepts refuses =
-    ap (λ (reading : ReadAt A). located (rest reading))
-    (row_at-whole row bytes offset next head whole)
-    ∙ by_outcome rest after (row head) bytes offset next accepts refuses
+unfolding row_at
+by_row rest after row bytes offset next head whole accepts refuses =
+    rw whole (by_outcome rest after (row head) bytes offset next accepts refuses)
 
 -- ---- endpoint IDs
 
@@ -131,9 +124,6 @@ others_turn (suc left) draft bytes next =
     (sym (some_due left (due.Number number.Reason) (λ left. due.Assertion (status.Other left))))
 
 -- whether 0 is among the targets so far is kept
-no_more_targets : (draft : Draft) → with_primary false draft ≡ draft
-no_more_targets draft = rw or-false refl
-
 more_targets : (draft : Draft) (first more : Bool)
     → with_primary (first || more) draft ≡ with_primary more (with_primary first draft)
 more_targets draft first more = rw or_assoc refl
@@ -142,8 +132,7 @@ targets_turn : (left : ℕ) (draft : Draft) (bytes : List ℕ) (next : ℕ)
     → located (targets_left left draft bytes next)
     ≡ rest_at (AtHead (targets_due left), draft) bytes next
 unfolding stage_left due_left targets_left items_at
-targets_turn zero draft bytes next =
-    ap (λ (draft : Draft). located (context_left draft bytes next)) (no_more_targets draft)
+targets_turn zero draft bytes next = rw or-false refl
 targets_turn (suc left) draft bytes next =
     ap located (items_then (row_at unsigned bytes next) (items_at (row_at unsigned) left bytes) _)
     ∙ ap located (same_then (row_at unsigned bytes next) _ _ (λ x.

@@ -1,7 +1,7 @@
 -- More bytes, at each stage of a scan.
 
-use Rattle.std.proofs.Common.{◌≡◌, ℕ, ◌+◌, ◌-◌, ◌<◌, ◌≤◌, Bool, true, false, List, [], ◌++◌, length, drop, Result, Ok, Err, refl, sym, ap, ◌∙◌, append_assoc, length-append, length-drop, arith}
-use Rattle.std.specs.Prelude.{◌==◌, ◌||◌, IsTrue}
+use Rattle.std.proofs.Common.{◌≡◌, ℕ, ◌+◌, ◌-◌, ◌<◌, ◌≤◌, true, false, List, [], ◌++◌, length, drop, Result, Ok, Err, refl, sym, ap, ◌∙◌, append_assoc, length-append, length-drop, arith}
+use Rattle.std.specs.Prelude.{IsTrue}
 use Rattle.std.proofs.lemmas.{Bool.{eq-eqb, eqb-true, ne_eqb}, List.drop-append-le}
 use Rattle.std.proofs.{Math.Bool.or-true, lemmas.List.Elements.All-nil}
 use Rattle.link_cbor.specs.declared.{head.Head.Head as HeadItem, head_scan.HeadScan.HeadScan}
@@ -184,12 +184,6 @@ grown_name {owner = owner} {left = left} {draft = draft} {count = count} {seen =
 
 -- ---- bytes after the item, and after a fault
 
--- the offset after an item that has to be the last
-at_the_end : (follow : Bool) (offset : ℕ) (seen : List ℕ)
-    → IsTrue (follow || (offset == length seen)) → follow ≡ false → offset ≡ length seen
-at_the_end true offset seen stands closed = cc
-at_the_end false offset seen stands closed = eqb-true offset (length seen) stands
-
 module _ {kind : DataKind} {draft : Draft} {head : HeadScan} {offset old count : ℕ}
     {seen : List ℕ} (run : List ℕ) (are : AreBytes run) (grows : count ≡ old + length run) where
   pub grown_failed : {at : ℕ} → HasSeen kind (Failed at) draft head offset old seen
@@ -216,7 +210,7 @@ module _ {kind : DataKind} {draft : Draft} {head : HeadScan} {offset old count :
         → HasSeen kind (Failed offset) draft head offset count (seen ++ run)
     unfolding stage_left alone
     grown_closed some closed =
-        let here = at_the_end (may_follow found) offset seen come.stands closed in
+        let here = eqb-true offset (length seen) (rw closed at come.stands) in
         failed (all_grown seen run come.all_bytes are) (omega (arith, length-append seen run, come.counted))
         (λ more.
         let bytes = (seen ++ run) ++ more in

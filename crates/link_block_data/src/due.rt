@@ -1,5 +1,6 @@
 //! What is due next in the data of a block.
 ghost use Rattle.std.specs.Prelude.{◌≡◌};
+ghost use Rattle.link_block_data.specs.Turns as turns;
 
 use crate::kind::DataKind;
 use link_bundle_heads::Scheme;
@@ -112,8 +113,6 @@ pub(crate) enum DataStage {
 }
 
 impl DataKind {
-    ghost use Rattle.link_block_data.specs.Turns as turns;
-
     /// The first head of data of this kind.
     pub(crate) fn first(self) -> Due
         ensures { result ≡ turns.first_due self }
@@ -129,8 +128,6 @@ impl DataKind {
 }
 
 impl Owner {
-    ghost use Rattle.link_block_data.specs.Turns as turns;
-
     /// The stage after the endpoint ID.
     pub fn after_eid(self) -> DataStage
         ensures { result ≡ turns.after_eid self }
@@ -175,8 +172,6 @@ impl Owner {
 }
 
 impl Status {
-    ghost use Rattle.link_block_data.specs.Turns as turns;
-
     /// The head after the assertion about this status, if `others` are not kept.
     pub fn next(self, others: u64) -> Due
         ensures { result ≡ turns.after_status self others }
@@ -192,8 +187,6 @@ impl Status {
 }
 
 impl Pair {
-    ghost use Rattle.link_block_data.specs.Turns as turns;
-
     /// The head of the first element.
     pub fn first(self) -> Due
         ensures { result ≡ turns.first_of self }
@@ -222,8 +215,6 @@ impl Found {
 }
 
 impl Due {
-    ghost use Rattle.link_block_data.specs.Turns as turns;
-
     /// The head that is due when `left` more status assertions follow. None of them is kept.
     pub fn others(left: u64) -> Due
         ensures { result ≡ turns.others_due left }
@@ -246,8 +237,6 @@ impl Due {
 }
 
 impl DataStage {
-    ghost use Rattle.link_block_data.specs.Turns as turns;
-
     /// The stage after the type code of an administrative record.
     pub fn after_type(code: u64) -> DataStage
         ensures { result ≡ turns.after_type code }
