@@ -359,8 +359,8 @@ module _ {which : Field} {cursor : Cursor} {draft : Draft} {before : List Block}
         → HasSeen stage entered_cursor new (before ++ last_block which draft cursor.offset) seen
     unfolding all
     went_on {stage = stage} judges begins keeps enters =
-        entered draft.check come.all_bytes come.count come.at.in_block come.at.checks begins keeps enters
-        (judged_head (Ok stage) judges)
+        entered draft.check come.all_bytes come.count come.at.in_block come.at.checks begins keeps
+        enters (judged_head (Ok stage) judges)
 
     pub refused : {fault : BundleFault}
         → AsReadFrom cursor.offset cursor.count which draft head (Err fault) new

@@ -375,7 +375,8 @@ unfolding content_at bytes_at
 data_before size check start bytes offset =
     of_either (λ (taken : ReadAt (List ℕ)).
     IfOk (taken >>= λ (_, offset). field_at check start bytes offset)
-    (λ value. offset + size ≤ value.1)) (ltb (length bytes) (offset + size)) (cut_short bytes) (Ok _) tt
+    (λ value. offset + size ≤ value.1)) (ltb (length bytes) (offset + size)) (cut_short bytes)
+    (Ok _) tt
     (on_by bytes (offset + size) _ _ (field_at-reads check start bytes [] (offset + size)))
 
 pub heads_at-reads : (numbers bytes more : List ℕ) (offset : ℕ)

@@ -1,5 +1,4 @@
-use Rattle.std.proofs.Common.{ℕ, ◌+◌, List, ap, ◌∙◌, arith}
-use Rattle.byteorder.specs.Endian.{big_from}
+use Rattle.std.proofs.Common.{ℕ, ◌+◌, arith}
 use Rattle.link_bundle_blocks.proofs.{Rests.the_rest, Items.{head_at-small, head_at-argument}}
 use Rattle.link_bundle_blocks.proofs.item.item_at.Goals as goal
 
@@ -17,5 +16,4 @@ returns c =
     (omega arith) (c.in_ok-information.ensures.first (omega arith))
     c.in_ok-size.ensures.least c.in_ok-size.ensures.below c.in_ok-size.ensures.size
     (λ (index : ℕ). omega (arith, c.type_inv.bytes index))
-    (c.read_u64.ensures ∙ ap (λ (rest : List ℕ). big_from 0 8 rest)
-    (the_rest c.args.bytes.now (c.args.offset + 1)))
+    (rw (the_rest c.args.bytes.now (c.args.offset + 1)) at c.read_u64.ensures)

@@ -26,8 +26,9 @@ returns c =
     takes_on (search rules) (ends_here c.end_canonical-stage.new.self c.pass.ensures)
     (λ before seen come.
     rw c.requires.stage
-    (canonical_come c.args.run.now c.args.block (at_stage now c.requires.stage come) c.requires.begins fits.0
-    c.requires.numbers (slice_bytes c.args.run.now (λ k. omega (arith, c.type_inv.run k))) c.requires.whole
+    (canonical_come c.args.run.now c.args.block (at_stage now c.requires.stage come)
+    c.requires.begins fits.0 c.requires.numbers
+    (slice_bytes c.args.run.now (λ k. omega (arith, c.type_inv.run k))) c.requires.whole
     (rw c.moved.ensures at c.end_canonical-stage.ensures.reads)
     (rw c.moved.ensures at c.end_canonical-stage.ensures.start)
     c.requires.start c.end_canonical-stage.ensures.keeps c.pass.ensures))

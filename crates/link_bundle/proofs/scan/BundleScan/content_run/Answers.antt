@@ -10,7 +10,8 @@ returns-in-Content c =
     takes_on (search rules) (ends_nowhere now.draft c.content_run.new.self)
     (λ before seen come. rw (c.requires.stage, append-nil before)
     (grown_content (at_stage now c.requires.stage come)
-    (slice_bytes c.args.run.now (λ k. omega (arith, c.type_inv.run k))) c.content_run.ensures _ (omega arith) (omega arith)))
+    (slice_bytes c.args.run.now (λ k. omega (arith, c.type_inv.run k))) c.content_run.ensures _
+    (omega arith) (omega arith)))
 
 pub returns-else-rest-gt0 : goal.returns-else-rest-gt0
 returns-else-rest-gt0 c =

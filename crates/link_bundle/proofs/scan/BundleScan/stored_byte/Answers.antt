@@ -53,8 +53,9 @@ returns-then-stored-value c =
     let at = storing now _ _ _ _ _ c.args.byte c.requires.stage (omega arith) in
     takes_on (search rules) (ends_here c.after_block-stage.new.self c.enter.ensures)
     (λ before seen come. rw (c.requires.stage, append-nil before)
-    (equal_stored c.args.byte (at_stage now c.requires.stage come) (omega arith) c.content_run.ensures
-    c.value.result (omega (arith, at.more.wants)) (record { is = at.same; outcome = c.value.ensures })
+    (equal_stored c.args.byte (at_stage now c.requires.stage come) (omega arith)
+    c.content_run.ensures c.value.result (omega (arith, at.more.wants))
+    (record { is = at.same; outcome = c.value.ensures })
     (eq-eqb (c.args.stored * 256 + c.args.byte) c.value.result
     (ap (λ (byte : ℕ). c.args.stored * 256 + byte) (sym c.from.ensures) ∙ c.if-stored-value.true))
     c.after_block-stage.ensures.reads c.after_block-stage.ensures.start
@@ -66,8 +67,9 @@ returns-else-stored-value c =
     let at = storing now _ _ _ _ _ c.args.byte c.requires.stage (omega arith) in
     takes_on (search rules) (ends_nowhere now.draft c.content_run.new.self)
     (λ before seen come. rw (c.requires.stage, append-nil before)
-    (other_stored c.args.byte (at_stage now c.requires.stage come) (omega arith) c.content_run.ensures
-    c.value.result (omega (arith, at.more.wants)) (record { is = at.same; outcome = c.value.ensures })
+    (other_stored c.args.byte (at_stage now c.requires.stage come) (omega arith)
+    c.content_run.ensures c.value.result (omega (arith, at.more.wants))
+    (record { is = at.same; outcome = c.value.ensures })
     (ne_eqb (c.args.stored * 256 + c.args.byte) c.value.result
     (λ same. c.if-stored-value.false
     (ap (λ (byte : ℕ). c.args.stored * 256 + byte) c.from.ensures ∙ same)))))
