@@ -1,12 +1,12 @@
 -- What `pack` makes of an input, and what it has written and keeps once bytes have come.
-use Rattle.std.proofs.Common.{◌≡◌, ℕ, false, List, [], ◌∷◌, ◌++◌, length, Option, Some, None, refl, ap, ap₂, sym, ◌∙◌, append-nil, suc, ◌+◌, ◌<◌, Bool, true, append_assoc, arith, ◌-◌, ◌*◌, ◌/◌, ◌≤◌, max, ◌%◌, min, OnOk, Result, Ok, Err, subst}
+use Rattle.std.proofs.Common.{◌≡◌, ℕ, false, List, [], ◌∷◌, ◌++◌, length, Option, Some, None, refl, ap, ap₂, sym, ◌∙◌, append-nil, suc, ◌+◌, ◌<◌, Bool, true, append_assoc, arith, ◌-◌, ◌*◌, ◌/◌, ◌≤◌, max, ◌%◌, min, OnOk, Result, Ok, Err}
 use Rattle.std.proofs.Math.Path.{fun_ext}
 use Rattle.link_run.specs.Made.{StreamStop, shows_fault, so_far_by, tool_of}
 use Rattle.link_run.specs.Run.{Texts, Outcome, Tool, ◌then◌}
 use Rattle.link_run.proofs.Runs.{texts_as, part_of_more, output_then}
-use Rattle.link_bundle_walk.specs.Bundles.{Packed, Rest, Divided, IsOpen, divided, with_bundles}
+use Rattle.link_bundle_walk.specs.Bundles.{Packed, Rest, Divided, divided}
 use Rattle.link_bundle_walk.specs.Telling.{SoFar, BundleTelling, stop_by, told_by, told_of, between, Tells, with_run}
-use Rattle.link_bundle_walk.proofs.Outcomes.{texts_going as texts_told, unshown_going as unshown_told, whole_of}
+use Rattle.link_bundle_walk.proofs.Outcomes.{whole_of}
 use Rattle.link_pack.specs.Packing.{prelude_bytes, segment_size, sending, transfer_bytes, report_lines, packing_of, packing_by, pack_tool, report_line}
 use Rattle.link_pack.specs.PackRun.{texts_of, pack_telling, Sends}
 use Rattle.link_pack.specs.Segments.{segments_of, segments_left}
@@ -20,8 +20,6 @@ use Rattle.link_transfer.specs.{Cutter.{IsCutterAt, kept_size}, declared.cutter.
 use Rattle.link_transfer.proofs.Due.{fits_back, fits}
 use Rattle.std.proofs.lemmas.Grind.{div_ceil_times}
 use Rattle.link_wire.specs.{Device.Output, declared.IoFault.IoFault}
-use Rattle.link_bundle_types.specs.declared.info.BundleInfo.{BundleInfo}
-use Rattle.link_report.specs.Packed.{packed_text}
 use Rattle.link_run.specs.declared.writers.Writers.{Writers}
 use Rattle.link_transfer.specs.Chunks.{chunk_count}
 
@@ -34,12 +32,10 @@ module _ (options : PackOptions) where
       ≡ transfer_bytes options number bundles ++ segments_of n (sending options true bundle.bytes)
   unfolding transfer_bytes
   transfers_of_push number n [] bundle is =
-      append-nil _
-      ∙ ap (λ k. segments_of k (sending options true bundle.bytes)) {y = n} (omega arith)
+      let same : n ≡ number = omega arith in
+      rw (append-nil, same) refl
   transfers_of_push number n (first ∷ bundles) bundle is =
-      ap (λ (bytes : List ℕ). segments_of number (sending options true first.bytes) ++ bytes)
-      (transfers_of_push (suc number) n bundles bundle (omega arith))
-      ∙ sym (append_assoc (segments_of number (sending options true first.bytes)) _ _)
+      rw (transfers_of_push (suc number) n bundles bundle (omega arith), append_assoc) refl
 
   lines_of_push : (number n : ℕ) (bundles : List Packed) (bundle : Packed)
       → n ≡ number + length bundles
@@ -47,11 +43,10 @@ module _ (options : PackOptions) where
       ≡ report_lines options number bundles ++ report_line options n bundle
   unfolding report_lines
   lines_of_push number n [] bundle is =
-      append-nil _ ∙ ap (λ k. report_line options k bundle) {y = n} (omega arith)
+      let same : n ≡ number = omega arith in
+      rw (append-nil, same) refl
   lines_of_push number n (first ∷ bundles) bundle is =
-      ap (λ (bytes : List ℕ). report_line options number first ++ bytes)
-      (lines_of_push (suc number) n bundles bundle (omega arith))
-      ∙ sym (append_assoc (report_line options number first) _ _)
+      rw (lines_of_push (suc number) n bundles bundle (omega arith), append_assoc) refl
 
   -- ---- more bytes of a bundle
 
@@ -153,13 +148,6 @@ chunks_counted segment size some =
     let within = div_ceil_times size segment some in
     rounded_up segment size (size / segment + min 1 (size % segment)) some within.0 within.1
 
-pub line_is : (options : PackOptions) (number segments size : ℕ) (bundle : Packed)
-    (seen : BundleInfo) → segments ≡ chunk_count (segment_size options) size
-    → size ≡ length bundle.bytes → seen ≡ bundle.info
-    → packed_text (record { number = number; segments = segments; length = size; info = seen })
-    ≡ report_line options number bundle
-line_is options number segments size bundle seen counted sized same = rw (counted, sized, same) refl
-
 -- ---- the bytes of a run
 
 then_if : {A E P Q : Type 0} (result : Result A E) → OnOk result P → (P → Q) → OnOk result Q
@@ -169,7 +157,7 @@ then_if (Err fault) holds goes = tt
 kept_as : (options : PackOptions) (cutter : Cutter) (begun : List ℕ) (cuts : Cutting)
     → cuts ≡ cutting options begun → IsCutterAt cutter cuts → Keeps options cutter begun
 kept_as options cutter begun cuts is at =
-    let here = subst (IsCutterAt cutter) is at in
+    let here = rw is at at in
     record { cut = here; kept = kept_few options cutter begun here }
 
 module _ {W E : Type 0} (out_look : W → Output) (report_look : E → Output) (options : PackOptions)
@@ -212,9 +200,8 @@ module _ {W E : Type 0} (out_look : W → Output) (report_look : E → Output) (
     unfolding last
     tells_ended new result wrote known = record {
       texts = on_output last then on_report line;
-      said = ap (λ texts. texts_of options before.bundles before.begun then texts)
-          (texts_as (append-nil last) refl)
-          ∙ rw numbered (texts_whole options before.bundles before.begun run bundle is some);
+      said = rw (append-nil last, numbered)
+          (texts_whole options before.bundles before.begun run bundle is some);
       wrote = wrote;
       known = known;
     }
@@ -263,29 +250,11 @@ module _ (options : PackOptions) where
       → whole_of (told_by telling (record { bundles = bundles; rest = rest }))
       ≡ whole_of (packing_by options (record { bundles = bundles; rest = rest }))
   same_outcome bundles None =
-      rw (segments_none (length bundles) (segment_size options) options.announce)
-      (ap (λ (texts : Texts). record { texts = texts; status = 0 })
-      (texts_as refl (append-nil (report_lines options 0 bundles))))
+      rw (
+        segments_none (length bundles) (segment_size options) options.announce,
+        append-nil (report_lines options 0 bundles),
+      ) refl
   same_outcome bundles (Some rest) = refl
-
-  -- the bundles so far, and the bytes `begun` of the next one
-  module _ (history : List ℕ) (bundles : List Packed) (begun : List ℕ)
-      (opened : IsOpen options.peer_transfer begun)
-      (divides : (more : List ℕ) → divided options.peer_transfer (history ++ more)
-      ≡ with_bundles bundles (divided options.peer_transfer (begun ++ more))) where
-    abbrev now : SoFar
-    now = record { bundles = bundles; begun = begun }
-
-    pub texts_going : (packing_of options history).texts ≡ texts_of options bundles begun
-    unfolding told_of packing_of
-    texts_going =
-        let input = divided options.peer_transfer history in
-        sym (same_texts input.bundles input.rest)
-        ∙ texts_told telling history now divides opened
-
-    pub unshown_going : shows_fault (packing_of options history).stop ≡ false
-    unfolding told_of packing_of
-    unshown_going = unshown_told telling history now divides opened
 
   abbrev input : List ℕ → Divided
   input bytes = divided options.peer_transfer bytes

@@ -1,5 +1,5 @@
 -- The segments of a bundle while it comes, and what a cutter writes of them.
-use Rattle.std.proofs.Common.{◌≡◌, ℕ, zero, suc, ◌+◌, ◌-◌, ◌*◌, ◌<◌, ◌≤◌, Bool, true, false, ltb, leb, eqb, cond, ◌&&◌, List, [], ◌∷◌, ◌++◌, length, take, drop, Option, Some, None, refl, ap, ap₂, sym, ◌∙◌, append-nil, append_assoc, length-append, arith, ◌==◌, OnOk, is_some, Result, Ok, Err, subst}
+use Rattle.std.proofs.Common.{◌≡◌, ℕ, zero, suc, ◌+◌, ◌-◌, ◌*◌, ◌<◌, ◌≤◌, Bool, true, false, ltb, leb, eqb, cond, ◌&&◌, List, [], ◌∷◌, ◌++◌, length, take, drop, Option, Some, None, refl, ap, ap₂, sym, ◌∙◌, append-nil, append_assoc, length-append, arith, ◌==◌, OnOk, is_some, Result, Ok, Err}
 use Rattle.std.proofs.lemmas.Bool.{le-ltb, ltb-true, ltb-false, eqb-true, eq-eqb, and_parts, cond-false, false_from_ne_true}
 use Rattle.std.proofs.lemmas.Bool.Decides.{nat_tests}
 use Rattle.std.proofs.lemmas.List.{take-append-le, drop-append-le, length-drop, length_push}
@@ -55,12 +55,11 @@ cut_kept : (segment hold : ℕ) (bundle run : List ℕ) (last : Bool) (k : ℕ)
     ≡ cut_at (sends segment hold (bundle ++ run) last) k
 unfolding announcement
 cut_kept segment hold bundle run last k some next over within =
-    let cut : Bool → Option ℕ → Cut = λ last announce.
-    record { first = eqb k 0; last = last; announce = announce } in
-    rw length-append (ap₂ cut
-    (last_kept last segment k (length bundle) (length run) some next within)
-    (ap (λ (announce : Option ℕ). cond (eqb k 0) announce None)
-    (none_kept last segment hold (length bundle + length run) (omega arith))))
+    rw (
+      length-append,
+      ← last_kept last segment k (length bundle) (length run) some next within,
+      ← none_kept last segment hold (length bundle + length run) (omega arith),
+    ) refl
 
 -- a chunk is due only if the bundle is too long to be announced
 due_over : (segment hold size count : ℕ) → 0 < count → count ≤ due_of false segment hold size
@@ -145,12 +144,10 @@ segments_grow id segment hold bundle (byte ∷ bytes) last some next =
     let after = due_of last segment hold (length (bundle ++ run)) in
     let more : before ≤ after = rw length-append (due_more last segment hold before (length bundle)
     (length run) some next (omega arith)) in
-    let now = segments_from id (sends segment hold (bundle ++ run) last) in
-    ap (λ given.
-    segments_from id (sends segment hold bundle false) 0 before ++ now given (after - given))
-    {y = 0 + before} (first_chunks-length segment before bundle ∙ omega arith)
-    ∙ grow_from id _ hold bundle run last 0 before _ some next (omega arith)
-    ∙ ap (now 0) {y = after} (omega arith)
+    let given : length (first_chunks segment before bundle) ≡ 0 + before =
+    omega (arith, first_chunks-length segment before bundle) in
+    let all : before + (after - (0 + before)) ≡ after = omega arith in
+    rw (given, grow_from id _ hold bundle run last 0 before _ some next (omega arith), all) refl
 
 -- ---- once all due chunks were given
 
@@ -158,7 +155,7 @@ pub all_given_open : (segment hold : ℕ) (bundle run : List ℕ)
     → all_given (with_bytes run false (going segment hold bundle))
     ≡ going segment hold (bundle ++ run)
 unfolding due
-all_given_open segment hold bundle [] = ap (going segment hold) (sym (append-nil bundle))
+all_given_open segment hold bundle [] = rw append-nil refl
 all_given_open segment hold bundle (byte ∷ bytes) = refl
 
 pub all_given_ended : (segment hold : ℕ) (bundle run : List ℕ) → 0 < length run
@@ -202,8 +199,7 @@ unfolding segments_from
 segment_then id sending k next due some is =
     let count : due - k ≡ suc (due - next) = omega arith in
     let step : suc k ≡ next = omega arith in
-    ap (segments_from id sending k) count ∙ ap (λ n. segment_bytes id (cut_at sending k)
-    (chunk_at sending.segment k sending.bundle) ++ segments_from id sending n (due - next)) step
+    rw (count, step) refl
 
 -- what a cut of the next chunk leaves
 record Leaves (id : ℕ) (now : Cutting) (cut : Cut) (after : Cutting) : Type 0 where
@@ -252,8 +248,8 @@ unfolding next_cut announcement
 cut_leaves id now cut is =
     let waits = cond_some (ltb (length now.given) (due now))
     (cut_at (sending_of now) (length now.given)) cut is in
-    rw (after_is now cut is) (subst (λ cut. Leaves id now cut (left_by (is_last now) now)) waits.1
-    (leaves_by id now (is_last now) refl (ltb-true (length now.given) (due now) waits.0)))
+    rw (after_is now cut is, ← waits.1)
+    (leaves_by id now (is_last now) refl (ltb-true (length now.given) (due now) waits.0))
 
 -- if no cut waits, no segment is left, and all due chunks were given
 idle : (id : ℕ) (cutter : Cutter) (now : Cutting) → IsCutterAt cutter now → next_cut now ≡ None
@@ -271,14 +267,15 @@ idle id cutter now at is =
 
 -- ---- one chunk that is cut where it lies, with no other ready
 
-pub one_sent : {W E : Type 0} (out_look : W → Output) (report_look : E → Output) (id : ℕ)
-    (now : Cutting) (cut : Cut) (chunk : List ℕ) (after : Cutter) (old new : Writers W E)
-    (result : Result (Unit {0}) IoFault) → next_cut now ≡ Some cut → next_chunk now ≡ chunk
+pub one_sent : {W E : Type 0} {out_look : W → Output} {report_look : E → Output} {id : ℕ}
+    {now : Cutting} {cut : Cut} {chunk : List ℕ} {after : Cutter} {old new : Writers W E}
+    {result : Result (Unit {0}) IoFault} → next_cut now ≡ Some cut → next_chunk now ≡ chunk
     → IsCutterAt after (without_chunk (after_cut now)) → cut_waits after ≡ false
     → AfterWrite out_look report_look old new (on_output (segment_bytes id cut chunk)) result
     → Sends out_look report_look id now old new after result
 unfolding due
-one_sent out_look report_look id now cut chunk after old new result is same at quiet wrote =
+one_sent {id = id} {now = now} {cut = cut} {after = after} {result = result}
+    is same at quiet wrote =
     let rest = idle id after _ at (sym (next_cut-none after _ at quiet)) in
     let leaves = cut_leaves id now cut is in
     record {
@@ -322,9 +319,6 @@ module _ {W E : Type 0} (out_look : W → Output) (report_look : E → Output) w
           let leaves = cut_leaves id some.now cut is in
           rw (same, leaves.shows, leaves.left) refl
 
-      abbrev Sends_of : Writers W E → Result (Unit {0}) IoFault → List ℕ → Type 0
-      Sends_of last result bytes = AfterWrite out_look report_look mid last (on_output bytes) result
-
       pub sent_more : IsCutterAt after (after_cut some.now)
           → Writes out_look report_look mid new (on_output (segment_bytes id cut chunk))
           → Sent id start old new after
@@ -332,7 +326,7 @@ module _ {W E : Type 0} (out_look : W → Output) (report_look : E → Output) w
         now = after_cut some.now;
         at = at;
         then_all = λ last result wrote. some.then_all last result
-            (subst (Sends_of last result) left
+            (rw (← left)
             (output_then out_look report_look mid new last (segment_bytes id cut chunk)
             (on_output (segments_left id (after_cut some.now))) result writes wrote));
         ends = (cut_leaves id some.now cut is).ends ∙ some.ends;
@@ -343,7 +337,7 @@ module _ {W E : Type 0} (out_look : W → Output) (report_look : E → Output) w
           → WritesPart out_look report_look mid new (on_output (segment_bytes id cut chunk)) fault
           → Sends out_look report_look id start old new after (Err fault)
       sent_part fault part = record {
-        wrote = some.then_all new (Err fault) (subst (Sends_of new (Err fault)) left
+        wrote = some.then_all new (Err fault) (rw (← left)
             (part_more out_look report_look mid new (segment_bytes id cut chunk)
             (segments_left id (after_cut some.now)) fault part));
         after = tt;

@@ -3,7 +3,7 @@
 ghost use Rattle.std.specs.Prelude.{◌≡◌, ◌<◌, IfErr, IfOk, false, [], length};
 ghost use Rattle.link_bundle_types.specs.BundleView.{viewed_info};
 ghost use Rattle.link_bundle_types.specs.ShortNames.{HasShortNames};
-ghost use Rattle.link_run.specs.Run.{AfterRun, Devices, devices_at, looks};
+ghost use Rattle.link_run.specs.Run.{AfterRun, devices_at, looks};
 ghost use Rattle.link_run.specs.Writers.{AfterWrite, on_output, on_report};
 ghost use Rattle.link_bundle_walk.specs.Bundles.{Packed};
 ghost use Rattle.link_pack.specs.Packer.{IsCutterFor};

@@ -7,8 +7,7 @@ pub returns-in_err-write_text : goal.returns-in_err-write_text
 returns-in_err-write_text g c =
     let exit = err_from_is_err_and c.from_residual.result c.from_residual.ensures.1 in
     rw (exit.1, exit.2) (record {
-      gives = part_more g.W.OutDevice.state g.E.OutDevice.state c.args.writers.now
-          c.write_text.new.self _ c.args.head.now.chunk.now _ c.in_err-write_text.ensures.gives;
+      gives = part_more _ _ _ _ _ c.args.head.now.chunk.now _ c.in_err-write_text.ensures.gives;
     })
 
 pub returns : goal.returns

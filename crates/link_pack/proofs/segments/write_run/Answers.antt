@@ -4,10 +4,7 @@ use Rattle.link_pack.proofs.segments.write_run.Goals as goal
 
 pub returns-in-Some-clause-gives : goal.returns-in-Some-clause-gives
 returns-in-Some-clause-gives g c = λ so_far at few.
-    one_sent g.W.OutDevice.state g.E.OutDevice.state c.args.id
-    (with_bytes c.args.run.now c.args.last so_far) c.in-Some.cut c.args.run.now c.cut_slice.new.self
-    c.args.writers.now c.write_segment.new.writers c.write_segment.result
-    (c.in-Some.ensures.cut so_far at) (c.in-Some.ensures.chunk so_far at)
+    one_sent (c.in-Some.ensures.cut so_far at) (c.in-Some.ensures.chunk so_far at)
     (c.in-Some.ensures.after so_far at) c.in-Some.ensures.quiet c.write_segment.ensures.gives
 
 pub returns-in-None-clause-gives : goal.returns-in-None-clause-gives

@@ -6,8 +6,7 @@ pub loop-cut-preserved : goal.loop-cut-preserved
 loop-cut-preserved g c = λ so_far at.
     let some = c.loop-cut.invariant so_far at in
     let next = c.in-Some.ensures.after some.now some.at in
-    sent_more g.W.OutDevice.state g.E.OutDevice.state some c.in-Some.cut c.bytes.result.now
-    c.write_segment.new.writers c.cut.new.self (sym (c.in-Some.ensures.cut some.now some.at))
+    sent_more _ _ some _ _ _ _ (sym (c.in-Some.ensures.cut some.now some.at))
     (c.bytes.ensures _ next) next c.in_ok-write_segment.ensures.gives
 
 pub returns-in_err-write_segment-clause-gives : goal.returns-in_err-write_segment-clause-gives
@@ -22,5 +21,5 @@ returns-in_err-write_segment-clause-gives g c = λ so_far at.
 pub returns-clause-gives : goal.returns-clause-gives
 returns-clause-gives g c = λ so_far at.
     let all = c.loop-cut.invariant so_far at in
-    sent_all g.W.OutDevice.state g.E.OutDevice.state all c.cut.new.self
-    (sym (c.in_default.ensures.cut all.now all.at)) (c.in_default.ensures.after all.now all.at)
+    sent_all _ _ all _ (sym (c.in_default.ensures.cut all.now all.at))
+    (c.in_default.ensures.after all.now all.at)

@@ -6,16 +6,13 @@ use Rattle.link_pack.proofs.packer.PackerBundleConsumer.run.Goals as goal
 
 pub returns-in_default-clause-gives : goal.returns-in_default-clause-gives
 returns-in_default-clause-gives g c = λ before keeps. rw c.in_default.is (λ comes.
-    went_on g.W.OutDevice.state g.E.OutDevice.state c.args.options.now before c.args.bytes.now
-    c.args.number comes.numbered c.write_run.new.cutter c.args.writers.now c.write_run.new.writers
-    c.write_run.result (c.write_run.ensures.gives _ keeps.cut c.requires.few))
+    went_on _ _ _ before _ _ comes.numbered _ _ _ _
+    (c.write_run.ensures.gives _ keeps.cut c.requires.few))
 
 pub returns-in-Err-clause-gives : goal.returns-in-Err-clause-gives
 returns-in-Err-clause-gives g c = λ before keeps. rw c.in-Some.is (λ comes.
     let bundle : Packed = record { bytes = before.begun ++ c.args.bytes.now; info = viewed_info c.in-Some.whole.info } in
-    lost g.W.OutDevice.state g.E.OutDevice.state c.args.options.now before c.args.bytes.now
-    c.args.number comes.numbered c.write_run-2.new.cutter bundle refl comes.accepted.0
-    c.args.writers.now c.write_run-2.new.writers c.in-Err.fault
+    lost _ _ _ before _ _ comes.numbered _ bundle refl comes.accepted.0 _ _ _
     (c.in-Err.ensures.gives _ keeps.cut c.requires.few))
 
 pub returns-in-Ok-clause-gives : goal.returns-in-Ok-clause-gives
