@@ -1,7 +1,7 @@
 -- One more block after others.
-use Rattle.std.proofs.Common.{◌≡◌, ℕ, ◌+◌, ◌^◌, ◌<◌, Bool, true, false, ◌||◌, cond, List, [], ◌∷◌, ◌++◌, length, refl, ap, ◌∙◌, Option, Some, None, arith}
+use Rattle.std.proofs.Common.{◌≡◌, ℕ, ◌+◌, Bool, true, false, ◌||◌, cond, List, [], ◌∷◌, ◌++◌, refl, Option, Some, None, arith}
 use Rattle.std.specs.{Prelude.{if◌then◌else◌}, List.list_any, Option.option_or}
-use Rattle.std.proofs.lemmas.List.{Recursion.or_push, Sums.{sum_by-append, count_by-le-length}}
+use Rattle.std.proofs.lemmas.List.{Recursion.or_push, Sums.sum_by-append}
 use Rattle.link_bundle_rules.specs.ReadBundle.{ReadBlock, is_of_type, count_of_type, find_map}
 use Rattle.link_bundle_rules.specs.Remembered.{within_64_bits, count_with}
 
@@ -34,11 +34,5 @@ pub count_more : (type : ℕ) (blocks : List ReadBlock) (read : ReadBlock)
     → within_64_bits (count_of_type type (blocks ++ read ∷ []))
     ≡ count_with type (within_64_bits (count_of_type type blocks)) read
 count_more type blocks read =
-    ap within_64_bits
-    (sum_by-append (λ (each : ReadBlock). cond (is_of_type type each) 1 0) blocks (read ∷ []))
-    ∙ one_more (is_of_type type read) (count_of_type type blocks)
-
--- the number of some blocks of a type is below 2^64 if that of all is
-pub count_fits : (type : ℕ) (blocks : List ReadBlock) → length blocks < 2 ^ 64
-    → within_64_bits (count_of_type type blocks) ≡ count_of_type type blocks
-count_fits type blocks few = omega (arith, count_by-le-length (is_of_type type) blocks)
+    rw (sum_by-append (λ (each : ReadBlock). cond (is_of_type type each) 1 0) blocks (read ∷ []))
+    (one_more (is_of_type type read) (count_of_type type blocks))

@@ -1,5 +1,5 @@
 -- The first bytes of dtn names, and those after them.
-use Rattle.std.proofs.Common.{◌≡◌, ℕ, ◌-◌, ◌≤◌, ◌<◌, false, ◌&&◌, List, [], ◌∷◌, length, take, drop, get_or, refl, ap, sym, arith}
+use Rattle.std.proofs.Common.{◌≡◌, ℕ, ◌-◌, ◌≤◌, ◌<◌, false, ◌&&◌, List, [], ◌∷◌, length, take, drop, get_or, refl, arith}
 use Rattle.std.specs.{Char.is_ascii_graphic, List.{list_any, list_all}}
 use Rattle.std.proofs.lemmas.List.{take_all}
 use Rattle.link_bundle_rules.specs.Names.{is_slash, is_dtn_name}
@@ -12,9 +12,7 @@ unfolding is_dtn_name
 text_parts [] some = absurd (omega arith)
 text_parts (first ∷ []) some = absurd (omega arith)
 text_parts (first ∷ second ∷ rest) some =
-    ap (λ (bytes : List ℕ). is_slash first && (is_slash second
-    && (list_any is_slash bytes && list_all is_ascii_graphic bytes)))
-    (sym (take_all (length (first ∷ second ∷ rest) - 2) rest (omega arith)))
+    rw (take_all (length (first ∷ second ∷ rest) - 2) rest (omega arith)) refl
 
 pub short_text : (text : List ℕ) → length text < 2 → is_dtn_name text ≡ false
 unfolding is_dtn_name

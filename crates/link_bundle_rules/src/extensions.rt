@@ -2,9 +2,9 @@
 
 ghost use Rattle.std.specs.Prelude.{◌≡◌, ◌^◌, ◌<◌, ◌==◌, ◌&&◌, ◌||◌, nat_lt, IfSome, option_map};
 ghost use Rattle.link_block_data.specs.DataView.{viewed_result};
-ghost use Rattle.link_bundle_rules.specs.Extensions.{hops_in_data, has_bad_limit, if_exceeded, is_extension, if_malformed_extension, if_malformed_payload, hops_of_block};
+ghost use Rattle.link_bundle_rules.specs.Extensions.{hops_in_data, has_bad_limit, is_extension, if_malformed_extension, if_malformed_payload, hops_of_block};
 ghost use Rattle.link_bundle_rules.specs.ReadBundle.{viewed_read_block, malformed_at};
-ghost use Rattle.link_bundle_rules.specs.Remembered.{within_64_bits, count_with};
+ghost use Rattle.link_bundle_rules.specs.Remembered.{count_with};
 
 use crate::block::{
     BUNDLE_AGE, HOP_COUNT, PAYLOAD, PREVIOUS_NODE, ReadBlockView, is_of_type, malformed_at,

@@ -39,7 +39,7 @@ pub struct BundleHistory {
 }
 
 impl BundleHistory {
-    ghost use Rattle.std.specs.Prelude.{◌≡◌, ◌^◌, ◌<◌, true, [], length, Option, option_map, IfSome};
+    ghost use Rattle.std.specs.Prelude.{◌≡◌, ◌^◌, ◌<◌, true, [], length, Option, IfSome};
     ghost use Rattle.link_bundle_blocks.specs.Blocks.{viewed_primary};
     ghost use Rattle.link_bundle_rules.specs.BundleRules.{broken_bundle_rules};
     ghost use Rattle.link_bundle_rules.specs.ReadBundle.{ReadBundle, viewed_read_block, with_block, malformed_at};

@@ -1,6 +1,6 @@
 //! What the rules need of the primary block.
 
-ghost use Rattle.std.specs.Prelude.{◌≡◌, ◌+◌};
+ghost use Rattle.std.specs.Prelude.{◌≡◌};
 ghost use Rattle.link_bundle_types.specs.EidView.{viewed_eid};
 ghost use Rattle.link_bundle_rules.specs.Fragments.{is_no_part};
 ghost use Rattle.link_bundle_rules.specs.ReadBundle.{is_none_eid};

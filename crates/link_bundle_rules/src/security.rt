@@ -1,9 +1,9 @@
 //! Rules of security blocks (RFC 9171 section 4.3.1, RFC 9172 sections 3.7 and 3.8).
 
-ghost use Rattle.std.specs.Prelude.{◌≡◌, option_map};
-ghost use Rattle.link_block_data.specs.DataView.{viewed_data, viewed_result};
+ghost use Rattle.std.specs.Prelude.{◌≡◌};
+ghost use Rattle.link_block_data.specs.DataView.{viewed_data};
 ghost use Rattle.link_bundle_rules.specs.ReadBundle.{viewed_read_block};
-ghost use Rattle.link_bundle_rules.specs.Security.{targets_primary, surely_targets_primary, may_target_primary, may_protect_primary, if_confidential_primary};
+ghost use Rattle.link_bundle_rules.specs.Security.{targets_primary, may_protect_primary, if_confidential_primary};
 
 use crate::block::{BLOCK_CONFIDENTIALITY, BLOCK_INTEGRITY, ReadBlockView, is_of_type};
 use crate::primary::PrimaryFacts;

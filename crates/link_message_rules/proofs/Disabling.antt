@@ -1,5 +1,5 @@
 -- KEEPALIVEs after a SESS_INIT whose interval is 0, with one more message.
-use Rattle.std.proofs.Common.{◌≡◌, ℕ, suc, ◌+◌, Bool, true, false, not, ◌&&◌, ◌||◌, List, [], ◌∷◌, ◌++◌, drop, Option, Some, None, if◌then◌else◌, refl, ap, sym, ◌∙◌, arith}
+use Rattle.std.proofs.Common.{◌≡◌, ℕ, suc, ◌+◌, Bool, true, false, not, ◌&&◌, ◌||◌, List, [], ◌∷◌, ◌++◌, drop, Option, Some, None, if◌then◌else◌, refl, arith}
 use Rattle.std.specs.{Bool.then_some, List.{list_any, after_first, position_or_len}}
 use Rattle.std.proofs.lemmas.List.Recursion.{or_push}
 use Rattle.link_wire.specs.declared.message.Message.{Message}
@@ -44,13 +44,14 @@ module _ {A : Type 0} (disables sends : A → Bool) where
       → state (x ∷ (xs ++ last ∷ []))
       ≡ next_state (state (x ∷ xs)) (disables last) (sends last)
   longer x xs last true is more =
-      begun x (xs ++ last ∷ []) true is
-      ∙ ap sent_state (or_push (list_any sends) sends refl (λ first rest. refl) xs last)
-      ∙ next_sent (list_any sends xs) (disables last) (sends last)
-      ∙ ap (λ now. next_state now (disables last) (sends last)) (sym (begun x xs true is))
+      rw (
+        begun x (xs ++ last ∷ []) true is,
+        or_push (list_any sends) sends refl (λ first rest. refl) xs last,
+        begun x xs true is,
+      )
+      (next_sent (list_any sends xs) (disables last) (sends last))
   longer x xs last false is more =
-      begun x (xs ++ last ∷ []) false is ∙ more
-      ∙ ap (λ now. next_state now (disables last) (sends last)) (sym (begun x xs false is))
+      rw (begun x (xs ++ last ∷ []) false is, begun x xs false is) more
 
   push : (xs : List A) (last : A)
       → state (xs ++ last ∷ []) ≡ next_state (state xs) (disables last) (sends last)
@@ -70,12 +71,7 @@ rule_in others sends = None
 rule_by_cases : (disabled sent sends : Bool)
     → (if sends && (disabled && not sent) then Some rule.Keepalive else None)
     ≡ rule_in (if not disabled then Enabled else sent_state sent) sends
-rule_by_cases false sent true = refl
-rule_by_cases false sent false = refl
-rule_by_cases true true true = refl
-rule_by_cases true true false = refl
-rule_by_cases true false true = refl
-rule_by_cases true false false = refl
+rule_by_cases disabled sent sends = grind arith
 
 pub keepalive_by : (before : List JudgedHead) (message : Message)
     → keepalive before message ≡ rule_in (keepalives_of (messages_of before)) (is_keepalive message)

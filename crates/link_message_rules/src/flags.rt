@@ -1,7 +1,7 @@
 //! Rules of flags.
 
 ghost use Rattle.std.specs.Prelude.{◌≡◌, not, ◌&&◌, ◌==◌, bit_and};
-ghost use Rattle.link_wire.specs.MessageBuffer.{message_of, message_with};
+ghost use Rattle.link_wire.specs.MessageBuffer.{message_of};
 ghost use Rattle.link_rules.specs.Flags.{has_other_flags};
 ghost use Rattle.link_message_rules.specs.Flags.{reply, contact_flags, item_flags, segment_flags, term_flags};
 

@@ -35,7 +35,7 @@ pub struct MessageHistory {
 }
 
 impl MessageHistory {
-    ghost use Rattle.std.specs.Prelude.{◌≡◌, ℕ, true, false, List, [], ◌∷◌, ◌++◌, option_map};
+    ghost use Rattle.std.specs.Prelude.{◌≡◌, ℕ, true, false, List, [], ◌∷◌, ◌++◌};
     ghost use Rattle.link_wire.specs.MessageBuffer.{SegmentHasTotals, message_of};
     ghost use Rattle.link_message_rules.specs.Heads.{JudgedHead, viewed_head};
     ghost use Rattle.link_message_rules.specs.MessageRules.{broken_rules};
