@@ -1,5 +1,5 @@
 -- The texts of bundles, when more bytes come.
-use Rattle.std.proofs.Common.{◌≡◌, ℕ, suc, ◌+◌, List, [], ◌∷◌, ◌++◌, length, None, OnOk, Result, Ok, Err, refl, ap, sym, ◌∙◌, append-nil, append_assoc, arith}
+use Rattle.std.proofs.Common.{◌≡◌, ℕ, suc, ◌+◌, List, [], ◌∷◌, ◌++◌, length, None, OnOk, Result, Ok, Err, refl, sym, ◌∙◌, append-nil, append_assoc, arith}
 use Rattle.link_wire.specs.{Device.Output, declared.IoFault.IoFault}
 use Rattle.link_report.specs.declared.judgement.Judgement.TheVariants.{Good}
 use Rattle.link_block_report.specs.Blocks.{end_text}
@@ -8,6 +8,7 @@ use Rattle.link_run.specs.declared.writers.Writers.{Writers}
 use Rattle.link_run.proofs.Runs.{texts_as, writes_none, outputs_then, part_of_more}
 use Rattle.link_bundle_walk.specs.Bundles.{Packed}
 use Rattle.link_bundle_walk.specs.Telling.{SoFar, none_yet, between, with_run, Tells}
+use Rattle.link_unpack.proofs.Told.{on_ok}
 use Rattle.link_blocks.specs.{BlockLines.block_lines, BundleLister.IsListing}
 use Rattle.link_blocks.specs.Bundles.{whole_lines, bundle_lines, bundle_blocks_telling}
 use Rattle.link_blocks.specs.{Piece.ShowsMore, declared.bundles.BundleLister.BundleLister}
@@ -20,22 +21,16 @@ lines_of_push : (number n : ℕ) (bundles : List Packed) (bundle : Packed)
     ++ whole_lines n bundle
 unfolding bundle_lines
 lines_of_push number n [] bundle is =
-    append-nil _ ∙ ap (λ k. whole_lines k bundle) {y = n} (omega arith)
+    let same : n ≡ number = omega arith in
+    rw (append-nil, same) refl
 lines_of_push number n (first ∷ bundles) bundle is =
-    ap (λ (lines : List ℕ). whole_lines number first ++ lines)
-    (lines_of_push (suc number) n bundles bundle (omega arith))
-    ∙ sym (append_assoc (whole_lines number first) _ _)
+    let later = lines_of_push (suc number) n bundles bundle (omega arith) in
+    rw (later, append_assoc (whole_lines number first)) refl
 
 -- between two bundles, the lines are those of the whole ones
 pub between_lines : (bundles : List Packed)
     → bundle_lines 0 bundles ++ block_lines (length bundles) [] ≡ bundle_lines 0 bundles
-between_lines bundles =
-    ap (λ (lines : List ℕ). bundle_lines 0 bundles ++ lines) (no_lines (length bundles))
-    ∙ append-nil (bundle_lines 0 bundles)
-
-holds_if : {P : Type 0} (result : Result (Unit {0}) IoFault) → P → OnOk result P
-holds_if (Ok done) holds = holds
-holds_if (Err fault) holds = tt
+between_lines bundles = rw (no_lines, append-nil) refl
 
 none_lines : bundle_lines 0 [] ≡ []
 unfolding bundle_lines
@@ -54,10 +49,7 @@ module _ (before : SoFar) (run : List ℕ) (number : ℕ)
       → bundle_blocks_telling.texts before then on_output lines
       ≡ bundle_blocks_telling.texts (with_run before run None)
   on_said lines are = texts_as
-      (append_assoc whole (block_lines (length before.bundles) before.begun) lines
-      ∙ ap (λ (lines : List ℕ). whole ++ lines)
-      (ap (λ n. block_lines n before.begun ++ lines) (sym numbered)
-      ∙ sym are ∙ ap (λ n. block_lines n (before.begun ++ run)) numbered))
+      (rw (append_assoc whole, ← numbered, are) refl)
       refl
 
   -- the bundle is whole, and has the line of its end
@@ -70,14 +62,15 @@ module _ (before : SoFar) (run : List ℕ) (number : ℕ)
         → bundle_blocks_telling.texts before then on_output (lines ++ last)
         ≡ bundle_blocks_telling.texts (between (before.bundles ++ bundle ∷ []))
     whole_said lines are = texts_as
-        (append_assoc whole (block_lines (length before.bundles) before.begun) (lines ++ last)
-        ∙ ap (λ (rest : List ℕ). whole ++ rest)
-        (ap (λ n. block_lines n before.begun ++ (lines ++ last)) (sym numbered)
-        ∙ sym (append_assoc (block_lines number before.begun) lines last)
-        ∙ ap (λ (rest : List ℕ). rest ++ last) (sym are)
-        ∙ ap (λ (bytes : List ℕ). block_lines number bytes ++ last) (sym is))
-        ∙ sym (lines_of_push 0 number before.bundles bundle (omega arith))
-        ∙ sym (between_lines (before.bundles ++ bundle ∷ [])))
+        (rw (
+          between_lines (before.bundles ++ bundle ∷ []),
+          lines_of_push 0 number before.bundles bundle (omega arith),
+          is,
+          are,
+          append_assoc (block_lines number before.begun),
+          append_assoc whole,
+          ← numbered,
+        ) refl)
         refl
 
 -- ---- what is written
@@ -165,4 +158,4 @@ module _ {W E : Type 0} (out_look : W → Output) (report_look : E → Output) (
           tells_ended old new result shows.lines shows.are
           (outputs_then out_look report_look old mid new shows.lines end result shows.wrote
           (rw (sym sized) wrote))
-          (holds_if result listing)
+          (on_ok result listing)

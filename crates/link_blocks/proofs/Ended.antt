@@ -39,11 +39,10 @@ module _ (only : Option ℕ) where
   ended_lines false transfers = sym (append-nil (lines_of only true transfers))
   ended_lines true [] = refl
   ended_lines true (latest ∷ earlier) =
-      ap (λ xs. lines_of only false earlier ++ xs)
-      (end_added (is_selected only latest.first.id) (block_lines latest.first.id latest.content)
-      (end_line latest))
-      ∙ sym (append_assoc (lines_of only false earlier) (transfer_lines only true latest)
-      (end_due only true (latest ∷ earlier)))
+      rw (
+        append_assoc (lines_of only false earlier),
+        ← end_added (is_selected only latest.first.id) _ (end_line latest),
+      ) refl
 
   -- the latest transfer, if it was open, is abandoned
   abandoned_lines : (opened : Bool) (transfers : List Transfer)
@@ -55,20 +54,21 @@ module _ (only : Option ℕ) where
   begun_lines : (head : SegmentHead) (closed : Bool) (earlier : List Transfer)
       → lines_of only true (begun head closed ∷ earlier) ≡ lines_of only false earlier
   begun_lines head closed earlier =
-      lines_of-more true (begun head closed) earlier
-      ∙ ap (λ xs. lines_of only false earlier ++ xs)
-      (none_added (is_selected only head.id) (block_lines head.id []) (no_lines head.id))
-      ∙ append-nil (lines_of only false earlier)
+      rw (
+        lines_of-more true (begun head closed) earlier,
+        none_added (is_selected only head.id) (block_lines head.id []) (no_lines head.id),
+        append-nil,
+      ) refl
 
   pub continued_lines : (transfers : List Transfer) (closed : Bool)
       → lines_of only true (continued transfers [] closed) ≡ lines_of only true transfers
   continued_lines [] closed = refl
   continued_lines (latest ∷ earlier) closed =
-      lines_of-more true (grown latest [] closed) earlier
-      ∙ ap (λ (xs : List ℕ). lines_of only false earlier
-      ++ (if is_selected only latest.first.id then block_lines latest.first.id xs ++ [] else []))
-      (append-nil latest.content)
-      ∙ sym (lines_of-more true latest earlier)
+      rw (
+        lines_of-more true (grown latest [] closed) earlier,
+        append-nil latest.content,
+        lines_of-more true latest earlier,
+      ) refl
 
   -- the lines after a head
   pub head_lines : (transfers : List Transfer) (effect : Option Turn) (sent : Message)
@@ -77,26 +77,24 @@ module _ (only : Option ℕ) where
       (transfers_at effect transfers sent)
       ≡ (lines_of only opened transfers ++ end_due only (abandons effect) transfers)
       ++ end_due only (is_last effect && (data_length sent == 0)) (transfers_at effect transfers sent)
-  head_lines transfers effect sent opened (Strays is) =
-      let lines = lines_of only opened transfers in
-      rw is (sym (append-nil (lines ++ []) ∙ append-nil lines))
+  head_lines transfers effect sent opened (Strays is) = rw (is, append-nil, append-nil) refl
   head_lines transfers effect sent opened (Passes is other) =
-      let lines = lines_of only opened transfers in
-      rw is (ap (lines_of only opened) (transfers_same transfers sent [] other)
-      ∙ sym (append-nil (lines ++ []) ∙ append-nil lines))
+      rw (is, transfers_same transfers sent [] other, append-nil, append-nil) refl
   head_lines transfers effect sent opened (Begins first abandoned is starts does same) =
       let closing = is_end first.flags && (first.length == 0) in
       rw (does, is, transfer_begins transfers first [] starts)
-      (ended_lines closing (begun first (closes first []) ∷ transfers)
-      ∙ ap (λ (xs : List ℕ). xs ++ end_due only closing (begun first (closes first []) ∷ transfers))
-      (begun_lines first (closes first []) transfers
-      ∙ sym (ap (λ b. lines_of only opened transfers ++ end_due only b transfers) same
-      ∙ abandoned_lines opened transfers)))
+      (rw (
+        ended_lines closing (begun first (closes first []) ∷ transfers),
+        begun_lines first (closes first []) transfers,
+        same,
+        abandoned_lines opened transfers,
+      ) refl)
   head_lines transfers effect sent opened (Continues first is starts does also) =
       let closing = is_end first.flags && (first.length == 0) in
       rw (does, is, transfer_continues transfers first [] starts)
-      (ended_lines closing (continued transfers [] (closes first []))
-      ∙ ap (λ (xs : List ℕ). xs ++ end_due only closing (continued transfers [] (closes first [])))
-      (continued_lines transfers (closes first [])
-      ∙ ap (λ b. lines_of only b transfers) (sym also)
-      ∙ sym (append-nil (lines_of only opened transfers))))
+      (rw (
+        ended_lines closing (continued transfers [] (closes first [])),
+        continued_lines transfers (closes first []),
+        also,
+        append-nil (lines_of only true transfers),
+      ) refl)

@@ -1,10 +1,8 @@
 -- A piece of a bundle after a scan of some of its bytes.
-use Rattle.std.proofs.Common.{◌≡◌, ℕ, ◌⊎◌, false, List, [], ◌++◌, take, drop, Result, IsTrue, ap, sym, ◌∙◌, subst, ⊎_elim, append-nil, append_assoc, fold}
+use Rattle.std.proofs.Common.{◌≡◌, ℕ, ◌⊎◌, false, List, [], ◌++◌, take, drop, IsTrue, refl, ap, sym, ◌∙◌, subst, ⊎_elim, append-nil, append_assoc, fold}
 use Rattle.std.proofs.lemmas.{Bool.false≢true, List.take-append-drop}
-use Rattle.link_bundle_types.specs.declared.fault.BundleFault.{BundleFault}
-use Rattle.link_bundle_types.specs.declared.info.BundleInfo.{BundleInfo}
 use Rattle.link_bundle_blocks.specs.Blocks.{Block}
-use Rattle.link_bundle_blocks.specs.Bundle.{state_of, is_going, bundle_goes, blocks_in}
+use Rattle.link_bundle_blocks.specs.Bundle.{bundle_goes, blocks_in}
 use Rattle.link_bundle.specs.Scan.{HasScanned, HasJudged, may_scan}
 use Rattle.link_bundle.specs.declared.scan.BundleScan.{BundleScan}
 use Rattle.link_bundle.proofs.Pieces.{verdict_judged}
@@ -27,16 +25,14 @@ module _ (scan : BundleScan) (bytes : List ℕ) (judged : HasJudged scan bytes) 
 
   pub goes_judged : bundle_goes judged.seen ≡ bundle_goes bytes
   goes_judged =
-      ap (λ (v : Result BundleInfo (BundleFault × ℕ)). is_going (state_of v))
-      (verdict_judged scan bytes judged)
+      rw (verdict_judged scan bytes judged) refl
 
 -- ---- the rest of a piece
 
 pub joined_rest : (content piece : List ℕ) (count : ℕ)
     → (content ++ take count piece) ++ drop count piece ≡ content ++ piece
 joined_rest content piece count =
-    append_assoc content (take count piece) (drop count piece)
-    ∙ ap (λ xs. content ++ xs) (take-append-drop count piece)
+    rw (append_assoc, take-append-drop) refl
 
 -- no more blocks come in the rest, or there is none
 pub rest_read : (reader : DataReader) (bytes rest : List ℕ)
@@ -44,14 +40,14 @@ pub rest_read : (reader : DataReader) (bytes rest : List ℕ)
     → IsReading reader (bytes ++ rest)
 rest_read reader bytes rest ends reading = ⊎_elim
     (λ stops. read_end reader bytes rest reading stops)
-    (λ none. subst (IsReading reader) (sym (append-nil bytes) ∙ ap (λ xs. bytes ++ xs) (sym none)) reading)
+    (λ none. rw none (rw (append-nil bytes) reading))
     ends
 
 pub rest_lines : (id : ℕ) (bytes rest : List ℕ) → (bundle_goes bytes ≡ false) ⊎ (rest ≡ [])
     → block_lines id (bytes ++ rest) ≡ block_lines id bytes
 rest_lines id bytes rest ends = ⊎_elim
     (λ stops. lines_end id bytes rest stops)
-    (λ none. ap (block_lines id) (ap (λ xs. bytes ++ xs) none ∙ append-nil bytes))
+    (λ none. rw none (rw (append-nil bytes) refl))
     ends
 
 -- ---- one more block
@@ -64,7 +60,4 @@ pub run_lines : (id flags : ℕ) (content bytes run lines : List ℕ) (new : Lis
     → block_lines id (bytes ++ run)
     ≡ block_lines id content ++ (lines ++ lines_from id flags (bytes ++ run) new)
 run_lines id flags content bytes run lines new is grown are =
-    lines_more id bytes run new grown
-    ∙ ap (λ n. block_lines id bytes ++ lines_from id n (bytes ++ run) new) (sym is)
-    ∙ ap (λ (xs : List ℕ). xs ++ lines_from id flags (bytes ++ run) new) are
-    ∙ append_assoc (block_lines id content) lines (lines_from id flags (bytes ++ run) new)
+    rw (lines_more id bytes run new grown, are, is, append_assoc) refl

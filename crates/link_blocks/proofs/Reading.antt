@@ -1,5 +1,5 @@
 -- What a reader of block data has read after more bytes.
-use Rattle.std.proofs.Common.{◌≡◌, ℕ, ◌+◌, ◌<◌, ◌≤◌, false, true, Bool, ◌==◌, List, [], ◌∷◌, ◌++◌, length, Option, Some, None, fold, All, refl, ap, sym, ◌∙◌, ⊎_elim, if◌then◌else◌, arith}
+use Rattle.std.proofs.Common.{◌≡◌, ℕ, ◌+◌, ◌<◌, ◌≤◌, false, true, Bool, ◌==◌, List, [], ◌∷◌, ◌++◌, length, Option, Some, None, fold, All, refl, sym, ◌∙◌, ⊎_elim, if◌then◌else◌, arith}
 use Rattle.std.proofs.lemmas.{Bool.false≢true, Grind.fold-append}
 use Rattle.link_bundle_blocks.specs.Blocks.{Block, CanonicalOf, LiesWithin, next_of}
 use Rattle.link_bundle_blocks.specs.Bundle.{judged_bundle, bundle_at, opening_at, bundle_goes, blocks_in, cut_block_in}
@@ -10,7 +10,7 @@ use Rattle.link_bundle.specs.declared.{cursor.Cursor.Cursor, draft.Draft.Draft}
 use Rattle.link_bundle.specs.declared.{scan.BundleScan.BundleScan, stage.Field.Field}
 use Rattle.link_bundle.specs.declared.stage.Field.TheVariants as field
 use Rattle.link_bundle.specs.declared.stage.ScanStage.{ScanStage}
-use Rattle.link_bundle.specs.declared.stage.ScanStage.TheVariants.{Start, Head, Name, Content, Stored, Ended, Failed}
+use Rattle.link_bundle.specs.declared.stage.ScanStage.TheVariants.{Head, Content, Stored}
 use Rattle.link_bundle_blocks.proofs.Lying.{BlocksWithin-holds}
 use Rattle.link_bundle_blocks.proofs.Showing.{BlocksEnd-holds, BlockPlaced-holds}
 use Rattle.link_bundle.proofs.Verdicts.{cut_block_of-seen}
@@ -22,21 +22,15 @@ use Rattle.link_blocks.proofs.Lines.{all_first, all_rest, goes_stops, no_blocks}
 
 field_uncut : (which : Field) (draft : Draft) → follows_block which ≡ true
     → field_block which draft ≡ None
-field_uncut (field.Primary which) draft follows = refl
-field_uncut (field.Endpoint role which) draft follows = refl
-field_uncut (field.Canonical which) draft follows = refl
 field_uncut (field.Check block kind) draft follows = absurd (false≢true follows)
-field_uncut field.Closing draft follows = refl
+field_uncut others draft follows = refl
 
 stage_uncut : (stage : ScanStage) (draft : Draft) → stage_follows stage ≡ true
     → stage_block stage draft ≡ None
-stage_uncut Start draft follows = refl
 stage_uncut (Head which) draft follows = field_uncut which draft follows
-stage_uncut (Name role left) draft follows = refl
 stage_uncut (Content left) draft follows = absurd (false≢true follows)
 stage_uncut (Stored at left stored block kind) draft follows = absurd (false≢true follows)
-stage_uncut Ended draft follows = refl
-stage_uncut (Failed fault at) draft follows = refl
+stage_uncut others draft follows = refl
 
 -- a list that has an element is that of the true case
 if_some : {A : Type 0} (test : Bool) (xs : List A) (x : A) → (if test then xs else []) ≡ x ∷ []
@@ -78,8 +72,7 @@ flags_more : (flags : ℕ) (seen run : List ℕ) (new : List Block)
     → blocks_in (seen ++ run) ≡ blocks_in seen ++ new
     → fold flags_after flags new ≡ fold flags_after 0 (blocks_in (seen ++ run))
 flags_more flags seen run new is grown =
-    ap (λ n. fold flags_after n new) is
-    ∙ sym (ap (fold flags_after 0) grown ∙ fold-append flags_after 0 (blocks_in seen) new)
+    rw (is, grown, fold-append) refl
 
 -- a block has ended with the run
 pub read_whole : (reader : DataReader) (scan : BundleScan) (flags : ℕ) (seen run : List ℕ)
@@ -88,7 +81,7 @@ pub read_whole : (reader : DataReader) (scan : BundleScan) (flags : ℕ) (seen r
     → ending scan ≡ block ∷ [] → reader.flags ≡ flags_after flags block
     → IsReading reader (seen ++ run)
 read_whole reader scan flags seen run block was come grown ends is = record {
-  flags = is ∙ flags_more flags seen run _ was (grown ∙ ap (λ new. blocks_in seen ++ new) ends);
+  flags = is ∙ flags_more flags seen run _ was (rw ends at grown);
   at_cut = λ goes cut_block cut.
       absurd (none_some cut_block (sym (no_cut scan (seen ++ run) block come ends) ∙ cut));
 }
@@ -113,7 +106,7 @@ read_on reader flags seen run was grown is at_cut = record {
 pub read_end : (reader : DataReader) (content more : List ℕ) → IsReading reader content
     → bundle_goes content ≡ false → IsReading reader (content ++ more)
 read_end reader content more reading stops = record {
-  flags = reading.flags ∙ sym (ap (fold flags_after 0) (BlocksEnd-holds content more stops));
+  flags = rw (BlocksEnd-holds content more stops) reading.flags;
   at_cut = λ goes block cut. absurd (false≢true (sym (goes_stops content more stops) ∙ goes));
 }
 
@@ -125,7 +118,7 @@ none_cut block cut = cc
 pub read_none : (reader : DataReader) → reader.flags ≡ 0
     → ((block : CanonicalBlock) → cut_block_in [] ≡ Some block → ⊥) → IsReading reader []
 read_none reader is none = record {
-  flags = is ∙ sym (ap (fold flags_after 0) no_blocks);
+  flags = rw no_blocks is;
   at_cut = λ goes block cut. absurd (none block cut);
 }
 

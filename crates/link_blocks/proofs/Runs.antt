@@ -1,5 +1,5 @@
 -- The data of a block that a run of the bundle has.
-use Rattle.std.proofs.Common.{◌≡◌, ℕ, ◌+◌, ◌-◌, min, ◌≤◌, List, [], ◌++◌, length, take, drop, ap, ◌∙◌, length-append, length-take, length-drop, arith}
+use Rattle.std.proofs.Common.{◌≡◌, ℕ, ◌+◌, ◌-◌, min, ◌≤◌, List, [], ◌++◌, length, drop, length-append, length-take, length-drop, arith}
 use Rattle.std.proofs.Math.{ListN.drop_of_length-le, Seq.take-nil}
 use Rattle.link_bundle_blocks.specs.declared.block.CanonicalBlock.{CanonicalBlock}
 use Rattle.link_unpack.specs.Pieces.{part_in}
@@ -10,7 +10,7 @@ use Rattle.link_blocks.specs.BlockLines.{data_in}
 pub data_later : (seen : List ℕ) (block : CanonicalBlock) → length seen ≤ block.data_start
     → data_in seen block ≡ []
 data_later seen block after =
-    ap (take block.data_length) (drop_of_length-le seen after) ∙ take-nil block.data_length
+    rw (drop_of_length-le seen after) (take-nil block.data_length)
 
 pub data_more : (seen run : List ℕ) (block : CanonicalBlock) (count : ℕ)
     → count ≡ min block.data_length (length seen + length run - block.data_start)

@@ -1,11 +1,11 @@
 -- The status of `blocks`, and that of `unpack`.
-use Rattle.std.proofs.Common.{◌≡◌, true, false, List, [], ◌∷◌, ◌++◌, Option, Some, None, fold, refl, ap, if◌then◌else◌}
+use Rattle.std.proofs.Common.{◌≡◌, false, List, [], ◌∷◌, ◌++◌, Option, Some, None, fold, refl}
 use Rattle.link_wire.specs.Stream.{reading_of}
 use Rattle.link_run.specs.Made.{StreamStop, Made, whole_by}
-use Rattle.link_walk.specs.Walk.{WalkEvent, ContactHeader, MessageHead, Data, Whole, LeftOpen, end_events, stop_by, walked, told_of}
+use Rattle.link_walk.specs.Walk.{WalkEvent, ContactHeader, end_events, stop_by, walked, told_of}
 use Rattle.link_walk.specs.declared.consumer.Manner.{Manner}
-use Rattle.link_unpack.specs.Unpacking.{Told, none_told, transfers_at, told_event, told_after}
-use Rattle.link_unpack.specs.{Transfers.continued, declared.wanted.Wanted.Wanted}
+use Rattle.link_unpack.specs.Unpacking.{Told, none_told, told_event, told_after}
+use Rattle.link_unpack.specs.declared.wanted.Wanted.{Wanted}
 use Rattle.link_blocks.specs.{Laws.HasStatusOfUnpack, Showing.unpacking_by}
 
 -- what was told has the same transfers, and is good or not alike
@@ -17,22 +17,7 @@ module _ (first second : Wanted) where
   event_alike : (one other : Told) (event : WalkEvent) → Alike one other
       → Alike (told_event first one event) (told_event second other event)
   event_alike one other (ContactHeader contact) alike = alike
-  event_alike one other (MessageHead head) alike = record {
-    transfers = ap (λ ts. transfers_at head.turn ts head.message) alike.transfers;
-    good = rw (alike.transfers, alike.good) refl;
-  }
-  event_alike one other (Data byte) alike = record {
-    transfers = ap (λ ts. continued ts (byte ∷ []) false) alike.transfers;
-    good = alike.good;
-  }
-  event_alike one other Whole alike = record {
-    transfers = ap (λ ts. continued ts [] true) alike.transfers;
-    good = rw (alike.transfers, alike.good) refl;
-  }
-  event_alike one other LeftOpen alike = record {
-    transfers = alike.transfers;
-    good = rw (alike.transfers, alike.good) refl;
-  }
+  event_alike one other others alike = record { transfers = cc; good = cc }
 
   events_alike : (events : List WalkEvent) (one other : Told) → Alike one other
       → Alike (fold (told_event first) one events) (fold (told_event second) other events)
@@ -49,7 +34,7 @@ module _ (first second : Wanted) where
 -- the status follows from the stop, and from whether everything is good
 status_by : (stop : Option StreamStop) (one other : Made) → one.good ≡ other.good
     → (whole_by stop one).status ≡ (whole_by stop other).status
-status_by None one other same = ap (λ b. if b then 0 else 1) same
+status_by None one other same = rw same refl
 status_by (Some stop) one other same = refl
 
 pub HasStatusOfUnpack-holds : HasStatusOfUnpack

@@ -14,7 +14,7 @@ use Rattle.link_walk.specs.Walk.{Head, WalkEvent, MessageHead, closes as closes_
 use Rattle.link_walk.specs.Telling.{ComesAfter, Tells, data_ends}
 use Rattle.link_unpack.specs.{Transfers.{Transfer, closes, continued}, TransferJudge.{begun, grown}}
 use Rattle.link_unpack.specs.Unpacking.{order_line, Told, good_due, transfers_at, told_event, told_after}
-use Rattle.link_unpack.proofs.Effects.{zero_eq, Does, Strays, Passes, Begins, Continues, comes_does}
+use Rattle.link_unpack.proofs.Effects.{abandons_open, zero_eq, Does, Strays, Passes, Begins, Continues, comes_does}
 use Rattle.link_unpack.proofs.Events.{open_is, told_push, data_after, whole_if}
 use Rattle.link_unpack.proofs.Heads.{transfers_same, transfer_begins, transfer_continues}
 use Rattle.link_unpack.proofs.Told.{size_then, open_then, size_with_data, open_with_data, told_none}
@@ -29,13 +29,6 @@ use Rattle.link_blocks.proofs.Ended.{lines_of-more, ended_lines, head_lines}
 -- ---- the latest transfer
 
 module _ (only : Option ℕ) where
-  showing_same : (now : TransferBlocks) (transfer : Transfer) (closed : Bool)
-      → IsShowing only now transfer → IsShowing only now (grown transfer [] closed)
-  showing_same now transfer closed shows = record {
-    judging = judging_same now.judge transfer closed shows.judging;
-    reading = rw append-nil shows.reading;
-  }
-
   -- the latest transfer is continued without data
   continued_at : (now : TransferBlocks) (transfers : List Transfer) (closed is_open : Bool)
       → is_open ≡ not closed → IsAtLatest only now true transfers
@@ -43,9 +36,12 @@ module _ (only : Option ℕ) where
   continued_at now transfers closed is_open is at = record {
     transfer = grown at.transfer [] closed;
     earlier = at.earlier;
-    are = ap (λ ts. continued ts [] closed) at.are;
+    are = rw at.are refl;
     opened = is;
-    shows = showing_same now at.transfer closed at.shows;
+    shows = record {
+      judging = judging_same now.judge at.transfer closed at.shows.judging;
+      reading = rw append-nil at.shows.reading;
+    };
   }
 
   -- what is known of the latest transfer after a head, which may close it
@@ -86,7 +82,7 @@ module _ (only : Option ℕ) where
         transfer = begun first (closes first []);
         earlier = transfers;
         are = refl;
-        opened = goes ∙ ap (λ b. not (is_end first.flags && b)) (sym (zero_eq first.length));
+        opened = rw (zero_eq first.length) goes;
         shows = shows;
       }))
   at_head before now transfers effect sent opened (Continues first is starts does also) at begins same =
@@ -124,8 +120,8 @@ module _ (options : BlockOptions) (before : List WalkEvent) where
       at_open = λ opened. rw next_is (at_open (sym (open_then before event) ∙ opened));
     }
 
-    pub tells : {W E : Type 0} (out_look : W → Output) (report_look : E → Output)
-        (old new : Writers W E) (result : Result (Unit {0}) IoFault) (now : BlockLister)
+    pub tells : {W E : Type 0} {out_look : W → Output} {report_look : E → Output}
+        {old new : Writers W E} {result : Result (Unit {0}) IoFault} (now : BlockLister)
         (texts : Texts)
         → lines_of options.only (open_after_event (has_open before) event) next.transfers
         ≡ lines_of options.only (has_open before) was.transfers ++ texts.output
@@ -134,14 +130,11 @@ module _ (options : BlockOptions) (before : List WalkEvent) where
         → OnOk result (KnowsShown options now (before ++ event ∷ []))
         → Tells out_look report_look (blocks_telling options) (KnowsShown options now) before
         (event ∷ []) old new result
-    tells out_look report_look old new result now texts lines orders wrote knows = record {
+    tells now texts lines orders wrote knows = record {
       texts = texts;
       said = texts_as
-          (sym (ap (λ (told : Told). lines_of options.only (has_open (before ++ event ∷ [])) told.transfers) next_is
-          ∙ ap (λ b. lines_of options.only b next.transfers) (open_then before event) ∙ lines))
-          (sym (flat_map-append order_line_of before (event ∷ [])
-          ∙ ap (λ xs. flat_map order_line_of before ++ xs)
-          (append-nil (order_line_of event) ∙ orders)));
+          (rw (next_is, open_then before event, lines) refl)
+          (rw (flat_map-append, append-nil, orders) refl);
       wrote = wrote;
       known = knows;
     }
@@ -178,8 +171,7 @@ module _ (options : BlockOptions) (before : List WalkEvent) where
         (open_is at.transfer.closed at.opened)
 
     data_open : has_open (before ++ data_ends bytes whole) ≡ not whole
-    data_open =
-        open_with_data before bytes whole ∙ ap (λ b. not whole && b) opened ∙ and-true (not whole)
+    data_open = rw (open_with_data before bytes whole, opened) (and-true (not whole))
 
     pub data_known : (now : BlockLister)
         → now.latest.judge.size ≤ old.latest.judge.size + length bytes
@@ -192,8 +184,8 @@ module _ (options : BlockOptions) (before : List WalkEvent) where
       at_open = λ some. rw data_next (data_latest now.latest shows (sym some ∙ data_open));
     }
 
-    pub data_tells : {W E : Type 0} (out_look : W → Output) (report_look : E → Output)
-        (from to : Writers W E) (result : Result (Unit {0}) IoFault) (now : BlockLister)
+    pub data_tells : {W E : Type 0} {out_look : W → Output} {report_look : E → Output}
+        {from to : Writers W E} {result : Result (Unit {0}) IoFault} (now : BlockLister)
         (lines : List ℕ)
         → transfer_lines options.only true new
         ≡ transfer_lines options.only true at.transfer ++ lines
@@ -202,47 +194,32 @@ module _ (options : BlockOptions) (before : List WalkEvent) where
         → OnOk result (KnowsShown options now (before ++ data_ends bytes whole))
         → Tells out_look report_look (blocks_telling options) (KnowsShown options now) before
         (data_ends bytes whole) from to result
-    data_tells out_look report_look from to result now lines are wrote known = record {
+    data_tells now lines are wrote known = record {
       texts = on_output lines then on_output (end_due options.only whole data_transfers);
-      said = texts_as (sym output)
-          (sym (flat_map-append order_line_of before (data_ends bytes whole)
-          ∙ ap (λ xs. flat_map order_line_of before ++ xs) (data_orders bytes whole)));
+      said = texts_as
+          (rw (
+            data_next,
+            data_open,
+            ended_lines options.only whole data_transfers,
+            lines_of-more options.only true new at.earlier,
+            are,
+            opened,
+            at.are,
+            lines_of-more options.only true at.transfer at.earlier,
+            append_assoc,
+            append_assoc,
+            append_assoc,
+          ) refl)
+          (rw (flat_map-append, data_orders bytes whole) refl);
       wrote = wrote;
       known = known;
     }
-      where
-        end : List ℕ
-        end = end_due options.only whole data_transfers
-
-        output : lines_of options.only (has_open (before ++ data_ends bytes whole))
-            (told_after (unpacking_by options) (before ++ data_ends bytes whole)).transfers
-            ≡ lines_of options.only (has_open before) was.transfers
-            ++ (lines ++ end_due options.only whole data_transfers)
-        output =
-            ap (λ (told : Told). lines_of options.only (has_open (before ++ data_ends bytes whole)) told.transfers) data_next
-            ∙ ap (λ b. lines_of options.only b data_transfers) data_open
-            ∙ ended_lines options.only whole data_transfers
-            ∙ ap (λ (xs : List ℕ). xs ++ end_due options.only whole data_transfers)
-            (lines_of-more options.only true new at.earlier
-            ∙ ap (λ (xs : List ℕ). lines_of options.only false at.earlier ++ xs) are
-            ∙ sym (append_assoc (lines_of options.only false at.earlier) (transfer_lines options.only true at.transfer) lines)
-            ∙ ap (λ (xs : List ℕ). xs ++ lines)
-            (sym (ap (λ b. lines_of options.only b was.transfers) opened
-            ∙ ap (lines_of options.only true) at.are
-            ∙ lines_of-more options.only true at.transfer at.earlier)))
-            ∙ append_assoc (lines_of options.only (has_open before) was.transfers) lines (end_due options.only whole data_transfers)
 
 -- ---- a head
 
 good_after : (good first second order : Bool)
     → (((good && first) && second) && order) ≡ (((good && order) && first) && second)
-good_after false first second order = refl
-good_after true false second true = refl
-good_after true false second false = refl
-good_after true true true true = refl
-good_after true true true false = refl
-good_after true true false true = refl
-good_after true true false false = refl
+good_after good first second order = grind arith
 
 -- the texts of a head: the line of the transfer that it abandons, of the one that it ends, and of
 -- its fault
@@ -253,27 +230,27 @@ head_texts options told head =
     (transfers_at head.turn told.transfers head.message))
     then on_report (order_line head.offset head.fault))
 
-module _ {W E : Type 0} (out_look : W → Output) (report_look : E → Output)
-    (options : BlockOptions) (before : List WalkEvent) (head : Head)
+module _ (options : BlockOptions) (before : List WalkEvent) (head : Head)
     (comes : ComesAfter before head) where
   abbrev had : Told
   had = told_after (unpacking_by options) before
 
-  pub does : Does head.turn head.message (has_open before)
-  does = comes_does before head comes
+  -- a head that abandons a transfer comes while it is open
+  pub abandons_at : {old : BlockLister} → KnowsShown options old before → abandons head.turn ≡ true
+      → IsAtLatest options.only old.latest true had.transfers
+  abandons_at knows some = knows.at_open (abandons_open _ _ _ (comes_does before head comes) some)
 
-  pub head_tells : (old new : Writers W E) (result : Result (Unit {0}) IoFault) (now : BlockLister)
+  pub head_tells : {W E : Type 0} {out_look : W → Output} {report_look : E → Output}
+      {old new : Writers W E} {result : Result (Unit {0}) IoFault} (now : BlockLister)
       → AfterWrite out_look report_look old new (head_texts options had head) result
       → OnOk result (KnowsShown options now (before ++ MessageHead head ∷ []))
       → Tells out_look report_look (blocks_telling options) (KnowsShown options now) before
       (MessageHead head ∷ []) old new result
-  head_tells old new result now wrote knows =
-      tells options before (MessageHead head) out_look report_look old new result now
-      (head_texts options had head)
-      (head_lines options.only had.transfers head.turn head.message (has_open before) does
-      ∙ append_assoc (lines_of options.only (has_open before) had.transfers) _ _
-      ∙ ap (λ (xs : List ℕ). lines_of options.only (has_open before) had.transfers
-      ++ (end_due options.only (abandons head.turn) had.transfers ++ xs)) (sym (append-nil _)))
+  head_tells now wrote knows =
+      tells options before (MessageHead head) now (head_texts options had head)
+      (rw (append-nil (end_due options.only (closes_head head) _), ← append_assoc)
+      (head_lines options.only had.transfers head.turn head.message (has_open before)
+      (comes_does before head comes)))
       refl wrote knows
 
   pub head_known : (old now : BlockLister) → KnowsShown options old before
@@ -286,9 +263,7 @@ module _ {W E : Type 0} (out_look : W → Output) (report_look : E → Output)
       → KnowsShown options now (before ++ MessageHead head ∷ [])
   head_known old now knows size good at =
       known options before (MessageHead head) now (omega (arith, size, knows.size))
-      (good ∙ good_after old.good _ _ _
-      ∙ ap (λ g. ((g && not (is_some head.fault)) && good_due (abandons head.turn) had.transfers)
-      && good_due (closes_head head) (transfers_at head.turn had.transfers head.message)) knows.good)
+      (rw (← knows.good) (good ∙ good_after old.good _ _ _))
       at.opens
 
 -- ---- before the first event

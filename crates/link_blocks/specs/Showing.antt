@@ -4,7 +4,7 @@ use Rattle.std.specs.List.{flat_map}
 use Rattle.link_block_report.specs.Blocks.{end_text}
 use Rattle.link_run.specs.Made.{Made, tool_of}
 use Rattle.link_run.specs.Run.{Tool}
-use Rattle.link_walk.specs.Walk.{WalkEvent, ContactHeader, MessageHead, Data, Whole, LeftOpen, has_open, Telling, told_of}
+use Rattle.link_walk.specs.Walk.{WalkEvent, MessageHead, has_open, Telling, told_of}
 use Rattle.link_unpack.specs.Transfers.{Transfer}
 use Rattle.link_unpack.specs.Unpacking.{is_selected, judgement_of, order_line, told_after, unpack_telling}
 use Rattle.link_unpack.specs.declared.wanted.Wanted.{Wanted}
@@ -36,11 +36,8 @@ lines_of only is_open (latest ∷ earlier) =
 
 -- the line of a head that is not in order
 abbrev pub order_line_of : WalkEvent → List ℕ
-order_line_of (ContactHeader contact) = []
 order_line_of (MessageHead head) = order_line head.offset head.fault
-order_line_of (Data byte) = []
-order_line_of Whole = []
-order_line_of LeftOpen = []
+order_line_of others = []
 
 -- ---- a stream
 

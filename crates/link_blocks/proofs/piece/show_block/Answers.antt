@@ -1,8 +1,8 @@
-use Rattle.std.proofs.Common.{◌≡◌, [], ◌∷◌, ◌++◌, sym, ap, ◌∙◌, append-nil, fold, length-append, arith}
-use Rattle.link_bundle_blocks.specs.{Blocks.{CanonicalOf, viewed_block}, Bundle.blocks_in}
+use Rattle.std.proofs.Common.{◌≡◌, [], ◌∷◌, ◌++◌, sym, append-nil, length-append, arith}
+use Rattle.link_bundle_blocks.specs.{Blocks.CanonicalOf, Bundle.blocks_in}
 use Rattle.link_bundle.specs.Scan.{ending}
 use Rattle.link_block_report.specs.Blocks.{block_text}
-use Rattle.link_blocks.specs.BlockLines.{flags_after, found_in}
+use Rattle.link_blocks.specs.BlockLines.{found_in}
 use Rattle.link_blocks.proofs.Reading.{lies_within}
 use Rattle.link_blocks.proofs.piece.show_block.Goals as goal
 
@@ -10,12 +10,11 @@ pub returns-in-Canonical-clause-gives : goal.returns-in-Canonical-clause-gives
 returns-in-Canonical-clause-gives g c = λ seen before reading goes come grown.
     let block = c.in-Canonical.block in
     let ended : ending c.args.scan.now ≡ CanonicalOf block ∷ [] =
-    sym c.in-Some.ensures.block ∙ ap (λ view. viewed_block view ∷ []) c.in-Canonical.is in
+    rw c.in-Canonical.is at (sym c.in-Some.ensures.block) in
     let now = seen ++ c.args.run.now in
-    let within = lies_within now (blocks_in seen) block
-    (grown ∙ ap (λ new. blocks_in seen ++ new) ended) in
+    let within = lies_within now (blocks_in seen) block (rw ended at grown) in
     let line = block_text c.args.id block (found_in c.args.reader.now.flags now block) in
-    let same = c.follow.ensures.flags ∙ ap (fold flags_after c.args.reader.now.flags) ended in
+    let same = rw ended at c.follow.ensures.flags in
     rw (ended, append-nil line, ← same)
     (c.write_canonical.ensures now (omega (arith, within, before, length-append seen c.args.run.now))
     (c.follow.ensures.whole seen block before reading goes grown ended))

@@ -1,10 +1,9 @@
-use Rattle.std.proofs.Common.{◌≡◌, ℕ, ◌+◌, ◌⊎◌, inl, inr, true, false, List, [], ◌++◌, length, take, drop, Result, ap, sym, ◌∙◌, subst, length-append, length-take, length-drop, append_assoc, arith}
+use Rattle.std.proofs.Common.{◌≡◌, ℕ, ◌+◌, ◌⊎◌, inl, inr, true, false, List, [], ◌++◌, length, take, drop, sym, ◌∙◌, subst, length-append, length-take, length-drop, append_assoc, arith}
 use Rattle.std.proofs.lemmas.List.{drop_all, length-take-le}
 use Rattle.link_bundle_blocks.specs.Bundle.{bundle_goes, blocks_in}
 use Rattle.link_bundle.specs.Scan.{HasScanned, HasJudged, ending}
 use Rattle.link_bundle_blocks.proofs.Rests.{the_rest, joined_run}
 use Rattle.link_bundle.proofs.Pieces.{all_judged}
-use Rattle.link_wire.specs.declared.IoFault.{IoFault}
 use Rattle.link_run.specs.Writers.{on_output, AfterWrite}
 use Rattle.link_run.proofs.Runs.{outputs_then, part_of_more}
 use Rattle.link_blocks.specs.{BlockLines.{lines_from, block_lines}, DataReader.IsReading}
@@ -28,10 +27,6 @@ record Shown (g : Over) (c : After-show_block g) (content : List ℕ) : Type 0 w
       ≡ block_lines c.args.id content ++ lines
   wrote : AfterWrite g.W.OutDevice.state g.E.OutDevice.state c.args.writers.now
       c.show_block.new.writers (on_output lines) c.show_block.result
-
-abbrev wrote_by : (g : Over) → (c : After-show_block g) → List ℕ → Result (Unit {0}) IoFault → Type 0
-wrote_by g c lines result = AfterWrite g.W.OutDevice.state g.E.OutDevice.state c.args.writers.now
-    c.show_block.new.writers (on_output lines) result
 
 shown : (g : Over) (c : After-show_block g) (content : List ℕ) → length content ≡ c.args.before
     → HasJudged c.args.scan.now content → IsReading c.args.reader.now content → Shown g c content
@@ -60,11 +55,8 @@ shown g c content same judged reading =
       reads = subst (IsReading c.show_block.new.reader) joined
           (rw (the_rest piece taken) at (c.show_block.ensures.reads bytes size read goes) later grown);
       lines = shows.lines ++ lines;
-      are = ap (block_lines c.args.id) (sym joined)
-          ∙ run_lines _ _ _ bytes run _ _ read.flags grown shows.are;
-      wrote = outputs_then g.W.OutDevice.state g.E.OutDevice.state c.args.writers.now
-          c.loop-taken.writers c.show_block.new.writers shows.lines lines c.show_block.result
-          shows.wrote
+      are = rw (← joined) (run_lines _ _ _ bytes run _ _ read.flags grown shows.are);
+      wrote = outputs_then _ _ _ _ _ shows.lines lines _ shows.wrote
           (rw (the_rest piece taken) at (c.show_block.ensures.gives bytes size read goes) later grown);
     }
 
@@ -76,12 +68,10 @@ returns-in-Err-clause-gives g c = λ content same judged reading.
     let more = lines_grow c.args.id (content ++ take count piece) (drop count piece) in
     record {
       lines = shown.lines ++ more.lines;
-      are = ap (block_lines c.args.id) (sym (joined_rest content piece count)) ∙ more.are
-          ∙ ap (λ xs. xs ++ more.lines) shown.are
-          ∙ append_assoc (block_lines c.args.id content) shown.lines more.lines;
-      wrote = part_of_more g.W.OutDevice.state g.E.OutDevice.state c.args.writers.now
-          c.show_block.new.writers (on_output shown.lines) (on_output more.lines) c.in-Err.fault
-          (λ some. absurd (omega arith)) (subst (wrote_by g (goal.at-returns-in-Err-clause-gives g c).After-show_block shown.lines) c.in-Err.is shown.wrote);
+      are = rw (← joined_rest content piece count, more.are, shown.are)
+          (append_assoc (block_lines c.args.id content) shown.lines more.lines);
+      wrote = part_of_more _ _ _ _ (on_output shown.lines) (on_output more.lines) c.in-Err.fault
+          (λ some. absurd (omega arith)) (simp c.in-Err.is at shown.wrote);
     }
 
 pub loop-taken-preserved : goal.loop-taken-preserved
@@ -107,7 +97,11 @@ loop-taken-preserved g c =
       reads = λ content same judged reading. (shown g at content same judged reading).reads;
       shows = λ content same judged reading.
           let shown = shown g at content same judged reading in
-          record { lines = shown.lines; are = shown.are; wrote = subst (wrote_by g at shown.lines) c.in_default.is shown.wrote };
+          record {
+            lines = shown.lines;
+            are = shown.are;
+            wrote = simp c.in_default.is at shown.wrote;
+          };
     }
 
 -- ---- no more blocks come
@@ -141,8 +135,9 @@ returns-clause-gives g c = λ content same judged reading.
     let shows = kept.shows content same judged reading in
     record {
       lines = shows.lines;
-      are = ap (block_lines c.args.id) (sym (joined_rest content piece c.loop-taken.taken))
-          ∙ rest_lines _ _ _ (ends g at _ (kept.judged content same judged))
-          ∙ shows.are;
+      are = rw (
+        ← joined_rest content piece c.loop-taken.taken,
+        rest_lines _ _ _ (ends g at _ (kept.judged content same judged)),
+      ) shows.are;
       wrote = shows.wrote;
     }

@@ -8,7 +8,7 @@ use Rattle.link_blocks.proofs.piece.write_primary.Goals as goal
 pub returns-in-Err : goal.returns-in-Err
 unfolding primary_text
 returns-in-Err g c =
-    part_of_more g.W.OutDevice.state g.E.OutDevice.state c.args.writers.now c.write_text.new.self
+    part_of_more _ _ _ _
     (on_output (primary_start_text c.args.id (viewed_primary c.args.block.now) c.args.block.now.check c.args.block.now.end))
     (on_output (primary_rest_text (viewed_primary c.args.block.now))) c.in-Err.fault
     (λ some. absurd (omega arith)) c.in-Err.ensures.gives

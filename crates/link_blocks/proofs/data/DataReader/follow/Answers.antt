@@ -1,6 +1,6 @@
-use Rattle.std.proofs.Common.{◌≡◌, ℕ, true, List, [], ◌∷◌, ◌++◌, length, None, refl, sym, ap, ◌∙◌, arith}
-use Rattle.link_bundle_blocks.specs.Blocks.{Block, CanonicalOf, PrimaryOf, viewed_primary, viewed_block, next_of}
-use Rattle.link_bundle_blocks.specs.Bundle.{bundle_goes, blocks_in, cut_block_in}
+use Rattle.std.proofs.Common.{◌≡◌, ℕ, true, List, [], ◌∷◌, ◌++◌, length, None, refl, sym, ◌∙◌, arith}
+use Rattle.link_bundle_blocks.specs.Blocks.{Block, CanonicalOf, PrimaryOf, viewed_primary}
+use Rattle.link_bundle_blocks.specs.Bundle.{bundle_goes, blocks_in}
 use Rattle.link_bundle.specs.Scan.{ending}
 use Rattle.link_bundle_blocks.specs.declared.block.CanonicalBlock.{CanonicalBlock}
 use Rattle.link_blocks.specs.DataReader.{IsReading, IsReadingBlock}
@@ -12,11 +12,11 @@ returns-in-Primary-clause-reads c = λ seen before reading goes come grown.
     let block = c.in-Primary.block in
     read_whole _ c.args.scan.now c.args.self.now.flags seen c.args.run.now
     (PrimaryOf (viewed_primary block) block.check block.end) reading.flags come grown
-    (c.requires.ended ∙ ap (λ view. viewed_block view ∷ []) c.in-Primary.is) refl
+    (rw c.in-Primary.is at c.requires.ended) refl
 
 -- the block that has ended
 ended_is : (c : goal.After-take) → ending c.args.scan.now ≡ CanonicalOf c.in-Canonical.block ∷ []
-ended_is c = c.requires.ended ∙ ap (λ view. viewed_block view ∷ []) c.in-Canonical.is
+ended_is c = rw c.in-Canonical.is at c.requires.ended
 
 -- the data of the block that has ended is read
 ended_read : (c : goal.After-take) (seen : List ℕ) → length seen ≡ c.args.before
@@ -28,8 +28,7 @@ ended_read c seen before reading goes grown =
     c.take.ensures.reads seen before (λ less.
     let was = placed c.args.self.now seen c.args.run.now (ending c.args.scan.now)
     (record block { end = None }) reading goes grown
-    (ap (λ new. next_of new (cut_block_in (seen ++ c.args.run.now))) (ended_is c))
-    (omega (arith, before)) in
+    (rw (ended_is c) refl) (omega (arith, before)) in
     record { kind = was.kind; scanned = was.scanned })
 
 pub returns-in-Canonical-clause-reads : goal.returns-in-Canonical-clause-reads

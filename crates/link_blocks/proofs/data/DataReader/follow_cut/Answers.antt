@@ -8,8 +8,7 @@ pub returns-in-Some-clause-reads : goal.returns-in-Some-clause-reads
 returns-in-Some-clause-reads c = λ seen before reading goes come same_blocks.
     let now = seen ++ c.args.run.now in
     let cut : cut_block_in now ≡ Some c.in-Some.block = sym (c.cut_block.ensures now come) ∙ c.in-Some.is in
-    let none : blocks_in now ≡ blocks_in seen ++ [] =
-    same_blocks ∙ sym (append-nil (blocks_in seen)) in
+    let none : blocks_in now ≡ blocks_in seen ++ [] = rw append-nil same_blocks in
     let read = c.take.ensures.reads seen before (λ less.
     placed c.args.self.now seen c.args.run.now [] c.in-Some.block reading goes none cut
     (omega (arith, before))) in

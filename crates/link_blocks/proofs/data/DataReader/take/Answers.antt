@@ -1,7 +1,5 @@
-use Rattle.std.proofs.Common.{◌≡◌, ◌+◌, ◌-◌, min, ◌<◌, ℕ, List, ◌++◌, length, sym, ap, ◌∙◌, subst, arith}
-use Rattle.link_block_data.specs.Scan.{HasScanned}
+use Rattle.std.proofs.Common.{◌≡◌, ◌+◌, ◌-◌, min, ◌<◌, ℕ, List, length, arith}
 use Rattle.link_unpack.specs.Pieces.{part_in}
-use Rattle.link_block_report.specs.Kinds.{kind_of}
 use Rattle.link_blocks.specs.{BlockLines.data_in, DataReader.IsReadingBlock}
 use Rattle.link_blocks.proofs.Runs.{data_later, data_more}
 use Rattle.link_blocks.proofs.data.DataReader.take.Goals as goal
@@ -16,9 +14,9 @@ before_run c seen before known =
     let block = c.args.block.now in
     elim c.if-block-before.branch [
       | then-block-before w ↦ rw w.self-is (record {
-        kind = w.begin.ensures.kind ∙ ap (λ flags. kind_of flags block.block_type) (sym w.begin.ensures.flags);
-        scanned = λ kind is. subst (HasScanned kind w.begin.new.self.scan)
-            (sym (data_later seen block (omega (arith, before)))) (w.begin.ensures.scan kind is);
+        kind = rw w.begin.ensures.flags w.begin.ensures.kind;
+        scanned = λ kind is.
+            rw (data_later seen block (omega (arith, before))) (w.begin.ensures.scan kind is);
       })
       | else-block-before w ↦ rw w.self-is (known (omega arith))
     ]
@@ -32,11 +30,9 @@ returns-then-is_some-clause-reads c = λ seen before known.
     let all : count ≡ min block.data_length (length seen + length run - block.data_start) =
     omega (arith, c.min-count.ensures, c.saturating_sub.ensures, before) in
     let part : c.part_in.result.now ≡ part_in run (length seen) block.data_start count =
-    c.part_in.ensures.part (λ some. omega arith)
-    ∙ ap (λ n. part_in run n block.data_start count) (sym before) in
+    rw before (c.part_in.ensures.part (λ some. omega arith)) in
     record {
       kind = was.kind;
-      scanned = λ kind is. subst (HasScanned kind c.take.new.self)
-          (ap (λ (xs : List ℕ). data_in seen block ++ xs) part ∙ sym (data_more seen run block count all))
+      scanned = λ kind is. rw (data_more seen run block count all, ← part)
           (c.take.ensures.seen kind (data_in seen block) (was.scanned kind is));
     }

@@ -1,7 +1,6 @@
-use Rattle.std.proofs.Common.{true, refl}
+use Rattle.std.proofs.Common.{refl}
 use Rattle.link_blocks.proofs.Told.{knows_nothing}
 use Rattle.link_blocks.proofs.lister.BlockLister.new.Goals as goal
 
 pub returns : goal.returns
-returns c = λ options.
-    knows_nothing options (record { latest = c.new.result; good = true }) c.new.ensures.size refl
+returns c = λ options. knows_nothing options _ c.new.ensures.size refl

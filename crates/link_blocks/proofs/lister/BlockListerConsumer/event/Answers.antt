@@ -1,4 +1,4 @@
-use Rattle.std.proofs.Common.{◌≡◌, ℕ, Bool, Option, ◌+◌, ◌<◌, ◌≤◌, ◌^◌, ◌&&◌, not, length, List, true, Ok, Err, refl, ap, sym, ◌∙◌, append-nil, arith}
+use Rattle.std.proofs.Common.{◌≡◌, ℕ, Bool, Option, ◌+◌, ◌<◌, ◌≤◌, ◌^◌, ◌&&◌, not, length, List, true, Err, refl, ap, sym, ◌∙◌, append-nil, arith}
 use Rattle.std.proofs.lemmas.Bool.{false≢true}
 use Rattle.link_run.specs.{Run.{no_texts, ◌then◌}, Writers.{on_output, on_report}}
 use Rattle.link_run.proofs.Runs.{writes_none, part_of_more, output_then}
@@ -7,12 +7,12 @@ use Rattle.link_walk.specs.Telling.{ComesAfter, viewed_head}
 use Rattle.link_transfer.specs.declared.joiner.Turn.{Turn}
 use Rattle.link_unpack.specs.Transfers.{Transfer}
 use Rattle.link_unpack.specs.Unpacking.{order_line, good_due, transfers_at, told_after}
-use Rattle.link_unpack.proofs.{Effects.abandons_open, Told.on_ok}
+use Rattle.link_unpack.proofs.{Effects.comes_does, Told.on_ok}
 use Rattle.link_blocks.specs.{Lister.{KnowsShown, end_due}, Showing.unpacking_by}
 use Rattle.link_blocks.specs.declared.lister.BlockLister.{BlockLister}
 use Rattle.link_blocks.specs.declared.transfer.TransferBlocks.{TransferBlocks}
 use Rattle.link_blocks.proofs.Ended.{ended_lines}
-use Rattle.link_blocks.proofs.Told.{AtHead, at, at_head, does, data_known, data_latest, data_tells, data_transfers, head_known, head_tells, known, tells}
+use Rattle.link_blocks.proofs.Told.{AtHead, abandons_at, at, at_head, data_known, data_latest, data_tells, data_transfers, head_known, head_tells, known, tells}
 use Rattle.link_blocks.proofs.lister.BlockListerConsumer.event.Given.{Over}
 use Rattle.link_blocks.proofs.lister.BlockListerConsumer.event.Goals as goal
 use Rattle.link_blocks.proofs.lister.BlockListerConsumer.event.Goals.{After-show_end-in-Head, then-begins, else-begins}
@@ -21,9 +21,8 @@ pub returns-in-Contact : goal.returns-in-Contact
 returns-in-Contact g c = rw c.in-Contact.is (λ before knows none.
     let options = c.args.options.now in
     let event = ContactHeader c.in-Contact.field-0.now in
-    let writers = c.args.writers.now in
-    tells options before event g.W.OutDevice.state g.E.OutDevice.state writers writers
-    (Ok (tt {0})) c.args.self.now no_texts (sym (append-nil _)) refl (writes_none _ _ _)
+    tells options before event c.args.self.now no_texts (sym (append-nil _)) refl
+    (writes_none _ _ _)
     (known options before event c.args.self.now knows.size knows.good knows.at_open))
 
 -- ---- a head
@@ -32,17 +31,12 @@ pub returns-in-Err : goal.returns-in-Err
 returns-in-Err g c = rw c.in-Head.is (λ before knows comes.
     let options = c.args.options.now in
     let head = viewed_head c.in-Head.head in
-    let out_look = g.W.OutDevice.state in
-    let report_look = g.E.OutDevice.state in
     let transfers = (told_after (unpacking_by options) before).transfers in
     let later = transfers_at head.turn transfers head.message in
-    let act = does out_look report_look options before head comes in
     let abandoned = λ (some : c.abandons.result ≡ true).
-    knows.at_open (abandons_open _ _ _ act (sym c.abandons.ensures ∙ some)) in
-    head_tells out_look report_look options before head comes c.args.writers.now
-    c.show_end.new.writers (Err c.in-Err.fault) c.show_end.new.lister
-    (part_of_more out_look report_look c.args.writers.now c.show_end.new.writers
-    (on_output (end_due options.only (abandons head.turn) transfers))
+    abandons_at options before head comes knows (sym c.abandons.ensures ∙ some) in
+    head_tells options before head comes c.show_end.new.lister
+    (part_of_more _ _ _ _ (on_output (end_due options.only (abandons head.turn) transfers))
     (on_output (end_due options.only (closes head) later) then on_report (order_line head.offset head.fault))
     c.in-Err.fault (λ some. absurd (omega arith))
     (rw (← c.abandons.ensures) (c.in-Err.ensures.gives transfers abandoned))) tt)
@@ -70,7 +64,7 @@ begun g c before knows comes =
     let same = c.show_end.ensures.latest in
     let size : TransferBlocks → ℕ = λ l. l.judge.size in
     let transfers = (told_after (unpacking_by options) before).transfers in
-    let act = does g.W.OutDevice.state g.E.OutDevice.state options before head comes in
+    let act = comes_does before head comes in
     elim c.if-begins.branch [
       | then-begins w ↦ rw w.self-is (record {
         at = at_head options.only old w.begin.new.self transfers head.turn head.message
@@ -95,24 +89,20 @@ pub returns-in-Err-show_end : goal.returns-in-Err-show_end
 returns-in-Err-show_end g c = rw c.in-Head.is (λ before knows comes.
     let options = c.args.options.now in
     let head = viewed_head c.in-Head.head in
-    let out_look = g.W.OutDevice.state in
-    let report_look = g.E.OutDevice.state in
     let transfers = (told_after (unpacking_by options) before).transfers in
     let later = transfers_at head.turn transfers head.message in
-    let act = does out_look report_look options before head comes in
     let abandoned = λ (some : c.abandons.result ≡ true).
-    knows.at_open (abandons_open _ _ _ act (sym c.abandons.ensures ∙ some)) in
+    abandons_at options before head comes knows (sym c.abandons.ensures ∙ some) in
     let begun = begun g (goal.at-returns-in-Err-show_end g c).After-show_end-in-Head before knows comes in
     let closed = λ (due : c.closes.result ≡ true). begun.at.closed (sym c.closes.ensures ∙ due) in
     let writers = c.show_end-in-Head.new.writers in
-    head_tells out_look report_look options before head comes c.args.writers.now writers
-    (Err c.in-Err-show_end.fault) c.show_end-in-Head.new.lister
-    (output_then out_look report_look c.args.writers.now c.show_end.new.writers writers
+    head_tells options before head comes c.show_end-in-Head.new.lister
+    (output_then _ _ c.args.writers.now c.show_end.new.writers writers
     (end_due options.only (abandons head.turn) transfers)
     (on_output (end_due options.only (closes head) later) then on_report (order_line head.offset head.fault))
     (Err c.in-Err-show_end.fault)
     (rw (← c.abandons.ensures) (c.in_default.ensures.gives transfers abandoned))
-    (part_of_more out_look report_look c.show_end.new.writers writers
+    (part_of_more _ _ c.show_end.new.writers writers
     (on_output (end_due options.only (closes head) later))
     (on_report (order_line head.offset head.fault)) c.in-Err-show_end.fault
     (λ some. absurd (omega arith))
@@ -122,32 +112,28 @@ pub returns-in_default-show_end : goal.returns-in_default-show_end
 returns-in_default-show_end g c = rw c.in-Head.is (λ before knows comes.
     let options = c.args.options.now in
     let head = viewed_head c.in-Head.head in
-    let out_look = g.W.OutDevice.state in
-    let report_look = g.E.OutDevice.state in
     let transfers = (told_after (unpacking_by options) before).transfers in
     let later = transfers_at head.turn transfers head.message in
-    let act = does out_look report_look options before head comes in
     let abandoned = λ (some : c.abandons.result ≡ true).
-    knows.at_open (abandons_open _ _ _ act (sym c.abandons.ensures ∙ some)) in
+    abandons_at options before head comes knows (sym c.abandons.ensures ∙ some) in
     let begun = begun g (goal.at-returns-in_default-show_end g c).After-show_end-in-Head before knows comes in
     let closed = λ (due : c.closes.result ≡ true). begun.at.closed (sym c.closes.ensures ∙ due) in
     let latest = c.show_end-in-Head.ensures.latest in
     let size : TransferBlocks → ℕ = λ l. l.judge.size in
     let now : BlockLister =
     record { latest = c.show_end-in-Head.new.lister.latest; good = c.tell_order.new.good } in
-    head_tells out_look report_look options before head comes c.args.writers.now
-    c.tell_order.new.writers c.tell_order.result now
-    (output_then out_look report_look c.args.writers.now c.show_end.new.writers
+    head_tells options before head comes now
+    (output_then _ _ c.args.writers.now c.show_end.new.writers
     c.tell_order.new.writers (end_due options.only (abandons head.turn) transfers)
     (on_output (end_due options.only (closes head) later) then on_report (order_line head.offset head.fault))
     c.tell_order.result
     (rw (← c.abandons.ensures) (c.in_default.ensures.gives transfers abandoned))
-    (output_then out_look report_look c.show_end.new.writers c.show_end-in-Head.new.writers
+    (output_then _ _ c.show_end.new.writers c.show_end-in-Head.new.writers
     c.tell_order.new.writers (end_due options.only (closes head) later)
     (on_report (order_line head.offset head.fault)) c.tell_order.result
     (rw (← c.closes.ensures) (c.in_default-show_end.ensures.gives later closed))
     c.tell_order.ensures.gives))
-    (on_ok c.tell_order.result (head_known out_look report_look options before head comes
+    (on_ok c.tell_order.result (head_known options before head comes
     c.args.self.now now knows
     (omega (arith, begun.size, ap size latest))
     (rw (
@@ -174,11 +160,10 @@ returns-in-Err-take g c = rw c.in-Data.is (λ before knows may.
     let few = may.1 in omega (arith, knows.size) in
     let latest = at options before bytes whole c.args.self.now knows may.0 in
     let shows = c.in-Err-take.ensures.gives latest.transfer fits latest.shows in
-    data_tells options before bytes whole c.args.self.now knows may.0
-    g.W.OutDevice.state g.E.OutDevice.state c.args.writers.now c.take.new.writers
-    (Err c.in-Err-take.fault) _ shows.lines (shows.are whole)
-    (part_of_more g.W.OutDevice.state g.E.OutDevice.state c.args.writers.now c.take.new.writers
-    (on_output shows.lines) _ c.in-Err-take.fault (λ some. absurd (omega arith)) shows.wrote) tt)
+    data_tells options before bytes whole c.args.self.now knows may.0 _ shows.lines
+    (shows.are whole)
+    (part_of_more _ _ _ _ (on_output shows.lines) _ c.in-Err-take.fault
+    (λ some. absurd (omega arith)) shows.wrote) tt)
 
 pub returns-in_default-take : goal.returns-in_default-take
 returns-in_default-take g c = rw c.in-Data.is (λ before knows may.
@@ -196,10 +181,8 @@ returns-in_default-take g c = rw c.in-Data.is (λ before knows may.
     let same = c.show_end-in-Data.ensures.latest in
     let closed = λ (due : whole ≡ true).
     data_latest options before bytes whole old knows may.0 c.take.new.self follows (ap not (sym due)) in
-    data_tells options before bytes whole old knows may.0
-    g.W.OutDevice.state g.E.OutDevice.state c.args.writers.now c.show_end-in-Data.new.writers
-    c.show_end-in-Data.result now shows.lines (shows.are whole) (output_then _ _ _ _ _ _ _ _
-    shows.wrote (c.show_end-in-Data.ensures.gives later closed))
+    data_tells options before bytes whole old knows may.0 now shows.lines (shows.are whole)
+    (output_then _ _ _ _ _ _ _ _ shows.wrote (c.show_end-in-Data.ensures.gives later closed))
     (on_ok _ (data_known options before bytes whole old knows may.0 now
     (rw same c.take.ensures.size) (c.show_end-in-Data.ensures.good later closed)
     (rw same follows))))
@@ -212,9 +195,7 @@ returns-in-LeftOpen g c = rw c.in-LeftOpen.is (λ before knows opened.
     let now = c.show_end-in-LeftOpen.new.lister in
     let transfers = (told_after (unpacking_by options) before).transfers in
     let latest = knows.at_open opened in
-    tells options before LeftOpen g.W.OutDevice.state g.E.OutDevice.state c.args.writers.now
-    c.show_end-in-LeftOpen.new.writers c.show_end-in-LeftOpen.result now
-    (on_output (end_due options.only true transfers))
+    tells options before LeftOpen now (on_output (end_due options.only true transfers))
     (rw opened (ended_lines options.only true transfers)) refl
     (c.show_end-in-LeftOpen.ensures.gives transfers (λ due. latest))
     (on_ok c.show_end-in-LeftOpen.result (known options before LeftOpen now
