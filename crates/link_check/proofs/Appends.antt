@@ -1,8 +1,7 @@
 -- The lines of broken rules that follow one another.
-use Rattle.std.proofs.Common.{◌≡◌, ℕ, ◌+◌, ◌<◌, Bool, true, false, not, ◌&&◌, List, [], ◌∷◌, ◌++◌, length, map, take, drop, append-nil, refl, ap, sym, ◌∙◌}
-use Rattle.std.specs.Prelude.{slice_index_or}
+use Rattle.std.proofs.Common.{◌≡◌, ℕ, Bool, true, not, ◌&&◌, List, [], ◌∷◌, ◌++◌, append-nil, refl}
 use Rattle.std.proofs.{Math.Bool.and-true, lemmas.Grind.flat_map-append}
-use Rattle.std.proofs.lemmas.List.{map-append, map_more, take-append-drop}
+use Rattle.std.proofs.lemmas.List.{map-append, Folds.list_all-append}
 use Rattle.link_rule_report.specs.declared.{line.RuleText.RuleText, rule.BrokenRule.BrokenRule}
 use Rattle.link_check.specs.Lines.{counts, line_of, lines_of, none_counts, at_offset}
 
@@ -11,17 +10,10 @@ pub lines_append : (must : Bool) (first second : List RuleText)
 unfolding lines_of
 lines_append must first second = flat_map-append (line_of must) first second
 
-pub and_assoc : (a b c : Bool) → (a && (b && c)) ≡ ((a && b) && c)
-and_assoc true b c = refl
-and_assoc false b c = refl
-
 pub counts_append : (must : Bool) (first second : List RuleText)
     → none_counts must (first ++ second) ≡ (none_counts must first && none_counts must second)
 unfolding none_counts
-counts_append must [] second = refl
-counts_append must (broken ∷ first) second =
-    ap (λ b. not (counts must broken) && b) (counts_append must first second)
-    ∙ and_assoc (not (counts must broken)) (none_counts must first) (none_counts must second)
+counts_append must first second = list_all-append (λ line. not (counts must line)) first second
 
 pub no_lines : (must : Bool) → lines_of must [] ≡ []
 unfolding lines_of
@@ -43,33 +35,3 @@ pub one_counts : (must : Bool) (broken : RuleText)
     → none_counts must (broken ∷ []) ≡ not (counts must broken)
 unfolding none_counts
 one_counts must broken = and-true (not (counts must broken))
-
--- ---- the rules of a list, one after another
-
-module _ {A : Type 0} (f : A → BrokenRule) (offset : ℕ) (rules : List A)
-    (index : ℕ) (rule : A) (less : index < length rules) (is : rule ≡ slice_index_or rules index rule) where
-  abbrev pub so_far : List RuleText
-  so_far = at_offset offset (map f (take index rules))
-
-  abbrev pub now : RuleText
-  now = record { offset = offset; rule = f rule }
-
-  abbrev with_now : List RuleText
-  with_now = at_offset offset (map f (take (index + 1) rules))
-
-  pub next_rules : with_now ≡ so_far ++ now ∷ []
-  next_rules =
-      ap (at_offset offset) (map_more f rules index rule less
-      ∙ ap (λ r. map f (take index rules) ++ f r ∷ []) (sym is))
-      ∙ at_append offset (map f (take index rules)) (f rule ∷ [])
-
-  -- the rules after this one
-  abbrev pub later : List RuleText
-  later = at_offset offset (map f (drop (index + 1) rules))
-
-  pub all_rules : (so_far ++ now ∷ []) ++ later ≡ at_offset offset (map f rules)
-  all_rules =
-      ap (λ (first : List RuleText). first ++ later) (sym next_rules)
-      ∙ sym (at_append offset (map f (take (index + 1) rules)) (map f (drop (index + 1) rules)))
-      ∙ ap (at_offset offset) (sym (map-append f (take (index + 1) rules) (drop (index + 1) rules))
-      ∙ ap (map f) (take-append-drop (index + 1) rules))

@@ -1,5 +1,5 @@
 -- The whole blocks of a bundle, and what a reader keeps of them, when more bytes follow.
-use Rattle.std.proofs.Common.{◌≡◌, ℕ, ◌<◌, ◌≤◌, ◌⊎◌, false, List, [], ◌∷◌, ◌++◌, length, Option, Some, None, option_map, fold, All, refl, ap, sym, ◌∙◌, ⊎_elim, append-nil, length-append, arith}
+use Rattle.std.proofs.Common.{◌≡◌, ℕ, ◌<◌, ◌≤◌, ◌⊎◌, false, List, [], ◌∷◌, ◌++◌, length, Option, Some, None, fold, All, refl, ap, sym, ◌∙◌, ⊎_elim, append-nil, length-append, arith}
 use Rattle.std.proofs.lemmas.Grind.{fold-append}
 use Rattle.link_cbor.specs.declared.check.CheckKind.{CheckKind}
 use Rattle.link_bundle_types.specs.declared.info.BundleInfo.{BundleInfo}
@@ -7,8 +7,6 @@ use Rattle.link_bundle_blocks.specs.Blocks.{Primary, Block, PrimaryOf, Canonical
 use Rattle.link_bundle_blocks.specs.Bundle.{blocks_in, bundle_goes}
 use Rattle.link_bundle_blocks.specs.declared.block.CanonicalBlock.{CanonicalBlock}
 use Rattle.link_bundle_blocks.proofs.{Lying.BlocksWithin-holds, Showing.BlocksEnd-holds}
-use Rattle.link_block_data.specs.BlockData.{data_of}
-use Rattle.link_block_report.specs.Kinds.{kind_of}
 use Rattle.link_blocks.specs.BlockLines.{flags_after, found_in}
 use Rattle.link_blocks.proofs.{Lines.{all_first, all_rest, data_grown, no_blocks}, Judged.rest_read}
 use Rattle.link_rules.specs.Heads.{first_long}
@@ -37,36 +35,32 @@ module _ (content more : List ℕ) where
       → with_next (content ++ more) before block ≡ with_next content before block
   next_grown before (PrimaryOf primary check end) within = refl
   next_grown before (CanonicalOf block) within =
-      ap (λ (xs : List ℕ). option_map (λ (bundle : ReadBundle). with_block bundle (record {
-        block = block;
-        found = option_map (λ kind. data_of kind xs) (kind_of bundle.primary.flags block.block_type);
-      })) before) (data_grown content more block within.0)
+      simp (data_grown content more block within.0)
 
   all_grown : (before : Option ReadBundle) (blocks : List Block)
       → All (LiesWithin (length content)) blocks
       → fold (with_next (content ++ more)) before blocks ≡ fold (with_next content) before blocks
   all_grown before [] within = refl
   all_grown before (block ∷ rest) within =
-      ap (λ (read : Option ReadBundle). fold (with_next (content ++ more)) read rest)
-      (next_grown before block (all_first (LiesWithin (length content)) block rest within))
-      ∙ all_grown (with_next content before block) rest
-      (all_rest (LiesWithin (length content)) block rest within)
+      rw (next_grown before block (all_first (LiesWithin (length content)) block rest within))
+      (all_grown (with_next content before block) rest
+      (all_rest (LiesWithin (length content)) block rest within))
 
   -- more bytes add the blocks that they complete
   read_more : (new : List Block) → blocks_in (content ++ more) ≡ blocks_in content ++ new
       → read_bundle (content ++ more) ≡ fold (with_next (content ++ more)) (read_bundle content) new
   unfolding read_bundle
   read_more new grown =
-      ap (fold (with_next (content ++ more)) None) grown
-      ∙ fold-append (with_next (content ++ more)) None (blocks_in content) new
-      ∙ ap (λ (read : Option ReadBundle). fold (with_next (content ++ more)) read new)
-      (all_grown None (blocks_in content) (BlocksWithin-holds content))
+      rw (
+        grown,
+        fold-append (with_next (content ++ more)) None (blocks_in content) new,
+        all_grown None (blocks_in content) (BlocksWithin-holds content),
+      ) refl
 
   flags_more : (new : List Block) → blocks_in (content ++ more) ≡ blocks_in content ++ new
       → fold flags_after 0 (blocks_in (content ++ more))
       ≡ fold flags_after (fold flags_after 0 (blocks_in content)) new
-  flags_more new grown =
-      ap (fold flags_after 0) grown ∙ fold-append flags_after 0 (blocks_in content) new
+  flags_more new grown = rw grown (fold-append flags_after 0 (blocks_in content) new)
 
   -- ---- no block has ended
 
@@ -78,7 +72,7 @@ module _ (content more : List ℕ) where
   same_by (Some history) None same was = absurd was
   same_by (Some history) (Some bundle) same was = record {
     remembers = was.remembers;
-    flags = was.flags ∙ sym (ap (fold flags_after 0) same);
+    flags = rw same was.flags;
     few = omega (arith, was.few, length-append content more);
   }
 
@@ -170,7 +164,7 @@ rest_blocks now content rest ends was = record {
   reading = rest_read now.blocks content rest ends was.reading;
   history = history_same content rest now.history (⊎_elim
       (λ stops. BlocksEnd-holds content rest stops)
-      (λ none. ap blocks_in (ap (λ xs. content ++ xs) none ∙ append-nil content))
+      (λ none. rw none (ap blocks_in (append-nil content)))
       ends) was.history;
 }
 

@@ -1,10 +1,9 @@
 -- What is kept of bundles and said of them, when more bytes come.
-use Rattle.std.proofs.Common.{◌≡◌, ℕ, suc, ◌+◌, Bool, true, ◌&&◌, List, [], ◌∷◌, ◌++◌, length, map, Result, Ok, Err, OnOk, refl, ap, sym, ◌∙◌, append-nil, append_assoc, arith}
+use Rattle.std.proofs.Common.{◌≡◌, ℕ, suc, ◌+◌, Bool, true, ◌&&◌, List, [], ◌∷◌, ◌++◌, length, Result, Ok, Err, OnOk, refl, ap, sym, ◌∙◌, append-nil, append_assoc, arith}
 use Rattle.std.proofs.lemmas.List.Sums.{sum_by-cons, sum_by_push}
 use Rattle.link_wire.specs.{Device.Output, declared.IoFault.IoFault}
 use Rattle.link_bundle.specs.Scan.{HasScanned}
 use Rattle.link_bundle.proofs.Pieces.{all_judged}
-use Rattle.link_bundle_rules.specs.declared.rule.BundleRule.{BundleRule}
 use Rattle.link_bundle_types.specs.declared.info.BundleInfo.{BundleInfo}
 use Rattle.link_bundle_walk.specs.Bundles.{Packed, size_of}
 use Rattle.link_bundle_walk.specs.Telling.{SoFar, none_yet, between, Tells}
@@ -12,12 +11,9 @@ use Rattle.link_run.specs.{Run.{Texts, no_texts}, Writers.{AfterWrite, on_output
 use Rattle.link_run.specs.declared.writers.Writers.{Writers}
 use Rattle.link_run.proofs.Runs.{texts_as, then_none, writes_none}
 use Rattle.link_rule_report.specs.declared.line.RuleText.{RuleText}
-use Rattle.link_rule_report.specs.declared.rule.BrokenRule.TheVariants.{Bundle}
-use Rattle.link_rule_report.specs.declared.rule.BundlePlace.TheVariants as place
 use Rattle.link_check.specs.{BundleChecker.KnowsBundles, BundleReader.IsReadingBundle}
-use Rattle.link_check.specs.BundleRules.{bundle_rules}
 use Rattle.link_check.specs.Bundles.{broken_in, broken_bundles, bundle_check_telling}
-use Rattle.link_check.specs.Lines.{lines_of, none_counts, at_offset}
+use Rattle.link_check.specs.Lines.{lines_of, none_counts}
 use Rattle.link_check.specs.declared.bundles.BundleChecker.{BundleChecker}
 use Rattle.link_check.proofs.Appends.{lines_append, counts_append, no_lines, none_count}
 
@@ -48,14 +44,13 @@ broken_push : (number offset last start : ℕ) (bundles : List Packed) (bundle :
     ≡ broken_bundles number offset bundles ++ broken_in last start bundle
 unfolding broken_bundles
 broken_push number offset last start [] bundle numbered begins =
-    append-nil (broken_in number offset bundle)
-    ∙ ap (λ n. broken_in n offset bundle) {y = last} (omega arith)
-    ∙ ap (λ n. broken_in last n bundle) {y = start} (omega (arith, no_size))
+    let number_is : last ≡ number = omega arith in
+    let offset_is : start ≡ offset = omega (arith, no_size) in
+    rw (append-nil, number_is, offset_is) refl
 broken_push number offset last start (first ∷ bundles) bundle numbered begins =
-    ap (λ (more : List RuleText). broken_in number offset first ++ more)
-    (broken_push (suc number) (offset + length first.bytes) last start bundles bundle
-    (omega arith) (omega (arith, size_cons first bundles)))
-    ∙ sym (append_assoc (broken_in number offset first) _ _)
+    let later = broken_push (suc number) (offset + length first.bytes) last start bundles bundle
+    (omega arith) (omega (arith, size_cons first bundles)) in
+    rw (later, append_assoc) refl
 
 module _ (must : Bool) (bundles : List Packed) (bundle : Packed) (number : ℕ)
     (numbered : number ≡ length bundles) where
@@ -68,12 +63,11 @@ module _ (must : Bool) (bundles : List Packed) (bundle : Packed) (number : ℕ)
 
   lines_push : lines_of must (broken_bundles 0 0 (bundles ++ bundle ∷ []))
       ≡ lines_of must (broken_bundles 0 0 bundles) ++ lines_of must broken
-  lines_push = ap (lines_of must) all_broken ∙ lines_append must (broken_bundles 0 0 bundles) broken
+  lines_push = rw (all_broken, lines_append) refl
 
   counts_push : none_counts must (broken_bundles 0 0 (bundles ++ bundle ∷ []))
       ≡ (none_counts must (broken_bundles 0 0 bundles) && none_counts must broken)
-  counts_push =
-      ap (none_counts must) all_broken ∙ counts_append must (broken_bundles 0 0 bundles) broken
+  counts_push = rw (all_broken, counts_append) refl
 
 -- ---- what is kept
 
@@ -98,39 +92,24 @@ knows_none must now offset size scanned reading good =
     knows_between must now [] (offset ∙ sym no_size) size scanned reading
     (good ∙ sym (ap (none_counts must) none_broken ∙ none_count must))
 
--- The rules that the bundle with this number breaks. It begins at this offset.
-abbrev pub found_at : (number offset : ℕ) → List BundleRule → List RuleText
-found_at number offset rules =
-    at_offset offset (map (λ rule. Bundle (place.Input number) rule) rules)
-
-module _ (must : Bool) (before : SoFar) (info : BundleInfo) (number offset : ℕ)
-    (rules : List BundleRule) (begins : offset ≡ size_of before.bundles)
-    (are : rules ≡ bundle_rules before.begun info) where
+-- The bundle with this number is whole, and the lines of its rules were written. `was` is whether
+-- the bundles before are good.
+module _ (must : Bool) (before : SoFar) (info : BundleInfo) (number : ℕ) where
   abbrev last : Packed
   last = record { bytes = before.begun; info = info }
 
-  pub found_broken : found_at number offset rules
-      ≡ broken_in number (size_of before.bundles) last
-  found_broken = ap (λ n. found_at number n rules) begins
-      ∙ ap (found_at number (size_of before.bundles)) are
-
-  -- The current bundle is whole, and the lines of its rules were written. `was` is whether the
-  -- bundles before are good.
   pub knows_ended : (now : BundleChecker) (was : Bool) (result : Result (Unit {0}) IoFault)
       → number ≡ length before.bundles
       → was ≡ none_counts must (broken_bundles 0 0 before.bundles)
-      → OnOk result (now.good ≡ (was && none_counts must (found_at number offset rules)))
+      → OnOk result (now.good
+      ≡ (was && none_counts must (broken_in number (size_of before.bundles) last)))
       → now.offset ≡ size_of before.bundles + length before.begun → now.size ≡ 0
       → HasScanned now.scan [] → IsReadingBundle now.bundle []
       → OnOk result (KnowsBundles must now (between (before.bundles ++ last ∷ [])))
   knows_ended now was (Ok done) numbered good counted next size scanned reading =
       knows_between must now (before.bundles ++ last ∷ []) (next ∙ sym (size_push before.bundles last))
       size scanned reading
-      (counted ∙ ap (λ b. b && none_counts must (found_at number offset rules)) good
-      ∙ ap
-      (λ broken. none_counts must (broken_bundles 0 0 before.bundles) && none_counts must broken)
-      found_broken
-      ∙ sym (counts_push must before.bundles last number numbered))
+      (rw (counts_push must before.bundles last number numbered, ← good) counted)
   knows_ended now was (Err fault) numbered good counted next size scanned reading = tt
 
 -- ---- what is written
@@ -138,11 +117,11 @@ module _ (must : Bool) (before : SoFar) (info : BundleInfo) (number offset : ℕ
 pub says_none : (must : Bool) → no_texts ≡ (bundle_check_telling must).texts none_yet
 says_none must = texts_as (sym (ap (lines_of must) none_broken ∙ no_lines must)) refl
 
-module _ {W E : Type 0} (out_look : W → Output) (report_look : E → Output) where
+module _ {W E : Type 0} {out_look : W → Output} {report_look : E → Output} where
   -- all that is due was written before
-  pub tells_none : (had due : Texts) (stands : Type 0) (writers : Writers W E) → had ≡ due → stands
+  pub tells_none : {had due : Texts} {stands : Type 0} {writers : Writers W E} → had ≡ due → stands
       → Tells out_look report_look had due stands writers writers (Ok tt)
-  tells_none had due stands writers same holds = record {
+  tells_none {had} {writers = writers} same holds = record {
     texts = no_texts;
     said = then_none had ∙ same;
     wrote = writes_none out_look report_look writers;
@@ -151,7 +130,7 @@ module _ {W E : Type 0} (out_look : W → Output) (report_look : E → Output) w
 
   -- the next bundle is whole
   pub tells_whole : (must : Bool) (now : BundleChecker) (bundles : List Packed) (bundle : Packed)
-      (number : ℕ) (old new : Writers W E) (result : Result (Unit {0}) IoFault)
+      (number : ℕ) {old new : Writers W E} {result : Result (Unit {0}) IoFault}
       → number ≡ length bundles
       → AfterWrite out_look report_look old new
       (on_output (lines_of must (broken_in number (size_of bundles) bundle))) result
@@ -159,7 +138,7 @@ module _ {W E : Type 0} (out_look : W → Output) (report_look : E → Output) w
       → Tells out_look report_look (on_output (lines_of must (broken_bundles 0 0 bundles)))
       (on_output (lines_of must (broken_bundles 0 0 (bundles ++ bundle ∷ []))))
       (KnowsBundles must now (between (bundles ++ bundle ∷ []))) old new result
-  tells_whole must now bundles bundle number old new result numbered wrote known = record {
+  tells_whole must now bundles bundle number numbered wrote known = record {
     texts = on_output (lines_of must (broken_in number (size_of bundles) bundle));
     said = texts_as (sym (lines_push must bundles bundle number numbered)) refl;
     wrote = wrote;

@@ -1,10 +1,10 @@
 -- The lines of a closed transfer.
-use Rattle.std.proofs.Common.{◌≡◌, ℕ, List, ◌++◌, map, length, Result, Ok, Err, OnOk, refl, ap, ◌∙◌}
+use Rattle.std.proofs.Common.{◌≡◌, List, ◌++◌, map, length, Result, Ok, Err, OnOk, refl}
 use Rattle.link_bundle_blocks.specs.Bundle.{verdict}
 use Rattle.link_wire.specs.declared.IoFault.{IoFault}
 use Rattle.link_message_rules.specs.TransferRules.{broken_transfer_rules}
 use Rattle.link_message_rules.specs.declared.rule.TransferRule.{TransferRule}
-use Rattle.link_rule_report.specs.declared.{line.RuleText.RuleText, rule.BrokenRule.BrokenRule}
+use Rattle.link_rule_report.specs.declared.line.RuleText.{RuleText}
 use Rattle.link_rule_report.specs.declared.rule.BrokenRule.TheVariants.{Transfer}
 use Rattle.link_check.specs.{Checker.IsChecking, Checking.{Begun, closed_rules, data_rules}}
 use Rattle.link_check.specs.{Lines.at_offset, declared.transfer.CheckedTransfer.CheckedTransfer}
@@ -13,11 +13,6 @@ use Rattle.link_check.proofs.Appends.{at_append}
 pub on_ok_by : {P Q : Type 0} (result : Result (Unit {0}) IoFault) → (P → Q) → OnOk result P → OnOk result Q
 on_ok_by (Ok done) step holds = step holds
 on_ok_by (Err fault) step holds = tt
-
-pub same_rules : {A : Type 0} (offset other : ℕ) (f g : A → BrokenRule) (rules more : List A)
-    → offset ≡ other → f ≡ g → rules ≡ more
-    → at_offset offset (map f rules) ≡ at_offset other (map g more)
-same_rules offset other f g rules more places owners are = rw (places, owners, are) refl
 
 module _ (begun : Begun) where
   abbrev pub of_length : List RuleText
@@ -35,6 +30,4 @@ module _ (begun : Begun) where
       → rules ≡ broken_transfer_rules begun.first now.judge.size
       → at_offset now.offset (map (λ rule. Transfer now.judge.id rule) rules) ≡ of_length
   length_are now rules checks are =
-      same_rules now.offset begun.offset _ _ rules _ checks.offset
-      (ap (λ id rule. Transfer id rule) checks.judging.id)
-      (are ∙ ap (broken_transfer_rules begun.first) checks.judging.size)
+      rw (checks.offset, checks.judging.id, are, checks.judging.size) refl

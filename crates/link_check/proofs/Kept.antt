@@ -1,24 +1,25 @@
 -- What is kept after more events, and what is said of them.
-use Rattle.std.proofs.Common.{◌≡◌, ℕ, ◌+◌, ◌≤◌, ◌⊎◌, inl, inr, Bool, true, false, ◌&&◌, ◌==◌, List, [], ◌∷◌, ◌++◌, length, Option, Some, None, option_map, Result, OnOk, if◌then◌else◌, refl, ap, sym, ◌∙◌, ⊎_elim, append-nil, append_assoc, arith}
+use Rattle.std.proofs.Common.{◌≡◌, ℕ, ◌+◌, ◌≤◌, ◌⊎◌, inl, inr, Bool, true, false, ◌&&◌, List, [], ◌∷◌, ◌++◌, length, Option, Some, None, option_map, Result, OnOk, refl, ap, sym, ◌∙◌, ⊎_elim, append-nil, append_assoc, arith}
 use Rattle.std.proofs.{Math.Bool.and-true, lemmas.Grind.fold-append}
-use Rattle.link_wire.specs.{Codes.is_start, Device.Output, Message.data_length}
+use Rattle.link_wire.specs.{Codes.is_start, Device.Output}
 use Rattle.link_wire.specs.declared.IoFault.{IoFault}
 use Rattle.link_wire.specs.declared.message.Message.TheVariants as message
 use Rattle.link_wire.specs.declared.message.SegmentHead.{SegmentHead}
-use Rattle.link_run.specs.Run.{Texts, no_texts, ◌then◌}
+use Rattle.link_run.specs.Run.{◌then◌}
 use Rattle.link_transfer.specs.declared.joiner.Turn.TheVariants.{Continue}
-use Rattle.link_run.specs.{Writers.{on_output, AfterWrite}, declared.writers.Writers.Writers}
+use Rattle.link_run.specs.{Writers.on_output, declared.writers.Writers.Writers}
 use Rattle.link_run.proofs.Runs.{then_none}
 use Rattle.link_walk.specs.Saying.{kept_after, said_from, keeps_telling}
 use Rattle.link_walk.specs.Telling.{ComesAfter, Tells, data_ends}
-use Rattle.link_walk.specs.Walk.{Head, WalkEvent, MessageHead, Data, closes, is_last, is_beginning, open_with, open_after_event, data_size, has_open}
+use Rattle.link_walk.specs.Walk.{Head, WalkEvent, MessageHead, Data, closes, is_beginning, open_after_event, data_size, has_open}
 use Rattle.link_unpack.proofs.Effects.{Does, Strays, Passes, Begins, Continues, comes_does}
 use Rattle.link_unpack.proofs.Told.{size_then, open_then, size_with_data}
 use Rattle.link_message_rules.specs.Remembered.{Remembers}
 use Rattle.link_rule_report.specs.declared.line.RuleText.{RuleText}
 use Rattle.link_check.specs.Checker.{IsAtLatest, IsChecking, KnowsChecked, closed_due, kept_of}
-use Rattle.link_check.specs.Checking.{Begun, Kept, begun_by, broken_by, check_telling, checking, closed_rules, head_rules, judged, kept_with, none_kept, rules_at, with_bytes}
-use Rattle.link_check.specs.{Lines.{lines_of, none_counts}, declared.checker.Checker.Checker}
+use Rattle.link_check.specs.Checking.{Begun, Kept, begun_by, broken_by, check_telling, checking, head_rules, judged, kept_with, none_kept, with_bytes}
+use Rattle.link_check.specs.{Lines.{lines_of, none_counts}, Writing.WritesRules}
+use Rattle.link_check.specs.declared.checker.Checker.{Checker}
 use Rattle.link_check.specs.declared.options.CheckOptions.{CheckOptions}
 use Rattle.link_check.specs.declared.transfer.CheckedTransfer.{CheckedTransfer}
 use Rattle.link_check.proofs.Appends.{no_lines, none_count}
@@ -39,18 +40,19 @@ module _ (options : CheckOptions) (before : List WalkEvent) where
   kept_then added = fold-append (kept_with options) none_kept before added
 
   -- what holds after these events was written, or a writer failed
-  pub tells : {W E : Type 0} (out_look : W → Output) (report_look : E → Output)
-      (old new : Writers W E) (result : Result (Unit {0}) IoFault) (now : Checker)
-      (added : List WalkEvent) (broken : List RuleText)
+  pub tells : {W E : Type 0} {out_look : W → Output} {report_look : E → Output}
+      {old new : Writers W E} {good later : Bool} {result : Result (Unit {0}) IoFault}
+      (now : Checker) (added : List WalkEvent) (broken : List RuleText)
       → on_output (lines_of options.must broken) ≡ said_from (checking options) was added
-      → AfterWrite out_look report_look old new (on_output (lines_of options.must broken)) result
+      → WritesRules out_look report_look options.must old new good later result broken
       → OnOk result (KnowsChecked options now (before ++ added))
       → Tells out_look report_look (check_telling options) (KnowsChecked options now) before
       added old new result
-  tells out_look report_look old new result now added broken said wrote known =
-      let told = keeps_telling (checking options) (check_telling options).manner out_look report_look before added old new was
-      (kept_after (checking options) was added) (on_output (lines_of options.must broken)) result
-      refl wrote said refl in
+  tells {out_look = out_look} {report_look = report_look} {old = old} {new = new} {result = result}
+      now added broken said writes known =
+      let told = keeps_telling (checking options) (check_telling options).manner out_look
+      report_look before added old new was (kept_after (checking options) was added)
+      (on_output (lines_of options.must broken)) result refl writes.wrote said refl in
       record { texts = told.texts; said = told.said; wrote = told.wrote; known = known }
 
   -- ---- one event
@@ -77,16 +79,14 @@ module _ (options : CheckOptions) (before : List WalkEvent) where
 
   with_none : (latest : Option Begun) → option_map (with_bytes []) latest ≡ latest
   with_none None = refl
-  with_none (Some begun) =
-      ap (λ (content : List ℕ). Some (record begun { content = content })) (append-nil begun.content)
+  with_none (Some begun) = rw (append-nil begun.content) refl
 
   with_more : (byte : ℕ) (bytes : List ℕ) (latest : Option Begun)
       → option_map (with_bytes bytes) (option_map (with_bytes (byte ∷ [])) latest)
       ≡ option_map (with_bytes (byte ∷ bytes)) latest
   with_more byte bytes None = refl
   with_more byte bytes (Some begun) =
-      ap (λ (content : List ℕ). Some (record begun { content = content }))
-      (append_assoc begun.content (byte ∷ []) bytes)
+      rw (append_assoc begun.content (byte ∷ []) bytes) refl
 
   good_same : (good : Bool) → (good && none_counts options.must []) ≡ good
   good_same good = ap (λ b. good && b) (none_count options.must) ∙ and-true good
@@ -103,48 +103,19 @@ module _ (options : CheckOptions) (before : List WalkEvent) where
 
   data_kept : (bytes : List ℕ) (whole : Bool) (kept : Kept)
       → kept_after (checking options) kept (data_ends bytes whole) ≡ with_data bytes whole kept
-  data_kept [] true kept =
-      ap (λ (latest : Option Begun). record {
-        heads = kept.heads;
-        latest = latest;
-        good = kept.good && none_counts options.must (rules_at closed_rules latest);
-      }) (sym (with_none kept.latest))
-  data_kept [] false kept =
-      ap (λ good. record { heads = kept.heads; latest = kept.latest; good = good }) (sym (good_same kept.good))
-      ∙ ap (λ (latest : Option Begun). record {
-        heads = kept.heads;
-        latest = latest;
-        good = kept.good && none_counts options.must [];
-      }) (sym (with_none kept.latest))
+  data_kept [] true kept = rw with_none refl
+  data_kept [] false kept = rw (with_none, good_same) refl
   data_kept (byte ∷ bytes) whole kept =
-      data_kept bytes whole (kept_with options kept (Data byte))
-      ∙ ap (λ good. record {
-        heads = kept.heads;
-        latest = option_map (with_bytes bytes) (option_map (with_bytes (byte ∷ [])) kept.latest);
-        good = good && none_counts options.must (closed_due whole
-            (option_map (with_bytes bytes) (option_map (with_bytes (byte ∷ [])) kept.latest)));
-      }) (good_same kept.good)
-      ∙ ap (λ (latest : Option Begun). record {
-        heads = kept.heads;
-        latest = latest;
-        good = kept.good && none_counts options.must (closed_due whole latest);
-      }) (with_more byte bytes kept.latest)
+      rw (data_kept bytes whole, good_same, with_more) refl
 
   data_said_from : (bytes : List ℕ) (whole : Bool) (kept : Kept)
       → on_output (lines_of options.must (closed_due whole (option_map (with_bytes bytes) kept.latest)))
       ≡ said_from (checking options) kept (data_ends bytes whole)
-  data_said_from [] true kept =
-      ap (λ (latest : Option Begun). on_output (lines_of options.must (rules_at closed_rules latest)))
-      (with_none kept.latest)
-      ∙ sym (then_none (on_output (lines_of options.must (rules_at closed_rules kept.latest))))
-  data_said_from [] false kept = ap on_output (no_lines options.must)
+  data_said_from [] true kept = rw (with_none, then_none) refl
+  data_said_from [] false kept = rw no_lines refl
   data_said_from (byte ∷ bytes) whole kept =
-      ap (λ (latest : Option Begun). on_output (lines_of options.must (closed_due whole latest)))
-      (sym (with_more byte bytes kept.latest))
-      ∙ data_said_from bytes whole (kept_with options kept (Data byte))
-      ∙ ap (λ (lines : List ℕ).
-      on_output lines then said_from (checking options) (kept_with options kept (Data byte)) (data_ends bytes whole))
-      (sym (no_lines options.must))
+      rw (no_lines, ← with_more byte bytes kept.latest)
+      (data_said_from bytes whole (kept_with options kept (Data byte)))
 
   module _ (bytes : List ℕ) (whole : Bool) where
     pub data_said : on_output (lines_of options.must
@@ -159,18 +130,14 @@ module _ (options : CheckOptions) (before : List WalkEvent) where
         → IsChecking now.latest (with_bytes bytes begun)
         → KnowsChecked options now (before ++ data_ends bytes whole)
     known_data now begun is size good history checks =
-        let latest : option_map (with_bytes bytes) was.latest ≡ Some (with_bytes bytes begun) =
-        ap (option_map (with_bytes bytes)) is in
         let kept = kept_then (data_ends bytes whole) ∙ data_kept bytes whole was in
         record {
           size = omega (arith, size_with_data before bytes whole);
-          good = good
-              ∙ ap (λ (latest : Option Begun). was.good && none_counts options.must (closed_due whole latest)) (sym latest)
-              ∙ sym (ap (λ (k : Kept). k.good) kept);
+          good = rw (kept, is) good;
           history = rw kept history;
           at_open = λ opened. record {
             begun = with_bytes bytes begun;
-            is = ap (λ (k : Kept). k.latest) kept ∙ latest;
+            is = rw (kept, is) refl;
             checks = checks;
           };
         }
@@ -181,45 +148,18 @@ module _ (options : CheckOptions) (before : List WalkEvent) where
     abbrev broken : List RuleText
     broken = head_rules options was.heads head
 
-    closes_none : closes head ≡ false
-    closes_none = ap (λ t. is_last t && (data_length head.message == 0)) turn
-
     inner_broken : broken_by options was (MessageHead head) ≡ broken
-    inner_broken =
-        ap (λ closing. broken ++ closed_due closing (begun_by head was.latest)) closes_none
-        ∙ append-nil broken
-
-    -- the head neither begins a transfer nor closes one
-    abbrev at_inner : Kept
-    at_inner = record {
-      heads = was.heads ++ judged head ∷ [];
-      latest = was.latest;
-      good = was.good && none_counts options.must broken;
-    }
-
-    inner_kept : kept_with options was (MessageHead head) ≡ at_inner
-    inner_kept =
-        ap (λ (latest : Option Begun). record {
-          heads = was.heads ++ judged head ∷ [];
-          latest = latest;
-          good = was.good && none_counts options.must (broken_by options was (MessageHead head));
-        }) (begun_same head was.latest (ap is_beginning turn))
-        ∙ ap (λ (rules : List RuleText). record {
-          heads = was.heads ++ judged head ∷ [];
-          latest = was.latest;
-          good = was.good && none_counts options.must rules;
-        }) inner_broken
+    inner_broken = rw (turn, append-nil) refl
 
     pub inner_said : on_output (lines_of options.must broken)
         ≡ said_from (checking options) was (MessageHead head ∷ data_ends bytes false)
     inner_said =
-        let next = kept_with options was (MessageHead head) in
-        let first = on_output (lines_of options.must broken) in
-        sym (ap (λ (rules : List RuleText). on_output (lines_of options.must rules)
-        then said_from (checking options) next (data_ends bytes false)) inner_broken
-        ∙ ap (λ (more : Texts). first then more)
-        (sym (data_said_from bytes false next) ∙ ap on_output (no_lines options.must))
-        ∙ then_none first)
+        rw (
+          ← data_said_from bytes false (kept_with options was (MessageHead head)),
+          inner_broken,
+          no_lines,
+          append-nil,
+        ) refl
 
     pub known_inner : (now : Checker) (begun : Begun) → was.latest ≡ Some begun
         → now.latest.judge.size ≤ data_size before + length bytes
@@ -229,9 +169,9 @@ module _ (options : CheckOptions) (before : List WalkEvent) where
         → KnowsChecked options now (before ++ MessageHead head ∷ data_ends bytes false)
     known_inner now begun is size good history checks =
         let parts = append_assoc before (MessageHead head ∷ []) (data_ends bytes false) in
-        let kept = kept_then (MessageHead head ∷ data_ends bytes false)
-        ∙ data_kept bytes false (kept_with options was (MessageHead head))
-        ∙ ap (with_data bytes false) inner_kept in
+        let kept = rw (inner_broken, begun_same head was.latest (ap is_beginning turn))
+        at (kept_then (MessageHead head ∷ data_ends bytes false)
+        ∙ data_kept bytes false (kept_with options was (MessageHead head))) in
         record {
           size = omega (
             arith,
@@ -239,12 +179,11 @@ module _ (options : CheckOptions) (before : List WalkEvent) where
             size_with_data (before ++ MessageHead head ∷ []) bytes false,
             size_then before (MessageHead head),
           );
-          good = good ∙ sym (good_same (was.good && none_counts options.must broken))
-              ∙ sym (ap (λ (k : Kept). k.good) kept);
+          good = rw (kept, good_same) good;
           history = rw kept history;
           at_open = λ opened. record {
             begun = with_bytes bytes begun;
-            is = ap (λ (k : Kept). k.latest) kept ∙ ap (option_map (with_bytes bytes)) is;
+            is = rw (kept, is) refl;
             checks = checks;
           };
         }
@@ -256,15 +195,15 @@ abbrev pub IsRead : (now : CheckedTransfer) → (latest : Option Begun) → (beg
     → Type 0
 IsRead now latest begins opened = (begins ≡ true) ⊎ (opened ≡ true) → IsAtLatest now latest
 
-module _ (before : List WalkEvent) (head : Head) (comes : ComesAfter before head)
-    (read : Option Begun) (old now : CheckedTransfer) where
-  pub read_after : (has_open before ≡ true → IsAtLatest old read)
+module _ (before : List WalkEvent) (head : Head) (comes : ComesAfter before head) where
+  pub read_after : (read : Option Begun) (old now : CheckedTransfer)
+      → (has_open before ≡ true → IsAtLatest old read)
       → ((first : SegmentHead) → is_beginning head.turn ≡ true
       → head.message ≡ message.Segment first → is_start first.flags ≡ true
       → IsChecking now (record { offset = head.offset; first = first; content = [] }))
       → (is_beginning head.turn ≡ false → now ≡ old)
       → IsRead now (begun_by head read) (is_beginning head.turn) (has_open before)
-  read_after at begins same = by_effect (comes_does before head comes)
+  read_after read old now at begins same = by_effect (comes_does before head comes)
     where
       passes : is_beginning head.turn ≡ false
           → IsRead now (begun_by head read) (is_beginning head.turn) (has_open before)
@@ -289,10 +228,8 @@ module _ (before : List WalkEvent) (head : Head) (comes : ComesAfter before head
     where
       by_effect : Does head.turn head.message (has_open before)
           → (is_beginning head.turn ≡ true) ⊎ (has_open before ≡ true)
-      by_effect (Strays is) =
-          absurd (cc (sym (ap (λ turn. is_last turn && (data_length head.message == 0)) is) ∙ closing))
-      by_effect (Passes is other) =
-          absurd (cc (sym (ap (λ turn. is_last turn && (data_length head.message == 0)) is) ∙ closing))
+      by_effect (Strays is) = let none = rw is at closing in absurd (cc)
+      by_effect (Passes is other) = let none = rw is at closing in absurd (cc)
       by_effect (Continues first is starts does also) = inr also
       by_effect (Begins first abandoned is starts does also) = inl (ap is_beginning does)
 
@@ -303,10 +240,8 @@ module _ (before : List WalkEvent) (head : Head) (comes : ComesAfter before head
     where
       by_effect : Does head.turn head.message (has_open before)
           → (is_beginning head.turn ≡ true) ⊎ (has_open before ≡ true)
-      by_effect (Strays is) =
-          inr (sym (ap (λ turn. open_with turn (closes head) (has_open before)) is) ∙ opened)
-      by_effect (Passes is other) =
-          inr (sym (ap (λ turn. open_with turn (closes head) (has_open before)) is) ∙ opened)
+      by_effect (Strays is) = inr (rw is at opened)
+      by_effect (Passes is other) = inr (rw is at opened)
       by_effect (Continues first is starts does also) = inr also
       by_effect (Begins first abandoned is starts does also) = inl (ap is_beginning does)
 

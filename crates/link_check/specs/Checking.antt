@@ -106,18 +106,13 @@ broken_by options kept Whole = rules_at closed_rules kept.latest
 broken_by options kept LeftOpen = rules_at open_rules kept.latest
 
 abbrev pub heads_with : List JudgedHead → WalkEvent → List JudgedHead
-heads_with heads (ContactHeader contact) = heads
 heads_with heads (MessageHead head) = heads ++ judged head ∷ []
-heads_with heads (Data byte) = heads
-heads_with heads Whole = heads
-heads_with heads LeftOpen = heads
+heads_with heads others = heads
 
 abbrev pub latest_with : Option Begun → WalkEvent → Option Begun
-latest_with latest (ContactHeader contact) = latest
 latest_with latest (MessageHead head) = begun_by head latest
 latest_with latest (Data byte) = option_map (with_bytes (byte ∷ [])) latest
-latest_with latest Whole = latest
-latest_with latest LeftOpen = latest
+latest_with latest others = latest
 
 abbrev pub kept_with : CheckOptions → Kept → WalkEvent → Kept
 kept_with options kept event = record {

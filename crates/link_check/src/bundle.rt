@@ -54,6 +54,7 @@ impl BundleReader {
     ghost use Rattle.link_rule_report.specs.declared.rule.BrokenRule.TheVariants.{Bundle};
 
     /// Makes a reader for the first bundle.
+    #[tactic(auto, using(crate::proofs::Blocks::no_history))]
     pub(crate) fn new() -> BundleReader
         ensures reads { IsReadingBundle result [] }
         ensures size { data_size result ≡ 0 }
@@ -68,6 +69,7 @@ impl BundleReader {
     }
 
     /// Begins another bundle.
+    #[tactic(auto, using(crate::proofs::Blocks::no_history))]
     pub(crate) fn restart(&mut self)
         ensures reads { IsReadingBundle self.new [] }
         ensures size { data_size self.new ≡ 0 }

@@ -30,7 +30,7 @@ pub struct BundleChecker {
 }
 
 impl BundleChecker {
-    ghost use Rattle.std.specs.Prelude.{◌+◌, ◌++◌, ◌∷◌, List, OnOk, length, ℕ};
+    ghost use Rattle.std.specs.Prelude.{◌+◌, ◌++◌, ◌∷◌, OnOk, length};
     ghost use Rattle.link_bundle_types.specs.declared.info.BundleInfo.{BundleInfo};
     ghost use Rattle.link_bundle_walk.specs.Bundles.{size_of};
     ghost use Rattle.link_bundle_walk.specs.Telling.{SoFar, between, none_yet};
@@ -130,6 +130,7 @@ impl BundleConsumer for BundleChecker {
         usize::MAX
     }
 
+    #[tactic(auto, using(crate::proofs::BundleTexts::tells_none, crate::proofs::BundleTexts::says_none))]
     fn begin<W: OutDevice, E: OutDevice>(
         &mut self,
         _must: &bool,
@@ -154,6 +155,7 @@ impl BundleConsumer for BundleChecker {
         }
     }
 
+    #[tactic(auto, using(crate::proofs::BundleTexts::tells_none))]
     fn end<W: OutDevice, E: OutDevice>(
         &mut self,
         _must: &bool,

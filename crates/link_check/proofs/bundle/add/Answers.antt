@@ -1,9 +1,8 @@
-use Rattle.std.proofs.Common.{ℕ, ◌^◌, ◌<◌, Option, Some, None, Result, Ok, Err, ap, ◌∙◌, subst, arith}
+use Rattle.std.proofs.Common.{ℕ, ◌^◌, ◌<◌, Option, Some, None, Result, Ok, Err, arith}
 use Rattle.std.specs.Prelude.{IfSome}
 use Rattle.link_block_data.specs.BlockData.{BlockData}
 use Rattle.link_block_report.specs.Fits.{HasFittingWords}
-use Rattle.link_blocks.specs.BlockLines.{found_in}
-use Rattle.link_bundle_rules.specs.{ReadBundle.{malformed_from, with_block}, Remembered.Remembers}
+use Rattle.link_bundle_rules.specs.ReadBundle.{malformed_from}
 use Rattle.link_check.proofs.bundle.add.Goals as goal
 
 -- the offset of malformed data has 64 bits
@@ -16,10 +15,6 @@ malformed_fits start (Some (Err offset)) fits = fits
 pub returns : goal.returns
 returns c = λ bundle seen remembers same less reading.
     let block = c.args.block.now in
-    let said = c.found-found.ensures.found seen block reading in
+    let said = rw same at (c.found-found.ensures.found seen block reading) in
     let fits = c.found-found.ensures.fits block.data_start (omega (arith, c.requires)) in
-    subst
-    (λ (found : Option (Result BlockData ℕ)).
-    Remembers c.take.new.self (with_block bundle (record { block = block; found = found })))
-    (said ∙ ap (λ flags. found_in flags seen block) same)
-    (c.take.ensures bundle remembers (malformed_fits block.data_start _ fits))
+    rw (← said) (c.take.ensures bundle remembers (malformed_fits block.data_start _ fits))

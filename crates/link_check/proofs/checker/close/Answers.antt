@@ -2,7 +2,4 @@ use Rattle.link_check.proofs.Writing.{none_written}
 use Rattle.link_check.proofs.checker.close.Goals as goal
 
 pub returns-else-due : goal.returns-else-due
-returns-else-due g c = λ begun at.
-    rw c.if-due.false
-    (none_written g.W.OutDevice.state g.E.OutDevice.state c.args.must c.args.writers.now
-    c.args.good.now tt)
+returns-else-due g c = λ begun at. rw c.if-due.false none_written

@@ -11,8 +11,7 @@ returns-then-take_inner-clause-gives g c = λ id before is at.
     let none : broken_rules options.peer before (judged (viewed_head c.args.head.now)) ≡ [] =
     ap (λ (head : Head). broken_rules options.peer before (judged head)) is
     ∙ c.take_inner.ensures.kept id before c.if-take_inner.true in
-    rw none (none_written g.W.OutDevice.state g.E.OutDevice.state options.must
-    c.args.writers.now c.args.good.now tt)
+    rw none none_written
 
 pub returns-then-take_inner-clause-history : goal.returns-then-take_inner-clause-history
 returns-then-take_inner-clause-history g c = λ id before is at.

@@ -2,7 +2,4 @@ use Rattle.link_check.proofs.Writing.{none_written}
 use Rattle.link_check.proofs.checker.write_contact.Goals as goal
 
 pub returns-in-None : goal.returns-in-None
-returns-in-None g c =
-    rw (← c.in-None.ensures)
-    (none_written g.W.OutDevice.state g.E.OutDevice.state c.args.must c.args.writers.now
-    c.args.good.now tt)
+returns-in-None g c = rw (← c.in-None.ensures) none_written

@@ -3,6 +3,4 @@ use Rattle.link_check.proofs.checker.write_head.Goals as goal
 
 pub returns-then-keeps_rules : goal.returns-then-keeps_rules
 returns-then-keeps_rules g c = λ before at.
-    rw (c.keeps_rules.ensures before at c.if-keeps_rules.true)
-    (none_written g.W.OutDevice.state g.E.OutDevice.state c.args.options.now.must
-    c.args.writers.now c.args.good.now tt)
+    rw (c.keeps_rules.ensures before at c.if-keeps_rules.true) none_written

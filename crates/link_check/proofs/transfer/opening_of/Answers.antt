@@ -1,4 +1,4 @@
-use Rattle.std.proofs.Common.{◌≡◌, ℕ, sym, ap, ◌∙◌}
+use Rattle.std.proofs.Common.{◌≡◌, ℕ, refl}
 use Rattle.arrayvec.specs.ArrayVec.{ArrayVec}
 use Rattle.link_wire.specs.MessageBuffer.{message_with, segment_items}
 use Rattle.link_wire.specs.declared.message.Fields.TheVariants as fields
@@ -23,5 +23,5 @@ pub returns-in-Segment : goal.returns-in-Segment
 returns-in-Segment c = λ first is.
     let message = c.args.message.now in
     let same = segment_is c.in-Segment.flags c.in-Segment.id c.in-Segment.length message.node message.items first
-    (ap (λ f. message_with f message.node message.items) (sym c.in-Segment.is) ∙ is) in
-    c.of.ensures first (ap (λ (s : SegmentHead). s.flags) same) (ap (λ (s : SegmentHead). s.items) same)
+    (rw c.in-Segment.is at is) in
+    c.of.ensures first (rw same refl) (rw same refl)

@@ -1,5 +1,4 @@
-use Rattle.std.proofs.Common.{◌++◌, sym, subst, length-append, arith}
-use Rattle.link_rules.specs.{HeadWalk.HasWalked, declared.heads.HeadWalk.HeadWalk}
+use Rattle.std.proofs.Common.{length-append, arith}
 use Rattle.link_check.proofs.bundle.BundleReader.take.Goals as goal
 
 pub returns-clause-reads : goal.returns-clause-reads
@@ -8,6 +7,6 @@ returns-clause-reads c = λ content same judged reads.
     record {
       blocks = c.take_blocks.ensures.reads content same judged
           (record { reading = reads.blocks.reading; history = reads.blocks.history });
-      walked = subst (λ (walk : HeadWalk). HasWalked walk (content ++ piece)) (sym c.take_blocks.ensures.heads)
+      walked = rw c.take_blocks.ensures.heads
           (c.take.ensures content (omega (arith, same, length-append content piece)) reads.walked);
     }

@@ -1,5 +1,5 @@
-use Rattle.std.proofs.Common.{◌≡◌, [], ◌∷◌, ◌++◌, ap, sym, ◌∙◌, append-nil, length-append, arith}
-use Rattle.link_bundle_blocks.specs.Blocks.{PrimaryOf, CanonicalOf, viewed_primary, viewed_block, viewed_blocks}
+use Rattle.std.proofs.Common.{◌≡◌, [], ◌∷◌, ◌++◌, sym, ◌∙◌, append-nil, length-append, arith}
+use Rattle.link_bundle_blocks.specs.Blocks.{PrimaryOf, CanonicalOf, viewed_primary}
 use Rattle.link_bundle_blocks.specs.Bundle.{blocks_in}
 use Rattle.link_bundle.specs.Scan.{ending}
 use Rattle.link_blocks.proofs.Reading.{lies_within}
@@ -10,11 +10,11 @@ pub returns-in-Primary-clause-reads : goal.returns-in-Primary-clause-reads
 returns-in-Primary-clause-reads c = λ seen before reads some goes come grown.
     let block = c.in-Primary.block in
     let ended : ending c.args.scan.now ≡ PrimaryOf (viewed_primary block) block.check block.end ∷ [] =
-    sym c.in-Some.ensures.block ∙ ap (λ view. viewed_block view ∷ []) c.in-Primary.is in
+    rw c.in-Primary.is at (sym c.in-Some.ensures.block) in
     record {
       reading = c.follow.ensures.reads seen before reads.reading goes come grown;
       history = history_begins seen c.args.run.now c.begin.result (viewed_primary block) block.check
-          block.end (grown ∙ ap (λ new. blocks_in seen ++ new) ended) c.begin.ensures;
+          block.end (rw ended at grown) c.begin.ensures;
     }
 
 pub returns-in-Some-history-clause-reads : goal.returns-in-Some-history-clause-reads
@@ -22,9 +22,8 @@ returns-in-Some-history-clause-reads c = λ seen before reads some goes come gro
     let block = c.in-Canonical.block in
     let now = seen ++ c.args.run.now in
     let ended : ending c.args.scan.now ≡ CanonicalOf block ∷ [] =
-    sym c.in-Some.ensures.block ∙ ap (λ view. viewed_block view ∷ []) c.in-Canonical.is in
-    let more : blocks_in now ≡ blocks_in seen ++ CanonicalOf block ∷ [] =
-    grown ∙ ap (λ new. blocks_in seen ++ new) ended in
+    rw c.in-Canonical.is at (sym c.in-Some.ensures.block) in
+    let more : blocks_in now ≡ blocks_in seen ++ CanonicalOf block ∷ [] = rw ended at grown in
     let reading = c.follow.ensures.reads seen before reads.reading goes come grown in
     let within = lies_within now (blocks_in seen) block more in
     record {
@@ -40,19 +39,18 @@ pub returns-in_default-history-clause-reads : goal.returns-in_default-history-cl
 returns-in_default-history-clause-reads c = λ seen before reads some goes come grown.
     let block = c.in-Canonical.block in
     let ended : ending c.args.scan.now ≡ CanonicalOf block ∷ [] =
-    sym c.in-Some.ensures.block ∙ ap (λ view. viewed_block view ∷ []) c.in-Canonical.is in
+    rw c.in-Canonical.is at (sym c.in-Some.ensures.block) in
     record {
       reading = c.follow.ensures.reads seen before reads.reading goes come grown;
       history = rw c.in_default-history.is (history_none seen c.args.run.now block
-          (grown ∙ ap (λ new. blocks_in seen ++ new) ended) (rw c.in_default-history.is at reads.history));
+          (rw ended at grown) (rw c.in_default-history.is at reads.history));
     }
 
 pub returns-in_default-clause-reads : goal.returns-in_default-clause-reads
 returns-in_default-clause-reads c = λ seen before reads some goes come grown.
     let none : ending c.args.scan.now ≡ [] =
-    sym c.ended_block.ensures.block ∙ ap viewed_blocks c.in_default.is in
-    let same : blocks_in (seen ++ c.args.run.now) ≡ blocks_in seen =
-    grown ∙ ap (λ new. blocks_in seen ++ new) none ∙ append-nil (blocks_in seen) in
+    rw c.in_default.is at (sym c.ended_block.ensures.block) in
+    let same = rw (none, append-nil) at grown in
     record {
       reading = c.follow_cut.ensures.reads seen before reads.reading goes come same;
       history = history_same seen c.args.run.now c.args.self.now.history same reads.history;

@@ -3,6 +3,4 @@ use Rattle.link_check.proofs.bundle.BundleReader.write_rules.Goals as goal
 
 pub returns-then-keeps_rules : goal.returns-then-keeps_rules
 returns-then-keeps_rules g c = λ content info reads room payload.
-    rw (c.keeps_rules.ensures content info reads room payload c.if-keeps_rules.true)
-    (none_written g.W.OutDevice.state g.E.OutDevice.state c.args.must c.args.writers.now
-    c.args.good.now tt)
+    rw (c.keeps_rules.ensures content info reads room payload c.if-keeps_rules.true) none_written

@@ -11,13 +11,12 @@ returns-in-Some-clause-gives g c = λ before knows. rw c.in-Some.is (λ comes.
     let now : SoFar = record { bundles = before.bundles; begun = before.begun ++ c.args.bytes.now } in
     let known : KnowsBundles c.args.must.now c.take.new.self now =
     c.take.ensures.follows c.args.must.now before (omega (arith, comes.few)) knows in
-    tells_whole g.W.OutDevice.state g.E.OutDevice.state c.args.must.now c.end_bundle.new.self
-    before.bundles (record { bytes = now.begun; info = info }) c.args.number c.args.writers.now
-    c.end_bundle.new.writers c.end_bundle.result comes.numbered
+    tells_whole c.args.must.now c.end_bundle.new.self before.bundles
+    (record { bytes = now.begun; info = info }) c.args.number comes.numbered
     (c.end_bundle.ensures.gives now info known comes.sized refl)
     (c.end_bundle.ensures.follows now info known comes.sized refl comes.numbered))
 
 pub returns-in-None-clause-gives : goal.returns-in-None-clause-gives
 returns-in-None-clause-gives g c = λ before knows. rw c.in-None.is (λ comes.
-    tells_none g.W.OutDevice.state g.E.OutDevice.state _ _ _ c.args.writers.now refl
+    tells_none refl
     (c.take.ensures.follows c.args.must.now before (omega (arith, comes.few)) knows))

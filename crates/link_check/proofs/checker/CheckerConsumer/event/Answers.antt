@@ -1,12 +1,11 @@
-use Rattle.std.proofs.Common.{◌≡◌, Bool, Option, Some, ◌+◌, ◌<◌, ◌≤◌, ◌^◌, ◌&&◌, ◌++◌, ◌∷◌, [], length, List, true, false, option_map, Err, refl, ap, sym, ◌∙◌, arith}
+use Rattle.std.proofs.Common.{◌≡◌, Bool, Option, Some, ◌+◌, ◌<◌, ◌≤◌, ◌^◌, ◌++◌, ◌∷◌, [], length, List, true, false, refl, ap, sym, ◌∙◌, arith}
 use Rattle.std.proofs.lemmas.Bool.{false≢true}
 use Rattle.link_message_rules.specs.Remembered.{Remembers}
 use Rattle.link_rule_report.specs.declared.line.RuleText.{RuleText}
 use Rattle.link_walk.specs.Telling.{ComesAfter, data_ends, viewed_head}
 use Rattle.link_walk.specs.Walk.{Head, WalkEvent, ContactHeader, LeftOpen, MessageHead, closes, has_open, is_beginning}
 use Rattle.link_check.specs.Checker.{IsAtLatest, KnowsChecked, closed_due, kept_of}
-use Rattle.link_check.specs.Checking.{Begun, begun_by, broken_by, head_rules, judged, open_rules, rules_at, with_bytes}
-use Rattle.link_check.specs.Lines.{at_offset, lines_of, none_counts}
+use Rattle.link_check.specs.Checking.{Begun, begun_by, broken_by, head_rules, judged, with_bytes}
 use Rattle.link_check.specs.declared.{checker.Checker.Checker, options.CheckOptions.CheckOptions}
 use Rattle.link_check.proofs.{Writing.{part_written, then_written}, Closed.on_ok_by}
 use Rattle.link_check.proofs.Kept.{IsRead, closes_read, data_said, inner_said, known_data, known_inner, known_one, opens_read, read_after, said_one, tells}
@@ -19,15 +18,13 @@ returns-in-Contact g c = rw c.in-Contact.is (λ before knows none.
     let options = c.args.options.now in
     let event = ContactHeader c.in-Contact.contact.now in
     let old = c.args.self.now in
-    let now : Checker =
-    record { history = old.history; latest = old.latest; good = c.write_contact.new.good } in
+    let now : Checker = record old { good = c.write_contact.new.good } in
     let broken = broken_by options (kept_of options before) event in
-    tells options before g.W.OutDevice.state g.E.OutDevice.state c.args.writers.now
-    c.write_contact.new.writers c.write_contact.result now (event ∷ []) broken
-    (said_one options before event) c.write_contact.ensures.wrote
+    tells options before now (event ∷ []) broken (said_one options before event)
+    c.write_contact.ensures
     (on_ok_by c.write_contact.result
-    (λ good. known_one options before event now knows.size
-    (good ∙ ap (λ b. b && none_counts options.must broken) knows.good) knows.history knows.at_open)
+    (λ good. known_one options before event now knows.size (rw knows.good at good) knows.history
+    knows.at_open)
     c.write_contact.ensures.counted))
 
 -- ---- a head
@@ -85,45 +82,34 @@ pub returns-in-Err : goal.returns-in-Err
 returns-in-Err g c = rw c.in-Head.is (λ before knows comes.
     let options = c.args.options.now in
     let head = viewed_head c.in-Head.head in
-    let out_look = g.W.OutDevice.state in
-    let report_look = g.E.OutDevice.state in
-    let both = part_written out_look report_look options.must {other = true}
-    (own options before head) (closed options before head)
+    let both =
+    part_written {other = true} (own options before head) (closed options before head)
     (c.in-Err.ensures.gives (kept_of options before).heads knows.history) in
-    tells options before out_look report_look c.args.writers.now c.judge-written.new.writers
-    (Err c.in-Err.fault) _ (MessageHead head ∷ [])
+    tells options before _ (MessageHead head ∷ [])
     (broken_by options (kept_of options before) (MessageHead head))
-    (said_one options before (MessageHead head)) both.wrote tt)
+    (said_one options before (MessageHead head)) both tt)
 
 pub returns-in_default : goal.returns-in_default
 returns-in_default g c = rw c.in-Head.is (λ before knows comes.
     let options = c.args.options.now in
     let head = viewed_head c.in-Head.head in
     let kept = kept_of options before in
-    let out_look = g.W.OutDevice.state in
-    let report_look = g.E.OutDevice.state in
     let latest = latest options before head in
     let mid = c.if-begins.self in
     let state = at_head g c before knows comes in
     let due = λ (is : c.closes.result ≡ true).
-    state.read (closes_read before head comes latest mid.latest mid.latest (sym c.closes.ensures ∙ is)) in
-    let now : Checker =
-    record { history = mid.history; latest = mid.latest; good = c.close.new.good } in
+    state.read (closes_read before head comes (sym c.closes.ensures ∙ is)) in
+    let now : Checker = record mid { good = c.close.new.good } in
     let both =
-    then_written out_look report_look options.must (own options before head)
-    (closed options before head)
+    then_written (own options before head) (closed options before head)
     (rw (← state.good) at (c.in_default.ensures.gives kept.heads knows.history))
     (rw c.closes.ensures at (c.close.ensures latest due)) in
-    tells options before out_look report_look c.args.writers.now c.close.new.writers
-    c.close.result now (MessageHead head ∷ []) (broken_by options kept (MessageHead head))
-    (said_one options before (MessageHead head)) both.wrote
+    tells options before now (MessageHead head ∷ []) (broken_by options kept (MessageHead head))
+    (said_one options before (MessageHead head)) both
     (on_ok_by c.close.result
     (λ good. known_one options before (MessageHead head) now
-    (omega (arith, state.size, knows.size))
-    (good
-    ∙ ap (λ b. b && none_counts options.must (broken_by options kept (MessageHead head))) knows.good)
-    state.history
-    (λ opened. state.read (opens_read before head comes latest mid.latest mid.latest opened)))
+    (omega (arith, state.size, knows.size)) (rw knows.good at good) state.history
+    (λ opened. state.read (opens_read before head comes opened)))
     both.counted))
 
 -- ---- an inner segment
@@ -145,17 +131,15 @@ returns-in-Inner g c = rw c.in-Inner.is (λ before knows may.
       latest = c.take.new.self;
       good = c.judge_inner.new.good;
     } in
-    tells options before g.W.OutDevice.state g.E.OutDevice.state c.args.writers.now
-    c.judge_inner.new.writers c.judge_inner.result now (MessageHead head ∷ data_ends bytes false)
-    (own options before head)
-    (inner_said options before head turn bytes)
-    (c.judge_inner.ensures.gives may.id kept.heads may.is knows.history).wrote
+    let writes = c.judge_inner.ensures.gives may.id kept.heads may.is knows.history in
+    tells options before now (MessageHead head ∷ data_ends bytes false) (own options before head)
+    (inner_said options before head turn bytes) writes
     (on_ok_by c.judge_inner.result
     (λ good. known_inner options before head turn bytes now at.begun at.is
     (omega (arith, c.take.ensures.size, knows.size))
-    (good ∙ ap (λ b. b && none_counts options.must (own options before head)) knows.good)
+    (rw knows.good at good)
     (c.judge_inner.ensures.history may.id kept.heads may.is knows.history) follows)
-    (c.judge_inner.ensures.gives may.id kept.heads may.is knows.history).counted))
+    writes.counted))
 
 -- ---- data
 
@@ -178,20 +162,14 @@ returns-in-Data g c = rw c.in-Data.is (λ before knows may.
       latest = c.take-in-Data.new.self;
       good = c.close-in-Data.new.good;
     } in
-    let same : option_map (with_bytes bytes) kept.latest ≡ Some begun =
-    ap (option_map (with_bytes bytes)) at.is in
-    let lines = λ (latest : Option Begun). lines_of options.must (closed_due whole latest) in
-    tells options before g.W.OutDevice.state g.E.OutDevice.state c.args.writers.now
-    c.close-in-Data.new.writers c.close-in-Data.result now (data_ends bytes whole)
-    (closed_due whole (option_map (with_bytes bytes) kept.latest))
-    (data_said options before bytes whole)
-    (rw (ap lines same) (c.close-in-Data.ensures (Some begun) (λ is. read)).wrote)
+    let writes = c.close-in-Data.ensures (Some begun) (λ is. read) in
+    tells options before now (data_ends bytes whole) (closed_due whole (Some begun))
+    (rw at.is at (data_said options before bytes whole)) writes
     (on_ok_by c.close-in-Data.result
     (λ good. known_data options before bytes whole now at.begun at.is
     (omega (arith, c.take-in-Data.ensures.size, knows.size))
-    (good ∙ ap (λ b. b && none_counts options.must (closed_due whole (Some begun))) knows.good)
-    knows.history follows)
-    (c.close-in-Data.ensures (Some begun) (λ is. read)).counted))
+    (rw knows.good at good) knows.history follows)
+    writes.counted))
 
 -- ---- the end of the stream
 
@@ -201,18 +179,11 @@ returns-in-LeftOpen g c = rw c.in-LeftOpen.is (λ before knows opened.
     let old = c.args.self.now in
     let kept = kept_of options before in
     let at = knows.at_open opened in
-    let now : Checker =
-    record { history = old.history; latest = old.latest; good = c.write_open.new.good } in
-    let broken = broken_by options kept LeftOpen in
-    let is : broken ≡ at_offset at.begun.offset (open_rules at.begun) =
-    ap (rules_at open_rules) at.is in
-    tells options before g.W.OutDevice.state g.E.OutDevice.state c.args.writers.now
-    c.write_open.new.writers c.write_open.result now (LeftOpen ∷ []) broken
-    (said_one options before LeftOpen)
-    (rw (ap (lines_of options.must) is) (c.write_open.ensures at.begun at.checks).wrote)
+    let now : Checker = record old { good = c.write_open.new.good } in
+    let writes = c.write_open.ensures at.begun at.checks in
+    tells options before {good = old.good} {later = c.write_open.new.good} now (LeftOpen ∷ [])
+    (broken_by options kept LeftOpen) (said_one options before LeftOpen) (rw at.is writes)
     (on_ok_by c.write_open.result
-    (λ good. known_one options before LeftOpen now knows.size
-    (good ∙ ap (λ b. b && none_counts options.must (at_offset at.begun.offset (open_rules at.begun))) knows.good
-    ∙ ap (λ b. kept.good && b) (sym (ap (none_counts options.must) is)))
+    (λ good. known_one options before LeftOpen now knows.size (rw (at.is, ← knows.good) good)
     knows.history (λ none. absurd (cc)))
-    (c.write_open.ensures at.begun at.checks).counted))
+    writes.counted))

@@ -8,13 +8,12 @@ returns-in-Err g c = λ begun checks.
     let are = length_are begun c.args.self.now c.as_slice.result.now checks
     (c.as_slice.ensures.value ∙ c.rules-rules.ensures begun.first checks.opening) in
     rw (both begun)
-    (part_written g.W.OutDevice.state g.E.OutDevice.state c.args.must (of_length begun)
-    (of_data begun) (rw are at c.in-Err.ensures))
+    (part_written (of_length begun) (of_data begun) (rw are at c.in-Err.ensures))
 
 pub returns : goal.returns
 returns g c = λ begun checks.
     let are = length_are begun c.args.self.now c.as_slice.result.now checks
     (c.as_slice.ensures.value ∙ c.rules-rules.ensures begun.first checks.opening) in
     rw (both begun)
-    (then_written g.W.OutDevice.state g.E.OutDevice.state c.args.must (of_length begun)
-    (of_data begun) (rw are at c.in_default.ensures) (c.write_data.ensures begun checks))
+    (then_written (of_length begun) (of_data begun) (rw are at c.in_default.ensures)
+    (c.write_data.ensures begun checks))

@@ -1,12 +1,11 @@
-use Rattle.std.proofs.Common.{◌≡◌, [], ◌∷◌, map, Ok, Err, refl, sym, ap, ◌∙◌, arith}
+use Rattle.std.proofs.Common.{◌≡◌, [], ◌∷◌, map, Ok, Err, refl, sym, ◌∙◌, arith}
 use Rattle.link_bundle_types.specs.BundleView.{viewed_info}
 use Rattle.link_bundle_blocks.specs.Bundle.{verdict}
 use Rattle.link_bundle.proofs.Pieces.{verdict_judged}
 use Rattle.link_rule_report.specs.declared.rule.BrokenRule.TheVariants.{Bundle, Transfer}
 use Rattle.link_rule_report.specs.declared.rule.BundlePlace.TheVariants as place
 use Rattle.link_check.specs.{BundleRules.bundle_rules, Checker.IsChecking}
-use Rattle.link_check.specs.{Checking.{Begun, data_rules, optional}, Lines.at_offset}
-use Rattle.link_check.proofs.Closed.{same_rules}
+use Rattle.link_check.specs.{Checking.{Begun, data_rules}, Lines.at_offset}
 use Rattle.link_check.proofs.transfer.CheckedTransfer.write_data.Goals as goal
 
 -- the rules of a good bundle are those that were written
@@ -20,9 +19,7 @@ good_are g c begun checks =
     let judged = checks.judging.judged in
     let is : verdict begun.content ≡ Ok (viewed_info c.in-Ok.info) =
     sym (c.in-Ok.ensures.seen judged.seen judged.scanned ∙ verdict_judged judge.scan begun.content judged) in
-    rw is (same_rules c.args.self.now.offset begun.offset _ _
-    (bundle_rules begun.content (viewed_info c.in-Ok.info)) _ checks.offset
-    (ap (λ id rule. Bundle (place.Transfer id) rule) checks.judging.id) refl)
+    rw (is, checks.offset, checks.judging.id) refl
 
 pub returns-in-Ok : goal.returns-in-Ok
 returns-in-Ok g c = λ begun checks.
@@ -40,10 +37,9 @@ bad_are g c begun checks =
     let judged = checks.judging.judged in
     let is : verdict begun.content ≡ Err (c.in-Err.fault, c.in-Err.byte) =
     sym (c.in-Err.ensures.seen judged.seen judged.scanned ∙ verdict_judged judge.scan begun.content judged) in
-    rw is (same_rules c.args.self.now.offset begun.offset _ _ (c.data_rule-rule.result ∷ []) _
-    checks.offset (ap (λ id rule. Transfer id rule) checks.judging.id)
-    (ap optional (c.data_rule-rule.ensures begun.content
-    (c.first_indefinite.ensures begun.content checks.reading))))
+    let broken = c.data_rule-rule.ensures begun.content
+    (c.first_indefinite.ensures begun.content checks.reading) in
+    rw (is, checks.offset, checks.judging.id, ← broken) refl
 
 pub returns-in-Err : goal.returns-in-Err
 returns-in-Err g c = λ begun checks.
