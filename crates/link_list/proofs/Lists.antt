@@ -1,17 +1,17 @@
 -- What holds after a step of `list`, by the result of its call of the session.
-use Rattle.std.proofs.Common.{◌≡◌, ℕ, ◌+◌, ◌<◌, ◌≤◌, Bool, true, false, IsTrue, List, [], ◌∷◌, ◌++◌, length, length-append, inl, Result, Ok, nat_lt, if◌then◌else◌, refl, ap, sym, ◌∙◌, subst, append-nil, append_assoc, arith}
+use Rattle.std.proofs.Common.{◌≡◌, ℕ, ◌+◌, ◌<◌, ◌≤◌, Bool, true, false, IsTrue, List, [], ◌∷◌, ◌++◌, length, length-append, inl, Result, Ok, refl, ap, sym, ◌∙◌, append-nil, append_assoc, arith}
 use Rattle.std.proofs.lemmas.{Bool.{lt-ltb, le-ltb}, Grind.flat_map-append}
 use Rattle.link_wire.specs.{Device.Input, Limits.{window_size, longest_head}, Message.data_length}
-use Rattle.link_wire.specs.Source.{given_by, window_of, Takes, Readies}
-use Rattle.link_wire.specs.Stream.{Entry, End, Clean, Cut, Fault, Stream, ended, with_entry, Reading, reading_of}
+use Rattle.link_wire.specs.Source.{window_of, Takes, Readies}
+use Rattle.link_wire.specs.Stream.{Entry, End, Clean, Cut, Fault, Stream, Reading, reading_of}
 use Rattle.link_wire.specs.Whole.{ReadWhole}
-use Rattle.link_wire.specs.Session.{source_of, left_of, joined, data_after, IsLeft, ReadContact, ReadMessage, CleanEnd, PassedBytes}
+use Rattle.link_wire.specs.Session.{source_of, left_of, joined, ReadContact, ReadMessage, CleanEnd, PassedBytes}
 use Rattle.link_wire.specs.declared.{IoFault.IoFault, message.Contact.Contact}
 use Rattle.link_wire.specs.declared.{message.Message.Message, session.Session.Session}
 use Rattle.link_wire.proofs.Contacts.{reading-none}
 use Rattle.link_io.proofs.Sources.{Takes-none, Takes-then, Readies-takes}
 use Rattle.link_report.specs.Message.{contact_text, message_text}
-use Rattle.link_run.specs.Made.{Made, IsLasting, whole_by, shows_fault, stop_of}
+use Rattle.link_run.specs.Made.{IsLasting, shows_fault, stop_of}
 use Rattle.link_run.specs.Run.{Texts, no_texts, ◌then◌, Looks, Devices, Place, devices_at, LastStep, progress_after}
 use Rattle.link_run.specs.Stages.{Stands, AfterStage, MayBegin}
 use Rattle.link_run.specs.Writers.{place_of, on_output, AfterWrite}
@@ -20,18 +20,17 @@ use Rattle.link_run.specs.declared.run.Progress.TheVariants.{More}
 use Rattle.link_run.specs.declared.next.Next.TheVariants as next
 use Rattle.link_run.specs.declared.writers.Writers.{Writers}
 use Rattle.link_run.proofs.Continued.{reading_on}
-use Rattle.link_run.proofs.Runs.{texts_as, then_assoc, then_none, few_over, writes_none}
+use Rattle.link_run.proofs.Runs.{then_assoc, few_over, writes_none}
 use Rattle.link_run.proofs.{Sessions.SameTexts, Stands.{ends, goes_on, written}, Strides.went_with}
 use Rattle.link_list.specs.Listing.{contact_lines, message_lines, listed_lines, listing_by, listing_of, list_tool}
-use Rattle.link_list.specs.ListRun.{most_by, may_go_on, may_follow, IsWaiting, IsWaitingAfter, Lists, IsListing, IsDue, IsListedTo, ListedOn, AfterRead, AfterLines, AfterStepOrStride, WaitsForData}
+use Rattle.link_list.specs.ListRun.{most_by, may_go_on, may_follow, IsWaitingAfter, Lists, IsListing, IsDue, IsListedTo, ListedOn, AfterRead, AfterLines, AfterStepOrStride, WaitsForData}
 use Rattle.link_list.specs.declared.listing.Stage.{Stage}
 use Rattle.link_list.specs.declared.listing.Stage.TheVariants as stage
 
 -- each step may be given a byte
 pub most_some : (piece : ℕ) (now : Stage) → 0 < piece → 0 < most_by piece now
-most_some piece stage.Contact some = omega arith
-most_some piece stage.Message some = omega arith
 most_some piece stage.Data some = some
+most_some piece others some = omega arith
 
 -- the stage that is left
 pub at_message : (now : Stage) → (now ≡ stage.Data → ⊥) → (now ≡ stage.Contact → ⊥)
@@ -61,54 +60,47 @@ unfolding message_lines
 no_lines = refl
 
 pub nothing_listed : (listing_of []).texts ≡ no_texts
-nothing_listed = ap (λ (m : Made). m.texts) (by_reading []) ∙ ap (λ r. on_output (listed_lines r)) reading-none ∙ texts_as no_lines refl
+nothing_listed = rw (by_reading, reading-none, no_lines) refl
 
 lasting : IsLasting listing_of
 unfolding listing_of
-lasting bytes more shown =
-    ap (λ (r : Reading). shows_fault (stop_of r.end)) ((reading_on bytes more).stays shown) ∙ shown
+lasting bytes more shown = rw ((reading_on bytes more).stays shown) shown
 
 pub may_begin : MayBegin listing_of true
 may_begin = record {
   texts = nothing_listed;
-  unshown = ap (λ (m : Made). shows_fault m.stop) (by_reading []) ∙ ap (λ (r : Reading). shows_fault (stop_of r.end)) reading-none;
+  unshown = rw (by_reading, reading-none) refl;
   lasting = lasting;
 }
 
 -- a reading with the same messages has the same lines
 pub same_texts : (reading : Reading) → SameTexts listing_by reading
 same_texts reading = λ other same uncut.
-    let lines : listed_lines other ≡ listed_lines reading =
-    ap (λ c. contact_lines c ++ message_lines other.entries) same.contact ∙ ap (λ es. contact_lines reading.contact ++ message_lines es) same.entries in
-    (ap on_output lines, refl)
+    (rw (same.contact, same.entries) refl, refl)
 
 module _ (history given : List ℕ) (more : Stream)
     (is : reading_of (history ++ given) ≡ joined (reading_of history) more) where
   texts_are : (listing_of (history ++ given)).texts ≡ on_output (listed_lines (reading_of history) ++ message_lines more.entries)
-  texts_are = ap (λ (m : Made). m.texts) (by_reading (history ++ given)) ∙ ap (λ r. on_output (listed_lines r)) is ∙ ap on_output (lines_joined (reading_of history) more)
+  texts_are = rw (by_reading, is, lines_joined) refl
 
   texts_were : (listing_of history).texts ≡ on_output (listed_lines (reading_of history))
-  texts_were = ap (λ (m : Made). m.texts) (by_reading history)
+  texts_were = rw by_reading refl
 
   -- the bytes that follow complete no message, so no line is added
   texts_same : more.entries ≡ [] → (listing_of history).texts then no_texts ≡ (listing_of (history ++ given)).texts
-  texts_same none =
-      then_none (listing_of history).texts ∙ texts_were
-      ∙ sym (texts_are ∙ ap (λ es. on_output (listed_lines (reading_of history) ++ message_lines es)) none ∙ ap (λ xs. on_output (listed_lines (reading_of history) ++ xs)) no_lines ∙ ap on_output (append-nil _))
+  texts_same none = rw (texts_were, texts_are, none, no_lines, append-nil) refl
 
   -- the bytes that follow complete one message, so its line is added
   texts_one : (entry : Entry) → more.entries ≡ entry ∷ []
       → (listing_of history).texts then on_output (message_text entry.offset entry.message) ≡ (listing_of (history ++ given)).texts
-  texts_one entry one =
-      ap (λ t. t then on_output (message_text entry.offset entry.message)) texts_were
-      ∙ sym (texts_are ∙ ap (λ es. on_output (listed_lines (reading_of history) ++ message_lines es)) one ∙ ap (λ xs. on_output (listed_lines (reading_of history) ++ xs)) (one_line entry))
+  texts_one entry one = rw (texts_were, texts_are, one, one_line) refl
 
   unshown_by : shows_fault (stop_of more.end) ≡ false → shows_fault (listing_of (history ++ given)).stop ≡ false
-  unshown_by unshown = ap (λ (m : Made). shows_fault m.stop) (by_reading (history ++ given)) ∙ ap (λ (r : Reading). shows_fault (stop_of r.end)) is ∙ unshown
+  unshown_by unshown = rw (by_reading, is) unshown
 
 -- a reading that ends between two messages shows no fault
 clean_unshown : (bytes : List ℕ) → (reading_of bytes).end ≡ Clean → shows_fault (listing_of bytes).stop ≡ false
-clean_unshown bytes clean = ap (λ (m : Made). shows_fault m.stop) (by_reading bytes) ∙ ap (λ e. shows_fault (stop_of e)) clean
+clean_unshown bytes clean = rw (by_reading, clean) refl
 
 -- ---- the contact header
 
@@ -118,18 +110,18 @@ module _ {R W E : Type 0} {look : Looks R W E} {start : Devices R W E} (old new 
     (got : ReadContact look.input old new contact) where
   contact_texts : (listing_of []).texts then on_output (contact_text contact) ≡ (listing_of got.given).texts
   contact_texts =
-      ap (λ t. t then on_output (contact_text contact)) nothing_listed
-      ∙ sym (ap (λ (m : Made). m.texts) (by_reading got.given) ∙ ap (λ r. on_output (listed_lines r)) got.reading ∙ ap (λ xs. on_output (contact_text contact ++ xs)) no_lines ∙ ap on_output (append-nil (contact_text contact)))
+      rw (nothing_listed, by_reading, got.reading, no_lines, append-nil (contact_text contact)) refl
 
   pub contact_listed : (line : List ℕ) (result : Result (Unit {0}) IoFault)
       → AfterWrite look.output look.report mid after (on_output (contact_text contact)) result
       → AfterStage look listing_of start true (place_of (source_of old) mid) (place_of (source_of new) after) (Lists look.input stage.Message line new) 6 [] (progress_after result)
   contact_listed line result gives =
       let size = got.size in
-      let clean = ap (λ (r : Reading). r.end) got.reading in
-      let P : End → Type 0 = λ end. IsWaiting stage.Message line end in
+      let clean : (reading_of got.given).end ≡ Clean = rw got.reading refl in
       written 6 (source_of old) (source_of new) mid at got.takes (omega arith) (got.takes.window.less (omega arith)) after (on_output (contact_text contact)) contact_texts
-      (clean_unshown got.given clean) (Lists look.input stage.Message line new) (λ begun. omega arith) (record { session_at = got.at; waits = subst P (sym clean) refl }) (λ some. refl) result gives
+      (clean_unshown got.given clean) (Lists look.input stage.Message line new)
+      (λ begun. omega arith) (record { session_at = got.at; waits = rw clean refl })
+      (λ some. refl) result gives
 
 -- ---- messages
 
@@ -138,24 +130,14 @@ module _ {R W E : Type 0} {look : Looks R W E} {start : Devices R W E} (old new 
     (at : Stands look listing_of start true (place_of (source_of old) w) history) where
   module _ (offset : ℕ) (message : Message)
       (got : ReadMessage look.input old new history offset message) where
-    text : List ℕ
-    text = message_text offset message
-
     few : length (window_of (source_of new)) < window_size
     few = got.takes.window.less got.some
 
-    read_head : (test : Bool) → nat_lt 0 (data_length message) ≡ test
-        → reading_of (history ++ got.given) ≡ joined (reading_of history) (if test
-        then ended (Cut offset message [])
-        else with_entry (record { offset = offset; message = message; content = [] }) (ended Clean))
-    read_head test is = got.reading ∙ ap (λ b. joined (reading_of history) (if b then ended (Cut offset message []) else with_entry (record { offset = offset; message = message; content = [] }) (ended Clean))) is
-
     pub message_read : (piece : ℕ) (later : Next Stage) → WaitsForData (left_of new) later
         → AfterRead look start piece stage.Message old new w (message_text offset message) history later
-    message_read piece (next.Stage stage.Contact) goes = absurd goes
     message_read piece (next.Stage stage.Message) none =
         let left = got.left in
-        let reading = read_head false (le-ltb 0 (data_length message) (omega arith)) in
+        let reading = rw (le-ltb 0 (data_length message) (omega arith)) at got.reading in
         record {
           given = got.given;
           some = got.some;
@@ -165,31 +147,33 @@ module _ {R W E : Type 0} {look : Looks R W E} {start : Devices R W E} (old new 
           stood = at;
           texts = texts_one history got.given _ reading _ refl;
           session_at = got.at;
-          clean = ap (λ (r : Reading). r.end) reading;
+          clean = rw reading refl;
         }
     message_read piece (next.Stage stage.Data) more =
         let left = got.left in
-        let reading = read_head true (lt-ltb 0 (data_length message) (omega arith)) in
-        let P : End → Type 0 = λ end. IsWaiting stage.Data (message_text offset message) end in
-        let Q : End → Type 0 = λ end. IsWaitingAfter stage.Message end in
-        let end = sym (ap (λ (r : Reading). r.end) reading) in
+        let reading = rw (lt-ltb 0 (data_length message) (omega arith)) at got.reading in
+        let end : (reading_of (history ++ got.given)).end ≡ Cut offset message [] =
+        rw reading refl in
         goes_on longest_head (source_of old) (source_of new) w at got.takes got.size few w no_texts
         (texts_same history got.given _ reading refl) (unshown_by history got.given _ reading refl)
         (λ bytes. Lists look.input stage.Data (message_text offset message) new bytes × IsWaitingAfter stage.Message (reading_of bytes).end)
-        (λ begun. got.some) (record { session_at = got.at; waits = subst P end (refl, refl) }, subst Q end refl)
+        (λ begun. got.some)
+        (record { session_at = got.at; waits = rw end (refl, refl) }, rw end refl)
         (writes_none look.output look.report w) (λ some. refl)
-    message_read piece (next.Ended answer) goes = absurd goes
+    message_read piece others goes = absurd goes
 
   -- the stream has ended between two messages
   pub clean_ended : (status : Status) → status.0 ≡ 0 → CleanEnd look.input old new history
       → LastStep look list_tool start (devices_at (place_of (source_of new) w)) longest_head history (Ok status)
   clean_ended status zero got =
-      let made_is : listing_of (history ++ []) ≡ listing_by (reading_of history) = ap listing_of (append-nil history) ∙ by_reading history in
-      let stop_is : (listing_of (history ++ [])).stop ≡ stop_of Clean = ap (λ (m : Made). m.stop) made_is ∙ ap stop_of got.clean in
+      let made_is : listing_of (history ++ []) ≡ listing_by (reading_of history) =
+      rw append-nil (by_reading history) in
+      let stop_is : (listing_of (history ++ [])).stop ≡ stop_of Clean =
+      rw (made_is, got.clean) refl in
       ends longest_head (source_of old) (source_of new) w at got.takes (omega arith) (few_over look.input (source_of new) got.over) w no_texts
-      (then_none (listing_of history).texts ∙ ap (λ (m : Made). m.texts) (by_reading history) ∙ sym (ap (λ s. (whole_by s (listing_of (history ++ []))).texts) stop_is ∙ ap (λ (m : Made). m.ended) made_is))
-      (inl (got.over, ap shows_fault stop_is)) (Ok status)
-      (writes_none look.output look.report w, zero ∙ sym (ap (λ s. (whole_by s (listing_of (history ++ []))).status) stop_is ∙ ap (λ (m : Made). if m.good then 0 else 1) made_is))
+      (rw (stop_is, made_is, by_reading, append-nil) refl) (inl (got.over, rw stop_is refl))
+      (Ok status)
+      (writes_none look.output look.report w, rw (stop_is, made_is) zero)
 
 -- ---- data
 
@@ -206,18 +190,14 @@ by_end : {R : Type 0} {look : R → Input} (session : Session R) (line history :
     → Lists look stage.Data line session history → (end : End) → (reading_of history).end ≡ end
     → Inside line history (left_of session)
 by_end session line history at Clean is =
-    let P : End → Type 0 = λ end. IsWaiting stage.Data line end in
-    let waiting : (let s : Stage = stage.Data in s) ≡ stage.Message = subst P is at.waits in
+    let waiting : (let s : Stage = stage.Data in s) ≡ stage.Message = rw is at at.waits in
     absurd (cc)
 by_end session line history at (Cut offset message content) is =
-    let P : End → Type 0 = λ end. IsWaiting stage.Data line end in
-    let waiting : ((let s : Stage = stage.Data in s) ≡ stage.Data) × (line ≡ message_text offset message) = subst P is at.waits in
-    let Q : End → Type 0 = λ end. IsLeft session.offset session.left end in
-    let left : (0 < session.left) × (offset ≡ session.offset) × (data_length message ≡ length content + session.left) = subst Q is at.session_at.left in
+    let waiting = rw is at at.waits in
+    let left = rw is at at.session_at.left in
     record { offset = offset; message = message; content = content; end = is; shown = waiting.1; some = left.0 }
 by_end session line history at (Fault offset fault) is =
-    let P : End → Type 0 = λ end. IsWaiting stage.Data line end in
-    absurd (subst P is at.waits)
+    absurd (rw is at at.waits)
 
 pub inside : {R : Type 0} {look : R → Input} (session : Session R) (line history : List ℕ)
     → Lists look stage.Data line session history → Inside line history (left_of session)
@@ -233,25 +213,10 @@ module _ {R W E : Type 0} {look : Looks R W E} {start : Devices R W E} (old mid 
   takes : Takes look.input (source_of old) (source_of new) bytes
   takes = Readies-takes look.input (source_of old) (source_of mid) (source_of new) bytes ready gave.takes some
 
-  -- the reading of the history and these bytes
-  read_data : (test : Bool) → nat_lt 0 (left_of new) ≡ test
-      → reading_of (history ++ bytes) ≡ joined (reading_of history) (if test
-      then ended (Cut within.offset within.message (within.content ++ bytes))
-      else with_entry (record {
-        offset = within.offset;
-        message = within.message;
-        content = within.content ++ bytes;
-      }) (ended Clean))
-  read_data test is =
-      gave.reading
-      ∙ ap (λ end. joined (reading_of history) (data_after (left_of new) bytes end)) within.end
-      ∙ ap (λ b. joined (reading_of history) (if b then ended (Cut within.offset within.message (within.content ++ bytes)) else with_entry (record { offset = within.offset; message = within.message; content = within.content ++ bytes }) (ended Clean))) is
-
   pub data_read : (later : Next Stage) → WaitsForData (left_of new) later
       → AfterRead look start piece stage.Data old new w line history later
-  data_read (next.Stage stage.Contact) goes = absurd goes
   data_read (next.Stage stage.Message) none =
-      let reading = read_data false (le-ltb 0 (left_of new) (omega arith)) in
+      let reading = rw (within.end, le-ltb 0 (left_of new) (omega arith)) at gave.reading in
       record {
         given = bytes;
         some = some;
@@ -259,19 +224,20 @@ module _ {R W E : Type 0} {look : Looks R W E} {start : Devices R W E} (old mid 
         size = size;
         few = takes.window.less some;
         stood = at;
-        texts = ap (λ xs. (listing_of history).texts then on_output xs) within.shown ∙ texts_one history bytes _ reading _ refl;
+        texts = rw within.shown (texts_one history bytes _ reading _ refl);
         session_at = gave.at;
-        clean = ap (λ (r : Reading). r.end) reading;
+        clean = rw reading refl;
       }
   data_read (next.Stage stage.Data) more =
-      let reading = read_data true (lt-ltb 0 (left_of new) more) in
-      let P : End → Type 0 = λ end. IsWaiting stage.Data line end in
+      let reading = rw (within.end, lt-ltb 0 (left_of new) more) at gave.reading in
+      let end : (reading_of (history ++ bytes)).end
+      ≡ Cut within.offset within.message (within.content ++ bytes) = rw reading refl in
       goes_on piece (source_of old) (source_of new) w at takes size (takes.window.less some) w no_texts
       (texts_same history bytes _ reading refl) (unshown_by history bytes _ reading refl)
       (λ given. Lists look.input stage.Data line new given × IsWaitingAfter stage.Data (reading_of given).end)
-      (λ begun. some) (record { session_at = gave.at; waits = subst P (sym (ap (λ (r : Reading). r.end) reading)) (refl, within.shown) }, tt)
+      (λ begun. some) (record { session_at = gave.at; waits = rw end (refl, within.shown) }, tt)
       (writes_none look.output look.report w) (λ begun. refl)
-  data_read (next.Ended answer) goes = absurd goes
+  data_read others goes = absurd goes
 
 -- ---- the line that is due, and those of the messages after it
 
@@ -279,13 +245,11 @@ module _ {R : Type 0} (look : R → Input) (first : Texts) (old : Session R) {hi
   -- nothing was given yet
   pub listed_none : (lines : List ℕ) → IsListedTo look first old lines history
       → ListedOn look first old old lines history
-  listed_none lines is =
-      let P : List ℕ → Type 0 = λ bytes. IsListedTo look first old lines bytes in
-      record {
-        given = [];
-        takes = Takes-none look (source_of old);
-        listed = subst P (sym (append-nil history)) is;
-      }
+  listed_none lines is = record {
+    given = [];
+    takes = Takes-none look (source_of old);
+    listed = rw (append-nil history) is;
+  }
 
   -- one more message was given
   pub listed_more : (mid new : Session R) (lines : List ℕ) (offset : ℕ) (message : Message)
@@ -295,13 +259,12 @@ module _ {R : Type 0} (look : R → Input) (first : Texts) (old : Session R) {hi
   listed_more mid new lines offset message on got =
       let passed = got.passed in
       let line = message_text offset message in
-      let P : List ℕ → Type 0 = λ bytes. IsListedTo look first new (lines ++ line) bytes in
       record {
         given = on.given ++ got.given;
         takes = Takes-then look (source_of old) (source_of mid) (source_of new) on.given got.given on.takes passed.takes;
-        listed = subst P (append_assoc history on.given got.given) (record {
+        listed = rw (← append_assoc history on.given got.given) (record {
           session_at = passed.at;
-          clean = ap (λ (r : Reading). r.end) passed.reading;
+          clean = rw passed.reading refl;
           texts = then_assoc first (on_output lines) (on_output line)
               ∙ ap (λ t. t then on_output line) on.listed.texts
               ∙ texts_one (history ++ on.given) got.given _ passed.reading _ refl;
@@ -318,9 +281,7 @@ module _ {R W E : Type 0} {look : Looks R W E} {start : Devices R W E} {piece : 
   same_given : (given : List ℕ) → Takes look.input (source_of mid) (source_of new) given → new ≡ mid
       → length given ≡ 0
   same_given given takes same =
-      let count = takes.count in
-      let at = ap (λ (s : Session R). given_by (source_of s)) same in
-      omega (arith, count, at)
+      let count = rw same at takes.count in omega (arith, count)
 
   pub lines_written : (far : Bool) (last : List ℕ) (result : Result (Unit {0}) IoFault)
       → (far ≡ false → new ≡ mid)
@@ -330,9 +291,7 @@ module _ {R W E : Type 0} {look : Looks R W E} {start : Devices R W E} {piece : 
       let on = gives.2 in
       let bytes = due.given ++ on.given in
       let all : (history ++ due.given) ++ on.given ≡ history ++ bytes = append_assoc history due.given on.given in
-      let P : End → Type 0 = λ end. IsWaiting stage.Message last end in
-      let Q : List ℕ → Type 0 = λ given. IsListedTo look.input (listing_of history).texts new gives.0 given in
-      let listed = subst Q all on.listed in
+      let listed = rw all at on.listed in
       let size = most_by piece now + length on.given in
       let takes = Takes-then look.input (source_of old) (source_of mid) (source_of new) due.given on.given due.takes on.takes in
       let some : 0 < length bytes = omega (arith, due.some, length-append due.given on.given) in (
@@ -341,7 +300,8 @@ module _ {R W E : Type 0} {look : Looks R W E} {start : Devices R W E} {piece : 
         omega (arith, due.some, due.size),
         written size (source_of old) (source_of new) before due.stood takes (omega (arith, due.size, length-append due.given on.given)) (takes.window.less some) after (on_output gives.0) listed.texts
             (clean_unshown (history ++ bytes) listed.clean) (Lists look.input stage.Message last new) (λ begun. some)
-            (record { session_at = listed.session_at; waits = subst P (sym listed.clean) refl }) (λ some. refl) result gives.1,
+            (record { session_at = listed.session_at; waits = rw listed.clean refl })
+            (λ some. refl) result gives.1,
       )
 
 -- what holds after a step that did not go on

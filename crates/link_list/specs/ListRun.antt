@@ -140,7 +140,6 @@ AfterStepOrStride look start piece far now old new knows history result =
 
 -- data comes next if some is to come, and else a message
 abbrev pub WaitsForData : (left : ℕ) → Next Stage → Type 0
-WaitsForData left (next.Stage stage.Contact) = ⊥
 WaitsForData left (next.Stage stage.Message) = left ≡ 0
 WaitsForData left (next.Stage stage.Data) = 0 < left
-WaitsForData left (next.Ended answer) = ⊥
+WaitsForData left others = ⊥

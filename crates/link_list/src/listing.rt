@@ -59,6 +59,7 @@ impl<R: InDevice, W: OutDevice, E: OutDevice> Stages<Session<R>, W, E> for Listi
 
     ghost most = { λ tool. most_given tool.stage };
 
+    #[tactic(auto, using(crate::proofs::Lists::most_some))]
     #[inline(always)]
     fn stage(
         &mut self,
@@ -69,6 +70,7 @@ impl<R: InDevice, W: OutDevice, E: OutDevice> Stages<Session<R>, W, E> for Listi
     }
 
     /// A stride is given all data at hand, and then the messages that lie whole in the window.
+    #[tactic(auto, using(crate::proofs::Lists::most_some))]
     #[inline(always)]
     fn stride(
         &mut self,
@@ -311,6 +313,7 @@ fn write_line<W: OutDevice, E: OutDevice>(
 }
 
 /// Makes a run of `list` that has read and written nothing.
+#[tactic(auto, using(crate::proofs::Lists::may_begin))]
 pub fn list_run<R: InDevice, W: OutDevice, E: OutDevice>(
     reader: R,
     output: W,

@@ -1,7 +1,6 @@
-use Rattle.std.proofs.Common.{refl, ◌++◌, [], Ok, Err, Result, sym, ◌∙◌, subst}
+use Rattle.std.proofs.Common.{refl, ◌++◌, [], Ok, Err, sym, ◌∙◌}
 use Rattle.std.proofs.lemmas.Bool.{false≢true}
-use Rattle.link_wire.specs.declared.IoFault.{IoFault}
-use Rattle.link_run.specs.{Reading.feed_of, Writers.{on_output, AfterWrite}}
+use Rattle.link_run.specs.Reading.{feed_of}
 use Rattle.link_run.proofs.{Runs.{writes_none, outputs_then}, Waiting.{unread_none, unread_then}}
 use Rattle.link_list.specs.ListRun.{latest_line}
 use Rattle.link_list.proofs.Lists.{listed_none, listed_more}
@@ -21,8 +20,9 @@ pub returns-in-Err : goal.returns-in-Err
 returns-in-Err g c =
     let kept = c.lines.invariant in
     let line = latest_line c.lines.latest in
-    let P : Result (Unit {0}) IoFault → Type 0 = λ result. AfterWrite g.W.OutDevice.state g.E.OutDevice.state c.lines.writers c.write_line.new.writers (on_output line) result in
-    let part = outputs_then g.W.OutDevice.state g.E.OutDevice.state c.args.writers.now c.lines.writers c.write_line.new.writers kept.lines line (Err c.in-Err.fault) kept.writes (subst P c.in-Err.is c.write_line.ensures.line) in
+    let part =
+    outputs_then _ _ _ _ _ kept.lines line (Err c.in-Err.fault) kept.writes
+    (rw c.in-Err.is at c.write_line.ensures.line) in
     record {
       fits = kept.fits;
       near = kept.near;
@@ -34,8 +34,9 @@ pub returns-then-not-far : goal.returns-then-not-far
 returns-then-not-far g c =
     let kept = c.lines.invariant in
     let line = latest_line c.lines.latest in
-    let P : Result (Unit {0}) IoFault → Type 0 = λ result. AfterWrite g.W.OutDevice.state g.E.OutDevice.state c.lines.writers c.write_line.new.writers (on_output line) result in
-    let writes = outputs_then g.W.OutDevice.state g.E.OutDevice.state c.args.writers.now c.lines.writers c.write_line.new.writers kept.lines line (Ok tt) kept.writes (subst P c.in-Ok.is c.write_line.ensures.line) in
+    let writes =
+    outputs_then _ _ _ _ _ kept.lines line (Ok tt) kept.writes
+    (rw c.in-Ok.is at c.write_line.ensures.line) in
     record {
       fits = kept.fits;
       near = kept.near;
@@ -47,8 +48,9 @@ pub returns-in-None : goal.returns-in-None
 returns-in-None g c =
     let kept = c.lines.invariant in
     let line = latest_line c.lines.latest in
-    let P : Result (Unit {0}) IoFault → Type 0 = λ result. AfterWrite g.W.OutDevice.state g.E.OutDevice.state c.lines.writers c.write_line.new.writers (on_output line) result in
-    let writes = outputs_then g.W.OutDevice.state g.E.OutDevice.state c.args.writers.now c.lines.writers c.write_line.new.writers kept.lines line (Ok tt) kept.writes (subst P c.in-Ok.is c.write_line.ensures.line) in
+    let writes =
+    outputs_then _ _ _ _ _ kept.lines line (Ok tt) kept.writes
+    (rw c.in-Ok.is at c.write_line.ensures.line) in
     rw (c.in-None.ensures.none refl).0 (record {
       fits = kept.fits;
       near = kept.near;
@@ -60,8 +62,9 @@ pub lines-preserved : goal.lines-preserved
 lines-preserved g c =
     let kept = c.lines.invariant in
     let line = latest_line c.lines.latest in
-    let P : Result (Unit {0}) IoFault → Type 0 = λ result. AfterWrite g.W.OutDevice.state g.E.OutDevice.state c.lines.writers c.write_line.new.writers (on_output line) result in
-    let writes = outputs_then g.W.OutDevice.state g.E.OutDevice.state c.args.writers.now c.lines.writers c.write_line.new.writers kept.lines line (Ok tt) kept.writes (subst P c.in-Ok.is c.write_line.ensures.line) in
+    let writes =
+    outputs_then _ _ _ _ _ kept.lines line (Ok tt) kept.writes
+    (rw c.in-Ok.is at c.write_line.ensures.line) in
     record {
       fits = c.in-Some.ensures.may_read;
       near = λ is. absurd (false≢true (sym is ∙ c.if-not-far.false));
