@@ -1,5 +1,5 @@
 -- Whatever is read from bytes is spelled in them.
-use Rattle.std.proofs.Common.{◌≡◌, ℕ, zero, suc, ◌+◌, ◌-◌, ◌*◌, ◌%◌, ◌^◌, ◌<◌, ◌≤◌, Bool, true, false, eqb, List, [], ◌∷◌, ◌++◌, slice_index, length, take, drop, Some, None, Ok, Err, nat_lt, if◌then◌else◌, arith, refl, ap, sym, ◌∙◌, subst, append_assoc, append-nil, length-append, ⊎_elim}
+use Rattle.std.proofs.Common.{◌≡◌, ℕ, zero, suc, ◌+◌, ◌-◌, ◌*◌, ◌%◌, ◌^◌, ◌<◌, ◌≤◌, Bool, true, false, eqb, List, [], ◌∷◌, ◌++◌, slice_index, length, take, Some, None, Ok, Err, nat_lt, if◌then◌else◌, arith, refl, ap, sym, ◌∙◌, subst, append_assoc, append-nil, length-append, ⊎_elim}
 use Rattle.std.proofs.{Math.Nat.{add-mul, mul_assoc, pow-succ'}, lemmas.Nat.div-mul-add}
 use Rattle.std.proofs.Math.Seq.{drop-append_seam, take-append_seam}
 use Rattle.std.proofs.lemmas.List.{get_or_past, take-append-drop, length-take-le}
@@ -10,7 +10,7 @@ use Rattle.byteorder.specs.{Endian.{big_number, big_from}, Numbers.{big_from-con
 use Rattle.link_io.specs.Bytes.{IsByte, AreBytes}
 use Rattle.link_wire.specs.Part.{Part, ◌>>=◌, bytes_at, number_at}
 use Rattle.link_wire.proofs.FieldReads.{bytes_gone, same_part, both_read}
-use Rattle.link_wire.specs.Spelled.{Spelling, be, U8, U16, U32, U64, These, FollowedBy, ContactSpelled, NodeSpelled, ItemHeadSpelled, ValueSpelled, total_of, ItemSpelled, ItemsSpelled, ListSpelled, SegmentItemsSpelled, HeadSpelled}
+use Rattle.link_wire.specs.Spelled.{Spelling, be, U8, U16, U64, These, ContactSpelled, NodeSpelled, ItemHeadSpelled, ValueSpelled, ItemSpelled, ItemsSpelled, ListSpelled, SegmentItemsSpelled, HeadSpelled}
 use Rattle.link_wire.proofs.Sound.{both, last, ItemsFilling, has_total_size, length_item_head}
 use Rattle.link_wire.specs.declared.message.{ListOf.ListOf, ListOf.TheVariants.{Session, Transfer}}
 use Rattle.link_wire.specs.{Codes.is_start, Limits.{longest_node, longest_list, most_items}}
@@ -55,36 +55,28 @@ be-number k xs are size =
     let bare : 0 * 256 ^ length xs + big_from 0 (length xs) xs ≡ big_from 0 (length xs) xs = omega arith in
     sym (ap (λ n. be n (big_number n xs)) (sym size) ∙ ap (bytes_high_first (length xs)) (sym bare) ∙ bytes_of_number xs 0 are)
 
+-- the bytes begin with this spelling, and the rest follows it
+pub record Begins (spelled : Spelling) (bytes rest : List ℕ) : Type 0 where
+  pub before : List ℕ
+  pub is : spelled before
+  pub parts : bytes ≡ before ++ rest
+
 -- what was read is spelled in a prefix of the bytes, and the rest follows this prefix
 pub record Found {A : Type 0} (part : List ℕ → Part A) (spelled : A → Spelling) : Type 0 where
   pub by : (bytes : List ℕ) (value : A) (rest : List ℕ) → AreBytes bytes
-      → part bytes ≡ Ok (value, rest) → FollowedBy (spelled value) (λ after. after ≡ rest) bytes
+      → part bytes ≡ Ok (value, rest) → Begins (spelled value) bytes rest
 
 pub found_pure : {A : Type 0} (value : A) {spelled : A → Spelling} → spelled value []
     → Found (λ bytes. Ok (value, bytes)) spelled
 found_pure {A} value {spelled} is = record {
   by = λ bytes other rest are read.
       let same = same_part read in
-      let P : A → Type 0 = λ x. spelled x [] in
-      record { before = []; after = bytes; is_first = subst P same.0 is; is_second = same.1; parts = refl };
+      record { before = []; is = rw (← same.0) is; parts = same.1 };
 }
 
 pub found_err : {A : Type 0} (fault : WireFault) {spelled : A → Spelling}
     → Found (λ bytes. let part : Part A = Err fault in part) spelled
 found_err fault = record { by = λ bytes other rest are read. absurd (cc) }
-
--- a spelling that begins with `before`, and whose rest was found after it, is found in all the
--- bytes
-after_prefix : (spelled : Spelling) (rest bytes before after : List ℕ) → bytes ≡ before ++ after
-    → FollowedBy (λ more. spelled (before ++ more)) (λ more. more ≡ rest) after
-    → FollowedBy spelled (λ more. more ≡ rest) bytes
-after_prefix spelled rest bytes before after whole is = record {
-  before = before ++ is.before;
-  after = is.after;
-  is_first = is.is_first;
-  is_second = is.is_second;
-  parts = whole ∙ ap (λ all. before ++ all) is.parts ∙ sym (append_assoc before is.before is.after);
-}
 
 module _ {A B : Type 0} (part : List ℕ → Part A) (next : A × List ℕ → Part B) {first : A → Spelling}
     {spelled : B → Spelling} where
@@ -96,9 +88,13 @@ module _ {A B : Type 0} (part : List ℕ → Part A) (next : A × List ℕ → P
     by = λ bytes given rest are is.
         let read = both_read (part bytes) next (given, rest) is in
         let one = found.by bytes read.0.0 read.0.1 are read.1 in
-        let whole : bytes ≡ one.before ++ read.0.1 = one.parts ∙ ap (λ all. one.before ++ all) one.is_second in
-        let after : AreBytes read.0.1 = AreBytes-after one.before read.0.1 (subst AreBytes whole are) in
-        after_prefix (spelled given) rest bytes one.before read.0.1 whole ((more read.0.0 one.before one.is_first).by read.0.1 given rest after read.2);
+        let after = AreBytes-after one.before read.0.1 (subst AreBytes one.parts are) in
+        let later = (more read.0.0 one.before one.is).by read.0.1 given rest after read.2 in
+        record {
+          before = one.before ++ later.before;
+          is = later.is;
+          parts = rw (append_assoc one.before later.before rest, ← later.parts) one.parts;
+        };
   }
 
 module _ {A : Type 0} (part other : List ℕ → Part A) {spelled : A → Spelling} where
@@ -119,10 +115,8 @@ found_bytes n = record {
       let size = ap length (sym gone.2) ∙ length-take-le n bytes gone.1 in
       record {
         before = take n bytes;
-        after = drop n bytes;
-        is_first = (subst AreBytes gone.2 (All-take IsByte n bytes are), gone.2, size);
-        is_second = gone.3;
-        parts = sym (take-append-drop n bytes);
+        is = (subst AreBytes gone.2 (All-take IsByte n bytes are), gone.2, size);
+        parts = rw (← gone.3) (sym (take-append-drop n bytes));
       };
 }
 
@@ -131,43 +125,16 @@ unfolding number_at
 found_number k = found_then _ _ (found_bytes k) (λ field before is. found_pure (big_number k field)
     (big_from-lt 0 k field (AreBytes-index field is.0), append-nil before ∙ is.1 ∙ be-number k field is.0 is.2))
 
-pub found_u8 : Found (number_at 1) U8
-found_u8 = found_number 1
-
-pub found_u16 : Found (number_at 2) U16
-found_u16 = found_number 2
-
-pub found_u32 : Found (number_at 4) U32
-found_u32 = found_number 4
-
-pub found_u64 : Found (number_at 8) U64
-found_u64 = found_number 8
-
-found_node_bytes : (size : ℕ)
-    → Found (node_bytes_at size) (λ node bytes. (length node.items ≡ size) × These node.items bytes)
-unfolding node_bytes_at
-found_node_bytes size =
-    found_then _ _ (found_bytes size) (λ content before is.
-    found_pure (record { items = content }) (is.2, (is.0, append-nil before ∙ is.1)))
-
 found_node : Found node_at NodeSpelled
-unfolding node_at
+unfolding node_at node_bytes_at
 found_node =
-    found_then _ _ found_u16 (λ size before one.
-    found_if _ _ (nat_lt longest_node size)
-    (λ long. found_err (NodeIdTooLong size))
-    (λ fits. record {
-      by = λ bytes node rest are is.
-          let found = (found_node_bytes size).by bytes node rest are is in
-          let short : length node.items ≤ longest_node = omega (arith, found.is_first.0, ltb-false longest_node size fits) in
-          record {
-            before = found.before;
-            after = found.after;
-            is_first = (short, both before found.before (rw found.is_first.0 one) found.is_first.1);
-            is_second = found.is_second;
-            parts = found.parts;
-          };
-    }))
+    found_then _ _ (found_number 2) (λ size first one.
+    found_if _ _ (nat_lt longest_node size) (λ long. found_err (NodeIdTooLong size)) (λ fits.
+    found_then _ _ (found_bytes size) (λ content second two.
+    found_pure (record { items = content }) (
+      omega (arith, two.2, ltb-false longest_node size fits),
+      both first _ (rw two.2 one) (last (These content) second (two.0, two.1)),
+    ))))
 
 abbrev HeadWithin : ℕ → ItemHead → Spelling
 HeadWithin left head bytes = ItemHeadSpelled head.flags head.kind head.length bytes × (5 + head.length ≤ left)
@@ -176,9 +143,9 @@ found_item_head : (left : ℕ) → Found (item_head_at left) (HeadWithin left)
 unfolding item_head_at
 found_item_head left =
     found_if _ _ (nat_lt left 5) (λ short. found_err ItemsOverrun) (λ room.
-    found_then _ _ found_u8 (λ flags first one.
-    found_then _ _ found_u16 (λ kind second two.
-    found_then _ _ found_u16 (λ size third three.
+    found_then _ _ (found_number 1) (λ flags first one.
+    found_then _ _ (found_number 2) (λ kind second two.
+    found_then _ _ (found_number 2) (λ size third three.
     found_if _ _ (nat_lt (left - 5) size) (λ over. found_err ItemsOverrun) (λ fits.
     found_pure (record { flags = flags; kind = kind; length = size })
     (both first _ one (both second _ two (last (U16 size) third three)), omega (arith, ltb-false left 5 room, ltb-false (left - 5) size fits)))))))
@@ -195,19 +162,16 @@ found_made n make =
     found_pure _ (subst AreBytes (sym same) is.0, ap length same ∙ is.2, ap make (sym same)))
 
 module _ (owner : ListOf) (kind size : ℕ) where
-  known_by : (test : Bool) (value : List ℕ) → is_total_length owner kind size ≡ test
-      → (if test then Some (big_number 8 value) else None) ≡ total_of owner kind size value
-  known_by test value known = ap (λ test. if test then Some (big_number 8 value) else None) (sym known)
-
   found_value : Found (total_at owner kind size) (ValueSpelled owner kind size)
   unfolding total_at number_at skipped_at
   found_value =
       found_if _ _ (is_total_length owner kind size)
       (λ known. found_then _ _ (found_made 8 (big_number 8)) (λ n before is.
       found_pure (Some n) (last (ValueSpelled owner kind size (Some n)) before
-      (is.0, is.1 ∙ sym (has_total_size owner kind size known), ap Some is.2 ∙ known_by true before known))))
+      (is.0, is.1 ∙ sym (has_total_size owner kind size known), rw known (ap Some is.2)))))
       (λ known. found_then _ _ (found_made size (λ skipped. tt)) (λ nothing before is.
-      found_pure None (last (ValueSpelled owner kind size None) before (is.0, is.1, known_by false before known))))
+      found_pure None (last (ValueSpelled owner kind size None) before
+      (is.0, is.1, rw known refl))))
 
 -- the items of `left` bytes of a list, at most `room` of them
 abbrev ItemsWithin : ListOf → ℕ → ℕ → List Item → Spelling
@@ -246,22 +210,20 @@ module _ (owner : ListOf) where
   found_list : Found (list_at owner) (ListSpelled owner)
   unfolding list_at items_of
   found_list =
-      found_then _ _ found_u32 (λ size first one.
+      found_then _ _ (found_number 4) (λ size first one.
       found_if _ _ (nat_lt longest_list size) (λ long. found_err (ListTooLong size)) (λ short. record {
         by = λ bytes items rest are is.
             let found = (found_items_of size).by bytes items rest are is in
-            let before : AreBytes found.before = AreBytes-before found.before found.after (subst AreBytes found.parts are) in
+            let body = AreBytes-before found.before rest (subst AreBytes found.parts are) in
             record {
               before = found.before;
-              after = found.after;
-              is_first = record {
+              is = record {
                 body = found.before;
-                is_body = found.is_first.0.0;
-                few = found.is_first.1;
-                short = omega (arith, found.is_first.0.1, ltb-false longest_list size short);
-                is_list = both first found.before (rw found.is_first.0.1 one) (before, refl);
+                is_body = found.is.0.0;
+                few = found.is.1;
+                short = omega (arith, found.is.0.1, ltb-false longest_list size short);
+                is_list = both first found.before (rw found.is.0.1 one) (body, refl);
               };
-              is_second = found.is_second;
               parts = found.parts;
             };
       }))
@@ -271,59 +233,58 @@ found_segment_items : (flags : ℕ)
 unfolding segment_items_at
 found_segment_items flags =
     found_if _ _ (is_start flags)
-    (λ known. let P : Bool → Type 0 = λ start. Found (list_at Transfer) (SegmentItemsSpelled start) in subst P (sym known) (found_list Transfer))
-    (λ known. found_pure (record { items = [] }) (let P : Bool → Type 0 = λ start. SegmentItemsSpelled start (record { items = [] }) [] in subst P (sym known) (refl, refl)))
+    (λ known. rw known (found_list Transfer))
+    (λ known. found_pure (record { items = [] }) (rw known (refl, refl)))
 
 -- the fields of a message after its type byte, which is all of `before`
 module _ (before : List ℕ) where
   -- the type byte is this number
   is_kind : (kind n : ℕ) → eqb kind n ≡ true → U8 kind before → U8 n before
-  is_kind kind n known is =
-      let P : ℕ → Type 0 = λ k. U8 k before in subst P (eqb-true kind n known) is
+  is_kind kind n known is = rw (eqb-true kind n known) at is
 
   found_fields : (kind : ℕ) → U8 kind before
       → Found (fields_at kind) (λ message after. HeadSpelled message (before ++ after))
   unfolding fields_at segment_at ack_at refuse_at sess_term_at msg_reject_at sess_init_at
   found_fields kind is =
       found_if _ _ (eqb kind 1) (λ known.
-      found_then _ _ found_u8 (λ flags first one.
-      found_then _ _ found_u64 (λ id second two.
+      found_then _ _ (found_number 1) (λ flags first one.
+      found_then _ _ (found_number 8) (λ id second two.
       found_then _ _ (found_segment_items flags) (λ items third three.
-      found_then _ _ found_u64 (λ size fourth four.
+      found_then _ _ (found_number 8) (λ size fourth four.
       found_pure (Segment (record { flags = flags; id = id; items = items; length = size }))
       (both before _ (is_kind kind 1 known is) (both first _ one (both second _ two
       (both third _ three (last (U64 size) fourth four)))))))))) (λ _.
       found_if _ _ (eqb kind 2) (λ known.
-      found_then _ _ found_u8 (λ flags first one.
-      found_then _ _ found_u64 (λ id second two.
-      found_then _ _ found_u64 (λ size third three.
+      found_then _ _ (found_number 1) (λ flags first one.
+      found_then _ _ (found_number 8) (λ id second two.
+      found_then _ _ (found_number 8) (λ size third three.
       found_pure (Ack flags id size)
       (both before _ (is_kind kind 2 known is) (both first _ one (both second _ two
       (last (U64 size) third three)))))))) (λ _.
       found_if _ _ (eqb kind 3) (λ known.
-      found_then _ _ found_u8 (λ reason first one.
-      found_then _ _ found_u64 (λ id second two.
+      found_then _ _ (found_number 1) (λ reason first one.
+      found_then _ _ (found_number 8) (λ id second two.
       found_pure (Refuse reason id)
       (both before _ (is_kind kind 3 known is)
       (both first _ one (last (U64 id) second two)))))) (λ _.
       found_if _ _ (eqb kind 4) (λ known.
       found_pure Keepalive (last (U8 4) before (is_kind kind 4 known is))) (λ _.
       found_if _ _ (eqb kind 5) (λ known.
-      found_then _ _ found_u8 (λ flags first one.
-      found_then _ _ found_u8 (λ reason second two.
+      found_then _ _ (found_number 1) (λ flags first one.
+      found_then _ _ (found_number 1) (λ reason second two.
       found_pure (SessTerm flags reason)
       (both before _ (is_kind kind 5 known is)
       (both first _ one (last (U8 reason) second two)))))) (λ _.
       found_if _ _ (eqb kind 6) (λ known.
-      found_then _ _ found_u8 (λ reason first one.
-      found_then _ _ found_u8 (λ header second two.
+      found_then _ _ (found_number 1) (λ reason first one.
+      found_then _ _ (found_number 1) (λ header second two.
       found_pure (MsgReject reason header)
       (both before _ (is_kind kind 6 known is)
       (both first _ one (last (U8 header) second two)))))) (λ _.
       found_if _ _ (eqb kind 7) (λ known.
-      found_then _ _ found_u16 (λ keepalive first one.
-      found_then _ _ found_u64 (λ segment_mru second two.
-      found_then _ _ found_u64 (λ transfer_mru third three.
+      found_then _ _ (found_number 2) (λ keepalive first one.
+      found_then _ _ (found_number 8) (λ segment_mru second two.
+      found_then _ _ (found_number 8) (λ transfer_mru third three.
       found_then _ _ found_node (λ node fourth four.
       found_then _ _ (found_list Session) (λ items fifth five.
       found_pure (SessInit keepalive segment_mru transfer_mru node items)
@@ -335,7 +296,7 @@ module _ (before : List ℕ) where
 -- the head of a message that was read is spelled in a prefix of the bytes
 pub found_message : Found message_at HeadSpelled
 unfolding message_at
-found_message = found_then _ _ found_u8 (λ kind before is. found_fields before kind is)
+found_message = found_then _ _ (found_number 1) (λ kind before is. found_fields before kind is)
 
 -- the six bytes of a contact header
 six_bytes : (header : List ℕ) → AreBytes header → length header ≡ 6

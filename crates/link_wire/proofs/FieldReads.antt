@@ -1,11 +1,9 @@
 -- Fields that are there, and fields that are missing.
-use Rattle.std.proofs.Common.{◌≡◌, ℕ, false, eqb, ◌+◌, ◌*◌, ◌<◌, ◌≤◌, List, [], ◌∷◌, ◌++◌, length, take, drop, Result, Ok, Err, arith, refl, ap, sym, ◌∙◌, length-append, length-drop, ⊎_elim}
+use Rattle.std.proofs.Common.{◌≡◌, ℕ, false, eqb, ◌+◌, ◌<◌, ◌≤◌, List, ◌++◌, length, take, drop, Result, Ok, Err, arith, refl, ap, sym, ◌∙◌, length-append, length-drop, ⊎_elim}
 use Rattle.std.proofs.lemmas.Bool.{cases_lt, lt-ltb, le-ltb, ne_eqb}
 use Rattle.std.proofs.Math.Seq.{take-append_seam, drop-append_seam}
-use Rattle.arrayvec.specs.ArrayVec.{ArrayVec}
-use Rattle.byteorder.specs.Endian.{big_number}
-use Rattle.link_wire.specs.{Getting.IsPart, Message.fields_at}
-use Rattle.link_wire.specs.Part.{Part, ◌>>=◌, bytes_at, number_at}
+use Rattle.link_wire.specs.Message.{fields_at}
+use Rattle.link_wire.specs.Part.{Part, ◌>>=◌, bytes_at}
 use Rattle.link_wire.specs.declared.fault.WireFault.{WireFault}
 use Rattle.link_wire.specs.declared.fault.WireFault.TheVariants.{Truncated, UnknownType}
 
@@ -25,20 +23,6 @@ bytes_at-there field more =
     let there : length field ≤ length (field ++ more) = omega (arith, length-append field more) in
     rw (le-ltb (length (field ++ more)) (length field) there, take-append_seam, drop-append_seam) refl
 
--- a vector is determined by its elements
-pub array_vec_of : {T : Type 0} (v : ArrayVec T) (xs : List T) → v.items ≡ xs
-    → v ≡ record { items = xs }
-array_vec_of {T} v xs same =
-    let from : List T → ArrayVec T = λ ys. record { items = ys } in
-    ap from same
-
--- one byte is read as the number that it is
-pub number_at-byte : (b : ℕ) (rest : List ℕ) → number_at 1 (b ∷ rest) ≡ Ok (b, rest)
-unfolding number_at
-number_at-byte b rest =
-    let one : b * 1 + 0 ≡ b = omega arith in
-    ap (λ read. read >>= λ field. Ok (big_number 1 field.0, field.1)) (bytes_at-there (b ∷ []) rest) ∙ ap (λ n. Ok (n, rest)) one
-
 -- two results of one reading are equal
 pub same_part : {A : Type 0} {value other : A} {bytes more : List ℕ}
     → (let read : Part A = Ok (value, bytes) in read) ≡ Ok (other, more)
@@ -46,14 +30,6 @@ pub same_part : {A : Type 0} {value other : A} {bytes more : List ℕ}
 same_part {A} {value} {other} {bytes} {more} is =
     let both : (value, bytes) ≡ (other, more) = cc in
     (ap (λ (p : A × List ℕ). p.0) both, ap (λ (p : A × List ℕ). p.1) both)
-
--- a byte is a number of one byte, and is needed
-pub IsPart-byte : (b : ℕ) → IsPart (number_at 1) (b ∷ []) b
-unfolding number_at bytes_at
-IsPart-byte b = record {
-  is_part = number_at-byte b;
-  needs = λ count fewer. let none : count ≡ 0 = omega arith in rw none refl;
-}
 
 -- a part that was read in two steps
 pub both_read : {A B : Type 0} (read : Result A WireFault) (next : A → Result B WireFault)

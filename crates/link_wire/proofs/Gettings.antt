@@ -1,5 +1,5 @@
 -- Reading a part, and then what depends on its value.
-use Rattle.std.proofs.Common.{◌≡◌, ◌≢◌, ◌+◌, ◌-◌, ◌≤◌, ℕ, Bool, true, false, List, [], ◌++◌, length, take, Result, Ok, Err, if◌then◌else◌, ap, sym, ◌∙◌, subst, refl, append_assoc, length-append, slice_index, arith, ⊎_elim}
+use Rattle.std.proofs.Common.{◌≡◌, ◌≢◌, ◌+◌, ◌-◌, ◌≤◌, ℕ, Bool, true, false, List, [], ◌++◌, length, take, Result, Ok, Err, if◌then◌else◌, ap, ◌∙◌, subst, refl, append_assoc, length-append, slice_index, arith, ⊎_elim}
 use mathlib.Core.Path.{fun_ext}
 use Rattle.std.specs.Prelude.{IsErrAnd}
 use Rattle.std.proofs.{lemmas.Bool.cases_lt, lemmas.List.take-append-le, Math.Seq.take-append-add}
@@ -31,9 +31,6 @@ module _ {A B : Type 0} (part : List ℕ → Part A) (next : A × List ℕ → P
   }
 
   module _ (value : A) (first second : List ℕ) (is : IsPart part first value) where
-    part_then : part (first ++ second) >>= next ≡ next (value, second)
-    part_then = ap (λ r. r >>= next) (is.is_part second)
-
     part_then_more : (more : List ℕ)
         → part ((first ++ second) ++ more) >>= next ≡ next (value, second ++ more)
     part_then_more more = rw append_assoc (ap (λ r. r >>= next) (is.is_part (second ++ more)))
@@ -68,7 +65,7 @@ module _ {A B : Type 0} (part : List ℕ → Part A) (next : A × List ℕ → P
 
     pub cut_then : next (value, second) ≡ Err Truncated
         → part (first ++ second) >>= next ≡ Err Truncated
-    cut_then is_cut = part_then ∙ is_cut
+    cut_then is_cut = ap (λ r. r >>= next) (is.is_part second) ∙ is_cut
 
 -- ---- over sources
 
@@ -174,15 +171,11 @@ module _ {R A : Type 0} {look : R → Input} where
       {outcome : Result A Halt} where
     pub if_true : test ≡ true → Gets look part old new outcome
         → Gets look (λ bytes. if test then part bytes else other bytes) old new outcome
-    if_true is h =
-        let P : Bool → Type 0 = λ b. Gets look (λ bytes. if b then part bytes else other bytes) old new outcome in
-        subst P (sym is) h
+    if_true is h = rw is h
 
     pub if_false : test ≡ false → Gets look other old new outcome
         → Gets look (λ bytes. if test then part bytes else other bytes) old new outcome
-    if_false is h =
-        let P : Bool → Type 0 = λ b. Gets look (λ bytes. if b then part bytes else other bytes) old new outcome in
-        subst P (sym is) h
+    if_false is h = rw is h
 
 -- ---- a function that reads part after part, from a live source
 

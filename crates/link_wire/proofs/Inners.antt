@@ -1,13 +1,12 @@
 -- Inner segments that lie whole in a window, with their data.
-use Rattle.std.proofs.Common.{◌≡◌, ℕ, ◌+◌, ◌-◌, ◌<◌, ◌≤◌, List, [], ◌∷◌, ◌++◌, length, take, drop, slice_index, slice_range, refl, ap, sym, subst, arith, length-take, length-drop}
+use Rattle.std.proofs.Common.{◌≡◌, ℕ, ◌<◌, ◌≤◌, List, [], ◌∷◌, ◌++◌, length, take, drop, slice_index, slice_range, refl, arith, length-take, length-drop}
 use Rattle.byteorder.specs.Endian.{big_number}
 use Rattle.link_io.specs.{Device.Input, Source.{window_of, IsLive, Takes}}
 use Rattle.link_io.specs.declared.source.Source.{Source}
-use Rattle.link_wire.specs.{Codes.is_start, Getting.IsPart}
+use Rattle.link_wire.specs.{Getting.IsPart}
 use Rattle.link_wire.specs.Inner.{inner_segment, IsInner, inner_bytes, PassedInner}
-use Rattle.link_wire.specs.{Message.message_at, MessageBuffer.segment_items}
+use Rattle.link_wire.specs.Message.{message_at}
 use Rattle.link_wire.specs.Session.{IsSessionAt, ReadMessage}
-use Rattle.link_wire.specs.declared.message.Message.TheVariants.{Segment}
 use Rattle.link_wire.specs.declared.session.Phase.TheVariants as phase
 use Rattle.link_wire.specs.declared.session.Session.{Session}
 use Rattle.link_wire.proofs.{Plains.later_head, Sessions.{came, data_given}}
@@ -26,22 +25,13 @@ pub inner_head : (window : List ℕ) → 18 ≤ length window → slice_index wi
     → IsPart message_at (take 18 window)
     (inner_segment (big_number 8 (slice_range window 2 10)) (big_number 8 (slice_range window 10 18)))
 inner_head window enough is none =
-    let P : ℕ → Type 0 = λ flags. IsPart message_at (take 18 window)
-    (Segment (record { flags = flags; id = big_number 8 (slice_range window 2 10); items = segment_items flags (record { items = [] }); length = big_number 8 (slice_range window 10 18) })) in
-    subst P none (later_head window enough is (ap is_start none))
+    rw none at (later_head window enough is (rw none (λ is. absurd (omega arith))))
 
-pub bytes_size : (id size : ℕ) (window : List ℕ) → IsInner id window size
+bytes_size : (id size : ℕ) (window : List ℕ) → IsInner id window size
     → length (inner_bytes window size) ≡ size
 bytes_size id size window is =
     let within = is.within in
     omega (arith, length-take size (drop 18 window), length-drop 18 window)
-
--- the data, as the code takes it
-pub bytes_are : (size : ℕ) (window : List ℕ)
-    → slice_range window 18 (18 + size) ≡ inner_bytes window size
-bytes_are size window =
-    let rest : 18 + size - 18 ≡ size = omega arith in
-    ap (λ n. take n (drop 18 window)) rest
 
 -- the head was given, and then the data
 module _ {R : Type 0} {look : R → Input} (old new : Session R) (history : List ℕ)
@@ -72,20 +62,19 @@ module _ {R : Type 0} {look : R → Input} (old new : Session R) (history : List
 
   head_read : ReadMessage look old mid history (length history) (inner_segment id (length content))
   head_read =
-      let P : ℕ → Type 0 = λ n. IsPart message_at (take 18 window) (inner_segment id n) in
       came old history at between mid (inner_segment id (length content))
-      (record { given = take 18 window; takes = head; live = live; is = subst P (sym data_size) is.is })
+      (record { given = take 18 window; takes = head; live = live; is = rw data_size is.is })
       refl refl refl
 
   pub inner_passed : PassedInner look old new history id content
   inner_passed =
       let some = is.some in
-      let P : List ℕ → Type 0 = λ bytes. Takes look source new.source (take size bytes) in
       record {
         mid = mid;
         offset = length history;
         read = head_read;
         some = omega (arith, data_size);
-        gave = data_given mid new (history ++ head_read.given) content head_read.at (subst P rest body) live_after going offset (omega (arith, left));
+        gave = data_given mid new (history ++ head_read.given) content head_read.at
+            (rw rest at body) live_after going offset (omega (arith, left));
         none = left;
       }

@@ -1,6 +1,6 @@
 -- The items of a list, one after another, as the definition reads them.
-use Rattle.std.proofs.Common.{◌≡◌, ℕ, zero, suc, ◌+◌, ◌-◌, ◌<◌, List, [], ◌∷◌, ◌++◌, Option, Ok, Err, arith, ap, sym, refl, append-nil, append_assoc}
-use Rattle.link_wire.specs.Part.{Part}
+use Rattle.std.proofs.Common.{◌≡◌, ℕ, zero, suc, ◌+◌, ◌-◌, ◌<◌, List, [], ◌∷◌, ◌++◌, Option, Ok, Err, ap, sym, refl, append-nil, append_assoc}
+use Rattle.link_wire.specs.Part.{Part, ◌>>=◌}
 use Rattle.link_wire.proofs.Items.{item_of, some_left}
 use Rattle.link_wire.specs.Message.{item_head_at, total_at, items_at, items_of}
 use Rattle.link_wire.specs.declared.fault.{WireFault.WireFault, WireFault.TheVariants.TooManyItems}
@@ -9,8 +9,7 @@ use Rattle.link_wire.specs.declared.message.ListOf.{ListOf}
 
 -- puts items before those that were read
 abbrev pub with_items : List Item → Part (List Item) → Part (List Item)
-with_items before (Ok (items, rest)) = Ok (before ++ items, rest)
-with_items before (Err fault) = Err fault
+with_items before part = part >>= λ (items, rest). Ok (before ++ items, rest)
 
 pub with_items-append : (xs ys : List Item) (part : Part (List Item))
     → with_items xs (with_items ys part) ≡ with_items (xs ++ ys) part
@@ -41,31 +40,22 @@ module _ (owner : ListOf) where
       -- there is no room for the next item
       pub items_full : (room : ℕ) → room ≡ 0 → items_at owner room left bytes ≡ Err TooManyItems
       unfolding items_at
-      items_full zero none = rw (some_left left some, is) refl
-      items_full (suc room) none = absurd (omega arith)
+      items_full room none = rw (none, some_left left some, is) refl
 
       -- the value of the next item is at fault
       pub items_bad_value : (room less : ℕ) (fault : WireFault) → room ≡ suc less
           → total_at owner head.kind head.length value ≡ Err fault
           → items_at owner room left bytes ≡ Err fault
       unfolding items_at
-      items_bad_value zero less fault one bad = absurd (omega arith)
-      items_bad_value (suc room) less fault one bad = rw (some_left left some, is, bad) refl
-
-      others : (room : ℕ) (total : Option ℕ) (rest : List ℕ) (part : Part (List Item))
-          → total_at owner head.kind head.length value ≡ Ok (total, rest)
-          → items_at owner room (left - (5 + head.length)) rest ≡ part
-          → items_at owner (suc room) left bytes ≡ with_items (item_of head total ∷ []) part
-      unfolding items_at
-      others room total rest (Ok (items, end)) known more = rw (some_left left some, is, known, more) refl
-      others room total rest (Err fault) known more = rw (some_left left some, is, known, more) refl
+      items_bad_value room less fault one bad = rw (one, some_left left some, is, bad) refl
 
       -- the next item, and those after it
       pub items_more : (room less : ℕ) (total : Option ℕ) (rest : List ℕ) → room ≡ suc less
           → total_at owner head.kind head.length value ≡ Ok (total, rest)
           → items_at owner room left bytes
           ≡ with_items (item_of head total ∷ []) (items_at owner less (left - (5 + head.length)) rest)
-      items_more room less total rest one known = rw one (others less total rest _ known refl)
+      unfolding items_at
+      items_more room less total rest one known = rw (one, some_left left some, is, known) refl
 
 -- the items of a whole list are some items, and then this part
 module _ (owner : ListOf) (size : ℕ) (bytes : List ℕ) (before : List Item) (part : Part (List Item))

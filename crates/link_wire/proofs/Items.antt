@@ -30,15 +30,11 @@ some_left left some = ne_eqb left 0 (λ none. omega arith)
 
 module _ {R : Type 0} {look : R → Input} (owner : ListOf) where
   -- no bytes of the list are left
-  none_left : (room : ℕ) {source : Source R} → IsLive look source
-      → Gets look (items_at owner room 0) source source (Ok [])
-  unfolding items_at
-  none_left zero live = pure live
-  none_left (suc room) live = pure live
-
   pub items_none : (room left : ℕ) {source : Source R} → left ≡ 0 → IsLive look source
       → Gets look (items_at owner room left) source source (Ok [])
-  items_none room left none live = rw none (none_left room live)
+  unfolding items_at
+  items_none zero left none live = rw none (pure live)
+  items_none (suc room) left none live = rw none (pure live)
 
   module _ {old mid : Source R} (left : ℕ) (some : 0 < left) where
     -- the head of the next item was not read
@@ -49,36 +45,20 @@ module _ {R : Type 0} {look : R → Input} (owner : ListOf) where
     items_exit (suc room) met = if_false _ _ (some_left left some) (exit _ met)
 
     module _ {head : ItemHead} (got : Gets look (item_head_at left) old mid (Ok head)) where
-      no_room : Gets look (items_at owner 0 left) old mid (Err (halt.Wire wire.TooManyItems))
-      unfolding items_at
-      no_room = if_false _ _ (some_left left some) (after _ got (refuse (λ e. cc)))
-
       -- there is no room for the next item
       pub items_full : (room : ℕ) → room ≡ 0
           → Gets look (items_at owner room left) old mid (Err (halt.Wire wire.TooManyItems))
-      items_full room none = rw none no_room
-
-      value_unread : (room : ℕ) {new : Source R} {stop : Halt}
-          → Gets look (total_at owner head.kind head.length) mid new (Err stop)
-          → Gets look (items_at owner (suc room) left) old new (Err stop)
       unfolding items_at
-      value_unread room met = if_false _ _ (some_left left some) (after _ got (exit _ met))
+      items_full room none =
+          rw none (if_false _ _ (some_left left some) (after _ got (refuse (λ e. cc))))
 
       -- the value of the next item was not read
       pub items_exit_total : (room less : ℕ) {new : Source R} {stop : Halt} → room ≡ suc less
           → Gets look (total_at owner head.kind head.length) mid new (Err stop)
           → Gets look (items_at owner room left) old new (Err stop)
-      items_exit_total room less is met = rw is (value_unread less met)
-
-      others_read : (room : ℕ) {next new : Source R} (total : Option ℕ)
-          (outcome : Result (List Item) Halt)
-          → Gets look (total_at owner head.kind head.length) mid next (Ok total)
-          → Gets look (items_at owner room (left - (5 + head.length))) next new outcome
-          → Gets look (items_at owner (suc room) left) old new
-          (with_before (item_of head total ∷ []) outcome)
       unfolding items_at
-      others_read room total (Ok items) known others = if_false _ _ (some_left left some) (after _ got (after _ known (after _ others (pure (is_live others)))))
-      others_read room total (Err stop) known met = if_false _ _ (some_left left some) (after _ got (after _ known (exit _ met)))
+      items_exit_total room less is met =
+          rw is (if_false _ _ (some_left left some) (after _ got (exit _ met)))
 
       -- the next item, and those after it
       pub items_more : (room less : ℕ) {next new : Source R} (total : Option ℕ)
@@ -87,4 +67,9 @@ module _ {R : Type 0} {look : R → Input} (owner : ListOf) where
           → Gets look (items_at owner less (left - (5 + head.length))) next new outcome
           → Gets look (items_at owner room left) old new
           (with_before (item_of head total ∷ []) outcome)
-      items_more room less total outcome is known others = rw is (others_read less total outcome known others)
+      unfolding items_at
+      items_more room less total (Ok items) is known others =
+          rw is (if_false _ _ (some_left left some)
+          (after _ got (after _ known (after _ others (pure (is_live others))))))
+      items_more room less total (Err stop) is known met =
+          rw is (if_false _ _ (some_left left some) (after _ got (after _ known (exit _ met))))

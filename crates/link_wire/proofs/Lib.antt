@@ -1,7 +1,6 @@
 pub mod FieldReads
 mod Gettings
 mod Plains
-mod Appends
 mod Skips
 mod Items
 pub mod Shrinks

@@ -1,8 +1,7 @@
 -- Every list of bytes has exactly one reading.
-use Rattle.std.proofs.Common.{◌≡◌, ℕ, zero, suc, ◌+◌, ◌<◌, ◌≤◌, true, false, List, [], ◌∷◌, ◌++◌, length, take, drop, Option, Some, None, Result, Ok, Err, nat_lt, arith, refl, ap, sym, ◌∙◌, subst, append_assoc, length-append, length-drop, ⊎_elim}
+use Rattle.std.proofs.Common.{◌≡◌, ℕ, zero, suc, ◌+◌, ◌<◌, ◌≤◌, true, List, [], ◌∷◌, ◌++◌, length, take, drop, Option, Some, None, Result, Ok, Err, nat_lt, arith, refl, ap, sym, ◌∙◌, subst, append_assoc, length-append, length-drop, ⊎_elim}
 use Rattle.std.proofs.lemmas.Bool.{cases_lt, lt-ltb, le-ltb}
-use Rattle.std.proofs.lemmas.{List.{take-append-drop, length-take-le}, List.Elements.All-take}
-use Rattle.std.proofs.Math.Seq.{take-append_seam, drop-append_seam}
+use Rattle.std.proofs.lemmas.{List.{take-append-drop, length-take-le}, List.Elements.{All-drop, All-take}}
 use Rattle.link_io.specs.Bytes.{IsByte, AreBytes}
 use Rattle.link_wire.specs.Part.{Part}
 use Rattle.link_wire.proofs.Shrinks.{shrinks_message}
@@ -12,19 +11,10 @@ use Rattle.link_wire.proofs.Sound.{Only, both, only_contact, only_message}
 use Rattle.link_wire.proofs.Complete.{AreBytes-after, found_contact, found_message}
 use Rattle.link_wire.specs.SpelledStream.{NoneBegins, IsStream, IsReadingBy, IsReading}
 use Rattle.link_wire.specs.Stream.{Entry, End, Clean, Cut, Fault, Stream, ended, with_entry, with_data_of, stream_at, Reading, reading_by, reading_of}
-use Rattle.link_wire.proofs.Streams.{stream_at-nil, stream_at-head, stream_at-fault}
+use Rattle.link_wire.proofs.{Streams.{stream_at-nil, stream_at-head, stream_at-fault}, Wholes.one_message}
+use Rattle.link_wire.specs.Whole.{AreMessages}
 use Rattle.link_wire.specs.declared.{fault.WireFault.WireFault, message.Contact.Contact}
 use Rattle.link_wire.specs.declared.message.Message.{Message}
-
--- the data after a head is whole
-with_data-whole : (offset : ℕ) (message : Message) (content more : List ℕ)
-    (rest : ℕ → List ℕ → Stream) → length content ≡ data_length message
-    → with_data_of offset message (content ++ more)
-    (rest (data_length message) (drop (data_length message) (content ++ more)))
-    ≡ with_entry (record { offset = offset; message = message; content = content }) (rest (data_length message) more)
-with_data-whole offset message content more rest size =
-    let whole : nat_lt (length (content ++ more)) (length content) ≡ false = le-ltb (length (content ++ more)) (length content) (omega (arith, length-append content more)) in
-    rw (← size, whole, take-append_seam, drop-append_seam) refl
 
 only_stream : (entries : List Entry) (end : End) (offset : ℕ) (bytes : List ℕ)
     → IsStream entries end offset bytes
@@ -42,14 +32,13 @@ only_stream (entry ∷ entries) end offset bytes is =
     let head = is.is_entry.1.before in
     let known = (only_message entry.message).by head is.is_entry.1.is_first in
     let before : is.before ≡ head ++ entry.content = is.is_entry.1.parts ∙ ap (λ all. head ++ all) is.is_entry.1.is_second.1 in
-    let whole : bytes ≡ head ++ (entry.content ++ is.after) = is.parts ∙ ap (λ all. all ++ is.after) before ∙ append_assoc head entry.content is.after in
-    let place : offset + length head + data_length entry.message ≡ offset + length is.before = omega (arith, ap length before, length-append head entry.content, is.is_entry.0) in
-    ap (stream_at offset) whole
-    ∙ stream_at-head offset head entry.message known (entry.content ++ is.after)
-    ∙ with_data-whole offset entry.message entry.content is.after (λ size. stream_at (offset + length head + size)) is.is_entry.0
-    ∙ ap (λ at. with_entry (record { offset = offset; message = entry.message; content = entry.content }) (stream_at at is.after)) place
-    ∙ ap (with_entry (record { offset = offset; message = entry.message; content = entry.content })) (only_stream entries end (offset + length is.before) is.after is.is_rest)
-    ∙ ap (λ at. record { entries = record { offset = at; message = entry.message; content = entry.content } ∷ entries; end = end }) (sym is.offset_is)
+    let here : Entry = record entry { offset = offset } in
+    let one : AreMessages offset is.before (here ∷ []) =
+    rw before (one_message offset head entry.content entry.message known (sym is.is_entry.0)) in
+    ap (stream_at offset) is.parts ∙ one.all is.after
+    ∙ ap (with_entry here) (only_stream entries end (offset + length is.before) is.after is.is_rest)
+    ∙ ap (λ at. record { entries = record entry { offset = at } ∷ entries; end = end })
+    (sym is.offset_is)
 
 only_by : (contact : Option Contact) (entries : List Entry) (end : End) (bytes : List ℕ)
     → IsReadingBy contact entries end bytes
@@ -90,22 +79,19 @@ module _ (offset : ℕ) (message : Message) (head rest : List ℕ) (spells : Hea
       (later (offset + length head + data_length message) (drop (data_length message) rest)))
   with_data-stands later stands = ⊎_elim
       (λ less.
-      let short : nat_lt (length rest) (data_length message) ≡ true = lt-ltb (length rest) (data_length message) less in
-      rw short (refl, less, both head rest spells (are, refl)))
+      rw (lt-ltb (length rest) (data_length message) less)
+      (refl, less, both head rest spells (are, refl)))
       (λ enough.
-      let whole : nat_lt (length rest) (data_length message) ≡ false = le-ltb (length rest) (data_length message) enough in
       let size = length-take-le (data_length message) rest enough in
       let content = take (data_length message) rest in
       let after = drop (data_length message) rest in
       let place : offset + length head + data_length message ≡ offset + length (head ++ content) = omega (arith, length-append head content) in
-      let next = later (offset + length head + data_length message) after in
-      let P : ℕ → Type 0 = λ at. IsStream next.entries next.end at after in
-      rw whole (record {
+      rw (le-ltb (length rest) (data_length message) enough) (record {
         offset_is = refl;
         before = head ++ content;
         after = after;
         is_entry = (size, both head content spells (All-take IsByte (data_length message) rest are, refl));
-        is_rest = subst P place (stands (offset + length head + data_length message));
+        is_rest = rw (← place) (stands (offset + length head + data_length message));
         parts = ap (λ all. head ++ all) (sym (take-append-drop (data_length message) rest)) ∙ sym (append_assoc head content after);
       }))
       (cases_lt (length rest) (data_length message))
@@ -116,35 +102,29 @@ stream_at-bad offset [] fault some is = absurd (omega arith)
 stream_at-bad offset (b ∷ bytes) fault some is = stream_at-fault offset b bytes fault is
 
 module _ (offset : ℕ) (bytes : List ℕ) where
-  stands_by : {other : Stream} → stream_at offset bytes ≡ other → StandsIn offset bytes other
-      → StandsIn offset bytes (stream_at offset bytes)
-  stands_by {other} same stands = let P : Stream → Type 0 = λ stream. StandsIn offset bytes stream in subst P (sym same) stands
-
   head_stands : 0 < length bytes → AreBytes bytes
       → ((at : ℕ) (after : List ℕ) → length after < length bytes → AreBytes after
       → StandsIn at after (stream_at at after))
       → (read : Result (Message × List ℕ) WireFault) → message_at bytes ≡ read
       → StandsIn offset bytes (stream_at offset bytes)
   head_stands some are next (Err fault) is =
-      stands_by (stream_at-bad offset bytes fault some is)
+      rw (stream_at-bad offset bytes fault some is)
       (refl, (λ none. let never : length bytes ≡ 0 = ap length none in absurd (omega arith)), (λ message. none_begins message_at message (HeadSpelled message) bytes fault (only_message message) is), is)
   head_stands some are next (Ok (message, rest)) is =
       let fewer = shrinks_message.by bytes message rest is in
       let found = found_message.by bytes message rest are is in
-      let whole : bytes ≡ found.before ++ rest = found.parts ∙ ap (λ all. found.before ++ all) found.is_second in
-      let after : AreBytes rest = AreBytes-after found.before rest (subst AreBytes whole are) in
-      let known = (only_message message).by found.before found.is_first in
+      let after = AreBytes-after found.before rest (subst AreBytes found.parts are) in
+      let known = (only_message message).by found.before found.is in
       let size = data_length message in
-      let last : AreBytes (drop size rest) = AreBytes-after (take size rest) (drop size rest) (subst AreBytes (sym (take-append-drop size rest)) after) in
-      let P : List ℕ → Type 0 = λ all. StandsIn offset all (stream_at offset all) in
-      let Q : Stream → Type 0 = λ stream. StandsIn offset (found.before ++ rest) stream in
-      subst P (sym whole) (subst Q (sym (stream_at-head offset found.before message known rest))
-      (with_data-stands offset message found.before rest found.is_first after stream_at (λ at. next at (drop size rest) (omega (arith, length-drop size rest)) last)))
+      rw (found.parts, stream_at-head offset found.before message known rest)
+      (with_data-stands offset message found.before rest found.is after stream_at
+      (λ at. next at (drop size rest) (omega (arith, length-drop size rest))
+      (All-drop IsByte size rest after)))
 
 -- at most `count` bytes spell the stream that is read from them
 stream_stands : (count offset : ℕ) (bytes : List ℕ) → length bytes ≤ count → AreBytes bytes
     → StandsIn offset bytes (stream_at offset bytes)
-stream_stands count offset [] few are = stands_by offset [] (stream_at-nil offset) refl
+stream_stands count offset [] few are = rw (stream_at-nil offset) refl
 stream_stands zero offset (b ∷ bytes) few are = absurd (omega arith)
 stream_stands (suc count) offset (b ∷ bytes) few are =
     head_stands offset (b ∷ bytes) (omega arith) are (λ at after fewer. stream_stands count at after (omega arith)) (message_at (b ∷ bytes)) refl
@@ -155,13 +135,13 @@ reading_by-stands bytes are (Err fault) is =
     (refl, (λ contact. none_begins contact_at contact (ContactSpelled contact) bytes fault (only_contact contact) is), (fault, refl, is))
 reading_by-stands bytes are (Ok (contact, rest)) is =
     let found = found_contact.by bytes contact rest are is in
-    let whole : bytes ≡ found.before ++ rest = found.parts ∙ ap (λ all. found.before ++ all) found.is_second in
+    let after = AreBytes-after found.before rest (subst AreBytes found.parts are) in
     record {
       before = found.before;
       after = rest;
-      is_first = found.is_first;
-      is_second = stream_stands (length rest) 6 rest (omega arith) (AreBytes-after found.before rest (subst AreBytes whole are));
-      parts = whole;
+      is_first = found.is;
+      is_second = stream_stands (length rest) 6 rest (omega arith) after;
+      parts = found.parts;
     }
 
 -- the reading that is defined is a reading of the bytes

@@ -12,10 +12,6 @@ use Rattle.link_wire.specs.declared.message.Message.{Message}
 abbrev pub appended : Stream → Stream → Stream
 appended first second = record { entries = first.entries ++ second.entries; end = second.end }
 
-pub joined-joined : (reading : Reading) (first second : Stream)
-    → joined (joined reading first) second ≡ joined reading (appended first second)
-joined-joined reading first second = ap (λ entries. joined (record { contact = reading.contact; entries = []; end = Clean }) (record { entries = entries; end = second.end })) (append_assoc reading.entries first.entries second.entries)
-
 -- the stream of a head, before any data of its message
 abbrev pub begun : ℕ → Message → Stream
 begun offset message = if nat_lt 0 (data_length message) then ended (Cut offset message []) else with_entry (record { offset = offset; message = message; content = [] }) (ended Clean)
@@ -28,11 +24,7 @@ begun_by zero offset place message more is =
     let all : nat_lt (length more) 0 ≡ false = le-ltb (length more) 0 (omega arith) in
     rw (is, all, add-zero) refl
 begun_by (suc size) offset place message more is =
-    let some : nat_lt 0 (suc size) ≡ true = lt-ltb 0 (suc size) (omega arith) in
-    ⊎_elim
-    (λ less. let short : nat_lt (length more) (suc size) ≡ true = lt-ltb (length more) (suc size) less in rw (is, some, short) refl)
-    (λ enough. let whole : nat_lt (length more) (suc size) ≡ false = le-ltb (length more) (suc size) enough in rw (is, some, whole) refl)
-    (cases_lt (length more) (suc size))
+    rw (is, lt-ltb 0 (suc size) (omega arith)) refl
 
 -- the rest of the stream after data of the open segment
 module _ (place n offset : ℕ) (message : Message) (content bytes more : List ℕ) where
@@ -61,8 +53,7 @@ rest_none : (place offset left : ℕ) (end : End) → IsLeft offset left end
     → rest_after place left end [] ≡ ended end
 rest_none place offset left Clean is = stream_at-nil place
 rest_none place offset left (Cut from message content) is =
-    let some : nat_lt 0 left ≡ true = lt-ltb 0 left is.0 in
-    rw (some, append-nil) refl
+    rw (lt-ltb 0 left is.0, append-nil) refl
 rest_none place offset left (Fault from fault) is = absurd is
 
 -- how the reading goes on after a part of the stream has been added to it
@@ -78,9 +69,7 @@ module _ (reading : Reading) (history : List ℕ) (part : Stream) (offset left p
   pub goes_on_from : (more : List ℕ)
       → reading_of (history ++ more)
       ≡ joined (reading_of history) (rest_after place left (reading_of history).end more)
-  goes_on_from more =
-      reads more ∙ sym (joined-joined reading part (rest_after place left part.end more))
-      ∙ ap (λ r. joined r (rest_after place left r.end more)) (sym settled)
+  goes_on_from more = rw (settled, append_assoc) (reads more)
 
 -- if no data is to come, the end is clean
 pub clean_end : (offset left : ℕ) (end : End) → IsLeft offset left end → left ≡ 0 → end ≡ Clean
@@ -92,13 +81,12 @@ pub begun_left : (size offset : ℕ) (message : Message) → data_length message
     → IsLeft offset size (begun offset message).end
 begun_left zero offset message is = rw is refl
 begun_left (suc size) offset message is =
-    let some : nat_lt 0 (suc size) ≡ true = lt-ltb 0 (suc size) (omega arith) in
-    rw (is, some) (omega arith, refl, omega arith)
+    rw (is, lt-ltb 0 (suc size) (omega arith)) (omega arith, refl, omega arith)
 
 pub data_left : (offset from : ℕ) (message : Message) (content bytes : List ℕ) (left n : ℕ)
     → from ≡ offset → data_length message ≡ length content + n → n ≡ length bytes + left
     → IsLeft offset left (data_after left bytes (Cut from message content)).end
 data_left offset from message content bytes zero n is whole parts = refl
 data_left offset from message content bytes (suc left) n is whole parts =
-    let some : nat_lt 0 (suc left) ≡ true = lt-ltb 0 (suc left) (omega arith) in
-    rw some (omega arith, is, omega (arith, length-append content bytes))
+    rw (lt-ltb 0 (suc left) (omega arith))
+    (omega arith, is, omega (arith, length-append content bytes))

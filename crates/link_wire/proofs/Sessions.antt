@@ -1,5 +1,5 @@
 -- How each call of a session changes its state.
-use Rattle.std.proofs.Common.{⊎_elim, ◌⊎◌, inl, inr, ◌≡◌, ℕ, ◌+◌, ◌<◌, ◌≤◌, true, eqb, eqb-true, List, [], ◌∷◌, ◌++◌, length, take, drop, Some, Result, Ok, Err, arith, refl, ap, sym, ◌∙◌, subst, append_assoc, append-nil, length-append}
+use Rattle.std.proofs.Common.{⊎_elim, ◌≡◌, ℕ, ◌+◌, ◌<◌, ◌≤◌, true, eqb, eqb-true, List, [], ◌∷◌, ◌++◌, length, take, drop, Some, Result, Ok, Err, arith, refl, ap, sym, ◌∙◌, append_assoc, append-nil, length-append, add-zero}
 use Rattle.std.specs.Prelude.{IsErrAnd}
 use Rattle.std.proofs.lemmas.{Bool.{and_parts, cases_lt}, List.{nil_from_length, take-append-drop}}
 use Rattle.link_io.specs.Device.{Input}
@@ -9,15 +9,15 @@ use Rattle.link_io.specs.Source.{window_of, is_fresh, IsSourceAt, IsLive, IsOver
 use Rattle.link_wire.specs.Limits.{window_size}
 use Rattle.link_wire.specs.Getting.{Needs, IsPart, IsFault, WholePart, Gets, OneKind}
 use Rattle.link_wire.specs.Stream.{Entry, End, Clean, Cut, Fault, Stream, ended, stream_at, Reading, reading_of}
-use Rattle.link_wire.specs.Session.{joined, data_after, with_data, rest_after, IsLeft, IsUndecided, SameMessages, ShownLast, is_unopened, reads_next, may_open, may_read, left_of, HasStopped, IsSessionAt, ReadContact, AfterOpen, ReadMessage, AfterNext, PassedBytes, LoadedData, AfterLoad, AfterData}
+use Rattle.link_wire.specs.Session.{joined, data_after, rest_after, IsLeft, IsUndecided, SameMessages, ShownLast, is_unopened, reads_next, may_open, may_read, left_of, HasStopped, IsSessionAt, ReadContact, AfterOpen, ReadMessage, AfterNext, PassedBytes, LoadedData, AfterLoad, AfterData}
 use Rattle.link_io.proofs.Sources.{fresh_at, fresh_live, IsSourceAt-then, Takes-then, Readies-takes, Readies-over, StopsAfter-then}
-use Rattle.link_wire.proofs.{Gettings.{after, IsFault-then, cut_then}, FieldReads.IsPart-byte}
-use Rattle.link_wire.proofs.{Shrinks.shrinks_message, Steady.{steady_contact, steady_message}}
+use Rattle.link_wire.proofs.{Gettings.{after, IsFault-then, cut_then}, Plains.IsPart-byte}
+use Rattle.link_wire.proofs.{Shrinks.shrinks_message, Steady.{steady_contact, steady_message, cut_before}}
 use Rattle.link_wire.proofs.Within.{Steady, within_contact, within_message, part_size, needed_size}
 use Rattle.link_wire.proofs.Streams.{stream_at-head, stream_at-fault}
 use Rattle.link_wire.proofs.Contacts.{contact_taken, reading-contact, reading-refused, reading-none}
 use Rattle.link_wire.proofs.Rests.{appended, begun, begun_by, begun_left, data_by, data_left, clean_end, settled, goes_on_from}
-use Rattle.link_wire.specs.{Halt.stop_at, Whole.{followed, AreMessages, PassedMessages, ReadWhole}}
+use Rattle.link_wire.specs.{Halt.stop_at, Whole.{AreMessages, PassedMessages, ReadWhole}}
 use Rattle.link_wire.proofs.Wholes.{one_message}
 use Rattle.link_wire.specs.declared.fault.Stop.{Stop}
 use Rattle.link_wire.specs.declared.fault.Stop.TheVariants as stop
@@ -69,29 +69,14 @@ contact_shown given needs = λ count fewer.
     let read = reading-refused (take count given) wire.Truncated (needs count fewer) in
     rw (read, reading-none) (record { contact = refl; entries = refl }, refl)
 
--- whether a field is missing
-is_missing : (fault : WireFault) → (fault ≡ wire.Truncated) ⊎ (fault ≡ wire.Truncated → ⊥)
-is_missing wire.Truncated = inl refl
-is_missing fault = inr (λ is. cc)
-
--- if a field is missing in some bytes, one is missing in each prefix of them
-module _ {A : Type 0} (part : List ℕ → Part A) (steady : Steady part) (bytes more : List ℕ)
-    (cut : part (bytes ++ more) ≡ Err wire.Truncated) where
-  cut_by : (read : Part A) → part bytes ≡ read → part bytes ≡ Err wire.Truncated
-  cut_by (Ok (value, rest)) is = absurd (cc (steady.read bytes more value rest is))
-  cut_by (Err fault) is =
-      ⊎_elim (λ missing. is ∙ ap Err missing)
-      (λ other. absurd (other (cc (steady.faulty bytes more fault other is))))
-      (is_missing fault)
-
 needs_by : {A : Type 0} (part : List ℕ → Part A) (bytes : List ℕ) → Steady part
     → part bytes ≡ Err wire.Truncated → Needs part bytes
 needs_by part bytes steady cut = λ count fewer.
-    let first = take count bytes in
-    cut_by part steady first (drop count bytes) (ap part (take-append-drop count bytes) ∙ cut) (part first) refl
+    cut_before part steady (take count bytes) (drop count bytes)
+    (ap part (take-append-drop count bytes) ∙ cut)
 
 module _ {R : Type 0} {look : R → Input} where
-  -- the state of a session after a part of the stream has been added to the reading
+  -- the reading and the state of a session after a part of the stream has been added to the reading
   stands : (s : Session R) (history : List ℕ) (reading : Reading)
       (part : Stream) (contact : Contact)
       → IsSourceAt s.source history → IsLive look s.source → s.phase ≡ phase.Reading
@@ -101,19 +86,41 @@ module _ {R : Type 0} {look : R → Input} where
       → (reads : (more : List ℕ)
       → reading_of (history ++ more)
       ≡ joined reading (appended part (rest_after (length history) s.left part.end more)))
-      → IsSessionAt look s history
+      → (reading_of history ≡ joined reading part) × IsSessionAt look s history
   stands s history reading part contact at live going has is few reads =
-      let read = settled reading history part s.offset s.left (length history) is reads in
-      record {
-        at = at;
-        live = live;
-        going = going;
-        contact = contact;
-        has_contact = ap (λ (r : Reading). r.contact) read ∙ has;
-        left = let P : End → Type 0 = λ end. IsLeft s.offset s.left end in subst P (sym (ap (λ (r : Reading). r.end) read)) is;
-        few = few;
-        goes_on = goes_on_from reading history part s.offset s.left (length history) is reads;
-      }
+      let read = settled reading history part s.offset s.left (length history) is reads in (
+        read,
+        record {
+          at = at;
+          live = live;
+          going = going;
+          contact = contact;
+          has_contact = rw read has;
+          left = rw read is;
+          few = few;
+          goes_on = goes_on_from reading history part s.offset s.left (length history) is reads;
+        },
+      )
+
+  -- the same after some bytes that add the part; if there are none, no data was to come before
+  goes : (old new : Session R) (history given : List ℕ) (part : Stream)
+      → IsSessionAt look old history → Takes look old.source new.source given
+      → IsLive look new.source → new.phase ≡ phase.Reading → IsLeft new.offset new.left part.end
+      → (new.left ≡ 0 → length given ≡ 0 → old.left ≡ 0)
+      → ((more : List ℕ) → reading_of (history ++ (given ++ more))
+      ≡ joined (reading_of history)
+      (appended part (rest_after (length history + length given) new.left part.end more)))
+      → (reading_of (history ++ given) ≡ joined (reading_of history) part)
+      × IsSessionAt look new (history ++ given)
+  goes old new history given part at takes live going is between reads =
+      stands new (history ++ given) (reading_of history) part at.contact
+      (IsSourceAt-then look old.source new.source history given takes at.at) live going
+      at.has_contact is
+      (λ none. ⊎_elim
+      (λ few. let empty : length given ≡ 0 = omega (arith, few) in
+      rw (takes.window.kept empty) (at.few (between none empty)))
+      (λ some. takes.window.less (omega (arith, some))) (cases_lt (length given) 1))
+      (λ more. rw (append_assoc history given more, length-append history given) (reads more))
 
   -- the contact header was read
   pub contact_came : (old new : Session R) (contact : Contact) → may_open old ≡ true
@@ -124,45 +131,45 @@ module _ {R : Type 0} {look : R → Input} where
       let begins : Reading = record { contact = Some contact; entries = []; end = Clean } in
       let six = contact_taken given contact got.by.is.is_part in
       let none : new.left ≡ 0 = left ∙ opens_left look old fresh in
-      let is : IsLeft new.offset new.left Clean = none in
-      let reads : (more : List ℕ) → reading_of (given ++ more) ≡ joined begins (appended (ended Clean) (rest_after (length given) new.left Clean more)) = λ more. rw six (reading-contact given contact got.by.is.is_part more) in
+      let stood = stands new given begins (ended Clean) contact
+      (IsSourceAt-then look old.source new.source [] given got.by.takes (opens_at look old fresh))
+      got.by.live going refl none (λ _. got.by.takes.window.less (omega (arith, six)))
+      (λ more. rw six (reading-contact given contact got.by.is.is_part more)) in
       record {
         given = given;
         takes = got.by.takes;
-        reading = settled begins given (ended Clean) new.offset new.left (length given) is reads;
+        reading = stood.0;
         size = six;
         shown_last = contact_shown given got.by.is.needs;
-        at = stands new given begins (ended Clean) contact (IsSourceAt-then look old.source new.source [] given got.by.takes (opens_at look old fresh)) got.by.live going refl is (λ _. got.by.takes.window.less (omega (arith, six))) reads;
+        at = stood.1;
         between = none;
       }
-
-  refused : (old new : Session R) (why : Halt)
-      → Gets look contact_at old.source new.source (Err why) → HasStopped new (stop_at 0 why)
-      → AfterOpen look old new (Err (stop_at 0 why))
-  refused old new (halt.Wire fault) met stopped = record {
-    given = met.by.given;
-    takes = met.by.takes;
-    size = needed_size within_contact met.by.given met.by.is.needs;
-    offset_is = refl;
-    is_read = record { over = met.by.over; all = λ more may. reading-refused (met.by.given ++ more) fault (met.by.is.is_fault more may) };
-    shown_last = contact_shown met.by.given met.by.is.needs;
-    stopped = stopped;
-  }
-  refused old new (halt.Io fault) met stopped = record {
-    given = met.by.given;
-    stops = met.by.stops;
-    size = within_contact.cut met.by.given met.by.is_cut;
-    shown_last = contact_shown met.by.given (needs_by contact_at met.by.given steady_contact met.by.is_cut);
-    reading = reading-refused met.by.given wire.Truncated met.by.is_cut;
-    stopped = stopped;
-  }
 
   pub contact_refused : (old new : Session R) (source : Source R) (why : Halt) (result : Stop)
       → Gets look contact_at old.source source (Err why) → new.source ≡ source
       → HasStopped new result → result ≡ stop_at 0 why → AfterOpen look old new (Err result)
-  contact_refused old new source why result met same stopped is =
-      let P : Source R → Type 0 = λ s. Gets look contact_at old.source s (Err why) in
-      rw is (refused old new why (subst P (sym same) met) (stopped ∙ ap phase.Stopped is))
+  contact_refused old new source (halt.Wire fault) result met same stopped is = rw is (record {
+    given = met.by.given;
+    takes = rw same met.by.takes;
+    size = needed_size within_contact met.by.given met.by.is.needs;
+    offset_is = refl;
+    is_read = record {
+      over = rw same met.by.over;
+      all = λ more may.
+          reading-refused (met.by.given ++ more) fault (met.by.is.is_fault more may);
+    };
+    shown_last = contact_shown met.by.given met.by.is.needs;
+    stopped = stopped ∙ ap phase.Stopped is;
+  })
+  contact_refused old new source (halt.Io fault) result met same stopped is = rw is (record {
+    given = met.by.given;
+    stops = rw same met.by.stops;
+    size = within_contact.cut met.by.given met.by.is_cut;
+    shown_last = contact_shown met.by.given
+        (needs_by contact_at met.by.given steady_contact met.by.is_cut);
+    reading = reading-refused met.by.given wire.Truncated met.by.is_cut;
+    stopped = stopped ∙ ap phase.Stopped is;
+  })
 
   -- ---- messages, in a session between two of them
   module _ (old : Session R) (history : List ℕ) (at : IsSessionAt look old history)
@@ -175,20 +182,22 @@ module _ {R : Type 0} {look : R → Input} where
         ≡ joined (reading_of history) (stream_at (length history) bytes)
     from_here bytes = at.goes_on bytes ∙ ap (λ end. joined (reading_of history) (rest_after (length history) old.left end bytes)) clean
 
+    -- a fault in the message that begins here
+    fault_here : (kind : ℕ) (given : List ℕ) (fault : WireFault)
+        → message_at (kind ∷ given) ≡ Err fault
+        → reading_of (history ++ (kind ∷ given))
+        ≡ joined (reading_of history) (ended (Fault (length history) fault))
+    fault_here kind given fault is = from_here (kind ∷ given)
+        ∙ ap (joined (reading_of history)) (stream_at-fault (length history) kind given fault is)
+
     -- bytes that end inside a head do not change the messages, and more bytes may mend the end
     cut_here : (given : List ℕ) → message_at given ≡ Err wire.Truncated
         → SameMessages (reading_of history) (reading_of (history ++ given))
         × IsUndecided (reading_of (history ++ given)).end
     cut_here [] is = rw append-nil (record { contact = refl; entries = refl }, rw clean tt)
     cut_here (kind ∷ given) is =
-        let read = from_here (kind ∷ given) ∙ ap (joined (reading_of history)) (stream_at-fault (length history) kind given wire.Truncated is) in
-        let P : End → Type 0 = IsUndecided in (
-          record {
-            contact = ap (λ (r : Reading). r.contact) read;
-            entries = ap (λ (r : Reading). r.entries) read ∙ append-nil (reading_of history).entries;
-          },
-          subst P (sym (ap (λ (r : Reading). r.end) read)) refl,
-        )
+        rw (fault_here kind given wire.Truncated is)
+        (record { contact = refl; entries = append-nil (reading_of history).entries }, refl)
 
     -- a proper prefix of the bytes that a head needs makes no message, and shows no fault
     head_shown : (given : List ℕ) → Needs message_at given → ShownLast history given
@@ -202,15 +211,11 @@ module _ {R : Type 0} {look : R → Input} where
     came new message got offset left going =
         let given = got.given in
         let here = length history in
-        let place : length (history ++ given) ≡ here + length given = length-append history given in
-        let is : IsLeft new.offset new.left (begun here message).end = rw (offset, left) (begun_left (data_length message) here message refl) in
-        let reads : (more : List ℕ) → reading_of ((history ++ given) ++ more) ≡ joined (reading_of history) (appended (begun here message) (rest_after (length (history ++ given)) new.left (begun here message).end more)) =
-        λ more.
-        ap reading_of (append_assoc history given more) ∙ from_here (given ++ more)
-        ∙ ap (joined (reading_of history)) (stream_at-head here given message got.is.is_part more ∙ begun_by (data_length message) here (here + length given) message more refl)
-        ∙ ap (λ p. joined (reading_of history) (appended (begun here message) (rest_after p (data_length message) (begun here message).end more))) (sym place)
-        ∙ ap (λ n. joined (reading_of history) (appended (begun here message) (rest_after (length (history ++ given)) n (begun here message).end more))) (sym left)
-        in
+        let stood = goes old new history given (begun here message) at got.takes got.live going
+        (rw (offset, left) (begun_left (data_length message) here message refl)) (λ _ _. between)
+        (λ more. rw left (from_here (given ++ more) ∙ ap (joined (reading_of history))
+        (stream_at-head here given message got.is.is_part more
+        ∙ begun_by (data_length message) here (here + length given) message more refl))) in
         let some : 0 < length given = omega (arith, shrinks_message.by (given ++ []) message [] (got.is.is_part []), length-append given []) in
         record {
           given = given;
@@ -220,35 +225,21 @@ module _ {R : Type 0} {look : R → Input} where
           offset_is = refl;
           left = left;
           shown_last = head_shown given got.is.needs;
-          reading = settled (reading_of history) (history ++ given) (begun here message) new.offset new.left (length (history ++ given)) is reads;
-          at = stands new (history ++ given) (reading_of history) (begun here message) at.contact (IsSourceAt-then look old.source new.source history given got.takes at.at) got.live going at.has_contact is (λ _. got.takes.window.less some) reads;
+          reading = stood.0;
+          at = stood.1;
         }
 
     -- whole messages were given
     module _ (new : Session R) (given : List ℕ)
         (takes : Takes look old.source new.source given) (live : IsLive look new.source)
         (left : new.left ≡ 0) (going : new.phase ≡ phase.Reading) where
-      few_passed : length (window_of new.source) < window_size
-      few_passed =
-          ⊎_elim
-          (λ few. let empty : length given ≡ 0 = omega (arith, few) in rw (takes.window.kept empty) (at.few between))
-          (λ some. takes.window.less (omega (arith, some))) (cases_lt (length given) 1)
-
       pub passed : (entries : List Entry) → AreMessages (length history) given entries
           → PassedMessages look old new history given entries
       passed entries are =
-          let part : Stream = record { entries = entries; end = Clean } in
-          let place : length (history ++ given) ≡ length history + length given = length-append history given in
-          let reads : (more : List ℕ) → reading_of ((history ++ given) ++ more) ≡ joined (reading_of history) (appended part (rest_after (length (history ++ given)) new.left Clean more)) =
-          λ more.
-          ap reading_of (append_assoc history given more) ∙ from_here (given ++ more)
-          ∙ ap (joined (reading_of history)) (are.all more ∙ ap (λ p. followed entries (stream_at p more)) (sym place))
-          in
-          record {
-            takes = takes;
-            reading = settled (reading_of history) (history ++ given) part new.offset new.left (length (history ++ given)) left reads;
-            at = stands new (history ++ given) (reading_of history) part at.contact (IsSourceAt-then look old.source new.source history given takes at.at) live going at.has_contact left (λ _. few_passed) reads;
-          }
+          let stood = goes old new history given (record { entries = entries; end = Clean }) at
+          takes live going left (λ _ _. between)
+          (λ more. from_here (given ++ more) ∙ ap (joined (reading_of history)) (are.all more)) in
+          record { takes = takes; reading = stood.0; at = stood.1 }
 
       -- one message, its head and its data
       pub came_whole : (head content : List ℕ) (message : Message) → given ≡ head ++ content
@@ -256,25 +247,15 @@ module _ {R : Type 0} {look : R → Input} where
           → ReadWhole look old new history (length history) message
       came_whole head content message parts room is size =
           let one : List Entry = record { offset = length history; message = message; content = content } ∷ [] in
-          let P : List ℕ → Type 0 = λ bytes. AreMessages (length history) bytes one in
           record {
             given = given;
             content = content;
             some = omega (arith, shrinks_message.by (head ++ []) message [] (is.is_part []), length-append head [], length-append head content, ap length parts);
             size = room;
             offset_is = refl;
-            passed = passed one (subst P (sym parts) (one_message (length history) head content message is size));
+            passed = passed one
+                (rw parts (one_message (length history) head content message is.is_part size));
           }
-
-    -- a fault in the message that begins here
-    fault_here : (kind : ℕ) (given more : List ℕ) (fault : WireFault)
-        → message_at ((kind ∷ given) ++ more) ≡ Err fault
-        → reading_of ((history ++ (kind ∷ given)) ++ more)
-        ≡ joined (reading_of history) (ended (Fault (length history) fault))
-    fault_here kind given more fault is =
-        ap reading_of (append_assoc history (kind ∷ given) more)
-        ∙ from_here (kind ∷ (given ++ more))
-        ∙ ap (joined (reading_of history)) (stream_at-fault (length history) kind (given ++ more) fault is)
 
     -- the next message, by its type byte and the fields after it
     module _ {mid : Source R} {kind : ℕ} (first : OneKind look old.source mid kind) where
@@ -303,7 +284,11 @@ module _ {R : Type 0} {look : R → Input} where
             takes = Takes-then look old.source mid new.source (kind ∷ []) given first.takes met.by.takes;
             size = needed_size within_message (kind ∷ given) is.needs;
             offset_is = refl;
-            is_read = record { over = met.by.over; all = λ more may. fault_here kind given more fault (is.is_fault more may) };
+            is_read = record {
+              over = met.by.over;
+              all = λ more may. rw (append_assoc history (kind ∷ given) more)
+                  (fault_here kind (given ++ more) fault (is.is_fault more may));
+            };
             shown_last = head_shown (kind ∷ given) is.needs;
             stopped = stopped;
           }
@@ -326,57 +311,38 @@ module _ {R : Type 0} {look : R → Input} where
           → HasStopped new result → result ≡ stop_at offset why → offset ≡ length history
           → AfterNext look old new history (Err result)
       message_refused new source why offset result met same stopped is here =
-          let P : Source R → Type 0 = λ s. Gets look (fields_at kind) mid s (Err why) in
           let named : result ≡ stop_at (length history) why = is ∙ ap (λ n. stop_at n why) here in
-          rw named (next_refused new why (subst P (sym same) met) (stopped ∙ ap phase.Stopped named))
+          rw named (next_refused new why (rw same met) (stopped ∙ ap phase.Stopped named))
 
   -- data of the open segment came
   module _ (old new : Session R) (history bytes : List ℕ) (at : IsSessionAt look old history)
       (takes : Takes look old.source new.source bytes)
       (live : IsLive look new.source) (going : new.phase ≡ phase.Reading) (offset : new.offset ≡ old.offset) (left : old.left ≡ length bytes + new.left) where
-    IsReadBy : End → Type 0
-    IsReadBy end =
-        IsLeft new.offset new.left (data_after new.left bytes end).end
-        × ((more : List ℕ) → joined (reading_of history) (rest_after (length history) old.left end (bytes ++ more)) ≡ joined (reading_of history) (appended (data_after new.left bytes end) (rest_after (length (history ++ bytes)) new.left (data_after new.left bytes end).end more)))
-
-    read_by : (end : End) → IsLeft old.offset old.left end → IsReadBy end
-    unfolding IsReadBy
+    -- the rest of the stream is the data, and then what is read after it
+    read_by : (end : End) → IsLeft old.offset old.left end
+        → (let part = data_after new.left bytes end in
+        IsLeft new.offset new.left part.end
+        × ((more : List ℕ) → rest_after (length history) old.left end (bytes ++ more)
+        ≡ appended part (rest_after (length history + length bytes) new.left part.end more)))
     read_by Clean is =
         let none : bytes ≡ [] = nil_from_length bytes (omega arith) in
-        (omega arith, λ more. rw (none, append-nil) refl)
-    read_by (Cut from message content) is =
-        let place : length (history ++ bytes) ≡ length history + length bytes = length-append history bytes in (
-          data_left new.offset from message content bytes new.left old.left (is.1 ∙ sym offset) is.2 left,
-          λ more.
-              ap (joined (reading_of history)) (data_by (length history) old.left from message content bytes more new.left left)
-              ∙ ap (λ p. joined (reading_of history) (appended (data_after new.left bytes (Cut from message content)) (rest_after p new.left (data_after new.left bytes (Cut from message content)).end more))) (sym place),
-        )
+        (omega arith, λ more. rw (none, add-zero) refl)
+    read_by (Cut from message content) is = (
+      data_left new.offset from message content bytes new.left old.left
+          (is.1 ∙ sym offset) is.2 left,
+      λ more. data_by (length history) old.left from message content bytes more new.left left,
+    )
     read_by (Fault from fault) is = absurd is
-
-    -- if no data is to come, less than a whole window is unread
-    few_after : new.left ≡ 0 → length (window_of new.source) < window_size
-    few_after none =
-        ⊎_elim (λ few. let empty : length bytes ≡ 0 = omega (arith, few) in rw (takes.window.kept empty) (at.few (omega (arith, left, none, empty))))
-        (λ some. takes.window.less (omega (arith, some))) (cases_lt (length bytes) 1)
-
-    -- the reading and the state after the data
-    pub data_stands : (reading_of (history ++ bytes)
-        ≡ with_data new.left bytes (reading_of history))
-        × IsSessionAt look new (history ++ bytes)
-    unfolding IsReadBy
-    data_stands =
-        let end = (reading_of history).end in
-        let by = read_by end at.left in
-        let reads : (more : List ℕ) → reading_of ((history ++ bytes) ++ more) ≡ joined (reading_of history) (appended (data_after new.left bytes end) (rest_after (length (history ++ bytes)) new.left (data_after new.left bytes end).end more)) =
-        λ more. ap reading_of (append_assoc history bytes more) ∙ at.goes_on (bytes ++ more) ∙ by.1 more
-        in (
-          settled (reading_of history) (history ++ bytes) (data_after new.left bytes end) new.offset new.left (length (history ++ bytes)) by.0 reads,
-          stands new (history ++ bytes) (reading_of history) (data_after new.left bytes end) at.contact (IsSourceAt-then look old.source new.source history bytes takes at.at) live going at.has_contact by.0 few_after reads,
-        )
 
     -- some data of the open segment was given
     pub data_given : PassedBytes look old new history bytes
-    data_given = let stood = data_stands in record { takes = takes; left = left; reading = stood.0; at = stood.1 }
+    data_given =
+        let end = (reading_of history).end in
+        let by = read_by end at.left in
+        let stood = goes old new history bytes (data_after new.left bytes end) at takes live going
+        by.0 (λ none empty. omega (arith, left, none, empty))
+        (λ more. at.goes_on (bytes ++ more) ∙ ap (joined (reading_of history)) (by.1 more)) in
+        record { takes = takes; left = left; reading = stood.0; at = stood.1 }
 
 -- inside a segment, the reading ends in its data
 is_cut : (offset left : ℕ) (end : End) → IsLeft offset left end → 0 < left
@@ -409,13 +375,11 @@ module _ {R : Type 0} {look : R → Input} where
       → new.source ≡ mid → HasStopped new why
       → why ≡ stop_at old.offset (halt.Wire wire.Truncated) → AfterLoad look old new history (Err why)
   data_cut old new mid history why at ready over some same stopped is =
-      let P : Source R → Type 0 = λ s. Takes look old.source s [] × IsOver look s in
-      let ended = subst P (sym same) (Readies-over look old.source mid ready over, over) in
       let cut = is_cut old.offset old.left (reading_of history).end at.left some in
       rw is (record {
         kind = refl;
-        takes = ended.0;
-        over = ended.1;
+        takes = rw same (Readies-over look old.source mid ready over);
+        over = rw same over;
         message = cut.0;
         content = cut.1;
         cut = cut.2;
@@ -430,14 +394,10 @@ module _ {R : Type 0} {look : R → Input} where
       record { takes = Readies-takes look old.source mid.source new.source bytes ready.readies gave.takes some; left = sym ready.left ∙ gave.left; reading = gave.reading; at = gave.at }
 
 module _ {R : Type 0} (look : R → Input) where
-  stopped_load : (old new : Session R) (history buffer : List ℕ) (why : Stop)
-      → AfterLoad look old new history (Err why) → AfterData look old new history buffer (Err why)
-  stopped_load old new history buffer (stop.Wire offset fault) gives = gives
-  stopped_load old new history buffer (stop.Io fault) gives = gives
-
   -- a stop while data is made ready is also the stop of copying it
   pub data_stopped : (old new : Session R) (history buffer : List ℕ) (result : Result ℕ Stop)
       (why : Stop) → IsErrAnd result (λ e. e ≡ why) → AfterLoad look old new history (Err why)
       → AfterData look old new history buffer result
   data_stopped old new history buffer (Ok n) why is gives = absurd is
-  data_stopped old new history buffer (Err e) why is gives = rw is (stopped_load old new history buffer why gives)
+  data_stopped old new history buffer (Err e) (stop.Wire offset fault) is gives = rw is gives
+  data_stopped old new history buffer (Err e) (stop.Io fault) is gives = rw is gives

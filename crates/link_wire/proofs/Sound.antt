@@ -1,12 +1,12 @@
 -- A spelling is read as what it spells, whatever follows it.
-use Rattle.std.proofs.Common.{◌≡◌, ℕ, zero, suc, ◌+◌, ◌-◌, ◌^◌, ◌<◌, ◌≤◌, Bool, true, false, List, [], ◌∷◌, ◌++◌, length, Option, Some, None, Ok, nat_lt, if◌then◌else◌, arith, refl, ap, sym, ◌∙◌, subst, append_assoc, append-nil, length-append}
+use Rattle.std.proofs.Common.{◌≡◌, ℕ, zero, suc, ◌+◌, ◌-◌, ◌^◌, ◌<◌, ◌≤◌, Bool, true, false, List, [], ◌∷◌, ◌++◌, length, Option, Ok, nat_lt, if◌then◌else◌, arith, refl, ap, sym, ◌∙◌, subst, append_assoc, append-nil, length-append}
 use Rattle.std.proofs.lemmas.{List.nil_from_length, Bool.{le-ltb, ne_eqb}, Bool.Decides.nat_tests}
 use Rattle.arrayvec.specs.ArrayVec.{ArrayVec}
 use Rattle.byteorder.specs.Endian.{big_number}
 use Rattle.byteorder.specs.Numbers.{big_number-reads_back, length-bytes_high_first}
 use Rattle.link_wire.specs.Part.{Part, ◌>>=◌, bytes_at, number_at}
-use Rattle.link_wire.proofs.FieldReads.{bytes_at-there, array_vec_of, same_part}
-use Rattle.link_wire.specs.Spelled.{Spelling, be, U8, U16, U32, U64, These, ◌⨾◌, ContactSpelled, NodeSpelled, ItemHeadSpelled, ValueSpelled, ItemsSpelled, ListSpelled, SegmentItemsSpelled, HeadSpelled, Spelled}
+use Rattle.link_wire.proofs.FieldReads.{bytes_at-there, same_part}
+use Rattle.link_wire.specs.Spelled.{Spelling, be, U32, These, ◌⨾◌, ContactSpelled, NodeSpelled, ItemHeadSpelled, ValueSpelled, ItemsSpelled, ListSpelled, SegmentItemsSpelled, HeadSpelled, Spelled}
 use Rattle.link_wire.specs.declared.message.{ListOf.ListOf, ListOf.TheVariants.{Session, Transfer}}
 use Rattle.link_wire.specs.{Codes.is_start, Limits.{longest_node, longest_list, most_items}}
 use Rattle.link_wire.specs.Message.{contact_at, skipped_at, total_at, item_head_at, items_at, items_of, list_at, node_bytes_at, node_at, segment_items_at, segment_at, ack_at, refuse_at, sess_term_at, msg_reject_at, sess_init_at, fields_at, message_at, is_total_length, data_length}
@@ -27,17 +27,6 @@ module _ {first second : Spelling} where
 -- the last spelling of a part, with nothing after it
 pub last : (spelled : Spelling) (before : List ℕ) → spelled before → spelled (before ++ [])
 last spelled before is = subst spelled (sym (append-nil before)) is
-
--- three spellings, one after another
-pub then_assoc : {first second third : Spelling} (bytes : List ℕ) → ((first ⨾ second) ⨾ third) bytes
-    → (first ⨾ (second ⨾ third)) bytes
-then_assoc bytes is = record {
-  before = is.is_first.before;
-  after = is.is_first.after ++ is.after;
-  is_first = is.is_first.is_first;
-  is_second = record { before = is.is_first.after; after = is.after; is_first = is.is_first.is_second; is_second = is.is_second; parts = refl };
-  parts = is.parts ∙ ap (λ before. before ++ is.after) is.is_first.parts ∙ append_assoc is.is_first.before is.is_first.after is.after;
-}
 
 -- a spelling is read as this value, whatever follows it
 pub record Only {A : Type 0} (part : List ℕ → Part A) (value : A)
@@ -74,10 +63,10 @@ module _ {A : Type 0} (part other : List ℕ → Part A) {value : A} {spelled : 
   only_else true is only = absurd (cc)
   only_else false is only = only
 
-pub only_such : {A : Type 0} {part : List ℕ → Part A} {value : A} {spelled : Spelling}
-    → ((bytes : List ℕ) → spelled bytes → Only part value (λ all. all ≡ bytes))
-    → Only part value spelled
-only_such only = record { by = λ bytes is more. (only bytes is).by bytes refl more }
+-- a fact, and a spelling that is read as this value if the fact holds
+only_given : {A : Type 0} {part : List ℕ → Part A} {value : A} {fact : Type 0} {spelled : Spelling}
+    → (fact → Only part value spelled) → Only part value (λ bytes. fact × spelled bytes)
+only_given only = record { by = λ bytes is more. (only is.0).by bytes is.1 more }
 
 pub only_bytes : (content : List ℕ) (n : ℕ) → length content ≡ n
     → Only (bytes_at n) content (λ bytes. bytes ≡ content)
@@ -86,48 +75,31 @@ only_bytes content n size = record {
       ap (λ all. bytes_at n (all ++ more)) is ∙ ap (λ k. bytes_at k (content ++ more)) (sym size) ∙ bytes_at-there content more;
 }
 
-pub only_number : (k n : ℕ) → n < 256 ^ k → Only (number_at k) n (λ bytes. bytes ≡ be k n)
+only_number : (k n : ℕ) → Only (number_at k) n (λ bytes. (n < 256 ^ k) × (bytes ≡ be k n))
 unfolding number_at
-only_number k n fits = only_last _ _ (only_bytes (be k n) k (length-bytes_high_first k n)) (λ more.
-    ap (λ m. Ok (m, more)) (ap (big_number k) (sym (append-nil (be k n))) ∙ big_number-reads_back k n [] fits))
-
-only_field : (k n : ℕ) → Only (number_at k) n (λ bytes. (n < 256 ^ k) × (bytes ≡ be k n))
-only_field k n = record { by = λ bytes is more. (only_number k n is.0).by bytes is.1 more }
-
-pub only_u8 : (n : ℕ) → Only (number_at 1) n (U8 n)
-only_u8 n = only_field 1 n
-
-pub only_u16 : (n : ℕ) → Only (number_at 2) n (U16 n)
-only_u16 n = only_field 2 n
-
-pub only_u32 : (n : ℕ) → Only (number_at 4) n (U32 n)
-only_u32 n = only_field 4 n
-
-pub only_u64 : (n : ℕ) → Only (number_at 8) n (U64 n)
-only_u64 n = only_field 8 n
+only_number k n = only_given (λ fits.
+    only_last _ _ (only_bytes (be k n) k (length-bytes_high_first k n)) (λ more.
+    ap (λ m. Ok (m, more)) (ap (big_number k) (sym (append-nil (be k n)))
+    ∙ big_number-reads_back k n [] fits)))
 
 pub only_contact : (contact : Contact) → Only contact_at contact (ContactSpelled contact)
 unfolding contact_at
-only_contact contact = record {
-  by = λ bytes is more.
-      let header : List ℕ = 0x64 ∷ 0x74 ∷ 0x6e ∷ 0x21 ∷ 4 ∷ contact.flags ∷ [] in
-      (only_last _ _ (only_bytes header 6 refl) (λ rest. refl)).by bytes is.1 more;
-}
+only_contact contact = only_given (λ _.
+    let header : List ℕ = 0x64 ∷ 0x74 ∷ 0x6e ∷ 0x21 ∷ 4 ∷ contact.flags ∷ [] in
+    only_last _ _ (only_bytes header 6 refl) (λ more. refl))
 
 pub only_node_bytes : (node : ArrayVec ℕ)
     → Only (node_bytes_at (length node.items)) node (These node.items)
 unfolding node_bytes_at
-only_node_bytes node = record {
-  by = λ bytes is more.
-      (only_last _ _ (only_bytes node.items (length node.items) refl) (λ rest. refl)).by bytes is.1 more;
-}
+only_node_bytes node = only_given (λ _.
+    only_last _ _ (only_bytes node.items (length node.items) refl) (λ more. refl))
 
 pub only_node : (node : ArrayVec ℕ) → Only node_at node (NodeSpelled node)
 unfolding node_at
-only_node node = record {
-  by = λ bytes is more.
-      (only_then _ _ (only_u16 (length node.items)) (only_else _ _ (nat_lt longest_node (length node.items)) (le-ltb longest_node (length node.items) is.0) (only_node_bytes node))).by bytes is.1 more;
-}
+only_node node = only_given (λ short.
+    only_then _ _ (only_number 2 (length node.items))
+    (only_else _ _ (nat_lt longest_node (length node.items))
+    (le-ltb longest_node (length node.items) short) (only_node_bytes node)))
 
 -- the head of an item that ends within its list
 pub only_item_head : (left flags kind size : ℕ) → 5 + size ≤ left
@@ -136,9 +108,9 @@ pub only_item_head : (left flags kind size : ℕ) → 5 + size ≤ left
 unfolding item_head_at
 only_item_head left flags kind size fits =
     only_else _ _ (nat_lt left 5) (le-ltb left 5 (omega arith))
-    (only_then _ _ (only_u8 flags)
-    (only_then _ _ (only_u16 kind)
-    (only_last _ _ (only_u16 size) (λ more.
+    (only_then _ _ (only_number 1 flags)
+    (only_then _ _ (only_number 2 kind)
+    (only_last _ _ (only_number 2 size) (λ more.
     let within : nat_lt (left - 5) size ≡ false = le-ltb (left - 5) size (omega arith) in rw within refl))))
 
 pub has_total_size : (owner : ListOf) (kind size : ℕ) → is_total_length owner kind size ≡ true → size ≡ 8
@@ -149,17 +121,15 @@ module _ (owner : ListOf) (kind size : ℕ) (total : Option ℕ) where
   value_by : (test : Bool) → is_total_length owner kind size ≡ test
       → Only (total_at owner kind size) total (ValueSpelled owner kind size total)
   unfolding total_at number_at skipped_at
-  value_by true known = only_such (λ value is.
-      let number : total ≡ Some (big_number 8 value) = is.2 ∙ ap (λ test. if test then Some (big_number 8 value) else None) known in
-      only_if _ _ (is_total_length owner kind size) known
-      (only_last _ _
-      (only_last _ _ (only_bytes value 8 (is.1 ∙ has_total_size owner kind size known)) (λ rest. refl))
-      (λ rest. ap (λ t. Ok (t, rest)) (sym number))))
-  value_by false known = only_such (λ value is.
-      let number : total ≡ None = is.2 ∙ ap (λ test. if test then Some (big_number 8 value) else None) known in
-      only_else _ _ (is_total_length owner kind size) known
-      (only_last _ _ (only_last _ _ (only_bytes value size is.1) (λ rest. refl))
-      (λ rest. ap (λ t. Ok (t, rest)) (sym number))))
+  value_by true known = record {
+    by = λ value is more.
+        let eight = is.1 ∙ has_total_size owner kind size known in
+        rw (known, (only_bytes value 8 eight).by value refl more, is.2, known) refl;
+  }
+  value_by false known = record {
+    by = λ value is more.
+        rw (known, (only_bytes value size is.1).by value refl more, is.2, known) refl;
+  }
 
   pub only_value : Only (total_at owner kind size) total (ValueSpelled owner kind size total)
   only_value = value_by (is_total_length owner kind size) refl
@@ -199,7 +169,12 @@ module _ (owner : ListOf) where
         only_else _ _ _ (ne_eqb left 0 (λ none. absurd (omega arith)))
         (only_then _ _ (only_item_head left _ _ _ fits) (only_then _ _ (only_value owner _ _ _)
         (only_last _ _ (only_items items room _ (omega arith)) (λ rest. refl)))) in
-        only.by bytes (then_assoc bytes (record { before = is.0.before; after = is.0.after; is_first = is.0.is_first; is_second = (is.0.is_second, size); parts = is.0.parts })) more;
+        let first = is.0.is_first.before in
+        let second = is.0.is_first.after in
+        let third = is.0.after in
+        rw (is.0.parts, is.0.is_first.parts, append_assoc first second third)
+        (only.by (first ++ (second ++ third)) (both first (second ++ third) is.0.is_first.is_first
+        (both second third is.0.is_first.is_second (is.0.is_second, size))) more);
   }
 
   only_items_of : (items : ArrayVec Item) (left : ℕ) → length items.items ≤ most_items
@@ -214,7 +189,7 @@ module _ (owner : ListOf) where
         let size = length is.body in
         let body : ItemsFilling owner items.items size is.is_list.after = rw is.is_list.is_second.1 (is.is_body, refl) in
         let only : Only (list_at owner) items (U32 size ⨾ ItemsFilling owner items.items size) =
-        only_then _ _ (only_u32 size) (only_else _ _ (nat_lt longest_list size) (le-ltb longest_list size is.short) (only_items_of items size is.few)) in
+        only_then _ _ (only_number 4 size) (only_else _ _ (nat_lt longest_list size) (le-ltb longest_list size is.short) (only_items_of items size is.few)) in
         only.by bytes (record { before = is.is_list.before; after = is.is_list.after; is_first = is.is_list.is_first; is_second = body; parts = is.is_list.parts }) more;
   }
 
@@ -224,37 +199,38 @@ unfolding segment_items_at
 only_segment_items flags items true known = only_if _ _ (is_start flags) known (only_list Transfer items)
 only_segment_items flags items false known = only_else _ _ (is_start flags) known (record {
   by = λ bytes is more.
-      let none : items ≡ record { items = [] } = array_vec_of items [] is.0 in rw (is.1, none) refl;
+      let from : List Item → ArrayVec Item = λ xs. record { items = xs } in
+      let none : items ≡ record { items = [] } = ap from is.0 in rw (is.1, none) refl;
 })
 
 -- the head of a message is read as that message, whatever follows it
 pub only_message : (message : Message) → Only message_at message (HeadSpelled message)
 unfolding message_at fields_at segment_at ack_at refuse_at sess_term_at msg_reject_at sess_init_at
 only_message (Segment head) =
-    only_then _ _ (only_u8 1)
-    (only_then _ _ (only_u8 head.flags)
-    (only_then _ _ (only_u64 head.id)
+    only_then _ _ (only_number 1 1)
+    (only_then _ _ (only_number 1 head.flags)
+    (only_then _ _ (only_number 8 head.id)
     (only_then _ _ (only_segment_items head.flags head.items (is_start head.flags) refl)
-    (only_last _ _ (only_u64 head.length) (λ more. refl)))))
+    (only_last _ _ (only_number 8 head.length) (λ more. refl)))))
 only_message (Ack flags id size) =
-    only_then _ _ (only_u8 2)
-    (only_then _ _ (only_u8 flags)
-    (only_then _ _ (only_u64 id) (only_last _ _ (only_u64 size) (λ more. refl))))
+    only_then _ _ (only_number 1 2)
+    (only_then _ _ (only_number 1 flags)
+    (only_then _ _ (only_number 8 id) (only_last _ _ (only_number 8 size) (λ more. refl))))
 only_message (Refuse reason id) =
-    only_then _ _ (only_u8 3)
-    (only_then _ _ (only_u8 reason) (only_last _ _ (only_u64 id) (λ more. refl)))
-only_message Keepalive = only_last _ _ (only_u8 4) (λ more. refl)
+    only_then _ _ (only_number 1 3)
+    (only_then _ _ (only_number 1 reason) (only_last _ _ (only_number 8 id) (λ more. refl)))
+only_message Keepalive = only_last _ _ (only_number 1 4) (λ more. refl)
 only_message (SessTerm flags reason) =
-    only_then _ _ (only_u8 5)
-    (only_then _ _ (only_u8 flags) (only_last _ _ (only_u8 reason) (λ more. refl)))
+    only_then _ _ (only_number 1 5)
+    (only_then _ _ (only_number 1 flags) (only_last _ _ (only_number 1 reason) (λ more. refl)))
 only_message (MsgReject reason header) =
-    only_then _ _ (only_u8 6)
-    (only_then _ _ (only_u8 reason) (only_last _ _ (only_u8 header) (λ more. refl)))
+    only_then _ _ (only_number 1 6)
+    (only_then _ _ (only_number 1 reason) (only_last _ _ (only_number 1 header) (λ more. refl)))
 only_message (SessInit keepalive segment_mru transfer_mru node items) =
-    only_then _ _ (only_u8 7)
-    (only_then _ _ (only_u16 keepalive)
-    (only_then _ _ (only_u64 segment_mru)
-    (only_then _ _ (only_u64 transfer_mru)
+    only_then _ _ (only_number 1 7)
+    (only_then _ _ (only_number 2 keepalive)
+    (only_then _ _ (only_number 8 segment_mru)
+    (only_then _ _ (only_number 8 transfer_mru)
     (only_then _ _ (only_node node)
     (only_last _ _ (only_list Session items) (λ more. refl))))))
 

@@ -1,5 +1,5 @@
 -- The bytes that the `put_` calls append are a spelling of their message.
-use Rattle.std.proofs.Common.{◌≡◌, ℕ, zero, suc, ◌^◌, ◌<◌, ◌≤◌, Bool, true, false, List, [], ◌∷◌, ◌++◌, length, Option, Some, None, arith, refl, ap, sym, subst, append-nil}
+use Rattle.std.proofs.Common.{ℕ, zero, suc, ◌^◌, ◌<◌, ◌≤◌, Bool, true, false, List, [], ◌∷◌, ◌++◌, length, Option, Some, None, arith, refl, ap, sym, subst, append-nil}
 use Rattle.std.specs.Prelude.{IfSome, IsSome, IsTrue}
 use Rattle.std.proofs.lemmas.List.Elements.{All-nil, All-cons, All-append}
 use Rattle.std.specs.Int.{byte_at}
@@ -7,7 +7,7 @@ use Rattle.std.proofs.Math.Nat.{mod-lt}
 use Rattle.byteorder.specs.Numbers.{big_number-reads_back}
 use Rattle.link_io.specs.Bytes.{IsByte, AreBytes}
 use Rattle.link_wire.specs.{Codes.is_start, Limits.longest_node}
-use Rattle.link_wire.specs.Spelled.{be, ContactSpelled, U32, These, ◌⨾◌, ItemSpelled, ItemsSpelled, ListSpelled, SegmentItemsSpelled, HeadSpelled}
+use Rattle.link_wire.specs.Spelled.{be, ContactSpelled, ItemSpelled, ItemsSpelled, ListSpelled, SegmentItemsSpelled, HeadSpelled}
 use Rattle.link_wire.specs.Spelling.{contact_bytes, sess_init_bytes, total_bytes, announce_bytes, list_bytes, segment_head_bytes, sess_term_bytes, announced, segment_with, sess_init_with}
 use Rattle.link_wire.proofs.Sound.{both}
 use Rattle.link_wire.specs.declared.message.{ListOf.ListOf, ListOf.TheVariants.{Session, Transfer}}
@@ -72,10 +72,6 @@ AreBytes-total total =
     (All-append IsByte (be 1 0 ++ be 2 1) (be 2 8) (All-append IsByte (be 1 0) (be 2 1) (AreBytes-be 1 0) (AreBytes-be 2 1)) (AreBytes-be 2 8))
     (AreBytes-be 8 total)
 
-length-total : (total : ℕ) → length (total_bytes total) ≡ 13
-unfolding total_bytes
-length-total total = refl
-
 -- the one item of a list that announces a total
 one_item : (total : ℕ) → total < 2 ^ 64
     → ItemsSpelled Transfer (record { flags = 0; kind = 1; length = 8; total = Some total } ∷ [])
@@ -87,19 +83,15 @@ one_item total fits =
 -- a list that is empty or announces a total
 announce_spelled : (announce : Option ℕ) → IfSome announce (λ total. total < 2 ^ 64)
     → ListSpelled Transfer (record { items = announced announce }) (announce_bytes announce)
-unfolding announce_bytes
+unfolding announce_bytes total_bytes
 announce_spelled None fits = none_spelled Transfer
-announce_spelled (Some total) fits =
-    let size = length-total total in
-    let prefix : be 4 13 ≡ be 4 (length (total_bytes total)) = ap (be 4) (sym size) in
-    let P : List ℕ → Type 0 = λ first. (U32 (length (total_bytes total)) ⨾ These (total_bytes total)) (first ++ total_bytes total) in
-    record {
-      body = total_bytes total;
-      is_body = one_item total fits;
-      few = omega arith;
-      short = omega arith;
-      is_list = subst P (sym prefix) (both (be 4 (length (total_bytes total))) (total_bytes total) (omega arith, refl) (AreBytes-total total, refl));
-    }
+announce_spelled (Some total) fits = record {
+  body = total_bytes total;
+  is_body = one_item total fits;
+  few = omega arith;
+  short = omega arith;
+  is_list = both (be 4 13) (total_bytes total) (omega arith, refl) (AreBytes-total total, refl);
+}
 
 -- if nothing is announced, no total is too large
 pub none_fits : (announce : Option ℕ) → (IsSome announce → ⊥)

@@ -19,12 +19,9 @@ stream_by-same f g offset size (Ok (message, rest)) same =
 enough_turns : (count other offset : ℕ) (bytes : List ℕ) → length bytes ≤ count
     → length bytes ≤ other → messages_at count offset bytes ≡ messages_at other offset bytes
 unfolding messages_at
-enough_turns zero zero offset bytes p q = refl
-enough_turns zero (suc other) offset [] p q = refl
-enough_turns zero (suc other) offset (b ∷ bytes) p q = absurd (omega arith)
-enough_turns (suc count) zero offset [] p q = refl
+enough_turns count other offset [] p q = refl
+enough_turns zero other offset (b ∷ bytes) p q = absurd (omega arith)
 enough_turns (suc count) zero offset (b ∷ bytes) p q = absurd (omega arith)
-enough_turns (suc count) (suc other) offset [] p q = refl
 enough_turns (suc count) (suc other) offset (b ∷ bytes) p q =
     stream_by-same (messages_at count) (messages_at other) offset (length (b ∷ bytes)) (message_at (b ∷ bytes)) (λ message rest is at.
     let fewer = shrinks_message.by (b ∷ bytes) message rest is in

@@ -1,6 +1,6 @@
 -- Whole messages, one after another, are read as one list of messages.
-use Rattle.std.proofs.Common.{◌≡◌, ℕ, ◌+◌, ◌^◌, ◌<◌, ◌≤◌, true, List, [], ◌∷◌, ◌++◌, length, take, drop, slice_index, ◌==◌, refl, ap, sym, ◌∙◌, subst, append_assoc, append-nil, length-append, length-drop, add-zero, get_or-drop, arith}
-use Rattle.std.proofs.lemmas.{Bool.{le-ltb, eqb-true, cond_both}, List.Elements.{All-nil, All-push}}
+use Rattle.std.proofs.Common.{◌≡◌, ℕ, ◌+◌, ◌^◌, ◌<◌, ◌≤◌, true, List, [], ◌∷◌, ◌++◌, length, take, drop, slice_index, Ok, ◌==◌, refl, ap, sym, ◌∙◌, subst, append_assoc, append-nil, length-append, length-drop, add-zero, get_or-drop, arith}
+use Rattle.std.proofs.lemmas.{Bool.{le-ltb, eqb-true, cond_both}, Bool.Decides.nat_tests, List.Elements.{All-push}}
 use Rattle.std.proofs.Math.Seq.{take-add, take-append_seam, drop-append_seam}
 use Rattle.link_wire.specs.{Codes.{xfer_ack, xfer_refuse, keepalive, msg_reject}, Getting.IsPart}
 use Rattle.link_wire.specs.{Message.{message_at, data_length}, Stream.{Entry, stream_at}}
@@ -8,9 +8,6 @@ use Rattle.link_wire.specs.Whole.{followed, AreMessages, is_quiet, IsQuiet, AreQ
 use Rattle.link_wire.proofs.Plains.{ack_head, refuse_head, keepalive_head, msg_reject_head}
 use Rattle.link_wire.proofs.Streams.{stream_at-head}
 use Rattle.link_wire.specs.declared.message.Message.{Message}
-
-messages_none : (offset : ℕ) → AreMessages offset [] []
-messages_none offset = record { all = λ more. ap (λ n. stream_at n more) (sym (add-zero offset)) }
 
 -- some messages, and then others
 messages_then : (offset : ℕ) (first second : List ℕ) (xs ys : List Entry)
@@ -31,7 +28,8 @@ messages_then offset first second xs ys one two = record {
 
 -- a head and its data
 module _ (offset : ℕ) (head content : List ℕ) (message : Message)
-    (is : IsPart message_at head message) (size : data_length message ≡ length content) where
+    (is : (more : List ℕ) → message_at (head ++ more) ≡ Ok (message, more))
+    (size : data_length message ≡ length content) where
   abbrev pub entry_of : Entry
   entry_of = record { offset = offset; message = message; content = content }
 
@@ -44,29 +42,22 @@ module _ (offset : ℕ) (head content : List ℕ) (message : Message)
         let place : offset + length head + length content ≡ offset + length (head ++ content) =
         omega (arith, length-append head content) in
         ap (stream_at offset) (append_assoc head content more)
-        ∙ stream_at-head offset head message is.is_part (content ++ more)
+        ∙ stream_at-head offset head message is (content ++ more)
         ∙ rw (size, whole, take-append_seam, drop-append_seam, place) refl;
   }
 
 -- ---- quiet messages
 
-pub quiet_none : (offset : ℕ) → AreQuiet offset []
-quiet_none offset = record { entries = []; quiet = All-nil IsQuiet; are = messages_none offset }
-
 -- quiet messages, and then another one
-pub quiet_more : (offset at size : ℕ) (window : List ℕ) → at ≤ length window
-    → AreQuiet offset (take at window) → IsQuietHead (drop at window) size
-    → AreQuiet offset (take (at + size) window)
-quiet_more offset at size window within so_far head =
+quiet_more : (offset at size : ℕ) (window : List ℕ) → AreQuiet offset (take at window)
+    → IsQuietHead (drop at window) size → AreQuiet offset (take (at + size) window)
+quiet_more offset at size window so_far head =
     let first = take at window in
     let last = take size (drop at window) in
     let next = offset + length first in
     let entry : List Entry = record { offset = next; message = head.message; content = [] } ∷ [] in
-    let P : List ℕ → Type 0 = λ bytes. AreMessages next bytes entry in
-    let whole = one_message next last [] head.message head.is head.none in
-    let one = subst P (append-nil last) whole in
-    let Q : List ℕ → Type 0 = λ bytes. AreQuiet offset bytes in
-    subst Q (sym (take-add at size window)) (record {
+    let one = rw append-nil at (one_message next last [] head.message head.is.is_part head.none) in
+    rw (take-add at size window) (record {
       entries = so_far.entries ++ entry;
       quiet = All-push IsQuiet so_far.entries _ so_far.quiet head.quiet;
       are = messages_then offset first last so_far.entries _ so_far.are one;
@@ -106,24 +97,12 @@ quiet_by_kind window slice =
 
 -- each length is of some bytes, and a sum of it and an index fits
 pub quiet_size-bounds : (kind : ℕ) → (0 < quiet_size kind) × (quiet_size kind ≤ 2 ^ 63)
-quiet_size-bounds kind =
-    let P : ℕ → Type 0 = λ size. (0 < size) × (size ≤ 2 ^ 63) in
-    cond_both (kind == xfer_ack) 18 _ P (λ _. (omega arith, omega arith))
-    (λ _. cond_both (kind == xfer_refuse) 10 _ P (λ _. (omega arith, omega arith))
-    (λ _. cond_both (kind == keepalive) 1 _ P (λ _. (omega arith, omega arith))
-    (λ _. cond_both (kind == msg_reject) 3 (2 ^ 63) P (λ _. (omega arith, omega arith))
-    (λ _. (omega arith, omega arith)))))
+quiet_size-bounds kind = (grind (arith, nat_tests), grind (arith, nat_tests))
 
 -- the first `count` bytes of the window are quiet messages
 pub record BeginQuiet (window : List ℕ) (count : ℕ) : Type 0 where
   pub within : count ≤ length window
   pub quiet : (offset : ℕ) → AreQuiet offset (take count window)
-
-pub begin_none : (window : List ℕ) → BeginQuiet window 0
-begin_none window = record {
-  within = omega arith;
-  quiet = quiet_none;
-}
 
 -- quiet messages, and then another one of the size that the next byte has as a type
 pub begin_more : (window : List ℕ) (at size : ℕ) → length window < 2 ^ 63
@@ -140,5 +119,5 @@ begin_more window at size slice is begun within =
     (omega (arith, within, long)) in
     record {
       within = within;
-      quiet = λ offset. quiet_more offset at size window begun.within (begun.quiet offset) head;
+      quiet = λ offset. quiet_more offset at size window (begun.quiet offset) head;
     }

@@ -62,14 +62,6 @@ module _ {A : Type 0} {most : ℕ} where
     };
   }
 
-  loosely : (less : ℕ) (part : List ℕ → Part A) → less ≤ most → Within less part → Within most part
-  loosely less part fewer within = record {
-    read = λ bytes value rest is.
-        let h = within.read bytes value rest is in (omega (arith, fewer, h.0), h.1);
-    cut = λ bytes is. let h = within.cut bytes is in omega arith;
-    steady = within.steady;
-  }
-
   within_if : (test : Bool) (part other : List ℕ → Part A)
       → (test ≡ true → Within most part) → (test ≡ false → Within most other)
       → Within most (λ bytes. if test then part bytes else other bytes)
@@ -239,26 +231,25 @@ within_items owner (suc room) left =
     within_then (left - (5 + head.length)) _ _ (omega arith) (within_items owner room _) (λ others.
     within_pure _))))
 
-within_items_of : (owner : ListOf) (size : ℕ) → Within size (items_of owner size)
+within_items_of : (owner : ListOf) (size most : ℕ) → size ≤ most → Within most (items_of owner size)
 unfolding items_of
-within_items_of owner size =
-    within_then size _ _ (omega arith) (within_items owner most_items size) (λ items. within_pure _)
+within_items_of owner size most fits =
+    within_then size _ _ fits (within_items owner most_items size) (λ items. within_pure _)
 
 within_list : (owner : ListOf) → Within 65540 (list_at owner)
 unfolding list_at
 within_list owner =
     within_field 4 _ (omega arith) (λ size.
     within_if (nat_lt longest_list size) _ _ (λ long. within_err _ (λ e. cc))
-    (λ short. let fits = ltb-false longest_list size short in
-    loosely size _ (omega (arith, fits)) (within_items_of owner size)))
+    (λ short. within_items_of owner size longest_list (ltb-false longest_list size short)))
 
 within_node : Within 1026 node_at
 unfolding node_at node_bytes_at
 within_node =
     within_field 2 _ (omega arith) (λ size.
     within_if (nat_lt longest_node size) _ _ (λ long. within_err _ (λ e. cc))
-    (λ short. let fits = ltb-false longest_node size short in
-    within_then size _ _ (omega (arith, fits)) (within_bytes size) (λ node. within_pure _)))
+    (λ short. within_then size _ _ (ltb-false longest_node size short) (within_bytes size)
+    (λ node. within_pure _)))
 
 within_segment_items : (flags : ℕ) → Within 65540 (segment_items_at flags)
 unfolding segment_items_at

@@ -1,6 +1,6 @@
 //! Reading the fields of a message: bytes, and unsigned numbers in big-endian order.
 
-ghost use Rattle.std.specs.Prelude.{◌≡◌, ◌<◌, length, MatchResult};
+ghost use Rattle.std.specs.Prelude.{length};
 ghost use Rattle.link_io.specs.Source.{IsLive};
 ghost use Rattle.link_wire.specs.Part.{bytes_at, number_at};
 ghost use Rattle.link_wire.specs.Getting.{Gets, with_value};

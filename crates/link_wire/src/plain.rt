@@ -29,10 +29,10 @@ pub fn id_and_length(window: &[u8]) -> (u64, u64)
 }
 
 /// XFER_SEGMENT: type, flags, ID, with START an empty list, and the length of the data.
+#[tactic(auto, using(crate::proofs::Plains::first_head, crate::proofs::Plains::later_head))]
 #[inline(always)]
 fn segment(window: &[u8]) -> Option<(Fields, usize)>
-    requires some { 0 < length window.now }
-    requires kind { slice_index window.now 0 ≡ XFER_SEGMENT }
+    requires { slice_index window.now 0 ≡ XFER_SEGMENT }
     ensures { IfSome result (λ head. IsHead window.now head.0 head.1) }
 {
     if window.len() < PLAIN_HEAD {
@@ -58,8 +58,7 @@ fn segment(window: &[u8]) -> Option<(Fields, usize)>
 #[tactic(auto, using(crate::proofs::Plains::ack_head))]
 #[inline(always)]
 fn ack(window: &[u8]) -> Option<(Fields, usize)>
-    requires some { 0 < length window.now }
-    requires kind { slice_index window.now 0 ≡ XFER_ACK }
+    requires { slice_index window.now 0 ≡ XFER_ACK }
     ensures { IfSome result (λ head. IsHead window.now head.0 head.1) }
 {
     if window.len() < PLAIN_HEAD {
@@ -74,8 +73,7 @@ fn ack(window: &[u8]) -> Option<(Fields, usize)>
 #[tactic(auto, using(crate::proofs::Plains::refuse_head))]
 #[inline(always)]
 fn refuse(window: &[u8]) -> Option<(Fields, usize)>
-    requires some { 0 < length window.now }
-    requires kind { slice_index window.now 0 ≡ XFER_REFUSE }
+    requires { slice_index window.now 0 ≡ XFER_REFUSE }
     ensures { IfSome result (λ head. IsHead window.now head.0 head.1) }
 {
     if window.len() < 10 {
@@ -90,8 +88,7 @@ fn refuse(window: &[u8]) -> Option<(Fields, usize)>
 #[tactic(auto, using(crate::proofs::Plains::sess_term_head))]
 #[inline(always)]
 fn sess_term(window: &[u8]) -> Option<(Fields, usize)>
-    requires some { 0 < length window.now }
-    requires kind { slice_index window.now 0 ≡ SESS_TERM }
+    requires { slice_index window.now 0 ≡ SESS_TERM }
     ensures { IfSome result (λ head. IsHead window.now head.0 head.1) }
 {
     if window.len() < 3 {
@@ -106,8 +103,7 @@ fn sess_term(window: &[u8]) -> Option<(Fields, usize)>
 #[tactic(auto, using(crate::proofs::Plains::msg_reject_head))]
 #[inline(always)]
 fn msg_reject(window: &[u8]) -> Option<(Fields, usize)>
-    requires some { 0 < length window.now }
-    requires kind { slice_index window.now 0 ≡ MSG_REJECT }
+    requires { slice_index window.now 0 ≡ MSG_REJECT }
     ensures { IfSome result (λ head. IsHead window.now head.0 head.1) }
 {
     if window.len() < 3 {

@@ -32,7 +32,7 @@ pub struct Session<R> {
 }
 
 impl<R: InDevice> Session<R> {
-    ghost use Rattle.std.specs.Prelude.{◌≡◌, ◌<◌, true, false, [], ℕ, List, length, IfErr, IfSome, None, IsTrue};
+    ghost use Rattle.std.specs.Prelude.{◌≡◌, ◌<◌, false, [], ℕ, List, length, IfErr, IfSome, None, IsTrue};
     ghost use Rattle.link_wire.specs.Halt.{stop_at};
     ghost use Rattle.link_io.specs.Limits.{window_size};
     ghost use Rattle.link_io.specs.Source.{is_fresh, reader_of, given_by, window_of, front_of, reach};
@@ -129,6 +129,7 @@ impl<R: InDevice> Session<R> {
     /// Reads the contact header (RFC 9174 section 4.2).
     ///
     /// It is called once, before all else. A fault of the contact header has the offset 0.
+    #[tactic(auto, using(crate::proofs::Sessions::contact_came, crate::proofs::Sessions::contact_refused, crate::proofs::Sessions::opens_live))]
     pub fn open(&mut self) -> Result<Contact, Stop>
         requires { IsTrue (may_open self.old) }
         ensures settles { IfErr result (HasStopped self.new) }
@@ -383,6 +384,7 @@ impl<R: InDevice> Session<R> {
     ///
     /// A quiet message has no data, and it changes neither the order nor the transfers of its
     /// sender. The call does not read from the reader.
+    #[tactic(auto, using(link_io::proofs::Sources::ended_window))]
     #[inline(always)]
     pub fn pass_quiet(&mut self) -> usize
         requires { IsTrue (may_read self.old) }

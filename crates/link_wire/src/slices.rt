@@ -5,16 +5,19 @@
 //! lists are shown by where they lie.
 
 ghost use Rattle.std.specs.Prelude.{◌≡◌, ℕ, ◌+◌, ◌≤◌, List, [], length, take, drop, IfOk, IfErr, Ok, Err};
-ghost use Rattle.link_wire.specs.Part.{bytes_at, number_at};
-ghost use Rattle.link_wire.specs.Message.{is_total_length, contact_at, node_at, total_at, item_head_at, items_of, list_at, segment_items_at, segment_at, ack_at, refuse_at, sess_term_at, msg_reject_at, sess_init_at, fields_at, message_at};
-ghost use Rattle.link_wire.specs.InSlice.{read_part, read_node, read_head, LocatesItem, LocatesEnd, LocatesList, LocatesMessage};
+ghost use Rattle.link_wire.specs.Part.{Part, bytes_at, number_at};
+ghost use Rattle.link_wire.specs.MessageBuffer.{message_with};
+ghost use Rattle.link_wire.specs.Message.{is_total_length, contact_at, node_at, total_at, item_head_at, items_of, list_at, segment_at, ack_at, refuse_at, sess_term_at, msg_reject_at, sess_init_at, fields_at, message_at};
+ghost use Rattle.link_wire.specs.InSlice.{read_part, read_node, read_head, LocatesItem, LocatesEnd, HasList, HasSpans, LiesAt, LocatesList, LocatesMessage};
 
 use crate::codes::{
     ITEM_HEAD, KEEPALIVE, MAGIC, MSG_REJECT, SESS_INIT, SESS_TERM, START, TOTAL_SIZE,
     TRANSFER_LENGTH, VERSION, XFER_ACK, XFER_REFUSE, XFER_SEGMENT,
 };
 use crate::fault::WireFault;
-use crate::message::{Contact, Fields, Item, ListOf, MAX_ITEMS, MAX_LIST_LENGTH, MAX_NODE_ID};
+use crate::message::{
+    Contact, Fields, Item, ListOf, MAX_ITEMS, MAX_LIST_LENGTH, MAX_NODE_ID, Message,
+};
 use byteorder::{BigEndian, ByteOrder};
 
 /// Where some bytes of a slice lie.
@@ -146,12 +149,20 @@ pub fn contact_in(bytes: &[u8]) -> Result<(Contact, usize), WireFault>
 
 /// A message without node ID and items, which ends there.
 fn plain_at(fields: Fields, end: usize) -> MessageAt
-    ensures { result ≡ record {
+    ensures is { result ≡ record {
       fields = fields;
       node = record { offset = 0; length = 0 };
       items = record { offset = 0; length = 0 };
       end = end;
     } }
+    ensures lies { (bytes : List ℕ) (part : Part Message)
+        → part ≡ Ok (
+          message_with fields (record { items = [] }) (record { items = [] }),
+          drop end bytes,
+        )
+        → HasList fields bytes result.items (record { items = [] })
+        → HasSpans fields result.node result.items end → end ≤ length bytes
+        → LiesAt bytes part result }
 {
     MessageAt {
         fields,

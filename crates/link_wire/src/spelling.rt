@@ -187,7 +187,7 @@ fn put_segment(buffer: &mut HeadBuf, flags: u8, id: u64)
 /// is empty or announces the transfer's total length in bytes (section 5.2.5.1). Only a segment
 /// with START may announce it. The buffer has room for the head: 18 bytes without START, 22 with an
 /// empty list, 35 with the item.
-#[tactic(auto, unfolding(crate::specs::Spelling::segment_head_bytes))]
+#[tactic(auto, unfolding(crate::specs::Spelling::segment_head_bytes), using(crate::proofs::Spellings::segment_spelled, crate::proofs::Spellings::none_fits))]
 pub fn put_segment_head(
     buffer: &mut HeadBuf,
     flags: u8,

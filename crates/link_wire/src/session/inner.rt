@@ -17,6 +17,7 @@ const INNER: u16 = 0x0100;
 /// The length of the data of the inner segment of this transfer that begins the window.
 ///
 /// It is `None` unless the segment has data, and all of it is in the window.
+#[tactic(auto, using(crate::proofs::Inners::inner_head, crate::proofs::Inners::two_bytes))]
 #[inline(always)]
 fn inner_size(window: &[u8], id: u64) -> Option<usize>
     ensures { IfSome result (IsInner id window.now) }

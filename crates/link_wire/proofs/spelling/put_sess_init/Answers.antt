@@ -1,19 +1,18 @@
-use Rattle.std.proofs.Common.{◌++◌, ◌≤◌, length}
-use Rattle.link_wire.proofs.{Appends.then_append, Spellings.sess_init_spelled}
-use Rattle.link_wire.specs.{Spelled.be, Spelling.sess_init_bytes}
+use Rattle.std.proofs.Common.{◌≤◌, length, append_assoc}
+use Rattle.link_wire.proofs.Spellings.{sess_init_spelled}
+use Rattle.link_wire.specs.Spelling.{sess_init_bytes}
 use Rattle.link_wire.proofs.spelling.put_sess_init.Goals as goal
 
 pub returns-clause-items : goal.returns-clause-items
 unfolding sess_init_bytes
 returns-clause-items c =
-    let old = c.args.buffer.now.items in
-    let node = c.as_slice.result.now in
-    let numbers = be 1 7 ++ be 2 c.args.keepalive in
-    let mrus = be 8 c.args.segment_mru ++ be 8 c.args.transfer_mru in
-    let text = be 2 (length node) ++ node in
-    let two = then_append old _ _ numbers mrus c.put_keepalive.ensures.items c.put_mrus.ensures.items in
-    let three = then_append old _ _ (numbers ++ mrus) text two c.put_node.ensures.items in
-    rw (← c.as_slice.ensures.value) (then_append old _ _ (numbers ++ mrus ++ text) (be 4 0) three c.put_u32.ensures.items)
+    rw (
+      ← c.as_slice.ensures.value,
+      c.put_u32.ensures.items,
+      c.put_node.ensures.items,
+      c.put_mrus.ensures.items,
+      c.put_keepalive.ensures.items,
+    ) (simp append_assoc)
 
 pub returns-clause-spelled : goal.returns-clause-spelled
 returns-clause-spelled c =

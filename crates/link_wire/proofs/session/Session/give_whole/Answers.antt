@@ -1,8 +1,8 @@
-use Rattle.std.proofs.Common.{◌≡◌, ◌+◌, ◌-◌, ◌≤◌, length, take, drop, sym, subst, ap, ◌∙◌, length-take, length-drop, arith}
+use Rattle.std.proofs.Common.{◌≡◌, ◌+◌, ◌-◌, ◌≤◌, length, take, drop, sym, ap, ◌∙◌, length-take, length-drop, arith}
 use Rattle.std.proofs.Math.Seq.{take-add}
 use Rattle.link_io.specs.Source.{window_of}
 use Rattle.link_wire.specs.{Getting.IsPart, Message.{message_at, data_length}}
-use Rattle.link_wire.specs.{MessageBuffer.message_of, declared.message.Message.Message}
+use Rattle.link_wire.specs.MessageBuffer.{message_of}
 use Rattle.link_wire.proofs.Sessions.{none_left, came_whole}
 use Rattle.link_wire.proofs.session.Session.give_whole.Goals as goal
 
@@ -12,8 +12,8 @@ returns-clause-gives g c = λ history at.
     let window = window_of old.source in
     let size = c.args.size in
     let here : c.given-offset.result ≡ length history = c.given-offset.ensures ∙ at.at.given in
-    let P : Message → Type 0 = λ message. IsPart message_at (take size window) message in
-    let head = subst P (sym c.set.ensures.message) (c.requires.head.is c.args.message.now.node) in
+    let head : IsPart message_at (take size window) (message_of c.set.new.self) =
+    rw c.set.ensures.message (c.requires.head.is c.args.message.now.node) in
     let content = take c.data_length.result (drop size window) in
     let count = c.data_length.result in
     let owner : data_length (message_of c.set.new.self) ≡ count = ap data_length c.set.ensures.message ∙ sym (c.data_length.ensures _ _) in

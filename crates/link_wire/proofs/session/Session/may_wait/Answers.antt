@@ -1,5 +1,5 @@
-use Rattle.std.proofs.Common.{◌≡◌, [], false, length, not, ap, sym, ◌∙◌, arith}
-use Rattle.std.proofs.lemmas.{Bool.false≢true, Bool.Decides.nat_tests, Grind.common_steps}
+use Rattle.std.proofs.Common.{◌≡◌, [], length, ap, arith}
+use Rattle.std.proofs.lemmas.{Bool.Decides.nat_tests, Grind.common_steps}
 use Rattle.link_io.proofs.Sources.{nothing_ahead}
 use Rattle.link_io.specs.Source.{window_of, front_of}
 use Rattle.link_wire.proofs.{Sessions.opens_unopened, Steady.{contact_next, head_next}}
@@ -15,31 +15,17 @@ returns-then-is_empty-clause-data g c = λ waits some.
     nothing_ahead look s empty (c.may_wait.ensures.none waits) in
     rw none (grind (arith, common_steps))
 
-pub returns-else-not-has_contact : goal.returns-else-not-has_contact
-returns-else-not-has_contact g c =
-    let no : not c.has_contact.result ≡ false = ap not c.if-not-has_contact.false in
-    record {
-      few = λ is. absurd (false≢true (sym no ∙ is));
-      «data» = λ is. absurd (false≢true (sym no ∙ is));
-      stopped = λ stop is. no;
-      contact = λ may waits. contact_next g.R.InDevice.state c.args.self.now _
-          c.peek-count.ensures.here (c.has_contact.ensures c.if-not-has_contact.false);
-      here = λ history at waits. let never = sym at.going ∙ c.in-Unopened.is in absurd (cc);
-    }
+pub returns-else-not-has_contact-clause-contact : goal.returns-else-not-has_contact-clause-contact
+returns-else-not-has_contact-clause-contact g c = λ may waits.
+    contact_next g.R.InDevice.state c.args.self.now _
+    c.peek-count.ensures.here (c.has_contact.ensures c.if-not-has_contact.false)
 
-pub returns-else-not-has_head : goal.returns-else-not-has_head
-returns-else-not-has_head g c =
-    let no : not c.has_head.result ≡ false = ap not c.if-not-has_head.false in
-    record {
-      few = λ is. absurd (false≢true (sym no ∙ is));
-      «data» = λ is. absurd (false≢true (sym no ∙ is));
-      stopped = λ stop is. no;
-      contact = λ may waits.
-          let unopened = opens_unopened g.R.InDevice.state c.args.self.now may in
-          absurd (c.in_default-phase.not-Unopened unopened);
-      here = λ history at waits.
-          let s = c.args.self.now in
-          let between : s.left ≡ 0 = omega (arith, c.if-self-gt0.false) in
-          head_next g.R.InDevice.state s between _ c.peek-count.ensures.here
-          (c.has_head.ensures c.if-not-has_head.false);
-    }
+pub returns-else-not-has_head-clause-contact : goal.returns-else-not-has_head-clause-contact
+returns-else-not-has_head-clause-contact g c = λ may waits.
+    absurd (c.in_default-phase.not-Unopened
+    (opens_unopened g.R.InDevice.state c.args.self.now may))
+
+pub returns-else-not-has_head-clause-here : goal.returns-else-not-has_head-clause-here
+returns-else-not-has_head-clause-here g c = λ history at waits.
+    head_next g.R.InDevice.state c.args.self.now (omega (arith, c.if-self-gt0.false)) _
+    c.peek-count.ensures.here (c.has_head.ensures c.if-not-has_head.false)

@@ -7,9 +7,7 @@ returns-in-Ok g c = record {
   settles = search rules;
   left = search rules;
   again = λ ended.
-      let none = (c.in-Ok-Some.ensures.ended ended.1).1 in
-      let some = c.in-Ok-Some.field-0-is in
-      absurd (cc);
+      absurd (cc (c.in-Ok-Some.field-0-is, (c.in-Ok-Some.ensures.ended ended.1).1));
   gives = λ history at.
       let old = c.args.self.now in
       let first = rw c.in-Ok-Some.field-0-is at (c.in-Ok-Some.ensures.gives at.live) in
@@ -26,9 +24,7 @@ returns-in-Err-fields g c = record {
   settles = search rules;
   left = search rules;
   again = λ ended.
-      let none = (c.in-Ok-Some.ensures.ended ended.1).1 in
-      let some = c.in-Ok-Some.field-0-is in
-      absurd (cc);
+      absurd (cc (c.in-Ok-Some.field-0-is, (c.in-Ok-Some.ensures.ended ended.1).1));
   gives = λ history at.
       let old = c.args.self.now in
       let first = rw c.in-Ok-Some.field-0-is at (c.in-Ok-Some.ensures.gives at.live) in
