@@ -37,7 +37,7 @@ lines_of only is_open (latest ∷ earlier) =
 -- the line of a head that is not in order
 abbrev pub order_line_of : WalkEvent → List ℕ
 order_line_of (MessageHead head) = order_line head.offset head.fault
-order_line_of others = []
+order_line_of _ = []
 
 -- ---- a stream
 

@@ -11,7 +11,8 @@ use Rattle.link_bundle_blocks.specs.Blocks.{Block, PrimaryOf, CanonicalOf, LiesW
 use Rattle.link_bundle_blocks.specs.Bundle.{blocks_in}
 use Rattle.link_bundle.specs.Left.{block_of, stage_follows}
 use Rattle.link_bundle.specs.Scan.{HasScanned, Advances, AddsBlock, ending, scan_size}
-use Rattle.link_bundle_blocks.proofs.{Rests.joined_run, Lying.BlocksWithin-holds}
+use Rattle.link_cbor.proofs.Joins.{joined_run}
+use Rattle.link_bundle_blocks.proofs.Lying.{BlocksWithin-holds}
 use Rattle.link_bundle_blocks.proofs.Showing.{BlocksGrow-holds}
 
 -- the block ends at this offset

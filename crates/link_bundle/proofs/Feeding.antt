@@ -16,7 +16,8 @@ use Rattle.link_bundle.specs.CheckKinds.{kind_of}
 use Rattle.link_bundle_blocks.specs.Blocks.{Block}
 use Rattle.link_bundle_blocks.specs.Bundle.{with_blocks, judged_bundle, verdict_by, verdict, state_of, is_going, bundle_goes}
 use Rattle.link_bundle.specs.Left.{last_block, with_known_payload, stage_left}
-use Rattle.link_bundle_blocks.proofs.{Blocks.verdict_by-blocks, Rests.joined_run, Runs.content_at-cut}
+use Rattle.link_cbor.proofs.Joins.{joined_run}
+use Rattle.link_bundle_blocks.proofs.{Blocks.verdict_by-blocks, Runs.content_at-cut}
 use Rattle.link_bundle.specs.Scan.{HasSeen, HasScanned, Advances, scan_size}
 use Rattle.link_bundle.specs.declared.scan.BundleScan.{BundleScan}
 use Rattle.link_bundle.proofs.{Heads.read_alone-stopped, Steps.{at_head, after_seen}}

@@ -9,7 +9,8 @@ use Rattle.link_bundle.specs.declared.stage.ScanStage.TheVariants.{Ended}
 use Rattle.link_bundle_blocks.specs.{Blocks.Block, Bundle.{blocks_in, bundle_goes}}
 use Rattle.link_bundle.specs.{Left.{block_of, stage_follows, stage_last}, Moves.Enters}
 use Rattle.link_bundle.specs.Scan.{HasSeen, HasScanned, HasTaken, Advances, AddsBlock, ending_at, ending, scan_size}
-use Rattle.link_bundle_blocks.proofs.{Rests.joined_run, Steady.of_either}
+use Rattle.link_cbor.proofs.Joins.{joined_run}
+use Rattle.link_bundle_blocks.proofs.Steady.{of_either}
 use Rattle.link_bundle.proofs.Verdicts.{blocks_of-seen}
 
 -- the block that ended before the stage of a scan

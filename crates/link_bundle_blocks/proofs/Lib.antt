@@ -1,4 +1,3 @@
-pub mod Rests
 pub mod Blocks
 pub mod Heads
 pub mod Runs

@@ -1,7 +1,7 @@
 -- Laws of the bytes of the payload.
 
 use Rattle.std.proofs.Common.{◌≡◌, ℕ, suc, ◌≤◌, Bool, true, false, List, [], ◌++◌, length, take, drop, Option, None, Some, Result, Ok, Err, refl, sym, ap, ◌∙◌, length-drop, arith}
-use Rattle.std.specs.Prelude.{◌==◌, if◌then◌else◌}
+use Rattle.std.specs.Prelude.{◌==◌}
 use Rattle.std.proofs.lemmas.{Bool.false≢true, List.{drop-append-le, take-append-le}}
 use Rattle.std.proofs.Math.{ListN.drop_of_length-le, Seq.take-nil}
 use Rattle.link_bundle_blocks.specs.Laws.{PayloadLasts, PayloadPlaced, PayloadEnds}

@@ -107,12 +107,12 @@ broken_by options kept LeftOpen = rules_at open_rules kept.latest
 
 abbrev pub heads_with : List JudgedHead → WalkEvent → List JudgedHead
 heads_with heads (MessageHead head) = heads ++ judged head ∷ []
-heads_with heads others = heads
+heads_with heads _ = heads
 
 abbrev pub latest_with : Option Begun → WalkEvent → Option Begun
 latest_with latest (MessageHead head) = begun_by head latest
 latest_with latest (Data byte) = option_map (with_bytes (byte ∷ [])) latest
-latest_with latest others = latest
+latest_with latest _ = latest
 
 abbrev pub kept_with : CheckOptions → Kept → WalkEvent → Kept
 kept_with options kept event = record {

@@ -142,4 +142,4 @@ AfterStepOrStride look start piece far now old new knows history result =
 abbrev pub WaitsForData : (left : ℕ) → Next Stage → Type 0
 WaitsForData left (next.Stage stage.Message) = left ≡ 0
 WaitsForData left (next.Stage stage.Data) = 0 < left
-WaitsForData left others = ⊥
+WaitsForData left _ = ⊥

@@ -30,7 +30,7 @@ by_event : (before : List Message) (event : Event)
     → (joiner_after (joiner_at before) event).initiated
     ≡ (has_sess_init before || is_sess_init event)
 by_event before SessInit = sym (or-true (has_sess_init before))
-by_event before others = sym (or-false (has_sess_init before))
+by_event before _ = sym (or-false (has_sess_init before))
 
 pub has_sess_init_push : (before : List Message) (message : Message)
     → has_sess_init (before ++ message ∷ [])

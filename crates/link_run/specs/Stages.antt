@@ -46,7 +46,7 @@ AfterStageStride look made start begun old new knows most history result =
 -- the step was not the last
 abbrev pub IsMore : Result Progress IoFault → Type 0
 IsMore (Ok More) = Unit {0}
-IsMore other = ⊥
+IsMore _ = ⊥
 
 -- a run that has ended is given no more bytes
 abbrev pub most_unless_ended : Option (Result Status IoFault) → ℕ → ℕ

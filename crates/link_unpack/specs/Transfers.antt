@@ -34,4 +34,4 @@ after_segment transfers head content =
 -- only segments change the transfers; no other message is about a transfer of this direction
 abbrev pub after_message : List Transfer → Message → List ℕ → List Transfer
 after_message transfers (Segment head) content = after_segment transfers head content
-after_message transfers message content = transfers
+after_message transfers _ content = transfers

@@ -37,16 +37,16 @@ head_at before offset message = record {
 abbrev pub is_last : Option Turn → Bool
 is_last (Some (turn.Begin abandoned last)) = last
 is_last (Some (turn.Continue last)) = last
-is_last other = false
+is_last _ = false
 
 abbrev pub is_beginning : Option Turn → Bool
 is_beginning (Some (turn.Begin abandoned last)) = true
-is_beginning other = false
+is_beginning _ = false
 
 -- whether the message abandons the transfer that is open
 abbrev pub abandons : Option Turn → Bool
 abandons (Some (turn.Begin abandoned last)) = is_some abandoned
-abandons other = false
+abandons _ = false
 
 -- Whether the transfer is over with the head of its last segment, which has no data.
 abbrev pub closes : Head → Bool
@@ -75,7 +75,7 @@ data_events bytes = map Data bytes
 -- the number of bytes of data among these events
 abbrev pub data_size_of : WalkEvent → ℕ
 data_size_of (Data byte) = 1
-data_size_of other = 0
+data_size_of _ = 0
 
 unfoldable pub data_size : List WalkEvent → ℕ
 data_size events = fold (λ size event. size + data_size_of event) 0 events
@@ -84,7 +84,7 @@ data_size events = fold (λ size event. size + data_size_of event) 0 events
 abbrev pub open_with : Option Turn → (closing was : Bool) → Bool
 open_with None closing was = was
 open_with (Some turn.Other) closing was = was
-open_with (Some turn) closing was = not closing
+open_with (Some _) closing was = not closing
 
 abbrev pub open_after_event : Bool → WalkEvent → Bool
 open_after_event was (ContactHeader contact) = was

@@ -38,7 +38,7 @@ use Rattle.link_walk.specs.declared.walk.Walker.{Walker}
 abbrev pub most_by : (piece : ℕ) → Stage → ℕ
 most_by piece stage.Contact = 6
 most_by piece stage.Message = longest_head
-most_by piece now = piece
+most_by piece _ = piece
 
 abbrev pub most_given : Stage → ℕ
 most_given now = most_by 4096 now
@@ -109,7 +109,7 @@ IsWaiting now before (Fault offset fault) = ⊥
 -- has come.
 abbrev pub is_open_at : Stage → List Message → Bool
 is_open_at (stage.Data last) taken = true
-is_open_at now taken = is_some (open_of taken)
+is_open_at _ taken = is_some (open_of taken)
 
 -- How the reading ends after a step, if data of a segment is still to come. A step that reads a
 -- head is given none of that data.

@@ -2,7 +2,8 @@ use Rattle.std.proofs.Common.{◌≡◌, ℕ, ◌+◌, ◌⊎◌, inl, inr, true
 use Rattle.std.proofs.lemmas.List.{drop_all, length-take-le}
 use Rattle.link_bundle_blocks.specs.Bundle.{bundle_goes, blocks_in}
 use Rattle.link_bundle.specs.Scan.{HasScanned, HasJudged, ending}
-use Rattle.link_bundle_blocks.proofs.Rests.{the_rest, joined_run}
+use Rattle.std.proofs.lemmas.List.{take_rest}
+use Rattle.link_cbor.proofs.Joins.{joined_run}
 use Rattle.link_bundle.proofs.Pieces.{all_judged}
 use Rattle.link_run.specs.Writers.{on_output, AfterWrite}
 use Rattle.link_run.proofs.Runs.{outputs_then, part_of_more}
@@ -45,19 +46,19 @@ shown g c content same judged reading =
     let size : length bytes ≡ c.args.before + taken =
     omega (arith, same, length-append content (take taken piece), length-take-le taken piece kept.within) in
     let later : HasScanned c.feed_block-count.new.self (bytes ++ run) =
-    rw (the_rest piece taken) at (c.feed_block-count.ensures.taken.seen bytes come) in
+    rw (take_rest piece taken) at (c.feed_block-count.ensures.taken.seen bytes come) in
     let grown : blocks_in (bytes ++ run) ≡ blocks_in bytes ++ ending c.feed_block-count.new.self =
-    rw (the_rest piece taken) at (c.feed_block-count.ensures.blocks bytes come) in
+    rw (take_rest piece taken) at (c.feed_block-count.ensures.blocks bytes come) in
     let joined = joined_run content piece taken count in
     let lines = lines_from c.args.id c.loop-taken.reader.flags (bytes ++ run) (ending c.feed_block-count.new.self) in
     record {
       come = subst (HasScanned c.feed_block-count.new.self) joined later;
       reads = subst (IsReading c.show_block.new.reader) joined
-          (rw (the_rest piece taken) at (c.show_block.ensures.reads bytes size read goes) later grown);
+          (rw (take_rest piece taken) at (c.show_block.ensures.reads bytes size read goes) later grown);
       lines = shows.lines ++ lines;
       are = rw (← joined) (run_lines _ _ _ bytes run _ _ read.flags grown shows.are);
       wrote = outputs_then _ _ _ _ _ shows.lines lines _ shows.wrote
-          (rw (the_rest piece taken) at (c.show_block.ensures.gives bytes size read goes) later grown);
+          (rw (take_rest piece taken) at (c.show_block.ensures.gives bytes size read goes) later grown);
     }
 
 pub returns-in-Err-clause-gives : goal.returns-in-Err-clause-gives
@@ -84,7 +85,7 @@ loop-taken-preserved g c =
       scanned = omega (arith, taken.size, c.loop-taken.invariant.scanned);
       read = omega (
         arith,
-        rw (the_rest piece c.loop-taken.taken) at c.show_block.ensures.read,
+        rw (take_rest piece c.loop-taken.taken) at c.show_block.ensures.read,
         length-take c.feed_block-count.result (drop c.loop-taken.taken piece),
       );
       judged = λ content same judged.
@@ -93,7 +94,7 @@ loop-taken-preserved g c =
           c.if-going.ensures.may_step in
           all_judged c.feed_block-count.new.self _
           (subst (HasScanned c.feed_block-count.new.self) (joined_run content piece c.loop-taken.taken c.feed_block-count.result)
-          (rw (the_rest piece c.loop-taken.taken) at (taken.seen bytes come)));
+          (rw (take_rest piece c.loop-taken.taken) at (taken.seen bytes come)));
       reads = λ content same judged reading. (shown g at content same judged reading).reads;
       shows = λ content same judged reading.
           let shown = shown g at content same judged reading in

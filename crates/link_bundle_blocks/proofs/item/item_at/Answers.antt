@@ -1,5 +1,6 @@
 use Rattle.std.proofs.Common.{ℕ, ◌+◌, arith}
-use Rattle.link_bundle_blocks.proofs.{Rests.the_rest, Items.{head_at-small, head_at-argument}}
+use Rattle.std.proofs.lemmas.List.{take_rest}
+use Rattle.link_bundle_blocks.proofs.Items.{head_at-small, head_at-argument}
 use Rattle.link_bundle_blocks.proofs.item.item_at.Goals as goal
 
 pub returns-then-information-lt24 : goal.returns-then-information-lt24
@@ -16,4 +17,4 @@ returns c =
     (omega arith) (c.in_ok-information.ensures.first (omega arith))
     c.in_ok-size.ensures.least c.in_ok-size.ensures.below c.in_ok-size.ensures.size
     (λ (index : ℕ). omega (arith, c.type_inv.bytes index))
-    (rw (the_rest c.args.bytes.now (c.args.offset + 1)) at c.read_u64.ensures)
+    (rw (take_rest c.args.bytes.now (c.args.offset + 1)) at c.read_u64.ensures)

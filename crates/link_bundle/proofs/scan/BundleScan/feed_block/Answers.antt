@@ -1,5 +1,5 @@
 use Rattle.std.proofs.Common.{sym, ◌∙◌, length-drop, arith}
-use Rattle.link_bundle_blocks.proofs.Rests.{the_rest}
+use Rattle.std.proofs.lemmas.List.{take_rest}
 use Rattle.link_bundle.proofs.Taking.{advances_on, adds_on, no_ending}
 use Rattle.link_bundle.proofs.scan.BundleScan.feed_block.Goals as goal
 
@@ -28,10 +28,10 @@ loop-taken-preserved c =
     record {
       advances = advances_on c.args.self.now c.loop-taken.self c.advance_part-taken.new.self
           piece taken c.advance_part-taken.result c.loop-taken.invariant.advances
-          (rw (the_rest piece taken) at c.advance_part-taken.ensures.advances);
+          (rw (take_rest piece taken) at c.advance_part-taken.ensures.advances);
       blocks = adds_on c.args.self.now c.loop-taken.self c.advance_part-taken.new.self
           piece taken c.advance_part-taken.result c.loop-taken.invariant.advances
           (no_ending c.loop-taken.self (sym c.if-not-ends_block.true ∙ c.ends_block.ensures))
           c.loop-taken.invariant.blocks
-          (rw (the_rest piece taken) at c.advance_part-taken.ensures.blocks);
+          (rw (take_rest piece taken) at c.advance_part-taken.ensures.blocks);
     }

@@ -1,6 +1,7 @@
 use Rattle.std.proofs.Common.{ℕ, List, ◌++◌, take, sym, ◌∙◌, length-drop, arith}
 use Rattle.link_bundle.specs.Scan.{HasScanned}
-use Rattle.link_bundle_blocks.proofs.Rests.{the_rest, joined_run}
+use Rattle.std.proofs.lemmas.List.{take_rest}
+use Rattle.link_cbor.proofs.Joins.{joined_run}
 use Rattle.link_bundle.proofs.Feeding.{TakenInAll, taken_more, taken_stop, taken_all}
 use Rattle.link_bundle.proofs.scan.BundleScan.feed_on.Goals as goal
 use Rattle.link_bundle.proofs.scan.BundleScan.feed_on.Goals.{Else-going, After-loop-taken}
@@ -13,13 +14,13 @@ loop-taken-preserved c =
       within = omega (arith, length-drop taken bytes);
       size = omega arith;
       seen = λ seen related.
-          rw (the_rest bytes taken, joined_run seen bytes taken c.advance-taken.result) at
+          rw (take_rest bytes taken, joined_run seen bytes taken c.advance-taken.result) at
           (c.advance-taken.ensures.seen (seen ++ take taken bytes)
           (c.loop-taken.invariant.seen seen related));
       split = λ seen related.
           taken_more seen bytes taken c.advance-taken.result
           (omega (arith, length-drop taken bytes))
-          (rw (the_rest bytes taken) at (c.advance-taken.ensures.goes (seen ++ take taken bytes)
+          (rw (take_rest bytes taken) at (c.advance-taken.ensures.goes (seen ++ take taken bytes)
           (c.loop-taken.invariant.seen seen related)))
           (c.loop-taken.invariant.split seen related);
     }

@@ -2,7 +2,8 @@ use Rattle.std.proofs.Common.{◌≡◌, ℕ, ◌+◌, ◌⊎◌, inl, inr, ◌<
 use Rattle.std.proofs.lemmas.List.{drop_all, length-take-le}
 use Rattle.link_bundle_blocks.specs.Bundle.{bundle_goes, blocks_in}
 use Rattle.link_bundle.specs.Scan.{HasScanned, HasJudged, ending}
-use Rattle.link_bundle_blocks.proofs.Rests.{the_rest, joined_run}
+use Rattle.std.proofs.lemmas.List.{take_rest}
+use Rattle.link_cbor.proofs.Joins.{joined_run}
 use Rattle.link_bundle.proofs.Pieces.{all_judged}
 use Rattle.link_blocks.proofs.Judged.{seen_all, goes_judged, joined_rest}
 use Rattle.link_check.specs.BundleReader.{IsReadingBlocks}
@@ -37,14 +38,14 @@ ran c content same judged =
     let some : 0 < length run =
     omega (arith, feeds.some, feeds.within, length-take count (drop taken piece), length-drop taken piece) in
     let later : HasScanned c.feed_block-count.new.self (bytes ++ run) =
-    rw (the_rest piece taken) at (feeds.seen bytes come) in
+    rw (take_rest piece taken) at (feeds.seen bytes come) in
     let grown : blocks_in (bytes ++ run) ≡ blocks_in bytes ++ ending c.feed_block-count.new.self =
-    rw (the_rest piece taken) at (c.feed_block-count.ensures.blocks bytes come) in
+    rw (take_rest piece taken) at (c.feed_block-count.ensures.blocks bytes come) in
     let joined = joined_run content piece taken count in
     record {
       come = subst (HasScanned c.feed_block-count.new.self) joined later;
       reads = λ reading. subst (IsReadingBlocks c.take_run.new.self) joined
-          (rw (the_rest piece taken) at (c.take_run.ensures.reads bytes size
+          (rw (take_rest piece taken) at (c.take_run.ensures.reads bytes size
           (kept.reads content same judged reading)) some goes later grown);
     }
 
@@ -58,7 +59,7 @@ loop-taken-preserved c =
       scanned = omega (arith, feeds.size, c.loop-taken.invariant.scanned);
       read = omega (
         arith,
-        rw (the_rest piece c.loop-taken.taken) at c.take_run.ensures.read,
+        rw (take_rest piece c.loop-taken.taken) at c.take_run.ensures.read,
         length-take c.feed_block-count.result (drop c.loop-taken.taken piece),
       );
       heads = c.take_run.ensures.heads ∙ c.loop-taken.invariant.heads;
