@@ -1,9 +1,11 @@
--- What the block-type-specific data of a canonical block says (RFC 9171 section 4.3.2), or the
--- offset in the data at which it is malformed. Offsets count from the first byte of the data.
+-- What the block-type-specific data of a canonical block says (RFC 9171 section 4.3.2), or why it is
+-- malformed. Offsets count from the first byte of the data.
 
-use Rattle.std.specs.Prelude.{ℕ, zero, suc, ◌-◌, ◌==◌, List, [], ◌∷◌, length, Result, Ok, Err, if◌then◌else◌}
+use Rattle.std.specs.Prelude.{ℕ, zero, suc, ◌-◌, ◌==◌, Bool, true, false, List, [], ◌∷◌, length, take, drop, Result, Ok, Err, if◌then◌else◌}
 use Rattle.std.specs.List.{list_any}
-use Rattle.link_bundle_types.specs.declared.{eid.Eid.Eid, fault.BundleFault.TheVariants.Trailing}
+use Rattle.link_cbor.specs.Head.{HeadFront, Whole, head_front, is_indefinite}
+use Rattle.link_bundle_types.specs.declared.{eid.Eid.Eid, fault.BundleFault.BundleFault}
+use Rattle.link_bundle_types.specs.declared.fault.BundleFault.TheVariants.{Trailing, WrongKind, BadScheme, BadSpecificPart, EidTooLong}
 use Rattle.link_bundle_heads.specs.Rows.{◌>>=◌, unsigned, array, pair}
 use Rattle.link_bundle_blocks.specs.Reading.{ReadAt, Stop, stopped, head_at, outcome_at, row_at}
 use Rattle.link_bundle_blocks.specs.EndpointId.{eid_at}
@@ -12,7 +14,7 @@ use Rattle.link_block_data.specs.declared.kind.DataKind.{DataKind}
 use Rattle.link_block_data.specs.declared.kind.DataKind.TheVariants as kind
 use Rattle.link_block_data.specs.declared.values.Assertion.{Assertion}
 use Rattle.link_block_data.specs.declared.values.Assertion.TheVariants.{No, Yes, YesAt}
-use Rattle.link_block_data.specs.declared.values.{SecurityBlock.SecurityBlock, Report.Report}
+use Rattle.link_block_data.specs.declared.values.{DataFault.DataFault, SecurityBlock.SecurityBlock, Report.Report}
 use Rattle.link_block_data.specs.DataRows.{integer, assertion, four_or_six, four_or_more, one_or_two}
 
 -- what the data of a block says
@@ -23,8 +25,8 @@ pub data BlockData : Type 0 where
   BundleAge : ℕ → BlockData
   -- the hop limit and the hop count
   HopCount : ℕ → ℕ → BlockData
-  -- the beginning of an abstract security block, and the security source
-  Security : SecurityBlock → Eid → BlockData
+  -- the beginning of an abstract security block, its first targets, and the security source
+  Security : SecurityBlock → List ℕ → Eid → BlockData
   -- a status report, and the source of the bundle that it is about
   StatusReport : Report → Eid → BlockData
   -- an administrative record of another type, by its type code
@@ -65,7 +67,7 @@ hop_count bytes = do
 
 -- The beginning of an abstract security block (RFC 9172 section 3.6): its targets, the ID and the
 -- flags of its security context, and its source. No array encloses these items. What follows the
--- source is not read.
+-- source is not read. Its first 64 targets are kept.
 unfoldable pub security : List ℕ → Result BlockData Stop
 security bytes = do
   (count, offset) ← row_at array bytes 0
@@ -78,7 +80,7 @@ security bytes = do
         targets = count;
         targets_primary = list_any (λ target. target == 0) targets;
         context = context;
-      }) source
+      }) (take 64 targets) source
       )
 
 -- the time of a status that is asserted
@@ -143,12 +145,26 @@ reading_of kind.HopCount bytes = hop_count bytes
 reading_of kind.Security bytes = security bytes
 reading_of kind.Record bytes = administrative_record bytes
 
--- A reading with the offset alone of its stop. This is the offset of the head at which it stops,
--- the number of bytes if they end inside the item, or the offset of the first byte after the item.
-abbrev pub located : Result BlockData Stop → Result BlockData ℕ
-located (Ok found) = Ok found
-located (Err stop) = Err stop.offset
+-- Whether an item with this fault exceeds a limit of this toolkit, by the head at which it fails: its
+-- length is indefinite, its endpoint scheme is neither dtn nor ipn, or its dtn name is long. RFC 9171
+-- permits such items (sections 4.1 and 4.2.5.1).
+abbrev pub is_limit : BundleFault → HeadFront → Bool
+is_limit BadScheme front = true
+is_limit EidTooLong front = true
+is_limit WrongKind (Whole head size) = is_indefinite head
+is_limit BadSpecificPart (Whole head size) = is_indefinite head
+is_limit _ front = false
 
--- what data of this kind says, or the offset at which it is malformed
-unfoldable pub data_of : DataKind → List ℕ → Result BlockData ℕ
-data_of kind bytes = located (reading_of kind bytes)
+-- A fault at an offset. This is the offset of the head at which the reading stops, the number of
+-- bytes if they end inside the item, or the offset of the first byte after the item.
+abbrev pub fault_at : List ℕ → BundleFault → ℕ → DataFault
+fault_at bytes fault offset =
+    record { offset = offset; is_limit = is_limit fault (head_front (drop offset bytes)) }
+
+abbrev pub located : List ℕ → Result BlockData Stop → Result BlockData DataFault
+located bytes (Ok found) = Ok found
+located bytes (Err stop) = Err (fault_at bytes stop.fault stop.offset)
+
+-- what data of this kind says, or why it is malformed
+unfoldable pub data_of : DataKind → List ℕ → Result BlockData DataFault
+data_of kind bytes = located bytes (reading_of kind bytes)

@@ -11,7 +11,7 @@ use Rattle.link_block_data.specs.declared.values.Integer.{Integer}
 -- An integer (RFC 8949 section 3.1). Major type 1 with the argument n is the number -1 - n.
 unfoldable pub integer : Head → Result Integer BundleFault
 integer head = do
-  argument ← valued ((head.major == 0) || (head.major == 1)) head.value
+  argument ← valued WrongKind ((head.major == 0) || (head.major == 1)) head.value
   Ok (record { negative = head.major == 1; argument = argument })
 
 -- false and true (RFC 8949 section 3.3) are the simple values 20 and 21
@@ -23,7 +23,7 @@ boolean_of simple =
 -- is that of a float.
 unfoldable pub boolean : ℕ → Head → Result Bool BundleFault
 boolean size head = do
-  simple ← valued ((head.major == 7) && (size == 1)) head.value
+  simple ← valued WrongKind ((head.major == 7) && (size == 1)) head.value
   boolean_of simple
 
 -- The Boolean of a status assertion (RFC 9171 section 6.1.1), whose head has `size` bytes. It has

@@ -23,5 +23,5 @@ scan_fits stage head draft = head_fits stage head && stage_fits stage draft
 
 -- data is malformed at an offset up to the end of the bytes seen
 abbrev pub failed_within : DataStage → ℕ → Bool
-failed_within (Failed offset) count = nat_le offset count
+failed_within (Failed fault) count = nat_le fault.offset count
 failed_within _ count = true

@@ -2,8 +2,7 @@
 -- there on. A draft has the values of the heads before. These definitions join the code to
 -- `data_of`. The promises need none of them.
 
-use Rattle.std.specs.Prelude.{ℕ, ◌-◌, ◌==◌, Bool, true, false, List, Option, Some, Result, Ok, Err, if◌then◌else◌}
-use Rattle.std.specs.List.{list_any}
+use Rattle.std.specs.Prelude.{ℕ, ◌-◌, ◌==◌, Bool, true, false, List, Option, Some, Result, Ok, Err, fold, if◌then◌else◌}
 use Rattle.link_bundle_types.specs.declared.{eid.Eid.Eid, fault.BundleFault.BundleFault}
 use Rattle.link_bundle_types.specs.KeptEid.{name_of}
 use Rattle.link_bundle_heads.specs.declared.endpoint.Scheme.TheVariants.{Dtn, Ipn}
@@ -12,7 +11,7 @@ use Rattle.link_bundle_blocks.specs.Reading.{ReadAt, Stop, head_at, outcome_at, 
 use Rattle.link_bundle_blocks.specs.EndpointId.{specific_at, eid_at}
 use Rattle.link_bundle_blocks.specs.Primary.{fragment_at}
 use Rattle.link_bundle.specs.Left.{numbered, scheme_left, node_left, service_left, name_left}
-use Rattle.link_block_data.specs.declared.values.Assertion.{Assertion}
+use Rattle.link_block_data.specs.declared.values.{Assertion.Assertion, DataFault.DataFault}
 use Rattle.link_block_data.specs.declared.values.Assertion.TheVariants.{No, Yes, YesAt}
 use Rattle.link_block_data.specs.declared.due.Owner.{Owner}
 use Rattle.link_block_data.specs.declared.due.Owner.TheVariants as owner
@@ -29,9 +28,9 @@ use Rattle.link_block_data.specs.declared.due.Found.TheVariants as found
 use Rattle.link_block_data.specs.declared.due.DataStage.{DataStage}
 use Rattle.link_block_data.specs.declared.due.DataStage.TheVariants.{Head, Name, Read, Failed}
 use Rattle.link_block_data.specs.declared.draft.Draft.{Draft}
-use Rattle.link_block_data.specs.BlockData.{BlockData, PreviousNode, BundleAge, HopCount, Security, StatusReport, OtherRecord, alone, items_at, asserted_at, assertion_at, located}
+use Rattle.link_block_data.specs.BlockData.{BlockData, PreviousNode, BundleAge, HopCount, Security, StatusReport, OtherRecord, alone, items_at, asserted_at, assertion_at, fault_at, located}
 use Rattle.link_block_data.specs.DataRows.{integer, assertion, four_or_six, four_or_more}
-use Rattle.link_block_data.specs.Turns.{with_assertion, with_targets, with_primary, with_context, with_eid}
+use Rattle.link_block_data.specs.Turns.{with_assertion, with_targets, with_target, with_context, with_eid}
 
 -- ---- after the item
 
@@ -39,7 +38,7 @@ abbrev pub data_from : Found → Draft → BlockData
 data_from found.PreviousNode draft = PreviousNode draft.eid
 data_from (found.BundleAge age) draft = BundleAge age
 data_from (found.HopCount limit count) draft = HopCount limit count
-data_from found.Security draft = Security draft.security draft.eid
+data_from found.Security draft = Security draft.security draft.targets.items draft.eid
 data_from found.StatusReport draft = StatusReport draft.report draft.eid
 data_from (found.OtherRecord type) draft = OtherRecord type
 
@@ -171,7 +170,7 @@ context_left draft bytes offset = do
 abbrev pub after_targets : Draft → List ℕ → ReadAt (List ℕ) → Result BlockData Stop
 after_targets draft bytes reading = do
   (targets, offset) ← reading
-  context_left (with_primary (list_any (λ target. target == 0) targets) draft) bytes offset
+  context_left (fold with_target draft targets) bytes offset
 
 unfoldable pub targets_left : ℕ → Draft → List ℕ → ℕ → Result BlockData Stop
 targets_left left draft bytes offset =
@@ -199,7 +198,7 @@ number_left number.HopLimit draft limit bytes offset = do
 number_left (number.HopCount limit) draft count bytes offset =
     ended (found.HopCount limit count) draft bytes offset
 number_left (number.Target left) draft target bytes offset =
-    targets_left left (with_primary (target == 0) draft) bytes offset
+    targets_left left (with_target draft target) bytes offset
 number_left number.ContextFlags draft flags bytes offset =
     by_eid owner.Security draft bytes (eid_at bytes offset)
 number_left number.RecordType draft type bytes offset =
@@ -261,14 +260,15 @@ due_left (due.Asserted status has_time) draft bytes offset =
 
 -- The rest at a stage. The current head is at `head`, or the item ended there, and `offset` bytes
 -- were seen.
-unfoldable pub stage_left : DataStage → Draft → List ℕ → ℕ → ℕ → Result BlockData ℕ
-stage_left (Head which) draft bytes head offset = located (due_left which draft bytes head)
+unfoldable pub stage_left : DataStage → Draft → List ℕ → ℕ → ℕ → Result BlockData DataFault
+stage_left (Head which) draft bytes head offset = located bytes (due_left which draft bytes head)
 stage_left (Name owner left) draft bytes head offset =
-    located (by_eid owner draft bytes (name_left (name_of draft.eid) left bytes offset))
-stage_left (Read found) draft bytes head offset = located (ended found draft bytes head)
-stage_left (Failed at) draft bytes head offset = Err at
+    located bytes (by_eid owner draft bytes (name_left (name_of draft.eid) left bytes offset))
+stage_left (Read found) draft bytes head offset = located bytes (ended found draft bytes head)
+stage_left (Failed fault) draft bytes head offset = Err fault
 
 -- the rest after a complete head that begins at `offset` and ends before `next`
-abbrev pub goes_on : Result (DataStage × Draft) BundleFault → List ℕ → ℕ → ℕ → Result BlockData ℕ
+abbrev pub goes_on : Result (DataStage × Draft) BundleFault → List ℕ → ℕ → ℕ
+    → Result BlockData DataFault
 goes_on (Ok (stage, draft)) bytes offset next = stage_left stage draft bytes next next
-goes_on (Err fault) bytes offset next = Err offset
+goes_on (Err fault) bytes offset next = Err (fault_at bytes fault offset)

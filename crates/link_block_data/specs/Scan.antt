@@ -41,7 +41,8 @@ pub record HasSeenHead (kind : DataKind) (which : Due) (draft : Draft) (offset c
   pub counted : count ≡ length seen
   pub in_bytes : offset ≤ length seen
   pub reads : (more : List ℕ)
-      → data_of kind (seen ++ more) ≡ located (due_left which draft (seen ++ more) offset)
+      → data_of kind (seen ++ more)
+      ≡ located (seen ++ more) (due_left which draft (seen ++ more) offset)
 
 abbrev pub HasScanned : DataKind → DataScan → List ℕ → Type 0
 HasScanned kind scan seen = HasSeen kind scan.stage scan.draft scan.head scan.offset scan.count seen

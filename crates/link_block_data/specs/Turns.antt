@@ -1,7 +1,7 @@
 -- Relations: what is due after a head, by the values of the heads so far. These definitions join
 -- the code to `Left`. The promises need none of them.
 
-use Rattle.std.specs.Prelude.{ℕ, ◌-◌, ◌==◌, Bool, true, false, List, [], ◌++◌, length, Option, Some, None, ◌||◌, Result, Ok, Err, if◌then◌else◌}
+use Rattle.std.specs.Prelude.{ℕ, ◌-◌, ◌==◌, nat_lt, Bool, true, false, List, [], ◌∷◌, ◌++◌, length, Option, Some, None, ◌||◌, Result, Ok, Err, if◌then◌else◌}
 use Rattle.link_cbor.specs.declared.head.Head.{Head as HeadItem}
 use Rattle.link_bundle_types.specs.declared.eid.{Eid.Eid, Eid.TheVariants.{DtnNone, Dtn}}
 use Rattle.link_bundle_types.specs.declared.fault.BundleFault.{BundleFault}
@@ -91,15 +91,24 @@ with_assertion (status.Other left) assertion draft = draft
 
 abbrev pub with_targets : ℕ → Draft → Draft
 with_targets count draft =
-    record draft { security = record draft.security { targets = count; targets_primary = false } }
+    record draft {
+      security = record draft.security { targets = count; targets_primary = false };
+      targets = record { items = [] };
+    }
 
--- whether 0 is among the targets so far, after more of them
-abbrev pub with_primary : Bool → Draft → Draft
-with_primary among draft =
+-- the first targets, after one more
+abbrev pub kept_targets : List ℕ → ℕ → List ℕ
+kept_targets targets target =
+    if nat_lt (length targets) 64 then targets ++ target ∷ [] else targets
+
+-- whether 0 is among the targets so far, and the first of them, after one more
+abbrev pub with_target : Draft → ℕ → Draft
+with_target draft target =
     record draft {
       security = record draft.security {
-        targets_primary = draft.security.targets_primary || among;
+        targets_primary = draft.security.targets_primary || (target == 0);
       };
+      targets = record { items = kept_targets draft.targets.items target };
     }
 
 abbrev pub with_context : Integer → Draft → Draft
@@ -133,7 +142,7 @@ abbrev pub took : Number → ℕ → Draft → DataStage × Draft
 took number.Age age draft = (Read (found.BundleAge age), draft)
 took number.HopLimit limit draft = (Head (due.Number (number.HopCount limit)), draft)
 took (number.HopCount limit) count draft = (Read (found.HopCount limit count), draft)
-took (number.Target left) target draft = (Head (targets_due left), with_primary (target == 0) draft)
+took (number.Target left) target draft = (Head (targets_due left), with_target draft target)
 took number.ContextFlags flags draft = (Head (due.Pair (pair_.Eid owner.Security)), draft)
 took number.RecordType type draft = (after_type type, draft)
 took (number.AssertedTime status) time draft = took_assertion status (YesAt time) draft

@@ -3,7 +3,8 @@ ghost use Rattle.std.specs.Prelude.{◌≡◌, ◌≤◌, IfOk, IfSome, IsTrue, 
 
 use crate::due::{DataStage, Due, Found, Number, Owner, Pair, Status};
 use crate::row;
-use crate::values::{Assertion, DataView, Integer, Report, SecurityBlock};
+use crate::values::{Assertion, DataView, Integer, Report, SecurityBlock, TARGETS_KEPT};
+use arrayvec::ArrayVec;
 use link_bundle_heads::row as bundle_row;
 use link_bundle_types::{BundleFault, EidForm, KeptEid};
 use link_cbor::Head;
@@ -16,6 +17,8 @@ pub(crate) struct Draft {
     /// The endpoint ID of the data.
     pub eid: KeptEid,
     pub security: SecurityBlock,
+    /// The first targets of the security block.
+    pub targets: ArrayVec<u64, TARGETS_KEPT>,
     pub report: Report,
     /// The number of status assertions after the first four.
     pub others: u64,
@@ -39,6 +42,7 @@ impl Draft {
                     argument: 0,
                 },
             },
+            targets: ArrayVec::new(),
             report: Report {
                 received: Assertion::No,
                 forwarded: Assertion::No,
@@ -63,7 +67,9 @@ impl Draft {
             Found::PreviousNode => DataView::PreviousNode(self.eid.view()),
             Found::BundleAge(age) => DataView::BundleAge(age),
             Found::HopCount(limit, count) => DataView::HopCount(limit, count),
-            Found::Security => DataView::Security(self.security, self.eid.view()),
+            Found::Security => {
+                DataView::Security(self.security, self.targets.as_slice(), self.eid.view())
+            }
             Found::StatusReport => DataView::StatusReport(self.report, self.eid.view()),
             Found::OtherRecord(code) => DataView::OtherRecord(code),
         }
@@ -135,6 +141,7 @@ impl Draft {
         let count = row::array(head)?;
         self.security.targets = count;
         self.security.targets_primary = false;
+        self.targets.clear();
         Ok(DataStage::Head(Due::targets(count)))
     }
 
@@ -181,6 +188,9 @@ impl Draft {
         ensures fits { IsTrue (stage_fits result self.new) }
     {
         self.security.targets_primary = self.security.targets_primary || target == 0;
+        if !self.targets.is_full() {
+            self.targets.push(target);
+        }
         DataStage::Head(Due::targets(left))
     }
 

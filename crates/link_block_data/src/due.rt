@@ -3,6 +3,7 @@ ghost use Rattle.std.specs.Prelude.{◌≡◌};
 ghost use Rattle.link_block_data.specs.Turns as turns;
 
 use crate::kind::DataKind;
+use crate::values::DataFault;
 use link_bundle_heads::Scheme;
 
 /// The type code of a status report (RFC 9171 section 6.1).
@@ -108,8 +109,8 @@ pub(crate) enum DataStage {
     Name(Owner, u64),
     /// After the item.
     Read(Found),
-    /// The data is malformed at this offset.
-    Failed(u64),
+    /// The data is malformed.
+    Failed(DataFault),
 }
 
 impl DataKind {

@@ -3,7 +3,7 @@
 //!
 //! A [`DataScan`] takes the data of a block as it comes. At the end of the data its
 //! [`view`](DataScan::view) is what the data says, or the offset in the data at which it is
-//! malformed. It needs no memory beside itself:
+//! malformed, and whether a limit of this toolkit is the reason. It needs no memory beside itself:
 //!
 //! ```text
 //! let mut scan = DataScan::new(DataKind::HopCount);
@@ -11,7 +11,7 @@
 //! scan.take(b"\x20\x01");
 //! scan.view();                          // Ok(DataView::HopCount(32, 1))
 //! scan.restart(DataKind::BundleAge);    // the data of another block begins
-//! scan.view();                          // Err(0): the data ends where its first head is due
+//! scan.view();                          // Err: the data ends where its first head is due
 //! ```
 //!
 //! The result depends only on the bytes, however they are cut into pieces. It is the definition
@@ -27,4 +27,4 @@ mod values;
 
 pub use kind::DataKind;
 pub use scan::DataScan;
-pub use values::{Assertion, DataView, Integer, Report, SecurityBlock};
+pub use values::{Assertion, DataFault, DataView, Integer, Report, SecurityBlock, TARGETS_KEPT};

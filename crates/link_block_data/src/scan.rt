@@ -1,13 +1,15 @@
 //! The scan of a block's data.
-ghost use Rattle.std.specs.Prelude.{◌≡◌, ℕ, ◌+◌, ◌-◌, ◌^◌, ◌<◌, ◌≤◌, Err, IfErr, IfOk, IsTrue, List, ◌∷◌, [], ◌++◌, length, take, drop, min};
+ghost use Rattle.std.specs.Prelude.{◌≡◌, ℕ, ◌+◌, ◌-◌, ◌^◌, ◌<◌, ◌≤◌, false, Err, IfErr, IfOk, IsTrue, List, ◌∷◌, [], ◌++◌, length, take, drop, min};
 ghost use Rattle.link_cbor.specs.Head.{Whole, head_front};
 ghost use Rattle.link_cbor.specs.HeadScan.{HasScannedHead};
+ghost use Rattle.link_block_data.specs.BlockData.{is_limit};
 ghost use Rattle.link_block_data.specs.Fits.{scan_fits, failed_within};
 
 use crate::draft::Draft;
 use crate::due::{DataStage, Due, Found, Owner};
 use crate::kind::DataKind;
-use crate::values::DataView;
+use crate::values::{DataFault, DataView};
+use link_bundle_types::BundleFault;
 use link_cbor::{Head, HeadScan, HeadStep, Piecewise};
 use std::fmt;
 
@@ -35,6 +37,27 @@ fn first_of(piece: &[u8], left: u64) -> &[u8]
 {
     let size = left.min(piece.len() as u64) as usize;
     &piece[..size]
+}
+
+/// The fault of data that is malformed at an offset, where no limit of this toolkit is the reason.
+fn no_limit(offset: u64) -> DataFault
+    ensures { result ≡ record { offset = offset; is_limit = false } }
+{
+    DataFault {
+        offset,
+        is_limit: false,
+    }
+}
+
+/// Whether an item that begins with this head and has this fault exceeds a limit of this toolkit.
+fn is_limit(fault: BundleFault, head: Head) -> bool
+    ensures { (size : ℕ) → result ≡ is_limit fault (Whole head size) }
+{
+    match fault {
+        BundleFault::BadScheme | BundleFault::EidTooLong => true,
+        BundleFault::WrongKind | BundleFault::BadSpecificPart => head.is_indefinite(),
+        _ => false,
+    }
 }
 
 impl DataScan {
@@ -68,27 +91,26 @@ impl DataScan {
         self.head = HeadScan::new();
     }
 
-    /// What the bytes seen say if they are all of the data, or the offset at which that data is
-    /// malformed.
+    /// What the bytes seen say if they are all of the data, or why that data is malformed.
     ///
     /// It is malformed at the first byte of a head that is ill-formed or not the one due. Data that
     /// ends inside its item is malformed at its end. If bytes follow an item that has to be the
     /// last, the data is malformed at the first of them.
-    pub fn view(&self) -> Result<DataView<'_>, u64>
+    pub fn view(&self) -> Result<DataView<'_>, DataFault>
         ensures seen { (kind : DataKind) (seen : List ℕ) → HasScanned kind self.now seen
             → viewed_result result ≡ data_of kind seen }
-        // The offset is final if the data does not end there: more bytes do not change it.
-        ensures lasts { IfErr result (λ offset. offset < scan_size self.now →
+        // The fault is final if the data does not end there: more bytes do not change it.
+        ensures lasts { IfErr result (λ fault. fault.offset < scan_size self.now →
             (kind : DataKind) (seen : List ℕ) → HasScanned kind self.now seen →
-            (more : List ℕ) → data_of kind (seen ++ more) ≡ Err offset) }
-        ensures within { IfErr result (λ offset. offset ≤ scan_size self.now) }
+            (more : List ℕ) → data_of kind (seen ++ more) ≡ Err fault) }
+        ensures within { IfErr result (λ fault. fault.offset ≤ scan_size self.now) }
         // This holds whatever was scanned, since there is no room for longer names.
         ensures short { IfOk result (λ view. HasShortName (viewed_data view)) }
     {
         match self.stage {
             DataStage::Read(found) => Ok(self.draft.view(found)),
-            DataStage::Failed(offset) => Err(offset),
-            DataStage::Head(_) | DataStage::Name(..) => Err(self.count),
+            DataStage::Failed(fault) => Err(fault),
+            DataStage::Head(_) | DataStage::Name(..) => Err(no_limit(self.count)),
         }
     }
 
@@ -158,7 +180,7 @@ impl DataScan {
         self.head.step(byte);
         match self.head.outcome() {
             HeadStep::More => {}
-            HeadStep::Bad => self.stage = DataStage::Failed(self.offset),
+            HeadStep::Bad => self.stage = DataStage::Failed(no_limit(self.offset)),
             HeadStep::Done(head) => {
                 let size = self.head.count();
                 self.head = HeadScan::new();
@@ -195,7 +217,12 @@ impl DataScan {
                 self.stage = stage;
                 self.offset = self.count;
             }
-            Err(_) => self.stage = DataStage::Failed(self.offset),
+            Err(fault) => {
+                self.stage = DataStage::Failed(DataFault {
+                    offset: self.offset,
+                    is_limit: is_limit(fault, head),
+                });
+            }
         }
     }
 
@@ -224,7 +251,7 @@ impl DataScan {
         if found.may_follow() {
             return;
         }
-        self.stage = DataStage::Failed(self.offset);
+        self.stage = DataStage::Failed(no_limit(self.offset));
     }
 }
 

@@ -2,6 +2,9 @@
 
 use link_bundle_types::EidView;
 
+/// The number of targets that are kept of a security block (RFC 9172 section 3.6).
+pub const TARGETS_KEPT: usize = 64;
+
 /// A CBOR integer (RFC 8949 section 3.1), from -2^64 to 2^64 - 1.
 #[derive(Clone, Copy, Debug, PartialEq, Eq)]
 pub struct Integer {
@@ -54,7 +57,20 @@ pub struct Report {
     pub fragment: Option<(u64, u64)>,
 }
 
-/// What the data of a block says. It borrows the bytes of a dtn endpoint ID.
+/// Why the data of a block is malformed.
+#[derive(Clone, Copy, Debug, PartialEq, Eq)]
+pub struct DataFault {
+    /// The offset in the data at which it is malformed.
+    pub offset: u64,
+    /// Whether the item there exceeds a limit of this toolkit.
+    ///
+    /// Its length is indefinite, or its endpoint scheme is neither dtn nor ipn, or its dtn name has
+    /// more than 1,024 bytes.
+    pub is_limit: bool,
+}
+
+/// What the data of a block says. It borrows the bytes of a dtn endpoint ID, and the targets of a
+/// security block.
 #[derive(Clone, Copy, Debug, PartialEq, Eq)]
 pub enum DataView<'a> {
     /// The node that forwarded the bundle (RFC 9171 section 4.4.1).
@@ -63,8 +79,10 @@ pub enum DataView<'a> {
     BundleAge(u64),
     /// The hop limit and the hop count (RFC 9171 section 4.4.3).
     HopCount(u64, u64),
-    /// The beginning of an abstract security block, and the security source.
-    Security(SecurityBlock, EidView<'a>),
+    /// The beginning of an abstract security block, its first targets, and the security source.
+    ///
+    /// The targets are the first [`TARGETS_KEPT`], or all if there are no more.
+    Security(SecurityBlock, &'a [u64], EidView<'a>),
     /// A status report, and the source of the bundle that it is about.
     StatusReport(Report, EidView<'a>),
     /// An administrative record (RFC 9171 section 6.1) of another type, by its type code.

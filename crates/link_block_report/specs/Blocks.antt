@@ -6,6 +6,7 @@ use Rattle.link_cbor.specs.declared.check.CheckKind.{CheckKind}
 use Rattle.link_bundle_blocks.specs.Blocks.{Primary}
 use Rattle.link_bundle_blocks.specs.declared.block.CanonicalBlock.{CanonicalBlock}
 use Rattle.link_block_data.specs.BlockData.{BlockData}
+use Rattle.link_block_data.specs.declared.values.DataFault.{DataFault}
 use Rattle.link_report.specs.Eid.{eid_text}
 use Rattle.link_report.specs.Identity.{fragment_text}
 use Rattle.link_report.specs.Judgement.{outcome_text}
@@ -42,7 +43,7 @@ fields_text block =
     ++ number_text (codes " data-length=") block.data_length
 
 -- the line of a canonical block, with what its data says if it is read
-unfoldable pub block_text : ℕ → CanonicalBlock → Option (Result BlockData ℕ) → List ℕ
+unfoldable pub block_text : ℕ → CanonicalBlock → Option (Result BlockData DataFault) → List ℕ
 block_text id block found =
     decimal id ++ fields_text block ++ words_text block.data_start found ++ newline
 

@@ -3,6 +3,7 @@
 use Rattle.std.specs.Prelude.{ℕ, ◌+◌, List, [], ◌∷◌, ◌++◌, codes, decimal, Option, Some, None, Result, Ok, Err, if◌then◌else◌}
 use Rattle.link_bundle_types.specs.declared.eid.Eid.{Eid}
 use Rattle.link_block_data.specs.BlockData.{BlockData, PreviousNode, BundleAge, HopCount, Security, StatusReport, OtherRecord}
+use Rattle.link_block_data.specs.declared.values.DataFault.{DataFault}
 use Rattle.link_block_data.specs.declared.values.Assertion.{Assertion}
 use Rattle.link_block_data.specs.declared.values.Assertion.TheVariants.{No, Yes, YesAt}
 use Rattle.link_block_data.specs.declared.values.{Integer.Integer, Report.Report}
@@ -60,7 +61,7 @@ data_text (PreviousNode node) = codes " node=" ++ eid_text node
 data_text (BundleAge age) = number_text (codes " age=") age
 data_text (HopCount limit count) =
     number_text (codes " limit=") limit ++ number_text (codes " count=") count
-data_text (Security block source) =
+data_text (Security block targets source) =
     number_text (codes " targets=") block.targets ++ codes " context=" ++ integer_text block.context
     ++ codes " source=" ++ eid_text source
 data_text (StatusReport report source) =
@@ -69,8 +70,8 @@ data_text (OtherRecord type) = number_text (codes " record=") type ++ codes "/?"
 
 -- The words of a block whose data begins at an offset in its bundle. There are none if its data is
 -- not read. If its data is malformed, the words have the offset in the bundle at which it fails.
-unfoldable pub words_text : ℕ → Option (Result BlockData ℕ) → List ℕ
+unfoldable pub words_text : ℕ → Option (Result BlockData DataFault) → List ℕ
 words_text data_start None = []
 words_text data_start (Some (Ok found)) = data_text found
-words_text data_start (Some (Err offset)) =
-    number_text (codes " malformed-at=") (data_start + offset)
+words_text data_start (Some (Err fault)) =
+    number_text (codes " malformed-at=") (data_start + fault.offset)

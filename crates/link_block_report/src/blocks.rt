@@ -10,7 +10,7 @@ ghost use Rattle.link_block_report.specs.Fits.{HasShortEids-prop, HasFittingWord
 
 use crate::fields::{CONTROL_MAX, TYPE_MAX, length_to, write_control, write_type};
 use crate::words::write_words;
-use link_block_data::DataView;
+use link_block_data::{DataFault, DataView};
 use link_bundle_blocks::{CanonicalBlock, PrimaryBlock};
 use link_report::{
     JudgementView, write_bytes, write_decimal, write_eid, write_fragment, write_number,
@@ -50,8 +50,8 @@ pub struct BlockText<'a> {
     pub block: &'a CanonicalBlock,
     /// What the block's data says, if it is read.
     ///
-    /// For malformed data it is the offset in the data at which it fails.
-    pub found: Option<Result<DataView<'a>, u64>>,
+    /// For malformed data it is the fault.
+    pub found: Option<Result<DataView<'a>, DataFault>>,
     ghost fits: { HasFittingWords block.now.data_start (option_map viewed_result found) } by { HasFittingWords-prop block.now.data_start (option_map viewed_result found) },
 }
 

@@ -11,7 +11,7 @@ ghost use Rattle.link_report.specs.Written.{Wrote};
 ghost use Rattle.link_block_report.specs.Fits.{HasFittingWords};
 ghost use Rattle.link_block_report.specs.Words.{report_names, integer_text, assertion_text, statuses_text, subject_fragment, subject_text, data_text, words_text};
 
-use link_block_data::{Assertion, DataView, Integer, Report, SecurityBlock};
+use link_block_data::{Assertion, DataFault, DataView, Integer, Report, SecurityBlock};
 use link_bundle_types::EidView;
 use link_report::{EID_MAX, write_bytes, write_decimal, write_eid, write_number, write_text};
 
@@ -202,7 +202,7 @@ fn write_data(page: &mut [u8], at: usize, found: &DataView<'_>) -> usize
             let at = write_number(page, at, *b" limit=", *limit);
             write_number(page, at, *b" count=", *count)
         }
-        DataView::Security(block, source) => write_security(page, at, block, source),
+        DataView::Security(block, _, source) => write_security(page, at, block, source),
         DataView::StatusReport(report, source) => write_report(page, at, report, source),
         DataView::OtherRecord(record_type) => {
             let at = write_number(page, at, *b" record=", *record_type);
@@ -220,7 +220,7 @@ pub(crate) fn write_words(
     page: &mut [u8],
     at: usize,
     data_start: u64,
-    found: &Option<Result<DataView<'_>, u64>>,
+    found: &Option<Result<DataView<'_>, DataFault>>,
 ) -> usize
     requires fits { HasFittingWords data_start (option_map viewed_result found.now) }
     requires room { at + WORDS_MAX ≤ length page.old }
@@ -230,6 +230,8 @@ pub(crate) fn write_words(
     match found {
         None => at,
         Some(Ok(view)) => write_data(page, at, view),
-        Some(Err(offset)) => write_number(page, at, *b" malformed-at=", data_start + *offset),
+        Some(Err(fault)) => {
+            write_number(page, at, *b" malformed-at=", data_start + fault.offset)
+        }
     }
 }

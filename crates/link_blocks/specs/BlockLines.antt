@@ -4,6 +4,7 @@ use Rattle.link_bundle_blocks.specs.Blocks.{Block, PrimaryOf, CanonicalOf}
 use Rattle.link_bundle_blocks.specs.Bundle.{blocks_in}
 use Rattle.link_bundle_blocks.specs.declared.block.CanonicalBlock.{CanonicalBlock}
 use Rattle.link_block_data.specs.BlockData.{BlockData, data_of}
+use Rattle.link_block_data.specs.declared.values.DataFault.{DataFault}
 use Rattle.link_block_report.specs.Blocks.{primary_text, block_text}
 use Rattle.link_block_report.specs.Kinds.{kind_of}
 
@@ -13,7 +14,7 @@ data_in content block = take block.data_length (drop block.data_start content)
 
 -- what the data of a block says, if it is read; `flags` are those of the bundle
 abbrev pub found_in : (flags : ℕ) → (content : List ℕ) → CanonicalBlock
-    → Option (Result BlockData ℕ)
+    → Option (Result BlockData DataFault)
 found_in flags content block =
     option_map (λ kind. data_of kind (data_in content block)) (kind_of flags block.block_type)
 

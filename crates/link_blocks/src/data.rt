@@ -10,7 +10,7 @@ ghost use Rattle.link_block_report.specs.Kinds.{kind_of};
 ghost use Rattle.link_blocks.specs.BlockLines.{found_in};
 ghost use Rattle.link_blocks.specs.DataReader.{IsReading, IsReadingBlock, read_size};
 
-use link_block_data::{DataKind, DataScan, DataView};
+use link_block_data::{DataFault, DataKind, DataScan, DataView};
 use link_block_report::data_kind;
 use link_bundle::{BlockView, BundleScan, CanonicalBlock};
 use link_unpack::part_in;
@@ -136,9 +136,8 @@ impl DataReader {
         }
     }
 
-    /// What the data of the latest block says, if it is read, or the offset in the data at which it
-    /// is malformed.
-    pub fn found(&self) -> Option<Result<DataView<'_>, u64>>
+    /// What the data of the latest block says, if it is read, or why it is malformed.
+    pub fn found(&self) -> Option<Result<DataView<'_>, DataFault>>
         ensures found { (seen : List ℕ) (block : CanonicalBlock)
             → IsReadingBlock self.now seen block
             → option_map viewed_result result ≡ found_in self.now.flags seen block }

@@ -27,7 +27,7 @@ use Rattle.link_bundle.specs.declared.stage.CheckType.TheVariants.{Is}
 use Rattle.link_bundle_types.specs.declared.fault.BundleFault.{BundleFault}
 use Rattle.link_bundle_types.specs.declared.fault.BundleFault.TheVariants.{CheckDiffers}
 use Rattle.link_bundle.specs.CheckKinds.{kind_of}
-use Rattle.link_bundle_heads.specs.Rows.{◌>>=◌, unsigned, byte_string, pair, scheme, version, is_fragment, primary_block, primary_check_type, block_number, block_check_type, closing}
+use Rattle.link_bundle_heads.specs.Rows.{◌>>=◌, unsigned, block_data, pair, scheme, version, is_fragment, primary_block, primary_check_type, block_number, block_check_type, closing}
 use Rattle.link_bundle_blocks.specs.Reading.{Stop, stopped, ReadAt, head_at, row_at, bytes_at}
 use Rattle.link_bundle_blocks.specs.EndpointId.{specific_at, eid_at}
 use Rattle.link_bundle_types.specs.KeptEid.{name_of}
@@ -289,7 +289,7 @@ name_left name left bytes offset = do
 
 unfoldable pub data_left : Draft → List ℕ → ℕ → ReadAt CanonicalBlock
 data_left draft bytes offset = do
-  (size, offset) ← row_at byte_string bytes offset
+  (size, offset) ← row_at block_data bytes offset
   Ok (
     record (current draft (kind_of draft.check)) { data_start = offset; data_length = size },
     offset,

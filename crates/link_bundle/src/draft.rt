@@ -624,7 +624,7 @@ impl Draft {
         ensures { JudgedAt next (Field.Canonical CanonicalField.Data)
             self.old head result self.new }
     {
-        let size = row::byte_string(head)?;
+        let size = row::block_data(head)?;
         self.block.data_start = next;
         self.block.data_length = size;
         self.numbers.push(self.block.number);

@@ -6,7 +6,7 @@ use Rattle.std.proofs.lemmas.Bool.{cases_lt}
 use Rattle.link_cbor.specs.declared.head.Head.{Head as HeadItem}
 use Rattle.link_bundle_types.specs.declared.fault.BundleFault.{BundleFault}
 use Rattle.link_bundle_types.specs.declared.fault.BundleFault.TheVariants.{Cut}
-use Rattle.link_bundle_heads.specs.Rows.{◌>>=◌, unsigned, byte_string, block as block_head, block_too_many, block_number, block_check_type, closing}
+use Rattle.link_bundle_heads.specs.Rows.{◌>>=◌, unsigned, block_data, block as block_head, block_too_many, block_number, block_check_type, closing}
 use Rattle.link_bundle_blocks.specs.declared.block.CanonicalBlock.{CanonicalBlock}
 use Rattle.link_bundle_blocks.specs.Blocks.{Primary, Block, PrimaryOf, CanonicalOf, ended}
 use Rattle.link_bundle_blocks.specs.Reading.{Stop, ReadAt, stopped, cut_short, row_at}
@@ -335,7 +335,7 @@ heads_begin numbers bytes start =
     (λ (type, two) is2. then_read holds (row_at (block_number type numbers) bytes two) _
     (λ (number, three) is3. then_read holds (row_at unsigned bytes three) _
     (λ (flags, four) is4. then_read holds (row_at (block_check_type count) bytes four) _
-    (λ (check, five) is5. then_read holds (row_at byte_string bytes five) _
+    (λ (check, five) is5. then_read holds (row_at block_data bytes five) _
     (λ (size, six) is6. record {
       begins = refl;
       onward = omega (
@@ -345,7 +345,7 @@ heads_begin numbers bytes start =
         row_on (block_number type numbers) bytes _ _ is3,
         row_on unsigned bytes _ _ is4,
         row_on (block_check_type count) bytes _ _ is5,
-        row_on byte_string bytes _ _ is6,
+        row_on block_data bytes _ _ is6,
       );
       place = refl;
       end = refl;

@@ -8,7 +8,7 @@ use Rattle.link_cbor.specs.declared.{check.CheckKind.CheckKind, head.Head.Head}
 use Rattle.link_cbor.specs.Head.{HeadFront, Cut as CutHead, IllFormed, Whole, head_front}
 use Rattle.link_bundle_types.specs.declared.fault.BundleFault.{BundleFault}
 use Rattle.link_bundle_types.specs.declared.fault.BundleFault.TheVariants.{CheckDiffers}
-use Rattle.link_bundle_heads.specs.Rows.{◌>>=◌, unsigned, byte_string, block as block_head, block_number, block_check_type, check_width, check_field}
+use Rattle.link_bundle_heads.specs.Rows.{◌>>=◌, unsigned, block_data, block as block_head, block_number, block_check_type, check_width, check_field}
 use Rattle.link_bundle_blocks.specs.declared.block.CanonicalBlock.{CanonicalBlock}
 use Rattle.link_bundle_blocks.specs.Reading.{ReadAt, stopped, head_by, outcome_at, head_at, row_at, bytes_at}
 use Rattle.link_bundle_blocks.specs.CheckField.{number_from, check_of, field_at}
@@ -159,7 +159,7 @@ heads_at-shifted numbers front bytes start =
     (λ type offset. row-then (block_number type numbers) change front bytes offset _ _
     (λ number offset. row-then unsigned change front bytes offset _ _
     (λ flags offset. row-then (block_check_type count) change front bytes offset _ _
-    (λ check offset. row-then byte_string change front bytes offset _ _
+    (λ check offset. row-then block_data change front bytes offset _ _
     (λ size offset. refl))))))
 
 pub whole_canonical-shifted : (numbers front bytes : List ℕ) (start : ℕ)

@@ -10,7 +10,7 @@ use Rattle.link_cbor.proofs.HeadLaws.{EndsFrom, HeadStays, ends_inside, ends_aft
 use Rattle.link_bundle_types.specs.declared.fault.BundleFault.{BundleFault}
 use Rattle.link_bundle_types.specs.declared.fault.BundleFault.TheVariants.{Cut, NotABundle, CheckDiffers}
 use Rattle.link_bundle_heads.specs.declared.endpoint.{Scheme.Scheme, Scheme.TheVariants.{Dtn, Ipn}}
-use Rattle.link_bundle_heads.specs.Rows.{◌>>=◌, unsigned, byte_string, block, block_number, block_check_type, pair, scheme, dtn_part, ipn_part, version, is_fragment, primary_block, primary_check_type, check_width, check_field}
+use Rattle.link_bundle_heads.specs.Rows.{◌>>=◌, unsigned, block_data, block, block_number, block_check_type, pair, scheme, dtn_part, ipn_part, version, is_fragment, primary_block, primary_check_type, check_width, check_field}
 use Rattle.link_bundle_blocks.specs.Reading.{Stop, ReadAt, stopped, cut_short, head_by, outcome_at, head_at, row_at, bytes_at}
 use Rattle.link_bundle_blocks.specs.EndpointId.{dtn_at, ipn_at, specific_at, eid_at}
 use Rattle.link_bundle_blocks.specs.CheckField.{number_from, check_of, field_at}
@@ -388,7 +388,7 @@ heads_at-reads numbers bytes more offset =
     (λ (type, offset). reads-then (row_at-reads (block_number type numbers) bytes more offset)
     (λ (number, offset). reads-then (row_at-reads unsigned bytes more offset)
     (λ (flags, offset). reads-then (row_at-reads (block_check_type count) bytes more offset)
-    (λ (check, offset). reads-then (row_at-reads byte_string bytes more offset)
+    (λ (check, offset). reads-then (row_at-reads block_data bytes more offset)
     (λ (size, offset). ended bytes _ offset))))))
 
 primary_at-reads : (bytes more : List ℕ) (offset : ℕ)

@@ -2,7 +2,7 @@
 
 use Rattle.std.specs.Prelude.{ℕ, Bool, List, Option, None, Ok}
 use Rattle.link_cbor.specs.declared.check.CheckKind.{CheckKind}
-use Rattle.link_bundle_heads.specs.Rows.{◌>>=◌, unsigned, byte_string, block, block_number, block_check_type}
+use Rattle.link_bundle_heads.specs.Rows.{◌>>=◌, unsigned, block_data, block, block_number, block_check_type}
 use Rattle.link_bundle_blocks.specs.declared.block.CanonicalBlock.{CanonicalBlock}
 use Rattle.link_bundle_blocks.specs.Reading.{ReadAt, row_at, bytes_at}
 use Rattle.link_bundle_blocks.specs.CheckField.{field_at}
@@ -17,7 +17,7 @@ heads_at numbers bytes start = do
   (number, offset) ← row_at (block_number type numbers) bytes offset
   (flags, offset) ← row_at unsigned bytes offset
   (check, offset) ← row_at (block_check_type count) bytes offset
-  (size, offset) ← row_at byte_string bytes offset
+  (size, offset) ← row_at block_data bytes offset
   Ok (
     record {
       start = start;

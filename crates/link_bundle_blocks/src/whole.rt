@@ -232,7 +232,7 @@ fn heads_at(
     let (head, offset) = small_at(row::UNSIGNED, bytes, offset)?;
     let check = row::block_check_type(count, head)?;
     let (head, offset) = item_at(row::BYTE_STRING, bytes, offset)?;
-    let data_length = row::byte_string(head)?;
+    let data_length = row::block_data(head)?;
     // The call comes last, where little has to be kept over it.
     let number = row::block_number(block_type, numbers, number_head)?;
     let block = CanonicalBlock {

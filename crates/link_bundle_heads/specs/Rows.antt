@@ -6,7 +6,7 @@ use Rattle.std.specs.List.{list_any}
 use Rattle.link_cbor.specs.declared.{head.Head.Head, check.CheckKind.CheckKind}
 use Rattle.link_cbor.specs.declared.check.CheckKind.TheVariants.{Crc16, Crc32}
 use Rattle.link_bundle_types.specs.declared.fault.BundleFault.{BundleFault}
-use Rattle.link_bundle_types.specs.declared.fault.BundleFault.TheVariants.{WrongKind, BadCount, BadVersion, BadCheckType, BadScheme, BadSpecificPart, EidTooLong, BadCheckLength, BadBlockNumber, RepeatedBlockNumber, TooManyBlocks, NoPayloadLast}
+use Rattle.link_bundle_types.specs.declared.fault.BundleFault.TheVariants.{WrongKind, WrongDataKind, WrongCheckKind, BadCount, BadVersion, BadCheckType, BadScheme, BadSpecificPart, EidTooLong, BadCheckLength, BadBlockNumber, RepeatedBlockNumber, TooManyBlocks, NoPayloadLast}
 use Rattle.link_bundle_heads.specs.declared.endpoint.{Scheme.Scheme, Scheme.TheVariants.{Dtn, Ipn}}
 
 -- the first fault, or the result of the next part
@@ -20,24 +20,25 @@ abbrev pub wanted : {A : Type 0} → Bool → A → BundleFault → Result A Bun
 wanted passes value fault = if passes then Ok value else Err fault
 
 -- the value of an item that has the right major type and a value (RFC 8949 section 3.1)
-abbrev pub valued : Bool → Option ℕ → Result ℕ BundleFault
-valued true (Some value) = Ok value
-valued true None = Err WrongKind
-valued false value = Err WrongKind
+abbrev pub valued : BundleFault → Bool → Option ℕ → Result ℕ BundleFault
+valued fault true (Some value) = Ok value
+valued fault true None = Err fault
+valued fault false value = Err fault
 
 -- The value of an item of this major type. It is an unsigned integer (0), the length of a byte
 -- string (2), or the number of elements of an array (4).
-abbrev pub of_major : ℕ → Head → Result ℕ BundleFault
-of_major major head = valued (head.major == major) head.value
+abbrev pub of_major : BundleFault → ℕ → Head → Result ℕ BundleFault
+of_major fault major head = valued fault (head.major == major) head.value
 
 unfoldable pub unsigned : Head → Result ℕ BundleFault
-unsigned head = of_major 0 head
+unsigned head = of_major WrongKind 0 head
 
-unfoldable pub byte_string : Head → Result ℕ BundleFault
-byte_string head = of_major 2 head
+-- the data of a block is a byte string of definite length (section 4.3.2)
+unfoldable pub block_data : Head → Result ℕ BundleFault
+block_data head = of_major WrongDataKind 2 head
 
 unfoldable pub array : Head → Result ℕ BundleFault
-array head = of_major 4 head
+array head = of_major WrongKind 4 head
 
 -- an array that has to have two elements
 unfoldable pub pair : Head → Result ℕ BundleFault
@@ -146,14 +147,15 @@ block_check_type count head = do
   kind ← check_type head
   wanted (count == 5 + check_elements kind) kind BadCount
 
--- the length of a check value in bytes (section 4.2.1)
+-- the length of a check value in bytes (sections 4.2.1 and 4.2.2)
 abbrev pub check_width : CheckKind → ℕ
 check_width Crc16 = 2
 check_width Crc32 = 4
 
+-- a check value is a byte string of this length (section 4.2.2)
 unfoldable pub check_field : CheckKind → Head → Result ℕ BundleFault
 check_field kind head = do
-  count ← byte_string head
+  count ← of_major WrongCheckKind 2 head
   wanted (count == check_width kind) count BadCheckLength
 
 -- the break after the payload block

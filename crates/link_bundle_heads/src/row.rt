@@ -36,15 +36,16 @@ pub const PAYLOAD_TYPE: u64 = 1;
 /// The block number of the payload block (RFC 9171 section 4.1).
 const PAYLOAD_NUMBER: u64 = 1;
 
-/// The value of a head, which has to have this major type.
+/// The value of a head, which has to have this major type. If it has another, this is the fault.
 #[inline(always)]
-fn of_major(major: u8, head: Head) -> Result<u64, BundleFault>
-    ensures judged { result ≡ row.of_major major head }
+fn of_major(fault: BundleFault, major: u8, head: Head) -> Result<u64, BundleFault>
+    requires { IsTrue (lasts fault) }
+    ensures judged { result ≡ row.of_major fault major head }
     ensures lasts { IfErr result (λ fault. IsTrue (lasts fault)) }
 {
     match head.value {
         Some(value) if head.major == major => Ok(value),
-        _ => Err(BundleFault::WrongKind),
+        _ => Err(fault),
     }
 }
 
@@ -57,19 +58,19 @@ pub fn unsigned(head: Head) -> Result<u64, BundleFault>
     ensures judged { result ≡ row.unsigned head }
     ensures lasts { IfErr result (λ fault. IsTrue (lasts fault)) }
 {
-    of_major(UNSIGNED, head)
+    of_major(BundleFault::WrongKind, UNSIGNED, head)
 }
 
-/// The length of a byte string in bytes.
+/// The length of a block's data in bytes (RFC 9171 section 4.3.2).
 ///
-/// The fault of another item, or of a byte string of indefinite length, is `WrongKind`.
+/// The fault of another item, or of a byte string of indefinite length, is `WrongDataKind`.
 #[inline(always)]
-#[tactic(auto, unfolding(crate::specs::Rows::byte_string))]
-pub fn byte_string(head: Head) -> Result<u64, BundleFault>
-    ensures judged { result ≡ row.byte_string head }
+#[tactic(auto, unfolding(crate::specs::Rows::block_data))]
+pub fn block_data(head: Head) -> Result<u64, BundleFault>
+    ensures judged { result ≡ row.block_data head }
     ensures lasts { IfErr result (λ fault. IsTrue (lasts fault)) }
 {
-    of_major(BYTE_STRING, head)
+    of_major(BundleFault::WrongDataKind, BYTE_STRING, head)
 }
 
 #[inline(always)]
@@ -78,7 +79,7 @@ fn array(head: Head) -> Result<u64, BundleFault>
     ensures judged { result ≡ row.array head }
     ensures lasts { IfErr result (λ fault. IsTrue (lasts fault)) }
 {
-    of_major(ARRAY, head)
+    of_major(BundleFault::WrongKind, ARRAY, head)
 }
 
 /// The number of elements of an array, which has to be two.
@@ -314,7 +315,7 @@ pub fn block_check_type(count: u64, head: Head) -> Result<Option<CheckKind>, Bun
     }
 }
 
-/// The length of a check value in bytes (RFC 9171 section 4.2.1).
+/// The length of a check value in bytes (RFC 9171 sections 4.2.1 and 4.2.2).
 #[inline(always)]
 pub fn check_width(kind: CheckKind) -> u64
     ensures { result ≡ row.check_width kind }
@@ -327,14 +328,14 @@ pub fn check_width(kind: CheckKind) -> u64
 
 /// The length of a check field's content in bytes, which has to be that of this kind of check.
 ///
-/// The faults are `WrongKind` and `BadCheckLength`, in this order.
+/// The faults are `WrongCheckKind` and `BadCheckLength`, in this order.
 #[inline(always)]
 #[tactic(auto, unfolding(crate::specs::Rows::check_field))]
 pub fn check_field(kind: CheckKind, head: Head) -> Result<u64, BundleFault>
     ensures judged { result ≡ row.check_field kind head }
     ensures lasts { IfErr result (λ fault. IsTrue (lasts fault)) }
 {
-    let count = byte_string(head)?;
+    let count = of_major(BundleFault::WrongCheckKind, BYTE_STRING, head)?;
     if count == check_width(kind) {
         Ok(count)
     } else {

@@ -2,7 +2,7 @@
 
 use Rattle.std.specs.Prelude.{Bool, true, false}
 use Rattle.link_bundle_types.specs.declared.fault.BundleFault.{BundleFault}
-use Rattle.link_bundle_types.specs.declared.fault.BundleFault.TheVariants.{Cut, Trailing, NotABundle, BadHead, WrongKind, BadCount, BadVersion, BadCheckType, BadScheme, BadSpecificPart, EidTooLong, BadCheckLength, CheckDiffers, BadBlockNumber, RepeatedBlockNumber, TooManyBlocks, NoPayloadLast}
+use Rattle.link_bundle_types.specs.declared.fault.BundleFault.TheVariants.{Cut, Trailing, NotABundle, BadHead, WrongKind, WrongDataKind, WrongCheckKind, BadCount, BadVersion, BadCheckType, BadScheme, BadSpecificPart, EidTooLong, BadCheckLength, CheckDiffers, BadBlockNumber, RepeatedBlockNumber, TooManyBlocks, NoPayloadLast}
 
 abbrev pub lasts : BundleFault → Bool
 lasts Cut = false
@@ -10,6 +10,8 @@ lasts Trailing = true
 lasts NotABundle = true
 lasts BadHead = true
 lasts WrongKind = true
+lasts WrongDataKind = true
+lasts WrongCheckKind = true
 lasts BadCount = true
 lasts BadVersion = true
 lasts BadCheckType = true

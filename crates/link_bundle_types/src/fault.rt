@@ -23,6 +23,12 @@ pub enum BundleFault {
     /// B5: a CBOR item of another kind than that of the field.
     #[error("wrong kind of item")]
     WrongKind,
+    /// B5 in place of a block's data: no byte string of definite length (RFC 9171 section 4.3.2).
+    #[error("wrong kind of item")]
+    WrongDataKind,
+    /// B5 in place of a check value: no byte string of definite length (RFC 9171 section 4.2.2).
+    #[error("wrong kind of item")]
+    WrongCheckKind,
     /// B6: an array with another number of elements than its block or field has.
     #[error("wrong number of elements")]
     BadCount,

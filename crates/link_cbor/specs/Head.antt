@@ -1,6 +1,6 @@
 -- The head that a list of bytes begins with (RFC 8949 section 3).
 
-use Rattle.std.specs.Prelude.{ℕ, ◌+◌, ◌-◌, ◌*◌, ◌/◌, ◌%◌, ◌^◌, Bool, true, false, ◌&&◌, ◌||◌, ◌==◌, nat_lt, List, [], ◌∷◌, length, take, Option, Some, None, if◌then◌else◌, All, ◌<◌}
+use Rattle.std.specs.Prelude.{ℕ, ◌+◌, ◌-◌, ◌*◌, ◌/◌, ◌%◌, ◌^◌, Bool, true, false, not, is_some, ◌&&◌, ◌||◌, ◌==◌, nat_lt, List, [], ◌∷◌, length, take, Option, Some, None, if◌then◌else◌, All, ◌<◌}
 use Rattle.link_cbor.specs.declared.head.{Head.Head, HeadStep.HeadStep}
 use Rattle.link_cbor.specs.declared.head.HeadStep.TheVariants.{More, Done, Bad}
 
@@ -60,6 +60,10 @@ abbrev pub whole_of : HeadFront → Option (Head × ℕ)
 whole_of Cut = None
 whole_of IllFormed = None
 whole_of (Whole head size) = Some (head, size)
+
+-- whether a head is that of a string, an array or a map of indefinite length (section 3.2)
+abbrev pub is_indefinite : Head → Bool
+is_indefinite head = not (is_some head.value) && not (head.major == 7)
 
 -- the outcome of a scan, by what the bytes that it has seen begin with
 abbrev pub step_at : HeadFront → HeadStep

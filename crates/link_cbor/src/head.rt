@@ -3,6 +3,9 @@ ghost use Rattle.std.specs.Prelude.{◌≡◌, ◌+◌, ◌<◌, ◌≤◌, leng
 
 use byteorder::{BigEndian, ByteOrder};
 
+/// The major type of simple values, floats and the break (RFC 8949 section 3.3).
+const SIMPLE: u8 = 7;
+
 /// The head of a CBOR data item (RFC 8949 section 3).
 #[derive(Clone, Copy, PartialEq, Eq, Debug)]
 pub struct Head {
@@ -16,7 +19,7 @@ pub struct Head {
 }
 
 impl Head {
-    ghost use Rattle.link_cbor.specs.Head.{head_front, argument_front, no_argument, whole_of};
+    ghost use Rattle.link_cbor.specs.Head.{head_front, argument_front, no_argument, whole_of, is_indefinite};
 
     /// Reads the head at the start of the bytes, and returns it with its length in bytes.
     ///
@@ -93,6 +96,15 @@ impl Head {
             return None;
         }
         Some((Head { major, value: None }, 1))
+    }
+
+    /// Whether it is the head of a string, an array or a map of indefinite length (RFC 8949 section
+    /// 3.2).
+    #[inline(always)]
+    pub fn is_indefinite(self) -> bool
+        ensures { result ≡ is_indefinite self }
+    {
+        self.value.is_none() && self.major != SIMPLE
     }
 }
 

@@ -2,7 +2,7 @@
 -- changes no definition.
 use Rattle.std.specs.Prelude.{ℕ}
 use Rattle.link_bundle_types.specs.declared.fault.BundleFault.{BundleFault}
-use Rattle.link_bundle_types.specs.declared.fault.BundleFault.TheVariants.{Cut, Trailing, NotABundle, BadHead, WrongKind, BadCount, BadVersion, BadCheckType, BadScheme, BadSpecificPart, EidTooLong, BadCheckLength, CheckDiffers, BadBlockNumber, RepeatedBlockNumber, TooManyBlocks, NoPayloadLast}
+use Rattle.link_bundle_types.specs.declared.fault.BundleFault.TheVariants.{Cut, Trailing, NotABundle, BadHead, WrongKind, WrongDataKind, WrongCheckKind, BadCount, BadVersion, BadCheckType, BadScheme, BadSpecificPart, EidTooLong, BadCheckLength, CheckDiffers, BadBlockNumber, RepeatedBlockNumber, TooManyBlocks, NoPayloadLast}
 use Rattle.link_wire.specs.declared.fault.WireFault.{WireFault}
 use Rattle.link_wire.specs.declared.fault.WireFault.TheVariants.{Truncated, BadMagic, BadVersion, UnknownType, NodeIdTooLong, ListTooLong, TooManyItems, ItemsOverrun}
 use Rattle.link_numbers.specs.declared.fault.Fault.{Fault}
@@ -16,6 +16,8 @@ bundle_code Trailing = 102
 bundle_code NotABundle = 103
 bundle_code BadHead = 104
 bundle_code WrongKind = 105
+bundle_code WrongDataKind = 105
+bundle_code WrongCheckKind = 105
 bundle_code BadCount = 106
 bundle_code BadVersion = 107
 bundle_code BadCheckType = 108

@@ -1,7 +1,7 @@
 -- The codes and the texts of the faults of bundles.
 use Rattle.std.specs.Prelude.{ℕ, List, codes}
 use Rattle.link_bundle_types.specs.declared.fault.BundleFault.{BundleFault}
-use Rattle.link_bundle_types.specs.declared.fault.BundleFault.TheVariants.{Cut, Trailing, NotABundle, BadHead, WrongKind, BadCount, BadVersion, BadCheckType, BadScheme, BadSpecificPart, EidTooLong, BadCheckLength, CheckDiffers, BadBlockNumber, RepeatedBlockNumber, TooManyBlocks, NoPayloadLast}
+use Rattle.link_bundle_types.specs.declared.fault.BundleFault.TheVariants.{Cut, Trailing, NotABundle, BadHead, WrongKind, WrongDataKind, WrongCheckKind, BadCount, BadVersion, BadCheckType, BadScheme, BadSpecificPart, EidTooLong, BadCheckLength, CheckDiffers, BadBlockNumber, RepeatedBlockNumber, TooManyBlocks, NoPayloadLast}
 
 unfoldable pub code_text : BundleFault → List ℕ
 code_text Cut = codes "B1"
@@ -9,6 +9,8 @@ code_text Trailing = codes "B2"
 code_text NotABundle = codes "B3"
 code_text BadHead = codes "B4"
 code_text WrongKind = codes "B5"
+code_text WrongDataKind = codes "B5"
+code_text WrongCheckKind = codes "B5"
 code_text BadCount = codes "B6"
 code_text BadVersion = codes "B7"
 code_text BadCheckType = codes "B8"
@@ -28,6 +30,8 @@ bundle_fault_text Trailing = codes "bytes after the bundle"
 bundle_fault_text NotABundle = codes "not a bundle"
 bundle_fault_text BadHead = codes "ill-formed head"
 bundle_fault_text WrongKind = codes "wrong kind of item"
+bundle_fault_text WrongDataKind = codes "wrong kind of item"
+bundle_fault_text WrongCheckKind = codes "wrong kind of item"
 bundle_fault_text BadCount = codes "wrong number of elements"
 bundle_fault_text BadVersion = codes "unsupported bundle version"
 bundle_fault_text BadCheckType = codes "unknown check type"

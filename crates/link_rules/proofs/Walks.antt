@@ -10,7 +10,7 @@ use Rattle.link_cbor.specs.HeadScan.{HasScannedHead}
 use Rattle.link_cbor.proofs.{HeadLaws.{head_alone, whole_stays, ill_formed_stays}, Joins.joined_run}
 use Rattle.link_rules.specs.declared.heads.{WalkStage.WalkStage, WalkStage.TheVariants.{Inside, Head, Ended}}
 use Rattle.link_rules.specs.declared.heads.{Found.Found, HeadWalk.HeadWalk}
-use Rattle.link_rules.specs.Heads.{content_size, is_long, is_indefinite, first_from}
+use Rattle.link_rules.specs.Heads.{content_size, is_long, is_open_string, is_open_item, is_encoded, first_from}
 use Rattle.link_rules.specs.HeadWalk.{first_left, HasSought, HasFound, HasNoted, IsAtStage, HasSeen, HasWalked, HasTaken}
 
 -- ---- the definition, step by step
@@ -73,19 +73,21 @@ first_or (Some at) is_sought offset rest = refl
 first_or None true offset rest = refl
 first_or None false offset rest = refl
 
--- the same of both kinds of heads
-both : {found : Found} {stage after : WalkStage} {seen bytes : List ℕ} → HasFound found stage seen
+-- the same of each kind of heads
+each : {found : Found} {stage after : WalkStage} {seen bytes : List ℕ} → HasFound found stage seen
     → ((sought : HeadItem → ℕ → Bool) (first : Option ℕ) → HasSought sought first stage seen
     → HasSought sought first after bytes)
     → HasFound found after bytes
-both come step = record {
+each come step = record {
   long = step is_long _ come.long;
-  indefinite = step is_indefinite _ come.indefinite;
+  string = step is_open_string _ come.string;
+  item = step is_open_item _ come.item;
+  encoded = step is_encoded _ come.encoded;
 }
 
 found_inside : (found : Found) (left : ℕ) (seen run : List ℕ) → HasFound found (Inside left) seen
     → length run ≤ left → HasFound found (Inside (left - length run)) (seen ++ run)
-found_inside found left seen run come within = both come (λ sought first come. record {
+found_inside found left seen run come within = each come (λ sought first come. record {
   reads = λ more.
       let there : length (seen ++ run) ≡ length seen + length run = length-append seen run in
       rw (append_assoc seen run more, there) (come.reads (run ++ more)
@@ -96,13 +98,13 @@ found_inside found left seen run come within = both come (λ sought first come. 
 -- where a head begins, no byte of it is seen
 found_begins : (found : Found) (offset : ℕ) (seen : List ℕ) → HasFound found (Inside 0) seen
     → offset ≡ length seen → HasFound found (Head offset) seen
-found_begins found offset seen come here = both come (λ sought first come. record {
+found_begins found offset seen come here = each come (λ sought first come. record {
   reads = λ more. rw (here, drop-length seen) (come.reads more);
 })
 
 found_more : (found : Found) (offset : ℕ) (seen run : List ℕ) → HasFound found (Head offset) seen
     → offset ≤ length seen → HasFound found (Head offset) (seen ++ run)
-found_more found offset seen run come within = both come (λ sought first come. record {
+found_more found offset seen run come within = each come (λ sought first come. record {
   reads = λ more.
       rw (
         append_assoc seen run more,
@@ -136,8 +138,11 @@ found_whole : (old new : Found) (offset : ℕ) (seen : List ℕ) (head : HeadIte
     → HasFound new (Inside (content_size head)) seen
 found_whole old new offset seen head size come within whole sized noted = record {
   long = rw (noted.long, sized) (sought_whole is_long _ offset seen head come.long within whole);
-  indefinite = rw noted.indefinite
-      (sought_whole is_indefinite _ offset seen head come.indefinite within whole);
+  string = rw noted.string
+      (sought_whole is_open_string _ offset seen head come.string within whole);
+  item = rw noted.item (sought_whole is_open_item _ offset seen head come.item within whole);
+  encoded = rw (noted.encoded, sized)
+      (sought_whole is_encoded _ offset seen head come.encoded within whole);
 }
 
 -- the next head, whose bytes are a run
@@ -260,7 +265,7 @@ pub head_ill_formed : (offset : ℕ) (found : Found) (old new : HeadScan) (count
     → HasSeen Ended found new ((count + 1) % 2 ^ 64) (seen ++ run)
 head_ill_formed offset found old new count seen run come one small wrong = record {
   counted = counted_more count 1 seen run come.counted one small;
-  sought = both (found_more found offset seen run come.sought come.stands.in_bytes)
+  sought = each (found_more found offset seen run come.sought come.stands.in_bytes)
       (λ sought first come. record {
         reads = λ more. come.reads more
             ∙ ap (λ (rest : Option ℕ). option_or first rest)

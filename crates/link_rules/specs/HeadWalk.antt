@@ -8,7 +8,7 @@ use Rattle.link_cbor.specs.Head.{Cut, head_front}
 use Rattle.link_cbor.specs.HeadScan.{HasScannedHead}
 use Rattle.link_rules.specs.declared.heads.{WalkStage.WalkStage, WalkStage.TheVariants.{Inside, Head, Ended}}
 use Rattle.link_rules.specs.declared.heads.{Found.Found, HeadWalk.HeadWalk}
-use Rattle.link_rules.specs.Heads.{is_long, is_indefinite, first_from}
+use Rattle.link_rules.specs.Heads.{is_long, is_open_string, is_open_item, is_encoded, first_from}
 
 -- the first head that is sought from this stage on, if `more` bytes follow those seen
 abbrev pub first_left : (HeadItem → ℕ → Bool) → WalkStage → (seen more : List ℕ) → Option ℕ
@@ -23,16 +23,24 @@ pub record HasSought (sought : HeadItem → ℕ → Bool) (found : Option ℕ) (
   pub reads : (more : List ℕ)
       → first_from sought 1 0 (seen ++ more) ≡ option_or found (first_left sought stage seen more)
 
--- what is found of both kinds of heads
+-- what is found of each kind of heads
 pub record HasFound (found : Found) (stage : WalkStage) (seen : List ℕ) : Type 0 where
   pub long : HasSought is_long found.long stage seen
-  pub indefinite : HasSought is_indefinite found.indefinite stage seen
+  pub string : HasSought is_open_string found.string stage seen
+  pub item : HasSought is_open_item found.item stage seen
+  pub encoded : HasSought is_encoded found.encoded stage seen
+
+-- what is found of a kind of heads, before a head of `size` bytes at `offset` and with it
+abbrev pub noted : (sought : HeadItem → ℕ → Bool) → (old : Option ℕ) → (offset : ℕ) → HeadItem
+    → (size : ℕ) → Option ℕ
+noted sought old offset head size = option_or old (then_some (sought head size) offset)
 
 -- what is found before a head of `size` bytes at `offset`, and what is found with it
 pub record HasNoted (old new : Found) (offset : ℕ) (head : HeadItem) (size : ℕ) : Type 0 where
-  pub long : new.long ≡ option_or old.long (then_some (is_long head size) offset)
-  pub indefinite : new.indefinite
-      ≡ option_or old.indefinite (then_some (is_indefinite head size) offset)
+  pub long : new.long ≡ noted is_long old.long offset head size
+  pub string : new.string ≡ noted is_open_string old.string offset head size
+  pub item : new.item ≡ noted is_open_item old.item offset head size
+  pub encoded : new.encoded ≡ noted is_encoded old.encoded offset head size
 
 -- in a head that begins at `offset` and is not complete
 pub record IsInHead (head : HeadScan) (offset : ℕ) (seen : List ℕ) : Type 0 where

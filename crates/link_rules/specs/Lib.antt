@@ -2,3 +2,4 @@ pub mod Broken
 pub mod Flags
 pub mod Heads
 pub mod HeadWalk
+pub mod Prefix

@@ -1,8 +1,9 @@
 //! A walk over the heads of CBOR items that follow one another.
 ghost use Rattle.std.specs.Prelude.{◌≡◌, ℕ, ◌^◌, ◌<◌, ◌≤◌, List, ◌∷◌, [], ◌++◌, length, take, IsTrue};
 ghost use Rattle.link_cbor.specs.HeadScan.{may_scan_head};
-ghost use Rattle.link_rules.specs.Heads.{content_size, shortest_size, is_long, is_indefinite, first_long, first_indefinite};
+ghost use Rattle.link_rules.specs.Heads.{content_size, shortest_size, is_long, is_open_string, is_open_item, is_encoded, first_long, unread_of, is_tagged};
 
+use crate::unread::Unread;
 use link_cbor::{Head, HeadScan, HeadStep, Piecewise};
 
 /// The major type of byte strings (RFC 8949 section 3.1).
@@ -11,10 +12,13 @@ const BYTE_STRING: u8 = 2;
 /// The major type of text strings.
 const TEXT_STRING: u8 = 3;
 
-/// The major type of simple values, floats and the break.
-const SIMPLE: u8 = 7;
+/// The major type of tags.
+const TAG: u8 = 6;
 
-/// The fewest bytes of a head with this value (RFC 8949 section 3).
+/// The tag of a byte string with encoded CBOR (RFC 8949 section 3.4.5.1).
+const ENCODED: u64 = 24;
+
+/// The fewest bytes of a head with this value (RFC 8949 sections 4.1 and 4.2.1).
 fn shortest_size(value: Option<u64>) -> usize
     ensures { result ≡ shortest_size value }
 {
@@ -45,11 +49,25 @@ fn is_long(head: Head, size: usize) -> bool
     shortest_size(head.value) < size
 }
 
-/// Whether a head is that of a string, an array or a map of indefinite length.
-fn is_indefinite(head: Head) -> bool
-    ensures { (size : ℕ) → result ≡ is_indefinite head size }
+/// Whether a head is that of a byte string of indefinite length.
+fn is_open_string(head: Head) -> bool
+    ensures { (size : ℕ) → result ≡ is_open_string head size }
 {
-    head.value.is_none() && head.major != SIMPLE
+    head.is_indefinite() && head.major == BYTE_STRING
+}
+
+/// Whether a head is that of a text, an array or a map of indefinite length.
+fn is_open_item(head: Head) -> bool
+    ensures { (size : ℕ) → result ≡ is_open_item head size }
+{
+    head.is_indefinite() && head.major != BYTE_STRING
+}
+
+/// Whether a head of `size` bytes is tag 24 in two bytes.
+fn is_encoded(head: Head, size: usize) -> bool
+    ensures { result ≡ is_encoded head size }
+{
+    head.major == TAG && size == 2 && head.value.unwrap_or(0) == ENCODED
 }
 
 /// The offset of the first head of each kind that is sought.
@@ -57,12 +75,24 @@ fn is_indefinite(head: Head) -> bool
 struct Found {
     /// A head that is longer than its number needs.
     long: Option<u64>,
-    /// A head of indefinite length.
-    indefinite: Option<u64>,
+    /// The head of a byte string of indefinite length.
+    string: Option<u64>,
+    /// The head of another item of indefinite length.
+    item: Option<u64>,
+    /// Tag 24 in two bytes.
+    encoded: Option<u64>,
 }
 
+/// Nothing is found.
+const NONE_FOUND: Found = Found {
+    long: None,
+    string: None,
+    item: None,
+    encoded: None,
+};
+
 impl Found {
-    ghost use Rattle.link_rules.specs.HeadWalk.{HasFound, HasNoted};
+    ghost use Rattle.link_rules.specs.HeadWalk.{HasFound, HasNoted, noted};
     ghost use Rattle.link_rules.specs.declared.heads.WalkStage.TheVariants.{Inside};
 
     /// Keeps the offset of a head of `size` bytes, if it is the first of its kind.
@@ -82,7 +112,24 @@ impl Found {
         ensures { HasNoted self.old self.new offset head size }
     {
         self.long = self.long.or(is_long(head, size).then_some(offset));
-        self.indefinite = self.indefinite.or(is_indefinite(head).then_some(offset));
+        if head.value.is_none() || head.major == TAG {
+            self.note_unread(offset, head, size);
+        }
+    }
+
+    /// Keeps the offset of a head without a value or of a tag, if it is the first of its kind.
+    #[cold]
+    #[inline(never)]
+    fn note_unread(&mut self, offset: u64, head: Head, size: usize)
+        ensures long { self.new.long ≡ self.old.long }
+        ensures string { self.new.string ≡ noted is_open_string self.old.string offset head size }
+        ensures item { self.new.item ≡ noted is_open_item self.old.item offset head size }
+        ensures encoded { self.new.encoded
+            ≡ noted is_encoded self.old.encoded offset head size }
+    {
+        self.string = self.string.or(is_open_string(head).then_some(offset));
+        self.item = self.item.or(is_open_item(head).then_some(offset));
+        self.encoded = self.encoded.or(is_encoded(head, size).then_some(offset));
     }
 
     /// Takes the heads that a piece begins with, and their strings. The first is at `offset`.
@@ -131,9 +178,9 @@ enum WalkStage {
 
 /// A walk over the heads of a bundle, whose bytes come in pieces of any size.
 ///
-/// It finds the first head that is longer than its number needs, and the first of indefinite
-/// length (RFC 8949 section 3). The bundle's own array head is passed over, and so are the bytes of
-/// strings. There is no head after one that is ill-formed.
+/// It finds the first head that is longer than its number needs, and those of [`Unread`] (RFC 8949
+/// section 3). The bundle's own array head is passed over, and so are the bytes of strings. There is
+/// no head after one that is ill-formed.
 ///
 /// It keeps numbers, and no bytes of the bundle.
 #[derive(Clone, Copy, Debug)]
@@ -158,10 +205,7 @@ impl HeadWalk {
             // The bundle's own array head is one byte.
             stage: WalkStage::Inside(1),
             count: 0,
-            found: Found {
-                long: None,
-                indefinite: None,
-            },
+            found: NONE_FOUND,
             head: HeadScan::new(),
         }
     }
@@ -181,12 +225,20 @@ impl HeadWalk {
         self.found.long
     }
 
-    /// The offset in the bundle of the first head of indefinite length.
+    /// Where the bundle has heads that RFC 9171 permits, and that this toolkit does not read.
+    ///
+    /// `tagged` is whether the bundle begins with tag 55799.
     #[tactic(auto, using(crate::proofs::Walks::sought_now))]
-    pub fn first_indefinite(&self) -> Option<u64>
-        ensures { (seen : List ℕ) → HasWalked self.now seen → result ≡ first_indefinite seen }
+    pub fn unread(&self, tagged: bool) -> Unread
+        ensures { (seen : List ℕ) → HasWalked self.now seen → tagged ≡ is_tagged seen
+            → result ≡ unread_of seen }
     {
-        self.found.indefinite
+        Unread {
+            string: self.found.string,
+            item: self.found.item,
+            encoded: self.found.encoded,
+            tagged,
+        }
     }
 
     /// Takes the next piece of the bundle. Many pieces lie within a string.

@@ -273,6 +273,8 @@ static CODES: [(BundleFault, &str, &str); 17] = [
     (BundleFault::NotABundle, "B3", "not a bundle"),
     (BundleFault::BadHead, "B4", "ill-formed head"),
     (BundleFault::WrongKind, "B5", "wrong kind of item"),
+    (BundleFault::WrongDataKind, "B5", "wrong kind of item"),
+    (BundleFault::WrongCheckKind, "B5", "wrong kind of item"),
     (BundleFault::BadCount, "B6", "wrong number of elements"),
     (BundleFault::BadVersion, "B7", "unsupported bundle version"),
     (BundleFault::BadCheckType, "B8", "unknown check type"),

@@ -1,5 +1,5 @@
 use Rattle.std.proofs.Common.{◌∙◌, sym, refl}
-use Rattle.link_bundle_heads.specs.Rows.{block, block_number, block_check_type, byte_string}
+use Rattle.link_bundle_heads.specs.Rows.{block, block_number, block_check_type, block_data}
 use Rattle.link_bundle_blocks.specs.Canonical.{heads_at}
 use Rattle.link_bundle_blocks.proofs.Heads.{row_at-accepted}
 use Rattle.link_bundle_blocks.proofs.whole.heads_at.Goals as goal
@@ -21,7 +21,7 @@ returns-clause-read c =
       row_at-accepted (block_check_type c.in_ok-count.count) bytes c.in_ok-flags.offset
           c.in_ok-head-2.offset c.in_ok-head-2.head c.in_ok-check.check
           c.in_ok-head-2.ensures (sym c.block_check_type.ensures.judged ∙ c.in_ok-check.was),
-      row_at-accepted byte_string bytes c.in_ok-head-2.offset c.in_ok-head-3.offset
+      row_at-accepted block_data bytes c.in_ok-head-2.offset c.in_ok-head-3.offset
           c.in_ok-head-3.head c.in_ok-data_length.data_length
-          c.in_ok-head-3.ensures (sym c.byte_string.ensures.judged ∙ c.in_ok-data_length.was),
+          c.in_ok-head-3.ensures (sym c.block_data.ensures.judged ∙ c.in_ok-data_length.was),
     ) refl

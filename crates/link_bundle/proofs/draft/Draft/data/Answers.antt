@@ -16,7 +16,7 @@ returns c = as_judged (search rules) (search rules) (search rules) (λ offset by
       data_start = c.args.next;
       data_length = size;
     } in
-    rw (outcome, sym c.byte_string.ensures.judged ∙ c.in_ok-size.was)
+    rw (outcome, sym c.block_data.ensures.judged ∙ c.in_ok-size.was)
     (ap (λ (r : Result Bundle Stop). read_alone bytes r)
     (data_read now.payload_span c.then_some-self.result (now.block.block_type == 1) now.numbers
     (primary_of now) block bytes
