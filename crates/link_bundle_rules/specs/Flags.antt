@@ -1,8 +1,9 @@
 -- Rules of flags (RFC 9171).
 use Rattle.std.specs.Prelude.{ℕ, Bool, not, ◌&&◌, ◌||◌, ◌==◌, bit_and, Option, Some, None, if◌then◌else◌}
-use Rattle.link_bundle_blocks.specs.Blocks.{Primary}
 use Rattle.link_rules.specs.Flags.{has_other_flags}
-use Rattle.link_bundle_rules.specs.ReadBundle.{ReadBlock, ReadBundle, is_anonymous, payload, is_of_type, find_map}
+use Rattle.link_bundle_rules.specs.ReadBundle.{ReadBundle, find_map}
+use Rattle.link_bundle_rules.specs.declared.block.BlockFacts.{BlockFacts}
+use Rattle.link_bundle_rules.specs.declared.primary.PrimaryFacts.{PrimaryFacts}
 use Rattle.link_bundle_rules.specs.declared.rule.BundleRule.{BundleRule}
 use Rattle.link_bundle_rules.specs.declared.rule.BundleRule.TheVariants as rule
 
@@ -56,7 +57,7 @@ bundle_flags bundle =
 unfoldable pub anonymous : ReadBundle → Option BundleRule
 anonymous bundle =
     let flags = bundle.primary.flags in
-    if is_anonymous bundle.primary && (not (is_set no_fragments flags) || requests_reports flags)
+    if bundle.primary.is_anonymous && (not (is_set no_fragments flags) || requests_reports flags)
     then Some (rule.Anonymous flags)
     else None
 
@@ -69,26 +70,23 @@ record_reports bundle =
     else None
 
 -- whether the blocks of a bundle must request no status reports (section 4.2.4)
-abbrev pub forbids_reports : Primary → Bool
-forbids_reports primary = is_set record_flag primary.flags || is_anonymous primary
+abbrev pub forbids_reports : PrimaryFacts → Bool
+forbids_reports primary = is_set record_flag primary.flags || primary.is_anonymous
 
--- a block other than the payload that requests a status report
-abbrev pub if_reporting : ReadBlock → Option BundleRule
-if_reporting read =
-    if not (is_of_type payload read) && is_set block_report read.block.flags
-    then Some (rule.BlockReports read.block.number)
-    else None
+abbrev pub if_reporting : BlockFacts → Option BundleRule
+if_reporting block =
+    if is_set block_report block.flags then Some (rule.BlockReports block.number) else None
 
 -- block-reports: no block of an administrative record, or of a bundle without a source, requests a
--- status report (section 4.2.4). The payload block may. The first other one that does counts.
+-- status report (section 4.2.4). The first one that does counts.
 unfoldable pub block_reports : ReadBundle → Option BundleRule
 block_reports bundle =
     if forbids_reports bundle.primary then find_map if_reporting bundle.blocks else None
 
-abbrev pub if_other_block_flags : ReadBlock → Option BundleRule
-if_other_block_flags read =
-    if has_other_flags block_flags_defined read.block.flags
-    then Some (rule.BlockFlags read.block.number read.block.flags)
+abbrev pub if_other_block_flags : BlockFacts → Option BundleRule
+if_other_block_flags block =
+    if has_other_flags block_flags_defined block.flags
+    then Some (rule.BlockFlags block.number block.flags)
     else None
 
 -- block-flags: a block has no flag but those that are defined (section 4.2.4). The first one that

@@ -1,23 +1,47 @@
--- The rule of fragments (RFC 9171 sections 4.2.3 and 5.8).
-use Rattle.std.specs.Prelude.{ℕ, ◌+◌, Bool, ◌||◌, ◌==◌, nat_lt, Option, Some, None, if◌then◌else◌}
+-- Rules of fragments (RFC 9171 sections 3.1, 4.3.1, 5.8 and 5.9).
+use Rattle.std.specs.Prelude.{ℕ, ◌+◌, Bool, false, not, ◌&&◌, ◌||◌, ◌==◌, nat_lt, Option, Some, None, if◌then◌else◌}
 use Rattle.std.specs.Option.{option_and_then}
+use Rattle.link_rules.specs.declared.level.{Level.Level, Level.TheVariants.{Must, Should}}
 use Rattle.link_bundle_rules.specs.Flags.{no_fragments, is_set}
+use Rattle.link_bundle_rules.specs.Hidden.{is_hidden}
 use Rattle.link_bundle_rules.specs.ReadBundle.{ReadBundle}
 use Rattle.link_bundle_rules.specs.declared.rule.BundleRule.{BundleRule}
-use Rattle.link_bundle_rules.specs.declared.rule.BundleRule.TheVariants.{Fragment}
+use Rattle.link_bundle_rules.specs.declared.rule.BundleRule.TheVariants.{Fragment, WholeFragment}
 
--- Whether `size` bytes from an offset on are no part of `total` bytes. A part is neither empty nor
--- all of them.
-abbrev pub is_no_part : (offset size total : ℕ) → Bool
-is_no_part offset size total = (size == 0) || ((size == total) || nat_lt total (offset + size))
+abbrev pub is_later : Option (ℕ × ℕ) → Bool
+is_later None = false
+is_later (Some (offset, total)) = nat_lt 0 offset
 
-abbrev pub if_no_part : (flags size : ℕ) → (part : ℕ × ℕ) → Option BundleRule
-if_no_part flags size (offset, total) =
-    if is_set no_fragments flags || is_no_part offset size total
+-- The level of a rule that asks for a block or a check. The node that fragments a bundle copies the
+-- blocks into the first fragment, and into the others only if a flag asks for it (section 5.8).
+abbrev pub level_in : ReadBundle → Level
+level_in bundle = if is_later bundle.primary.fragment then Should else Must
+
+-- whether the payload may be ciphertext, and so have another length than its plaintext; its block
+-- has number 1 (section 4.1)
+abbrev pub has_hidden_payload : ReadBundle → Bool
+has_hidden_payload bundle = is_hidden bundle.security 1
+
+abbrev pub if_no_part : ReadBundle → (part : ℕ × ℕ) → Option BundleRule
+if_no_part bundle (offset, total) =
+    let size = bundle.payload_length in
+    if is_set no_fragments bundle.primary.flags
+    || ((size == 0) || (not (has_hidden_payload bundle) && nat_lt total (offset + size)))
     then Some (Fragment offset size total)
     else None
 
--- fragment: a fragment may be one, and its payload is a part of the application data
+-- fragment: a fragment may be one, and its payload is some bytes of the original one (sections 3.1,
+-- 4.3.1 and 5.8)
 unfoldable pub fragment : ReadBundle → Option BundleRule
-fragment bundle =
-    option_and_then (if_no_part bundle.primary.flags bundle.payload_length) bundle.primary.fragment
+fragment bundle = option_and_then (if_no_part bundle) bundle.primary.fragment
+
+abbrev pub if_all : ReadBundle → (part : ℕ × ℕ) → Option BundleRule
+if_all bundle (offset, total) =
+    if (offset == 0) && ((bundle.payload_length == total) && not (has_hidden_payload bundle))
+    then Some (WholeFragment total)
+    else None
+
+-- whole-fragment: the payload of a fragment is not all of the original one, unless a node has
+-- reassembled it (sections 5.8 and 5.9)
+unfoldable pub whole_fragment : ReadBundle → Option BundleRule
+whole_fragment bundle = option_and_then (if_all bundle) bundle.primary.fragment

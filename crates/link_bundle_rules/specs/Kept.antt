@@ -1,32 +1,35 @@
--- Relations: the rules that a bundle keeps.
-use Rattle.std.specs.Prelude.{◌≡◌, None}
-use Rattle.link_bundle_rules.specs.Extensions.{age, previous_node, hop_count, hops, block_data, administrative_record}
-use Rattle.link_bundle_rules.specs.Flags.{bundle_flags, anonymous, record_reports, block_reports, block_flags}
-use Rattle.link_bundle_rules.specs.Fragments.{fragment}
-use Rattle.link_bundle_rules.specs.Names.{dtn_name}
-use Rattle.link_bundle_rules.specs.ReadBundle.{ReadBundle}
-use Rattle.link_bundle_rules.specs.Security.{primary_check, confidential_primary}
+-- Relations: bundles that are known to keep all rules, by cheap tests. The promises need only that
+-- such a bundle breaks no rule.
+use Rattle.std.specs.Prelude.{ℕ, Bool, true, false, not, ◌&&◌, ◌||◌, ◌==◌, nat_lt, nat_le, is_none}
+use Rattle.link_rules.specs.Flags.{has_other_flags}
+use Rattle.link_bundle_rules.specs.Flags.{bundle_flags_defined, record_flag, is_set, requests_reports, if_reporting, if_other_block_flags}
+use Rattle.link_bundle_rules.specs.ReadBundle as block
+use Rattle.link_bundle_rules.specs.ReadBundle.{ReadBundle, count_of_type}
+use Rattle.link_bundle_rules.specs.declared.block.{BlockFacts.BlockFacts, DataFacts.DataFacts}
+use Rattle.link_bundle_rules.specs.declared.block.DataFacts.TheVariants.{Nothing, HopCount}
+use Rattle.link_bundle_rules.specs.declared.primary.PrimaryFacts.{PrimaryFacts}
 
--- those that the primary block and the payload's length can break
-pub record KeepsPrimaryRules (bundle : ReadBundle) : Type 0 where
-  pub flags : bundle_flags bundle ≡ None
-  pub check : primary_check bundle ≡ None
-  pub source : anonymous bundle ≡ None
-  pub reports : record_reports bundle ≡ None
-  pub names : dtn_name bundle ≡ None
-  pub part : fragment bundle ≡ None
+abbrev pub is_plain_data : DataFacts → Bool
+is_plain_data Nothing = true
+is_plain_data (HopCount limit count) = nat_lt 0 limit && (nat_lt limit 256 && nat_le count limit)
+is_plain_data _ = false
 
--- those that the other blocks can break, whatever their data says
-pub record KeepsBlockRules (bundle : ReadBundle) : Type 0 where
-  pub reports : block_reports bundle ≡ None
-  pub flags : block_flags bundle ≡ None
-  pub ages : age bundle ≡ None
-  pub previous : previous_node bundle ≡ None
-  pub confidential : confidential_primary bundle ≡ None
+abbrev pub is_plain_block : BlockFacts → Bool
+is_plain_block read =
+    is_none (if_reporting read) && (is_none (if_other_block_flags read) && is_plain_data read.data)
 
--- those that the data of blocks can break
-pub record KeepsDataRules (bundle : ReadBundle) : Type 0 where
-  pub counts : hop_count bundle ≡ None
-  pub hopped : hops bundle ≡ None
-  pub malformed : block_data bundle ≡ None
-  pub record_data : administrative_record bundle ≡ None
+abbrev pub is_plain_primary : PrimaryFacts → Bool
+is_plain_primary primary =
+    primary.has_check
+    && (not primary.is_anonymous
+    && (is_none primary.bad_name
+    && (is_none primary.fragment
+    && (not (has_other_flags bundle_flags_defined primary.flags)
+    && not (is_set record_flag primary.flags && requests_reports primary.flags)))))
+
+abbrev pub has_plain_counts : ReadBundle → Bool
+has_plain_counts bundle =
+    let ages = count_of_type block.bundle_age bundle.blocks in
+    nat_le (count_of_type block.previous_node bundle.blocks) 1
+    && (nat_le (count_of_type block.hop_count bundle.blocks) 1
+    && ((ages == 1) || ((ages == 0) && not bundle.primary.has_zero_time)))

@@ -1,9 +1,10 @@
+pub mod Names
 pub mod ReadBundle
 pub mod Flags
-pub mod Names
+pub mod Hidden
 pub mod Fragments
 pub mod Extensions
 pub mod Security
 pub mod BundleRules
-pub mod Remembered
+pub mod History
 pub mod Kept

@@ -1,12 +1,10 @@
--- The rule of dtn names (RFC 9171 section 4.2.5.1.1).
-use Rattle.std.specs.Prelude.{ℕ, Bool, false, not, ◌&&◌, ◌==◌, List, ◌∷◌, Option, Some, None, option_map, if◌then◌else◌}
+-- Dtn names (RFC 9171 section 4.2.5.1.1).
+use Rattle.std.specs.Prelude.{ℕ, Bool, false, not, ◌&&◌, ◌==◌, List, ◌∷◌, Option, Some, None, if◌then◌else◌}
 use Rattle.std.specs.{Char.is_ascii_graphic, List.{list_any, list_all}}
 use Rattle.link_bundle_types.specs.declared.eid.Eid.{Eid}
 use Rattle.link_bundle_types.specs.declared.eid.Eid.TheVariants as eid
 use Rattle.link_bundle_blocks.specs.Blocks.{Primary}
-use Rattle.link_bundle_rules.specs.ReadBundle.{ReadBundle}
-use Rattle.link_bundle_rules.specs.declared.rule.BundleRule.{BundleRule}
-use Rattle.link_bundle_rules.specs.declared.rule.{BundleRule.TheVariants.DtnName, Endpoint.Endpoint}
+use Rattle.link_bundle_rules.specs.declared.rule.Endpoint.{Endpoint}
 use Rattle.link_bundle_rules.specs.declared.rule.Endpoint.TheVariants.{Destination, Source, ReportTo}
 
 abbrev pub is_slash : ℕ → Bool
@@ -31,8 +29,3 @@ bad_name primary =
     if has_bad_name primary.destination then Some Destination
     else (if has_bad_name primary.source then Some Source
     else (if has_bad_name primary.report_to then Some ReportTo else None))
-
--- dtn-name: an endpoint ID of scheme dtn that is a text is a dtn name. The first one that is not
--- counts.
-unfoldable pub dtn_name : ReadBundle → Option BundleRule
-dtn_name bundle = option_map (λ of. DtnName of) (bad_name bundle.primary)

@@ -1,52 +1,33 @@
--- A good bundle, as far as the rules for it need it (RFC 9171 section 4).
-use Rattle.std.specs.Prelude.{ℕ, ◌+◌, Bool, true, false, ◌==◌, List, [], ◌∷◌, ◌++◌, count_by, Option, Some, None, option_map, Result, Err}
+-- What the rules need of a good bundle (RFC 9171 section 4).
+use Rattle.std.specs.Prelude.{ℕ, ◌+◌, ◌||◌, ◌==◌, Bool, true, false, List, [], ◌∷◌, ◌++◌, take, count_by, is_some, Option, Some, None, Result, Ok, Err, if◌then◌else◌}
 use Rattle.std.specs.Option.{option_or}
 use Rattle.link_cbor.specs.declared.check.CheckKind.{CheckKind}
 use Rattle.link_bundle_types.specs.declared.eid.Eid.{Eid}
 use Rattle.link_bundle_types.specs.declared.eid.Eid.TheVariants as eid
 use Rattle.link_bundle_blocks.specs.Blocks.{Primary}
 use Rattle.link_bundle_blocks.specs.declared.block.CanonicalBlock.{CanonicalBlock}
-use Rattle.link_block_data.specs.BlockData.{BlockData}
-use Rattle.link_block_data.specs.DataView.{viewed_result}
-use Rattle.link_bundle_rules.specs.declared.block.ReadBlockView.{ReadBlockView}
-
--- a canonical block
-pub record ReadBlock : Type 0 where
-  pub block : CanonicalBlock
-  -- What its data says, or the offset in the data at which it is malformed, if data of this type is
-  -- read. The payload is read if it is an administrative record and the bundle is no fragment.
-  pub found : Option (Result BlockData ℕ)
+use Rattle.link_block_data.specs.BlockData.{BlockData, HopCount, Security}
+use Rattle.link_block_data.specs.declared.values.DataFault.{DataFault}
+use Rattle.link_bundle_rules.specs.Names.{bad_name}
+use Rattle.link_bundle_rules.specs.declared.block.BlockFacts.{BlockFacts}
+use Rattle.link_bundle_rules.specs.declared.block.DataFacts.{DataFacts}
+use Rattle.link_bundle_rules.specs.declared.block.DataFacts.TheVariants as data
+use Rattle.link_bundle_rules.specs.declared.primary.PrimaryFacts.{PrimaryFacts}
+use Rattle.link_bundle_rules.specs.declared.security.SecurityFacts.{SecurityFacts}
 
 pub record ReadBundle : Type 0 where
-  pub primary : Primary
-  pub check : Option CheckKind
+  pub primary : PrimaryFacts
   -- the canonical blocks, in order
-  pub blocks : List ReadBlock
+  pub blocks : List BlockFacts
+  -- the security blocks among them, in order
+  pub security : List SecurityFacts
   -- the offset of the first head that is longer than its number needs
   pub long_head : Option ℕ
   -- the number of bytes of the payload
   pub payload_length : ℕ
 
-abbrev pub viewed_read_block : ReadBlockView → ReadBlock
-viewed_read_block view =
-    record { block = view.block.now; found = option_map viewed_result view.found }
+-- ---- block types (RFC 9171 sections 4.3.2 and 4.4, RFC 9172 section 3)
 
--- a bundle with another block after its blocks
-abbrev pub with_block : ReadBundle → ReadBlock → ReadBundle
-with_block bundle block = record bundle { blocks = bundle.blocks ++ block ∷ [] }
-
--- whether an endpoint ID is dtn:none, spelled as the number 0 (section 4.2.5.1.1)
-abbrev pub is_none_eid : Eid → Bool
-is_none_eid eid.DtnNone = true
-is_none_eid _ = false
-
--- whether a bundle has no source
-abbrev pub is_anonymous : Primary → Bool
-is_anonymous primary = is_none_eid primary.source
-
--- ---- blocks
-
--- the block types of the rules (sections 4.3.2 and 4.4, RFC 9172 section 3)
 abbrev pub payload : ℕ
 payload = 1
 
@@ -65,10 +46,10 @@ block_integrity = 11
 abbrev pub block_confidentiality : ℕ
 block_confidentiality = 12
 
-abbrev pub is_of_type : (type : ℕ) → ReadBlock → Bool
-is_of_type type read = read.block.block_type == type
+abbrev pub is_of_type : (type : ℕ) → BlockFacts → Bool
+is_of_type type block = block.block_type == type
 
-abbrev pub count_of_type : (type : ℕ) → List ReadBlock → ℕ
+abbrev pub count_of_type : (type : ℕ) → List BlockFacts → ℕ
 count_of_type type blocks = count_by (is_of_type type) blocks
 
 -- what a function returns for the first of some elements for which it returns something
@@ -76,10 +57,100 @@ abbrev pub find_map : {A B : Type 0} → (A → Option B) → List A → Option 
 find_map f [] = None
 find_map f (element ∷ more) = option_or (f element) (find_map f more)
 
-abbrev pub malformed_from : (data_start : ℕ) → Option (Result BlockData ℕ) → Option ℕ
-malformed_from data_start (Some (Err offset)) = Some (data_start + offset)
-malformed_from data_start _ = None
+-- ---- the primary block
+
+-- whether an endpoint ID is dtn:none, spelled as the number 0 (section 4.2.5.1.1)
+abbrev pub is_none_eid : Eid → Bool
+is_none_eid eid.DtnNone = true
+is_none_eid _ = false
+
+abbrev pub primary_facts : Primary → Option CheckKind → PrimaryFacts
+primary_facts primary check = record {
+  flags = primary.flags;
+  has_check = is_some check;
+  is_anonymous = is_none_eid primary.source;
+  has_zero_time = primary.time == 0;
+  bad_name = bad_name primary;
+  fragment = primary.fragment;
+}
+
+-- ---- a canonical block
+
+-- Why data is malformed that begins at an offset in the bundle. If a limit of this toolkit is the
+-- reason, RFC 9171 may permit the data.
+abbrev pub fault_facts : (data_start : ℕ) → DataFault → DataFacts
+fault_facts data_start fault =
+    if fault.is_limit
+    then data.NotRead (data_start + fault.offset)
+    else data.Malformed (data_start + fault.offset)
+
+-- What the rules need of the data of a block, if data of its type is read. The payload is read if it
+-- is an administrative record and the bundle is no fragment.
+abbrev pub data_facts : (data_start : ℕ) → Option (Result BlockData DataFault) → DataFacts
+data_facts data_start (Some (Ok (HopCount limit count))) = data.HopCount limit count
+data_facts data_start (Some (Err fault)) = fault_facts data_start fault
+data_facts data_start _ = data.Nothing
+
+abbrev pub block_facts : CanonicalBlock → Option (Result BlockData DataFault) → BlockFacts
+block_facts block found = record {
+  number = block.number;
+  block_type = block.block_type;
+  flags = block.flags;
+  data = data_facts block.data_start found;
+}
+
+-- ---- a security block
+
+abbrev pub is_security : (type : ℕ) → Bool
+is_security type = (type == block_integrity) || (type == block_confidentiality)
+
+-- The targets of a security block (RFC 9172 section 3.6), of which the first 64 are kept. Those of a
+-- malformed one are not known.
+abbrev pub security_facts : (number type : ℕ) → Option (Result BlockData DataFault) → SecurityFacts
+security_facts number type (Some (Ok (Security block targets source))) = record {
+  number = number;
+  block_type = type;
+  is_malformed = false;
+  targets_primary = block.targets_primary;
+  count = block.targets;
+  targets = record { items = take 64 targets };
+}
+security_facts number type _ = record {
+  number = number;
+  block_type = type;
+  is_malformed = true;
+  targets_primary = false;
+  count = 0;
+  targets = record { items = [] };
+}
+
+abbrev pub if_security : CanonicalBlock → Option (Result BlockData DataFault) → List SecurityFacts
+if_security block found =
+    if is_security block.block_type
+    then security_facts block.number block.block_type found ∷ []
+    else []
+
+-- ---- a bundle, block by block
+
+-- a bundle of which the primary block alone has come
+abbrev pub begun : Primary → Option CheckKind → ReadBundle
+begun primary check = record {
+  primary = primary_facts primary check;
+  blocks = [];
+  security = [];
+  long_head = None;
+  payload_length = 0;
+}
+
+-- a bundle with another block after its blocks
+abbrev pub with_block : ReadBundle → CanonicalBlock → Option (Result BlockData DataFault)
+    → ReadBundle
+with_block bundle block found = record bundle {
+  blocks = bundle.blocks ++ block_facts block found ∷ [];
+  security = bundle.security ++ if_security block found;
+}
 
 -- the offset in the bundle at which the data of a block is malformed
-abbrev pub malformed_at : ReadBlock → Option ℕ
-malformed_at read = malformed_from read.block.data_start read.found
+abbrev pub malformed_at : CanonicalBlock → Option (Result BlockData DataFault) → Option ℕ
+malformed_at block (Some (Err fault)) = Some (block.data_start + fault.offset)
+malformed_at block _ = None

@@ -2,10 +2,8 @@
 
 ghost use Rattle.std.specs.Prelude.{◌≡◌};
 ghost use Rattle.link_bundle_rules.specs.Flags.{is_set, requests_reports, if_reporting, if_other_block_flags};
-ghost use Rattle.link_bundle_rules.specs.ReadBundle.{viewed_read_block};
 
-use crate::block::{PAYLOAD, ReadBlockView, is_of_type};
-use crate::primary::PrimaryFacts;
+use crate::block::BlockFacts;
 use crate::rule::BundleRule;
 use link_rules::has_other_flags;
 
@@ -41,70 +39,22 @@ pub(crate) fn requests_reports(flags: u64) -> bool
     flags & REPORT_REQUESTS != 0
 }
 
-/// The rule that a block other than the payload breaks by requesting a status report.
-fn if_reporting(read: &ReadBlockView<'_>) -> Option<BundleRule>
-    ensures { result ≡ if_reporting (viewed_read_block read.now) }
+/// The rule that a block breaks by requesting a status report, where none must.
+pub(crate) fn if_reporting(block: &BlockFacts) -> Option<BundleRule>
+    ensures { result ≡ if_reporting block.now }
 {
-    let is_wrong = !is_of_type(PAYLOAD, read) && is_set(BLOCK_REPORT, read.block.flags);
-    is_wrong.then_some(BundleRule::BlockReports {
-        block: read.block.number,
+    is_set(BLOCK_REPORT, block.flags).then_some(BundleRule::BlockReports {
+        block: block.number,
     })
 }
 
 /// The rule that a block breaks by a flag that is not defined.
-fn if_other_block_flags(read: &ReadBlockView<'_>) -> Option<BundleRule>
-    ensures { result ≡ if_other_block_flags (viewed_read_block read.now) }
+pub(crate) fn if_other_block_flags(block: &BlockFacts) -> Option<BundleRule>
+    ensures { result ≡ if_other_block_flags block.now }
 {
-    let flags = read.block.flags;
+    let flags = block.flags;
     has_other_flags(BLOCK_FLAGS, flags).then_some(BundleRule::BlockFlags {
-        block: read.block.number,
+        block: block.number,
         flags,
     })
-}
-
-/// What the rules need of the flags of the blocks so far.
-#[derive(Clone, Copy, Debug, Default)]
-pub(crate) struct FlagFacts {
-    /// The rule of the first block, but for the payload, that requests a status report.
-    reporting: Option<BundleRule>,
-    /// The rule of the first block that has a flag that is not defined.
-    other: Option<BundleRule>,
-}
-
-impl FlagFacts {
-    ghost use Rattle.std.specs.Prelude.{◌≡◌, List, [], ◌∷◌, ◌++◌};
-    ghost use Rattle.link_bundle_rules.specs.Flags.{block_reports, block_flags};
-    ghost use Rattle.link_bundle_rules.specs.ReadBundle.{ReadBlock, ReadBundle, viewed_read_block};
-    ghost use Rattle.link_bundle_rules.specs.Remembered.{IsOfFlags, IsOfPrimary};
-
-    /// Takes the next block.
-    #[tactic(auto, using(crate::proofs::Blocks::find_map_more))]
-    pub(crate) fn take(&mut self, read: &ReadBlockView<'_>)
-        ensures { (blocks : List ReadBlock) → IsOfFlags self.old blocks
-            → IsOfFlags self.new (blocks ++ viewed_read_block read.now ∷ []) }
-    {
-        self.reporting = self.reporting.or(if_reporting(read));
-        self.other = self.other.or(if_other_block_flags(read));
-    }
-
-    /// The rule of blocks that request a status report.
-    #[tactic(auto, unfolding(crate::specs::Flags::block_reports))]
-    pub(crate) fn block_reports(&self, primary: &PrimaryFacts) -> Option<BundleRule>
-        ensures { (bundle : ReadBundle) → IsOfPrimary primary.now bundle.primary bundle.check
-            → IsOfFlags self.now bundle.blocks → result ≡ block_reports bundle }
-    {
-        if primary.forbids_reports() {
-            return self.reporting;
-        }
-        None
-    }
-
-    /// The rule of the flags of blocks.
-    #[tactic(auto, unfolding(crate::specs::Flags::block_flags))]
-    pub(crate) fn block_flags(&self) -> Option<BundleRule>
-        ensures { (bundle : ReadBundle) → IsOfFlags self.now bundle.blocks
-            → result ≡ block_flags bundle }
-    {
-        self.other
-    }
 }

@@ -3,7 +3,8 @@
 //! A [`BundleHistory`] keeps what the rules need of the blocks so far. It has a fixed size.
 //!
 //! ```ignore
-//! let mut history = BundleHistory::begin(&primary);
+//! let mut history = BundleHistory::new();
+//! history.begin(&primary);
 //! // for each canonical block, one after another
 //! history.take(&ReadBlockView { block: &block, found });
 //! // at the end, if the bundle is good
@@ -17,12 +18,15 @@ mod block;
 mod extensions;
 mod flags;
 mod history;
+mod kept;
 mod names;
 mod primary;
 mod rule;
+mod rules;
 mod security;
 
 pub use block::ReadBlockView;
-pub use history::{BrokenBundleRules, BundleHistory};
+pub use history::BundleHistory;
 pub use link_rules::Level;
 pub use rule::{BundleRule, Endpoint};
+pub use rules::BrokenBundleRules;

@@ -13,15 +13,14 @@ pub enum Endpoint {
 /// A rule that a bundle breaks (RFC 9171, where no other RFC is named).
 ///
 /// A `byte` is an offset in the bundle, and a `block` is the number of a block.
-#[derive(Clone, Copy, Debug, Default, PartialEq, Eq)]
+#[derive(Clone, Copy, Debug, PartialEq, Eq)]
 pub enum BundleRule {
-    /// A head is longer than its number needs (section 4).
+    /// A head is longer than its number needs (section 4.1).
     LongHead { byte: u64 },
     /// The bundle has a flag that is not defined (section 4.2.3).
     BundleFlags { flags: u64 },
     /// Neither a check nor a block integrity block protects the primary block (section 4.3.1).
-    #[default]
-    PrimaryCheck,
+    PrimaryCheck { level: Level },
     /// A bundle without a source may be fragmented, or requests status reports (section 4.2.3).
     Anonymous { flags: u64 },
     /// An administrative record requests status reports (section 4.2.3).
@@ -33,10 +32,13 @@ pub enum BundleRule {
     BlockFlags { block: u64, flags: u64 },
     /// An endpoint ID of scheme dtn is no dtn name (section 4.2.5.1.1).
     DtnName { of: Endpoint },
-    /// A fragment must not be one, or its payload is no part of the total (sections 4.2.3 and 5.8).
+    /// A fragment must not be one, or its payload is empty or ends after the total length (sections
+    /// 3.1, 4.3.1 and 5.8).
     Fragment { offset: u64, size: u64, total: u64 },
+    /// The payload of a fragment has the total length (sections 5.8 and 5.9).
+    WholeFragment { total: u64 },
     /// The bundle has no bundle age block, and needs one, or it has two or more (section 4.4.2).
-    Age { blocks: u64 },
+    Age { blocks: u64, level: Level },
     /// The bundle has two or more previous node blocks (section 4.4.1).
     PreviousNode { blocks: u64 },
     /// The bundle has two or more hop count blocks, or a hop limit that is not from 1 to 255
@@ -46,9 +48,13 @@ pub enum BundleRule {
     ConfidentialPrimary { block: u64 },
     /// The hop count is greater than the hop limit (section 4.4.3).
     Hops { limit: u64, count: u64 },
-    /// The data of a previous node, bundle age or hop count block is malformed (section 4.4).
+    /// The data of a previous node, bundle age or hop count block is malformed (sections 4.4.1, 4.4.2
+    /// and 4.4.3).
     BlockData { block: u64, byte: u64 },
-    /// An administrative record is malformed (section 6.1).
+    /// The data of such a block, or an administrative record, exceeds a limit of this toolkit, and RFC
+    /// 9171 may permit it (section 4.1).
+    DataNotRead { block: u64, byte: u64 },
+    /// An administrative record is malformed (sections 6.1 and 6.1.1).
     Record { byte: u64 },
 }
 
@@ -62,11 +68,20 @@ impl BundleRule {
         ensures { result ≡ bundle_level_of self.now }
     {
         match self {
+            BundleRule::PrimaryCheck { level } | BundleRule::Age { level, .. } => *level,
             BundleRule::BundleFlags { .. }
             | BundleRule::BlockFlags { .. }
-            | BundleRule::PreviousNode { .. }
-            | BundleRule::Hops { .. } => Level::Should,
+            | BundleRule::WholeFragment { .. }
+            | BundleRule::Hops { .. }
+            | BundleRule::DataNotRead { .. } => Level::Should,
             _ => Level::Must,
         }
+    }
+}
+
+/// Any rule, for the places of a list that are not used.
+impl Default for BundleRule {
+    fn default() -> BundleRule {
+        BundleRule::PreviousNode { blocks: 0 }
     }
 }

@@ -1,103 +1,122 @@
-//! Rules of security blocks (RFC 9171 section 4.3.1, RFC 9172 sections 3.7 and 3.8).
+//! What the rules need of a security block, and the rules of security blocks (RFC 9171 section 4.3.1,
+//! RFC 9172 sections 3.7 and 3.8).
 
-ghost use Rattle.std.specs.Prelude.{◌≡◌};
-ghost use Rattle.link_block_data.specs.DataView.{viewed_data};
-ghost use Rattle.link_bundle_rules.specs.ReadBundle.{viewed_read_block};
-ghost use Rattle.link_bundle_rules.specs.Security.{targets_primary, may_protect_primary, if_confidential_primary};
+ghost use Rattle.std.specs.Prelude.{◌≡◌, option_map, take};
+ghost use Rattle.std.specs.List.{list_any};
+ghost use Rattle.link_block_data.specs.DataView.{viewed_result};
+ghost use Rattle.link_bundle_rules.specs.Hidden.{has_known_targets, may_hide, is_hidden};
+ghost use Rattle.link_bundle_rules.specs.ReadBundle.{is_security, security_facts};
+ghost use Rattle.link_bundle_rules.specs.Security.{may_protect_primary, if_confidential_primary};
 
-use crate::block::{BLOCK_CONFIDENTIALITY, BLOCK_INTEGRITY, ReadBlockView, is_of_type};
-use crate::primary::PrimaryFacts;
+use crate::block::{BLOCK_CONFIDENTIALITY, BLOCK_INTEGRITY, ReadBlockView};
 use crate::rule::BundleRule;
-use link_block_data::DataView;
+use arrayvec::ArrayVec;
+use link_block_data::{DataView, TARGETS_KEPT};
 
-/// Whether the primary block is among the targets of a security block (RFC 9172 section 3.6).
-fn targets_primary(said: &DataView<'_>) -> bool
-    ensures { result ≡ targets_primary (viewed_data said.now) }
-{
-    match said {
-        DataView::Security(block, _) => block.targets_primary,
-        _ => false,
-    }
-}
-
-/// Whether a block is a block integrity block that may protect the primary block.
-///
-/// The targets of a malformed block are not known.
-fn may_protect_primary(read: &ReadBlockView<'_>) -> bool
-    ensures { result ≡ may_protect_primary (viewed_read_block read.now) }
-{
-    let may_target = match &read.found {
-        Some(Ok(said)) => targets_primary(said),
-        Some(Err(_)) => true,
-        None => false,
-    };
-    is_of_type(BLOCK_INTEGRITY, read) && may_target
-}
-
-/// The rule that a block confidentiality block breaks by having the primary block as a target.
-fn if_confidential_primary(read: &ReadBlockView<'_>) -> Option<BundleRule>
-    ensures { result ≡ if_confidential_primary (viewed_read_block read.now) }
-{
-    let surely_targets = match &read.found {
-        Some(Ok(said)) => targets_primary(said),
-        _ => false,
-    };
-    let is_wrong = is_of_type(BLOCK_CONFIDENTIALITY, read) && surely_targets;
-    is_wrong.then_some(BundleRule::ConfidentialPrimary {
-        block: read.block.number,
-    })
-}
-
-/// What the rules need of the security blocks so far.
-#[derive(Clone, Copy, Debug, Default)]
+/// What the rules need of a security block (RFC 9172 section 3.6).
+#[derive(Default, Drop)]
 pub(crate) struct SecurityFacts {
-    /// Whether there is a block integrity block.
-    has_integrity: bool,
-    /// Whether a block integrity block is malformed or has the primary block as a target.
-    may_protect_primary: bool,
-    /// Whether data of blocks may be ciphertext: there is a block confidentiality block.
-    pub(crate) is_hidden: bool,
-    /// The rule of the first block confidentiality block that has the primary block as a target.
-    confidential_primary: Option<BundleRule>,
+    number: u64,
+    block_type: u64,
+    /// Whether its data is malformed. Then its targets are not known.
+    is_malformed: bool,
+    /// Whether the primary block is among its targets.
+    targets_primary: bool,
+    /// The number of its targets.
+    count: u64,
+    /// The first of its targets.
+    targets: ArrayVec<u64, TARGETS_KEPT>,
+}
+
+/// Whether a block of this type is a security block.
+pub(crate) fn is_security(block_type: u64) -> bool
+    ensures { result ≡ is_security block_type }
+{
+    block_type == BLOCK_INTEGRITY || block_type == BLOCK_CONFIDENTIALITY
+}
+
+/// The first targets of a security block.
+fn kept_targets(targets: &[u64]) -> ArrayVec<u64, TARGETS_KEPT>
+    ensures { result.items ≡ take 64 targets.now }
+{
+    let mut kept = ArrayVec::new();
+    let count = targets.len().min(TARGETS_KEPT);
+    let _ = kept.try_extend_from_slice(&targets[..count]);
+    kept
 }
 
 impl SecurityFacts {
-    ghost use Rattle.std.specs.Prelude.{◌≡◌, List, [], ◌∷◌, ◌++◌};
-    ghost use Rattle.link_bundle_rules.specs.ReadBundle.{ReadBlock, ReadBundle, viewed_read_block};
-    ghost use Rattle.link_bundle_rules.specs.Remembered.{IsOfPrimary, IsOfSecurity};
-    ghost use Rattle.link_bundle_rules.specs.Security.{is_hidden, primary_check, confidential_primary};
-
-    /// Takes the next block.
-    #[tactic(auto, using(crate::proofs::Blocks::find_map_more, crate::proofs::Blocks::any_more))]
-    pub(crate) fn take(&mut self, read: &ReadBlockView<'_>)
-        ensures { (blocks : List ReadBlock) → IsOfSecurity self.old blocks
-            → IsOfSecurity self.new (blocks ++ viewed_read_block read.now ∷ []) }
+    /// What the rules need of a security block.
+    pub(crate) fn of(read: &ReadBlockView<'_>) -> SecurityFacts
+        ensures { result ≡ security_facts read.now.block.now.number read.now.block.now.block_type
+            (option_map viewed_result read.now.found) }
     {
-        self.has_integrity = self.has_integrity || is_of_type(BLOCK_INTEGRITY, read);
-        self.may_protect_primary = self.may_protect_primary || may_protect_primary(read);
-        self.is_hidden = self.is_hidden || is_of_type(BLOCK_CONFIDENTIALITY, read);
-        self.confidential_primary = self.confidential_primary.or(if_confidential_primary(read));
-    }
-
-    /// The rule of the primary block's check.
-    #[tactic(auto, unfolding(crate::specs::Security::primary_check))]
-    pub(crate) fn primary_check(&self, primary: &PrimaryFacts) -> Option<BundleRule>
-        ensures { (bundle : ReadBundle) → IsOfPrimary primary.now bundle.primary bundle.check
-            → IsOfSecurity self.now bundle.blocks → result ≡ primary_check bundle }
-    {
-        let is_protected = self.may_protect_primary || (self.is_hidden && self.has_integrity);
-        if primary.has_check || is_protected {
-            return None;
+        let number = read.block.number;
+        let block_type = read.block.block_type;
+        match &read.found {
+            Some(Ok(DataView::Security(block, targets, _))) => SecurityFacts {
+                number,
+                block_type,
+                is_malformed: false,
+                targets_primary: block.targets_primary,
+                count: block.targets,
+                targets: kept_targets(targets),
+            },
+            _ => SecurityFacts {
+                number,
+                block_type,
+                is_malformed: true,
+                targets_primary: false,
+                count: 0,
+                targets: ArrayVec::new(),
+            },
         }
-        Some(BundleRule::PrimaryCheck)
     }
 
-    /// The rule of block confidentiality blocks that have the primary block as a target.
-    #[tactic(auto, unfolding(crate::specs::Security::confidential_primary))]
-    pub(crate) fn confidential_primary(&self) -> Option<BundleRule>
-        ensures { (bundle : ReadBundle) → IsOfSecurity self.now bundle.blocks
-            → result ≡ confidential_primary bundle }
+    /// Whether its targets are all known.
+    fn has_known_targets(&self) -> bool
+        ensures { result ≡ has_known_targets self.now }
     {
-        self.confidential_primary
+        !self.is_malformed && self.count <= TARGETS_KEPT as u64
     }
+
+    /// Whether the block with this number is, or may be, one that it encrypts.
+    fn may_hide(&self, number: u64) -> bool
+        ensures { result ≡ may_hide number self.now }
+    {
+        let is_target = self.targets.as_slice().iter().any(|&target| target == number);
+        self.block_type == BLOCK_CONFIDENTIALITY && (!self.has_known_targets() || is_target)
+    }
+
+    /// Whether it is a block integrity block that may have the primary block as a target.
+    fn may_protect_primary(&self, security: &[SecurityFacts]) -> bool
+        ensures { result ≡ may_protect_primary security.now self.now }
+    {
+        let may_target =
+            self.targets_primary || self.is_malformed || is_hidden(security, self.number);
+        self.block_type == BLOCK_INTEGRITY && may_target
+    }
+
+    /// The rule that a block confidentiality block breaks by having the primary block as a target.
+    pub(crate) fn if_confidential_primary(&self) -> Option<BundleRule>
+        ensures { result ≡ if_confidential_primary self.now }
+    {
+        let is_wrong = self.block_type == BLOCK_CONFIDENTIALITY && self.targets_primary;
+        is_wrong.then_some(BundleRule::ConfidentialPrimary { block: self.number })
+    }
+}
+
+/// Whether the data of the block with this number may be ciphertext.
+#[tactic(auto, unfolding(crate::specs::Hidden::is_hidden))]
+pub(crate) fn is_hidden(security: &[SecurityFacts], number: u64) -> bool
+    ensures { result ≡ is_hidden security.now number }
+{
+    security.iter().any(|block| block.may_hide(number))
+}
+
+/// Whether a block integrity block may have the primary block as a target.
+pub(crate) fn is_protected(security: &[SecurityFacts]) -> bool
+    ensures { result ≡ list_any (may_protect_primary security.now) security.now }
+{
+    security.iter().any(|block| block.may_protect_primary(security))
 }

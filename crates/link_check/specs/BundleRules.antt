@@ -6,21 +6,14 @@ use Rattle.link_bundle_blocks.specs.Bundle.{blocks_in}
 use Rattle.link_blocks.specs.BlockLines.{found_in}
 use Rattle.link_rules.specs.Heads.{first_long}
 use Rattle.link_bundle_rules.specs.BundleRules.{broken_bundle_rules}
-use Rattle.link_bundle_rules.specs.ReadBundle.{ReadBundle, with_block}
+use Rattle.link_bundle_rules.specs.ReadBundle.{ReadBundle, begun, with_block}
 use Rattle.link_bundle_rules.specs.declared.rule.BundleRule.{BundleRule}
 
 -- A bundle with one more block, if the content has it whole. The primary block begins it.
 abbrev pub with_next : (content : List ℕ) → Option ReadBundle → Block → Option ReadBundle
-with_next content before (PrimaryOf primary check end) = Some (record {
-  primary = primary;
-  check = check;
-  blocks = [];
-  long_head = None;
-  payload_length = 0;
-})
+with_next content before (PrimaryOf primary check end) = Some (begun primary check)
 with_next content before (CanonicalOf block) = option_map
-    (λ bundle. with_block bundle
-    (record { block = block; found = found_in bundle.primary.flags content block }))
+    (λ bundle. with_block bundle block (found_in bundle.primary.flags content block))
     before
 
 -- the whole blocks of a bundle, with what their data says

@@ -3,8 +3,8 @@
 ghost use Rattle.std.specs.Prelude.{◌≡◌, ◌+◌, ◌^◌, ◌≤◌, ◌<◌, ◌++◌, true, List, [], ℕ, length, map};
 ghost use Rattle.link_blocks.specs.BlockLines.{found_in};
 ghost use Rattle.link_blocks.specs.DataReader.{IsReadingBlock, read_size};
-ghost use Rattle.link_bundle_rules.specs.ReadBundle.{ReadBundle, with_block};
-ghost use Rattle.link_bundle_rules.specs.Remembered.{Remembers};
+ghost use Rattle.link_bundle_rules.specs.History.{bundle_of};
+ghost use Rattle.link_bundle_rules.specs.ReadBundle.{with_block};
 
 use crate::lines::write_rules;
 use link_blocks::DataReader;
@@ -12,7 +12,7 @@ use link_bundle::{BlockView, BundleScan, CanonicalBlock};
 use link_bundle_rules::{BrokenBundleRules, BundleHistory, ReadBlockView};
 use link_cbor::Piecewise;
 use link_rule_report::BundlePlace;
-use link_rules::HeadWalk;
+use link_rules::{HeadWalk, Prefix, Unread};
 use link_run::Writers;
 use link_wire::{IoFault, OutDevice};
 
@@ -22,21 +22,22 @@ use link_wire::{IoFault, OutDevice};
 #[derive(Drop)]
 pub(crate) struct BundleReader {
     blocks: DataReader,
-    /// The blocks so far, once the primary block is whole.
-    history: Option<BundleHistory>,
+    /// The blocks so far, if it has begun.
+    history: BundleHistory,
+    /// Whether the history has begun: the primary block is whole.
+    begun: bool,
     heads: HeadWalk,
+    prefix: Prefix,
 }
 
 /// Adds a whole block to a history. Its data was read.
 fn add<'a>(history: &mut BundleHistory, block: &'a CanonicalBlock, reader: &'a DataReader)
     requires { read_size reader.now < 2 ^ 63 }
-    ensures { (bundle : ReadBundle) (seen : List ℕ) → Remembers history.old bundle
-        → reader.now.flags ≡ bundle.primary.flags → block.now.data_start < 2 ^ 63
+    ensures { (seen : List ℕ) → length history.old.blocks.items < 64
+        → block.now.data_start < 2 ^ 63
         → IsReadingBlock reader.now seen block.now
-        → Remembers history.new (with_block bundle (record {
-          block = block.now;
-          found = found_in bundle.primary.flags seen block.now;
-        })) }
+        → bundle_of history.new None 0 ≡ with_block (bundle_of history.old None 0) block.now
+        (found_in reader.now.flags seen block.now) }
 {
     let found = reader.found();
     history.take(&ReadBlockView { block, found });
@@ -46,7 +47,7 @@ impl BundleReader {
     ghost use Rattle.link_bundle_types.specs.declared.info.BundleInfo.{BundleInfo};
     ghost use Rattle.link_bundle_blocks.specs.Bundle.{blocks_in, bundle_goes};
     ghost use Rattle.link_bundle.specs.Scan.{HasScanned, HasJudged, ending, scan_size};
-    ghost use Rattle.link_rules.specs.Heads.{first_indefinite};
+    ghost use Rattle.link_rules.specs.Heads.{unread_of};
     ghost use Rattle.link_check.specs.BundleReader.{IsReadingBlocks, IsReadingBundle, data_size};
     ghost use Rattle.link_check.specs.BundleRules.{bundle_rules};
     ghost use Rattle.link_check.specs.Lines.{at_offset};
@@ -63,8 +64,10 @@ impl BundleReader {
         blocks.restart();
         BundleReader {
             blocks,
-            history: None,
+            history: BundleHistory::new(),
+            begun: false,
             heads: HeadWalk::new(),
+            prefix: Prefix::new(),
         }
     }
 
@@ -75,8 +78,9 @@ impl BundleReader {
         ensures size { data_size self.new ≡ 0 }
     {
         self.blocks.restart();
-        self.history = None;
+        self.begun = false;
         self.heads.restart();
+        self.prefix.restart();
     }
 
     /// Scans and reads the next piece of a bundle, which comes after its first `before` bytes.
@@ -92,6 +96,7 @@ impl BundleReader {
             → IsReadingBundle self.old content → IsReadingBundle self.new (content ++ piece.now) }
     {
         self.heads.take(piece);
+        self.prefix.take(piece);
         self.take_blocks(before, piece, scan);
     }
 
@@ -137,47 +142,41 @@ impl BundleReader {
         };
         self.blocks.follow(before, run, &ended, scan);
         match &ended {
-            BlockView::Primary(block) => self.history = Some(BundleHistory::begin(block)),
-            BlockView::Canonical(block) => {
-                if let Some(history) = &mut self.history {
-                    add(history, block, &self.blocks);
-                }
+            BlockView::Primary(block) => {
+                self.history.begin(block);
+                self.begun = true;
             }
+            BlockView::Canonical(block) => add(&mut self.history, block, &self.blocks),
         }
     }
 
-    /// The offset of the first head of indefinite length after the bundle's own.
-    pub(crate) fn first_indefinite(&self) -> Option<u64>
+    /// Where the bundle has heads that this toolkit does not read.
+    pub(crate) fn unread(&self) -> Unread
         ensures { (content : List ℕ) → IsReadingBundle self.now content
-            → result ≡ first_indefinite content }
+            → result ≡ unread_of content }
     {
-        self.heads.first_indefinite()
+        self.heads.unread(self.prefix.is_tagged())
     }
 
-    /// Whether the bundle is known to break no rule, if it is good, whole and has a payload of this
-    /// length.
+    /// Whether the bundle is known to break no rule, if it is good and whole.
     #[inline(always)]
-    fn keeps_rules(&self, payload: u64) -> bool
+    fn keeps_rules(&self) -> bool
         ensures { (content : List ℕ) (info : BundleInfo) → IsReadingBundle self.now content
-            → length content < 2 ^ 63 → payload ≡ info.payload
             → result ≡ true → bundle_rules content info ≡ [] }
     {
-        match &self.history {
-            Some(history) => history.keeps_rules(self.heads.first_long(), payload),
-            None => true,
-        }
+        !self.begun || self.history.keeps_rules(self.heads.first_long())
     }
 
     /// The rules that the bundle breaks, if it is good, whole and has a payload of this length.
     fn rules(&self, payload: u64) -> BrokenBundleRules
         ensures { (content : List ℕ) (info : BundleInfo) → IsReadingBundle self.now content
-            → length content < 2 ^ 63 → payload ≡ info.payload
+            → payload ≡ info.payload
             → result.items ≡ bundle_rules content info }
     {
-        match &self.history {
-            Some(history) => history.rules(self.heads.first_long(), payload),
-            None => BrokenBundleRules::new(),
+        if !self.begun {
+            return BrokenBundleRules::new();
         }
+        self.history.rules(self.heads.first_long(), payload)
     }
 
     /// Writes the lines of the rules that the bundle breaks, if it is good and whole.
@@ -196,11 +195,11 @@ impl BundleReader {
         good: &mut bool,
     ) -> Result<(), IoFault>
         ensures { (content : List ℕ) (info : BundleInfo) → IsReadingBundle self.now content
-            → length content < 2 ^ 63 → payload ≡ info.payload
+            → payload ≡ info.payload
             → WritesRules W.state E.state must writers.old writers.new good.old good.new result
             (at_offset offset (map (λ rule. Bundle place rule) (bundle_rules content info))) }
     {
-        if self.keeps_rules(payload) {
+        if self.keeps_rules() {
             return Ok(());
         }
         self.write_broken(must, offset, place, payload, writers, good)
@@ -218,7 +217,7 @@ impl BundleReader {
         good: &mut bool,
     ) -> Result<(), IoFault>
         ensures { (content : List ℕ) (info : BundleInfo) → IsReadingBundle self.now content
-            → length content < 2 ^ 63 → payload ≡ info.payload
+            → payload ≡ info.payload
             → WritesRules W.state E.state must writers.old writers.new good.old good.new result
             (at_offset offset (map (λ rule. Bundle place rule) (bundle_rules content info))) }
     {

@@ -152,7 +152,7 @@ impl CheckedTransfer {
                     .write_rules(must, self.offset, place, info.payload, writers, good)
             }
             Err((fault, byte)) => {
-                let rule = data_rule(fault, byte, self.bundle.first_indefinite());
+                let rule = data_rule(fault, byte, &self.bundle.unread());
                 write_rules(must, self.offset, id, &[rule], writers, good)
             }
         }

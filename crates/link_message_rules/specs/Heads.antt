@@ -3,10 +3,10 @@
 use Rattle.std.specs.Prelude.{ℕ, Bool, true, false, ◌==◌, List, [], map, Option, Some, None, if◌then◌else◌}
 use Rattle.link_wire.specs.Codes.{is_start}
 use Rattle.link_wire.specs.declared.message.{Item.Item, SegmentHead.SegmentHead, Message.Message}
-use Rattle.link_wire.specs.declared.message.Message.TheVariants.{SessInit, Segment, Keepalive}
+use Rattle.link_wire.specs.declared.message.Message.TheVariants.{SessInit, Segment, Ack, Refuse, Keepalive}
 use Rattle.link_wire.specs.MessageBuffer.{message_of}
 use Rattle.link_transfer.specs.declared.{fault.OrderFault.OrderFault, joiner.Turn.Turn}
-use Rattle.link_message_rules.specs.declared.head.JudgedHeadView.{JudgedHeadView}
+use Rattle.link_message_rules.specs.declared.{head.JudgedHeadView.JudgedHeadView, session.Parameters.Parameters}
 
 -- the head of a message, with the judgement of its order
 pub record JudgedHead : Type 0 where
@@ -42,6 +42,22 @@ is_keepalive message = false
 abbrev pub disables_keepalive : Message → Bool
 disables_keepalive (SessInit interval segment_mru transfer_mru node items) = interval == 0
 disables_keepalive message = false
+
+-- the parameters of a session that a SESS_INIT sets, beside its node ID and its items (section 4.6)
+abbrev pub parameters_of : Message → Option Parameters
+parameters_of (SessInit interval segment_mru transfer_mru node items) = Some (record {
+  interval = interval;
+  segment_mru = segment_mru;
+  transfer_mru = transfer_mru;
+})
+parameters_of message = None
+
+-- whether a message is part of a transfer, or answers one (section 5.2)
+abbrev pub is_of_transfer : Message → Bool
+is_of_transfer (Segment segment) = true
+is_of_transfer (Ack flags id size) = true
+is_of_transfer (Refuse reason id) = true
+is_of_transfer message = false
 
 -- the extension items of a SESS_INIT or of a segment (sections 4.8 and 5.2.5)
 abbrev pub items_of : Message → List Item

@@ -19,7 +19,7 @@ if_longer limit segment =
     if nat_lt limit segment.length then Some (PeerSegment segment.length limit) else None
 
 -- peer-segment: the data of a segment, also of a stray one, is no longer than the peer's Segment
--- MRU (section 4.6), if this is known
+-- MRU (sections 4.6 and 5.2), if this is known
 unfoldable pub peer_segment : (limit : Option ℕ) → Message → Option MessageRule
 peer_segment None message = None
 peer_segment (Some limit) message = option_and_then (if_longer limit) (segment_of message)

@@ -1,7 +1,5 @@
 -- The rules that a message breaks (RFC 9174), and how strictly each rule is meant.
 use Rattle.std.specs.Prelude.{List, [], ◌∷◌, filter_map, Option}
-use Rattle.link_transfer.specs.declared.fault.OrderFault.{OrderFault}
-use Rattle.link_transfer.specs.declared.fault.OrderFault.TheVariants.{SecondSessInit, SegmentBeforeSessInit, NoSuchOpenTransfer, StartRepeatsOpenId, StartAfterSessTerm}
 use Rattle.link_message_rules.specs.Flags.{item_flags, segment_flags, term_flags}
 use Rattle.link_message_rules.specs.Heads.{JudgedHead}
 use Rattle.link_message_rules.specs.Lengths.{peer_segment, peer_transfer, ack_length}
@@ -17,7 +15,7 @@ use Rattle.link_message_rules.specs.declared.rule.MessageRule.TheVariants as rul
 abbrev pub judged_rules : PeerLimits → (before : List JudgedHead) → JudgedHead
     → List (Option MessageRule)
 judged_rules limits before head =
-    node_id head.message ∷ item_flags head.message ∷ order head ∷ before_session before head.message
+    node_id head.message ∷ item_flags head.message ∷ order before head ∷ before_session before head.message
     ∷ interleaved head ∷ segment_flags head.message ∷ transfer_id before head.message
     ∷ peer_segment limits.segment head.message ∷ peer_transfer limits.transfer before head
     ∷ ack_length before head.message ∷ keepalive before head.message ∷ term_flags head.message ∷ []
@@ -27,19 +25,11 @@ unfoldable pub broken_rules : PeerLimits → (before : List JudgedHead) → Judg
     → List MessageRule
 broken_rules limits before head = filter_map (λ judged. judged) (judged_rules limits before head)
 
--- A second SESS_INIT changes nothing, so sending one breaks no MUST.
-abbrev pub order_level : OrderFault → Level
-order_level SecondSessInit = Should
-order_level SegmentBeforeSessInit = Must
-order_level NoSuchOpenTransfer = Must
-order_level StartRepeatsOpenId = Must
-order_level StartAfterSessTerm = Must
-
 unfoldable pub level_of : MessageRule → Level
 level_of (rule.ContactFlags flags) = Must
 level_of (rule.NodeId size) = Must
 level_of (rule.ItemFlags item flags) = Must
-level_of (rule.Order fault) = order_level fault
+level_of (rule.Order fault level) = level
 level_of (rule.BeforeSession type) = Should
 level_of (rule.Interleaved id open_id) = Should
 level_of (rule.SegmentFlags flags) = Must

@@ -8,7 +8,10 @@ use crate::lengths::{
 use crate::limits::PeerLimits;
 use crate::node::node_id;
 use crate::rule::MessageRule;
-use crate::session::{Keepalives, before_session, initiated_after, order};
+use crate::session::{
+    Parameters, Since, before_session, keepalive, keepalives_after, order, parameters_after,
+    session_after,
+};
 use crate::transfer_ids::{IdRun, interleaved, run_after, transfer_id};
 use arrayvec::ArrayVec;
 use link_rules::add_if_broken;
@@ -23,9 +26,13 @@ pub type BrokenRules = ArrayVec<MessageRule, RULES>;
 /// The messages so far, as far as the rules for the next one need them.
 #[derive(Clone, Copy, Debug)]
 pub struct MessageHistory {
-    /// Whether a SESS_INIT came.
-    initiated: bool,
-    keepalives: Keepalives,
+    /// The parameters of the first SESS_INIT.
+    parameters: Option<Parameters>,
+    /// Whether a SESS_INIT came, and a transfer or an answer since.
+    session: Since,
+    /// Whether KEEPALIVEs are disabled: a SESS_INIT had the interval 0 (RFC 9174 section 4.7). Then
+    /// whether one was sent since.
+    keepalives: Since,
     /// The IDs of the last STARTs.
     run: Option<IdRun>,
     /// The last XFER_ACK.
@@ -43,13 +50,13 @@ impl MessageHistory {
     ghost use Rattle.link_message_rules.specs.Remembered.{Remembers};
 
     /// The history before the first message.
-    #[tactic(auto, unfolding(link_transfer::specs::Order::has_sess_init))]
     pub fn new() -> MessageHistory
         ensures { Remembers result [] }
     {
         MessageHistory {
-            initiated: false,
-            keepalives: Keepalives::Enabled,
+            parameters: None,
+            session: Since::Neither,
+            keepalives: Since::Neither,
             run: None,
             ack: None,
             transfer: None,
@@ -85,13 +92,13 @@ impl MessageHistory {
         ensures { (before : List JudgedHead) → Remembers self.now before → result ≡ true
             → KeepsAnswerRules before (message_of message.now) }
     {
-        if before_session(self.initiated, message).is_some() {
+        if before_session(&self.parameters, message).is_some() {
             return false;
         }
         if ack_length(self.ack, message).is_some() {
             return false;
         }
-        self.keepalives.rule(message).is_none()
+        keepalive(self.keepalives, message).is_none()
     }
 
     /// Whether the next message breaks no rule of segments and of extension items.
@@ -132,8 +139,8 @@ impl MessageHistory {
         let mut broken = BrokenRules::new();
         add_if_broken(&mut broken, node_id(message));
         add_if_broken(&mut broken, item_flags(message));
-        add_if_broken(&mut broken, order(head));
-        add_if_broken(&mut broken, before_session(self.initiated, message));
+        add_if_broken(&mut broken, order(&self.parameters, self.session, head));
+        add_if_broken(&mut broken, before_session(&self.parameters, message));
         add_if_broken(&mut broken, interleaved(head));
         add_if_broken(&mut broken, segment_flags(message));
         add_if_broken(&mut broken, transfer_id(self.run, message));
@@ -143,7 +150,7 @@ impl MessageHistory {
             peer_transfer(limits.transfer, self.transfer, head),
         );
         add_if_broken(&mut broken, ack_length(self.ack, message));
-        add_if_broken(&mut broken, self.keepalives.rule(message));
+        add_if_broken(&mut broken, keepalive(self.keepalives, message));
         add_if_broken(&mut broken, term_flags(message));
         broken
     }
@@ -170,6 +177,7 @@ impl MessageHistory {
         match &mut self.transfer {
             Some(transfer) => {
                 transfer.add(length);
+                self.session = self.session.after_second();
                 true
             }
             None => false,
@@ -188,11 +196,16 @@ impl MessageHistory {
             Fields::Segment { .. } => {
                 self.run = run_after(self.run, message);
                 self.transfer = so_far_after(self.transfer, head);
+                self.session = self.session.after_second();
             }
-            Fields::Ack { .. } => self.ack = ack_after(self.ack, message),
+            Fields::Ack { .. } => {
+                self.ack = ack_after(self.ack, message);
+                self.session = self.session.after_second();
+            }
             _ => {
-                self.initiated = initiated_after(self.initiated, message);
-                self.keepalives = self.keepalives.after(message);
+                self.parameters = parameters_after(self.parameters, message);
+                self.session = session_after(self.session, message);
+                self.keepalives = keepalives_after(self.keepalives, message);
             }
         }
     }

@@ -13,17 +13,17 @@ pub enum MessageRule {
     NodeId { length: u64 },
     /// An extension item, numbered from 0, has a flag other than CRITICAL (sections 4.8 and 5.2.5).
     ItemFlags { item: u64, flags: u8 },
-    /// The message is out of order (sections 4.6, 5.2.1, 5.2.2 and 6.1).
-    Order(OrderFault),
-    /// A message of this type comes before any SESS_INIT (section 4.6).
+    /// The message is out of order (sections 4, 4.7, 5.1.2, 5.2, 5.2.1, 5.2.2 and 6.1).
+    Order { fault: OrderFault, level: Level },
+    /// A message of this type comes before any SESS_INIT (sections 4 and 5.1.2).
     BeforeSession { kind: u8 },
-    /// A transfer begins while one of another ID is open (section 5.2.2).
+    /// A transfer begins while one of another ID is open (sections 5.2 and 5.2.2).
     Interleaved { id: u64, open: u64 },
     /// An XFER_SEGMENT has a flag other than START and END (section 5.2.2).
     SegmentFlags { flags: u8 },
     /// A transfer has the ID of an earlier one (section 5.2.1).
     TransferId { id: u64 },
-    /// A segment has more data than the peer's Segment MRU (section 4.6).
+    /// A segment has more data than the peer's Segment MRU (sections 4.6 and 5.2).
     PeerSegment { length: u64, limit: u64 },
     /// A transfer announces more data than the peer's Transfer MRU (section 4.6).
     PeerTransferAnnounced { announced: u64, limit: u64 },
@@ -50,9 +50,8 @@ impl MessageRule {
         ensures { result ≡ level_of self.now }
     {
         match self {
-            // A second SESS_INIT changes nothing for the peer.
-            MessageRule::Order(OrderFault::SecondSessInit)
-            | MessageRule::BeforeSession { .. }
+            MessageRule::Order { level, .. } => *level,
+            MessageRule::BeforeSession { .. }
             | MessageRule::Interleaved { .. }
             | MessageRule::Keepalive => Level::Should,
             _ => Level::Must,
@@ -60,7 +59,7 @@ impl MessageRule {
     }
 }
 
-/// A rule that a transfer breaks (RFC 9174 sections 5.2.2 and 5.2.5.1, RFC 9171 section 4).
+/// A rule that a transfer breaks (RFC 9174 sections 5.2, 5.2.2, 5.2.5.1 and 6.1, RFC 9171 section 4).
 #[derive(Clone, Copy, Debug, Default, PartialEq, Eq)]
 pub enum TransferRule {
     /// The stream ends while the transfer is open, after this many bytes of its data.

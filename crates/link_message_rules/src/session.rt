@@ -3,58 +3,134 @@
 ghost use Rattle.std.specs.Prelude.{◌≡◌, List, [], ◌∷◌, ◌++◌};
 ghost use Rattle.link_wire.specs.MessageBuffer.{message_of};
 ghost use Rattle.link_wire.specs.declared.message.Message.{Message};
-ghost use Rattle.link_transfer.specs.Order.{is_sess_init, has_sess_init};
-ghost use Rattle.link_transfer.specs.Event.{event_of};
-ghost use Rattle.link_message_rules.specs.Heads.{JudgedHead, viewed_head, messages_of, is_keepalive, disables_keepalive};
-ghost use Rattle.link_message_rules.specs.Session.{order, before_session, type_after_sess_init};
+ghost use Rattle.link_message_rules.specs.Heads.{JudgedHead, viewed_head, messages_of, is_keepalive, disables_keepalive, is_of_transfer, parameters_of};
+ghost use Rattle.link_message_rules.specs.Remembered.{session_of, keepalives_of};
+ghost use Rattle.link_message_rules.specs.Session.{order, order_level, before_session, keepalive, type_after_sess_init, first_parameters, are_other};
 
 use crate::head::JudgedHeadView;
 use crate::rule::MessageRule;
+use link_rules::Level;
+use link_transfer::OrderFault;
 use link_wire::{Fields, MessageBuffer};
 
-/// Whether KEEPALIVEs are disabled: a SESS_INIT had the interval 0 (RFC 9174 section 4.7).
+/// Whether a message of one kind came, and one of another kind after it.
 #[derive(Clone, Copy, Debug, PartialEq, Eq)]
-pub(crate) enum Keepalives {
-    Enabled,
-    Disabled,
-    /// They are disabled, and one was sent since.
-    SentDisabled,
+pub(crate) enum Since {
+    /// None of the first kind came.
+    Neither,
+    /// One of the first kind came, and none of the second since.
+    First,
+    /// One of the first kind came, and one of the second since.
+    Both,
 }
 
-impl Keepalives {
-    ghost use Rattle.std.specs.Prelude.{◌≡◌, List, [], ◌∷◌, ◌++◌};
-    ghost use Rattle.link_wire.specs.MessageBuffer.{message_of};
-    ghost use Rattle.link_wire.specs.declared.message.Message.{Message};
-    ghost use Rattle.link_message_rules.specs.Heads.{JudgedHead, messages_of};
-    ghost use Rattle.link_message_rules.specs.Session.{keepalive};
-    ghost use Rattle.link_message_rules.specs.Remembered.{keepalives_of};
+impl Since {
+    ghost use Rattle.std.specs.Prelude.{◌≡◌, true, false};
+    ghost use Rattle.link_message_rules.specs.Remembered.{next_since};
 
-    /// The rule of KEEPALIVEs.
-    #[tactic(auto, using(crate::proofs::Disabling::keepalive_by, crate::proofs::Disabling::shown))]
+    /// What holds after one more message, which may be of the first or of the second kind.
     #[inline(always)]
-    pub(crate) fn rule(self, message: &MessageBuffer) -> Option<MessageRule>
-        ensures { (before : List JudgedHead) → self ≡ keepalives_of (messages_of before)
-            → result ≡ keepalive before (message_of message.now) }
+    fn after(self, is_first: bool, is_second: bool) -> Since
+        ensures { result ≡ next_since self is_first is_second }
     {
         match self {
-            Keepalives::Enabled | Keepalives::SentDisabled => None,
-            Keepalives::Disabled => is_keepalive(message).then_some(MessageRule::Keepalive),
-        }
-    }
-
-    /// What holds after one more message.
-    #[tactic(auto, using(crate::proofs::Disabling::keepalives_of_push))]
-    #[inline(always)]
-    pub(crate) fn after(self, message: &MessageBuffer) -> Keepalives
-        ensures { (before : List Message) → self ≡ keepalives_of before
-            → result ≡ keepalives_of (before ++ message_of message.now ∷ []) }
-    {
-        match self {
-            Keepalives::Enabled if disables_keepalive(message) => Keepalives::Disabled,
-            Keepalives::Disabled if is_keepalive(message) => Keepalives::SentDisabled,
+            Since::Neither if is_first => Since::First,
+            Since::First if is_second => Since::Both,
             _ => self,
         }
     }
+
+    /// What holds after a message of the second kind.
+    #[inline(always)]
+    pub(crate) fn after_second(self) -> Since
+        ensures { result ≡ next_since self false true }
+    {
+        match self {
+            Since::Neither => Since::Neither,
+            Since::First | Since::Both => Since::Both,
+        }
+    }
+}
+
+/// The parameters of a session that a SESS_INIT sets, beside its node ID and its items (RFC 9174
+/// section 4.6).
+#[derive(Clone, Copy, Debug, PartialEq, Eq)]
+pub(crate) struct Parameters {
+    interval: u16,
+    segment_mru: u64,
+    transfer_mru: u64,
+}
+
+/// Whether two SESS_INITs set different parameters.
+fn are_other(first: &Option<Parameters>, second: &Option<Parameters>) -> bool
+    ensures { result ≡ are_other first.now second.now }
+{
+    match (first, second) {
+        (Some(first), Some(second)) => {
+            first.interval != second.interval
+                || first.segment_mru != second.segment_mru
+                || first.transfer_mru != second.transfer_mru
+        }
+        _ => false,
+    }
+}
+
+/// The parameters that a message sets, if it is a SESS_INIT.
+fn parameters_of(message: &MessageBuffer) -> Option<Parameters>
+    ensures { result ≡ parameters_of (message_of message.now) }
+{
+    match message.fields {
+        Fields::SessInit {
+            keepalive,
+            segment_mru,
+            transfer_mru,
+        } => Some(Parameters {
+            interval: keepalive,
+            segment_mru,
+            transfer_mru,
+        }),
+        _ => None,
+    }
+}
+
+/// The parameters of the first SESS_INIT, after one more message.
+#[inline(always)]
+pub(crate) fn parameters_after(
+    parameters: Option<Parameters>,
+    message: &MessageBuffer,
+) -> Option<Parameters>
+    ensures { (before : List Message) → parameters ≡ first_parameters before
+        → result ≡ first_parameters (before ++ message_of message.now ∷ []) }
+{
+    parameters.or(parameters_of(message))
+}
+
+/// Whether a SESS_INIT came and a transfer or an answer since, after one more message.
+#[inline(always)]
+pub(crate) fn session_after(session: Since, message: &MessageBuffer) -> Since
+    ensures { (before : List Message) → session ≡ session_of before
+        → result ≡ session_of (before ++ message_of message.now ∷ []) }
+{
+    session.after(parameters_of(message).is_some(), is_of_transfer(message))
+}
+
+/// Whether KEEPALIVEs are disabled and one was sent since, after one more message.
+#[inline(always)]
+pub(crate) fn keepalives_after(keepalives: Since, message: &MessageBuffer) -> Since
+    ensures { (before : List Message) → keepalives ≡ keepalives_of before
+        → result ≡ keepalives_of (before ++ message_of message.now ∷ []) }
+{
+    keepalives.after(disables_keepalive(message), is_keepalive(message))
+}
+
+/// Whether a message is part of a transfer, or answers one.
+fn is_of_transfer(message: &MessageBuffer) -> bool
+    ensures { result ≡ is_of_transfer (message_of message.now) }
+{
+    matches!(
+        message.fields,
+        Fields::Segment { .. } | Fields::Ack { .. } | Fields::Refuse { .. }
+    )
 }
 
 /// Whether a message is a KEEPALIVE.
@@ -71,30 +147,51 @@ fn disables_keepalive(message: &MessageBuffer) -> bool
     matches!(message.fields, Fields::SessInit { keepalive: 0, .. })
 }
 
+/// The rule of KEEPALIVEs.
+#[inline(always)]
+pub(crate) fn keepalive(keepalives: Since, message: &MessageBuffer) -> Option<MessageRule>
+    ensures { (before : List JudgedHead) → keepalives ≡ keepalives_of (messages_of before)
+        → result ≡ keepalive before (message_of message.now) }
+{
+    match keepalives {
+        Since::Neither | Since::Both => None,
+        Since::First => is_keepalive(message).then_some(MessageRule::Keepalive),
+    }
+}
+
+/// The level of a fault of the order, by the parameters of the first SESS_INIT and what came since.
+fn order_level(
+    parameters: &Option<Parameters>,
+    session: Since,
+    message: &MessageBuffer,
+    fault: OrderFault,
+) -> Level
+    ensures { (earlier : List Message) → parameters.now ≡ first_parameters earlier
+        → session ≡ session_of earlier
+        → result ≡ order_level earlier (message_of message.now) fault }
+{
+    let changes = session == Since::Both && are_other(parameters, &parameters_of(message));
+    match fault {
+        OrderFault::SecondSessInit if !changes => Level::Should,
+        _ => Level::Must,
+    }
+}
+
 /// The rule of the order of messages.
 #[tactic(auto, unfolding(crate::specs::Session::order))]
 #[inline(always)]
-pub(crate) fn order(head: &JudgedHeadView<'_>) -> Option<MessageRule>
-    ensures { result ≡ order (viewed_head head.now) }
+pub(crate) fn order(
+    parameters: &Option<Parameters>,
+    session: Since,
+    head: &JudgedHeadView<'_>,
+) -> Option<MessageRule>
+    ensures { (before : List JudgedHead) → parameters.now ≡ first_parameters (messages_of before)
+        → session ≡ session_of (messages_of before)
+        → result ≡ order before (viewed_head head.now) }
 {
-    Some(MessageRule::Order(head.fault?))
-}
-
-/// Whether a message is a SESS_INIT.
-fn is_sess_init(message: &MessageBuffer) -> bool
-    ensures { result ≡ is_sess_init (event_of (message_of message.now)) }
-{
-    matches!(message.fields, Fields::SessInit { .. })
-}
-
-/// Whether a SESS_INIT came, after one more message.
-#[tactic(auto, using(crate::proofs::Pushes::has_sess_init_push))]
-#[inline(always)]
-pub(crate) fn initiated_after(initiated: bool, message: &MessageBuffer) -> bool
-    ensures { (before : List Message) → initiated ≡ has_sess_init before
-        → result ≡ has_sess_init (before ++ message_of message.now ∷ []) }
-{
-    initiated || is_sess_init(message)
+    let fault = head.fault?;
+    let level = order_level(parameters, session, head.message, fault);
+    Some(MessageRule::Order { fault, level })
 }
 
 /// The type byte of a message that comes after a SESS_INIT (RFC 9174 section 4.5).
@@ -109,14 +206,17 @@ fn type_after_sess_init(message: &MessageBuffer) -> Option<u8>
     }
 }
 
-/// The rule of messages before a SESS_INIT. `initiated` is whether one came.
+/// The rule of messages before a SESS_INIT. `parameters` are those of the first one.
 #[tactic(auto, unfolding(crate::specs::Session::before_session))]
 #[inline(always)]
-pub(crate) fn before_session(initiated: bool, message: &MessageBuffer) -> Option<MessageRule>
-    ensures { (before : List JudgedHead) → initiated ≡ has_sess_init (messages_of before)
+pub(crate) fn before_session(
+    parameters: &Option<Parameters>,
+    message: &MessageBuffer,
+) -> Option<MessageRule>
+    ensures { (before : List JudgedHead) → parameters.now ≡ first_parameters (messages_of before)
         → result ≡ before_session before (message_of message.now) }
 {
-    if initiated {
+    if parameters.is_some() {
         return None;
     }
     let kind = type_after_sess_init(message)?;

@@ -32,7 +32,7 @@ unfoldable pub message_words : MessageRule → List ℕ
 message_words (message.ContactFlags flags) = flags_text flags
 message_words (message.NodeId size) = number_text (codes " length=") size
 message_words (message.ItemFlags item flags) = number_text (codes " item=") item ++ flags_text flags
-message_words (message.Order fault) = order_words fault
+message_words (message.Order fault level) = order_words fault
 message_words (message.BeforeSession type) = codes " type=" ++ hex2 type
 message_words (message.Interleaved id open_id) =
     number_text (codes " id=") id ++ number_text (codes " open=") open_id
@@ -79,7 +79,7 @@ limit_words (Some limit) = number_text (codes " limit=") limit
 unfoldable pub bundle_words : BundleRule → List ℕ
 bundle_words (bundle.LongHead byte) = number_text (codes " byte=") byte
 bundle_words (bundle.BundleFlags flags) = control_words flags
-bundle_words bundle.PrimaryCheck = []
+bundle_words (bundle.PrimaryCheck level) = []
 bundle_words (bundle.Anonymous flags) = control_words flags
 bundle_words (bundle.RecordReports flags) = control_words flags
 bundle_words (bundle.BlockReports block) = number_text (codes " block=") block
@@ -89,7 +89,8 @@ bundle_words (bundle.DtnName of) = codes " of=" ++ endpoint_name of
 bundle_words (bundle.Fragment offset size total) =
     number_text (codes " offset=") offset ++ number_text (codes " length=") size
     ++ number_text (codes " total=") total
-bundle_words (bundle.Age blocks) = number_text (codes " blocks=") blocks
+bundle_words (bundle.WholeFragment total) = number_text (codes " total=") total
+bundle_words (bundle.Age blocks level) = number_text (codes " blocks=") blocks
 bundle_words (bundle.PreviousNode blocks) = number_text (codes " blocks=") blocks
 bundle_words (bundle.HopCount blocks limit) =
     number_text (codes " blocks=") blocks ++ limit_words limit
@@ -97,6 +98,8 @@ bundle_words (bundle.ConfidentialPrimary block) = number_text (codes " block=") 
 bundle_words (bundle.Hops limit count) =
     number_text (codes " limit=") limit ++ number_text (codes " count=") count
 bundle_words (bundle.BlockData block byte) =
+    number_text (codes " block=") block ++ number_text (codes " byte=") byte
+bundle_words (bundle.DataNotRead block byte) =
     number_text (codes " block=") block ++ number_text (codes " byte=") byte
 bundle_words (bundle.Record byte) = number_text (codes " byte=") byte
 

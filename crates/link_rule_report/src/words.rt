@@ -108,7 +108,7 @@ fn write_message(page: &mut [u8], at: usize, rule: &MessageRule) -> usize
             let at = write_number(page, at, *b" item=", item);
             write_byte_flags(page, at, flags)
         }
-        MessageRule::Order(fault) => write_order(page, at, fault),
+        MessageRule::Order { fault, .. } => write_order(page, at, fault),
         MessageRule::BeforeSession { kind } => {
             let at = write_bytes(page, at, *b" type=");
             write_hex2(page, at, kind)
@@ -215,7 +215,7 @@ fn write_bundle(page: &mut [u8], at: usize, rule: &BundleRule) -> usize
     ensures { Wrote page.old page.new at result WORDS_MAX (bundle_words rule.now) }
 {
     match *rule {
-        BundleRule::PrimaryCheck => at,
+        BundleRule::PrimaryCheck { .. } => at,
         BundleRule::LongHead { byte } | BundleRule::Record { byte } => {
             write_number(page, at, *b" byte=", byte)
         }
@@ -235,14 +235,15 @@ fn write_bundle(page: &mut [u8], at: usize, rule: &BundleRule) -> usize
             size,
             total,
         } => write_fragment(page, at, offset, size, total),
-        BundleRule::Age { blocks } | BundleRule::PreviousNode { blocks } => {
+        BundleRule::WholeFragment { total } => write_number(page, at, *b" total=", total),
+        BundleRule::Age { blocks, .. } | BundleRule::PreviousNode { blocks } => {
             write_number(page, at, *b" blocks=", blocks)
         }
         BundleRule::HopCount { blocks, limit } => write_hop_limit(page, at, blocks, limit),
         BundleRule::Hops { limit, count } => {
             write_two(page, at, *b" limit=", limit, *b" count=", count)
         }
-        BundleRule::BlockData { block, byte } => {
+        BundleRule::BlockData { block, byte } | BundleRule::DataNotRead { block, byte } => {
             write_two(page, at, *b" block=", block, *b" byte=", byte)
         }
     }

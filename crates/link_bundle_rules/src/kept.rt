@@ -1,0 +1,81 @@
+//! Whether a bundle is known to keep the rules.
+
+ghost use Rattle.std.specs.Prelude.{◌≡◌};
+ghost use Rattle.link_bundle_rules.specs.Kept.{is_plain_data, is_plain_block, is_plain_primary};
+
+use crate::block::{BlockFacts, Counts, DataFacts};
+use crate::flags::{BUNDLE_FLAGS, RECORD, if_other_block_flags, if_reporting, is_set, requests_reports};
+use crate::history::BundleHistory;
+use crate::primary::PrimaryFacts;
+use link_rules::has_other_flags;
+
+/// Whether no rule of the data of blocks can be broken by this data.
+#[inline(always)]
+fn is_plain_data(data: DataFacts) -> bool
+    ensures { result ≡ is_plain_data data }
+{
+    match data {
+        DataFacts::Nothing => true,
+        DataFacts::HopCount(limit, count) => limit > 0 && limit < 256 && count <= limit,
+        DataFacts::Malformed(_) | DataFacts::NotRead(_) => false,
+    }
+}
+
+/// Whether no rule of single blocks can be broken by this block.
+#[inline(always)]
+fn is_plain_block(block: &BlockFacts) -> bool
+    ensures { result ≡ is_plain_block block.now }
+{
+    if_reporting(block).is_none()
+        && if_other_block_flags(block).is_none()
+        && is_plain_data(block.data)
+}
+
+/// Whether no rule of the primary block can be broken by this one, whatever the other blocks are.
+#[inline(always)]
+fn is_plain_primary(primary: &PrimaryFacts) -> bool
+    ensures { result ≡ is_plain_primary primary.now }
+{
+    primary.has_check
+        && !primary.is_anonymous
+        && primary.bad_name.is_none()
+        && primary.fragment.is_none()
+        && !has_other_flags(BUNDLE_FLAGS, primary.flags)
+        && !(is_set(RECORD, primary.flags) && requests_reports(primary.flags))
+}
+
+impl BundleHistory {
+    ghost use Rattle.std.specs.Prelude.{◌≡◌, ℕ, true, [], None};
+    ghost use Rattle.link_bundle_rules.specs.BundleRules.{broken_bundle_rules};
+    ghost use Rattle.link_bundle_rules.specs.History.{bundle_of};
+    ghost use Rattle.link_bundle_rules.specs.Kept.{has_plain_counts};
+
+    /// Whether the bundle is known to break no rule, if it is good and all its blocks came.
+    ///
+    /// This takes less time than its rules. It is never known of a fragment, nor of a bundle without
+    /// a source or without a check of its primary block.
+    ///
+    /// `first_long_head` is as for [`BundleHistory::rules`].
+    #[tactic(auto, unfolding(crate::specs::BundleRules::broken_bundle_rules))]
+    pub fn keeps_rules(&self, first_long_head: Option<u64>) -> bool
+        ensures { (payload_length : ℕ) → result ≡ true
+            → broken_bundle_rules (bundle_of self.now first_long_head payload_length) ≡ [] }
+    {
+        first_long_head.is_none()
+            && is_plain_primary(&self.primary)
+            && self.blocks.as_slice().iter().all(|block| is_plain_block(block))
+            && self.has_plain_counts()
+            && self.confidential_primary().is_none()
+    }
+
+    /// Whether no rule of the numbers of blocks is broken.
+    #[inline(always)]
+    fn has_plain_counts(&self) -> bool
+        ensures { result ≡ has_plain_counts (bundle_of self.now None 0) }
+    {
+        let counts = Counts::of(self.blocks.as_slice());
+        counts.previous_nodes <= 1
+            && counts.hop_counts <= 1
+            && (counts.ages == 1 || (counts.ages == 0 && !self.primary.has_zero_time))
+    }
+}

@@ -1,0 +1,310 @@
+//! The rules that a good bundle breaks, by what a history keeps of it.
+
+ghost use Rattle.std.specs.Prelude.{◌≡◌};
+ghost use Rattle.std.specs.Fn.{FnReturnsAt};
+ghost use Rattle.link_bundle_rules.specs.Flags.{block_flags_defined};
+ghost use Rattle.link_bundle_rules.specs.ReadBundle.{find_map};
+
+use crate::block::{BlockFacts, Counts, DataFacts, HOP_COUNT, is_of_type};
+use crate::extensions::{
+    Hops, has_bad_limit, hops_of, if_malformed_extension, if_malformed_record, if_unread,
+};
+use crate::flags::{
+    BUNDLE_FLAGS, NO_FRAGMENTS, RECORD, if_other_block_flags, if_reporting, is_set,
+    requests_reports,
+};
+use crate::history::BundleHistory;
+use crate::rule::BundleRule;
+use crate::security::{is_hidden, is_protected};
+use arrayvec::ArrayVec;
+use link_rules::{Level, add_if_broken, has_other_flags};
+
+/// The number of rules of a bundle.
+const RULES: usize = 18;
+
+/// The rules that a bundle breaks, in order.
+pub type BrokenBundleRules = ArrayVec<BundleRule, RULES>;
+
+/// The number of the payload block (RFC 9171 section 4.1).
+const PAYLOAD_NUMBER: u64 = 1;
+
+/// What a function returns for the first of some elements for which it returns something.
+fn first_found<T, U, F: Fn(&T) -> Option<U>>(elements: &[T], find: F) -> Option<U>
+    requires { F.IsAlwaysCallable find }
+    ensures { (found : T → Option U)
+        → ((element : T) (result : Option U) → FnReturnsAt F.Fn find element result
+        → result ≡ found element)
+        → result ≡ find_map found elements.now }
+{
+    for element in elements {
+        if let Some(found) = find(element) {
+            return Some(found);
+        }
+    }
+    None
+}
+
+impl BundleHistory {
+    ghost use Rattle.std.specs.Prelude.{◌≡◌, ℕ, true, [], Option};
+    ghost use Rattle.link_bundle_rules.specs.BundleRules.{long_head, dtn_name, broken_bundle_rules};
+    ghost use Rattle.link_bundle_rules.specs.Extensions.{age, previous_node, first_hops, hop_count, hops, block_data, data_not_read, administrative_record};
+    ghost use Rattle.link_bundle_rules.specs.Flags.{bundle_flags, anonymous, record_reports, block_reports, block_flags};
+    ghost use Rattle.link_bundle_rules.specs.Fragments.{has_hidden_payload, fragment, whole_fragment};
+    ghost use Rattle.link_bundle_rules.specs.Security.{primary_check, confidential_primary};
+    ghost use Rattle.link_bundle_rules.specs.History.{bundle_of};
+
+    /// The rules that the bundle breaks, in order, if it is good and all its blocks came.
+    ///
+    /// `first_long_head` is the offset of the first head that is longer than its number needs, and
+    /// `payload_length` the number of bytes of the payload.
+    #[tactic(auto, unfolding(crate::specs::BundleRules::broken_bundle_rules))]
+    pub fn rules(&self, first_long_head: Option<u64>, payload_length: u64) -> BrokenBundleRules
+        ensures { result.items
+            ≡ broken_bundle_rules (bundle_of self.now first_long_head payload_length) }
+    {
+        let mut broken = BrokenBundleRules::new();
+        add_if_broken(&mut broken, self.long_head(first_long_head));
+        add_if_broken(&mut broken, self.bundle_flags());
+        add_if_broken(&mut broken, self.primary_check());
+        add_if_broken(&mut broken, self.anonymous());
+        add_if_broken(&mut broken, self.record_reports());
+        add_if_broken(&mut broken, self.block_reports());
+        add_if_broken(&mut broken, self.block_flags());
+        add_if_broken(&mut broken, self.dtn_name());
+        add_if_broken(&mut broken, self.fragment(payload_length));
+        add_if_broken(&mut broken, self.whole_fragment(payload_length));
+        add_if_broken(&mut broken, self.age());
+        add_if_broken(&mut broken, self.previous_node());
+        add_if_broken(&mut broken, self.hop_count());
+        add_if_broken(&mut broken, self.confidential_primary());
+        add_if_broken(&mut broken, self.hops());
+        add_if_broken(&mut broken, self.block_data());
+        add_if_broken(&mut broken, self.data_not_read());
+        add_if_broken(&mut broken, self.administrative_record());
+        broken
+    }
+
+    /// The rule of long heads. `byte` is the offset of the first one.
+    #[tactic(auto, unfolding(crate::specs::BundleRules::long_head))]
+    fn long_head(&self, byte: Option<u64>) -> Option<BundleRule>
+        ensures { (size : ℕ) → result ≡ long_head (bundle_of self.now byte size) }
+    {
+        let byte = byte?;
+        Some(BundleRule::LongHead { byte })
+    }
+
+    /// The rule of the bundle's flags.
+    #[tactic(auto, unfolding(crate::specs::Flags::bundle_flags))]
+    fn bundle_flags(&self) -> Option<BundleRule>
+        ensures { (byte : Option ℕ) (size : ℕ)
+            → result ≡ bundle_flags (bundle_of self.now byte size) }
+    {
+        let flags = self.primary.flags;
+        has_other_flags(BUNDLE_FLAGS, flags).then_some(BundleRule::BundleFlags { flags })
+    }
+
+    /// The rule of the primary block's check.
+    #[tactic(auto, unfolding(crate::specs::Security::primary_check))]
+    fn primary_check(&self) -> Option<BundleRule>
+        ensures { (byte : Option ℕ) (size : ℕ)
+            → result ≡ primary_check (bundle_of self.now byte size) }
+    {
+        if self.primary.has_check || is_protected(self.security.as_slice()) {
+            return None;
+        }
+        Some(BundleRule::PrimaryCheck {
+            level: self.primary.level(),
+        })
+    }
+
+    /// The rule of bundles without a source.
+    #[tactic(auto, unfolding(crate::specs::Flags::anonymous))]
+    fn anonymous(&self) -> Option<BundleRule>
+        ensures { (byte : Option ℕ) (size : ℕ)
+            → result ≡ anonymous (bundle_of self.now byte size) }
+    {
+        let flags = self.primary.flags;
+        let is_wrong = !is_set(NO_FRAGMENTS, flags) || requests_reports(flags);
+        (self.primary.is_anonymous && is_wrong).then_some(BundleRule::Anonymous { flags })
+    }
+
+    /// The rule of the reports that an administrative record requests.
+    #[tactic(auto, unfolding(crate::specs::Flags::record_reports))]
+    fn record_reports(&self) -> Option<BundleRule>
+        ensures { (byte : Option ℕ) (size : ℕ)
+            → result ≡ record_reports (bundle_of self.now byte size) }
+    {
+        let flags = self.primary.flags;
+        let is_wrong = is_set(RECORD, flags) && requests_reports(flags);
+        is_wrong.then_some(BundleRule::RecordReports { flags })
+    }
+
+    /// The rule of blocks that request a status report.
+    #[tactic(auto, unfolding(crate::specs::Flags::block_reports))]
+    fn block_reports(&self) -> Option<BundleRule>
+        ensures { (byte : Option ℕ) (size : ℕ)
+            → result ≡ block_reports (bundle_of self.now byte size) }
+    {
+        if !self.primary.forbids_reports() {
+            return None;
+        }
+        first_found(self.blocks.as_slice(), |block| if_reporting(block))
+    }
+
+    /// The rule of the flags of blocks.
+    #[tactic(auto, unfolding(crate::specs::Flags::block_flags))]
+    fn block_flags(&self) -> Option<BundleRule>
+        ensures { (byte : Option ℕ) (size : ℕ)
+            → result ≡ block_flags (bundle_of self.now byte size) }
+    {
+        first_found(self.blocks.as_slice(), |block| if_other_block_flags(block))
+    }
+
+    /// The rule of dtn names.
+    #[tactic(auto, unfolding(crate::specs::BundleRules::dtn_name))]
+    fn dtn_name(&self) -> Option<BundleRule>
+        ensures { (byte : Option ℕ) (size : ℕ) → result ≡ dtn_name (bundle_of self.now byte size) }
+    {
+        let of = self.primary.bad_name?;
+        Some(BundleRule::DtnName { of })
+    }
+
+    /// Whether the payload may be ciphertext.
+    fn has_hidden_payload(&self) -> bool
+        ensures { (byte : Option ℕ) (size : ℕ)
+            → result ≡ has_hidden_payload (bundle_of self.now byte size) }
+    {
+        is_hidden(self.security.as_slice(), PAYLOAD_NUMBER)
+    }
+
+    /// The rule of fragments. `size` is the number of bytes of the payload.
+    #[tactic(auto, unfolding(crate::specs::Fragments::fragment))]
+    fn fragment(&self, size: u64) -> Option<BundleRule>
+        ensures { (byte : Option ℕ) → result ≡ fragment (bundle_of self.now byte size) }
+    {
+        let (offset, total) = self.primary.fragment?;
+        let is_beyond = match offset.checked_add(size) {
+            Some(end) => total < end,
+            None => true,
+        };
+        let is_wrong = is_set(NO_FRAGMENTS, self.primary.flags)
+            || size == 0
+            || (!self.has_hidden_payload() && is_beyond);
+        is_wrong.then_some(BundleRule::Fragment {
+            offset,
+            size,
+            total,
+        })
+    }
+
+    /// The rule of fragments with the whole payload. `size` is the number of bytes of the payload.
+    #[tactic(auto, unfolding(crate::specs::Fragments::whole_fragment))]
+    fn whole_fragment(&self, size: u64) -> Option<BundleRule>
+        ensures { (byte : Option ℕ) → result ≡ whole_fragment (bundle_of self.now byte size) }
+    {
+        let (offset, total) = self.primary.fragment?;
+        let is_whole = offset == 0 && size == total && !self.has_hidden_payload();
+        is_whole.then_some(BundleRule::WholeFragment { total })
+    }
+
+    /// The rule of bundle age blocks.
+    #[tactic(auto, unfolding(crate::specs::Extensions::age))]
+    fn age(&self) -> Option<BundleRule>
+        ensures { (byte : Option ℕ) (size : ℕ) → result ≡ age (bundle_of self.now byte size) }
+    {
+        let blocks = Counts::of(self.blocks.as_slice()).ages;
+        if blocks > 1 {
+            let level = Level::Must;
+            return Some(BundleRule::Age { blocks, level });
+        }
+        if blocks == 0 && self.primary.has_zero_time {
+            let level = self.primary.level();
+            return Some(BundleRule::Age { blocks, level });
+        }
+        None
+    }
+
+    /// The rule of previous node blocks.
+    #[tactic(auto, unfolding(crate::specs::Extensions::previous_node))]
+    fn previous_node(&self) -> Option<BundleRule>
+        ensures { (byte : Option ℕ) (size : ℕ)
+            → result ≡ previous_node (bundle_of self.now byte size) }
+    {
+        let blocks = Counts::of(self.blocks.as_slice()).previous_nodes;
+        (blocks > 1).then_some(BundleRule::PreviousNode { blocks })
+    }
+
+    /// What the first hop count block says, unless it is malformed or may be ciphertext.
+    #[tactic(auto, unfolding(crate::specs::Extensions::first_hops))]
+    fn first_hops(&self) -> Option<Hops>
+        ensures { (byte : Option ℕ) (size : ℕ)
+            → result ≡ first_hops (bundle_of self.now byte size) }
+    {
+        let first = self
+            .blocks
+            .as_slice()
+            .iter()
+            .find(|block| is_of_type(HOP_COUNT, block))?;
+        hops_of(self.security.as_slice(), first)
+    }
+
+    /// The rule of hop count blocks.
+    #[tactic(auto, unfolding(crate::specs::Extensions::hop_count))]
+    fn hop_count(&self) -> Option<BundleRule>
+        ensures { (byte : Option ℕ) (size : ℕ)
+            → result ≡ hop_count (bundle_of self.now byte size) }
+    {
+        let blocks = Counts::of(self.blocks.as_slice()).hop_counts;
+        let first = self.first_hops();
+        let is_wrong = blocks > 1 || has_bad_limit(&first);
+        let limit = first.map(|hops| hops.limit);
+        is_wrong.then_some(BundleRule::HopCount { blocks, limit })
+    }
+
+    /// The rule of block confidentiality blocks that have the primary block as a target.
+    #[tactic(auto, unfolding(crate::specs::Security::confidential_primary))]
+    pub(crate) fn confidential_primary(&self) -> Option<BundleRule>
+        ensures { (byte : Option ℕ) (size : ℕ)
+            → result ≡ confidential_primary (bundle_of self.now byte size) }
+    {
+        first_found(self.security.as_slice(), |block| block.if_confidential_primary())
+    }
+
+    /// The rule of the first hop count.
+    #[tactic(auto, unfolding(crate::specs::Extensions::hops))]
+    fn hops(&self) -> Option<BundleRule>
+        ensures { (byte : Option ℕ) (size : ℕ) → result ≡ hops (bundle_of self.now byte size) }
+    {
+        self.first_hops()?.if_exceeded()
+    }
+
+    /// The rule of the data of extension blocks.
+    #[tactic(auto, unfolding(crate::specs::Extensions::block_data))]
+    fn block_data(&self) -> Option<BundleRule>
+        ensures { (byte : Option ℕ) (size : ℕ)
+            → result ≡ block_data (bundle_of self.now byte size) }
+    {
+        let security = self.security.as_slice();
+        first_found(self.blocks.as_slice(), |block| if_malformed_extension(security, block))
+    }
+
+    /// The rule of data that this toolkit does not read.
+    #[tactic(auto, unfolding(crate::specs::Extensions::data_not_read))]
+    fn data_not_read(&self) -> Option<BundleRule>
+        ensures { (byte : Option ℕ) (size : ℕ)
+            → result ≡ data_not_read (bundle_of self.now byte size) }
+    {
+        let security = self.security.as_slice();
+        first_found(self.blocks.as_slice(), |block| if_unread(security, block))
+    }
+
+    /// The rule of administrative records.
+    #[tactic(auto, unfolding(crate::specs::Extensions::administrative_record))]
+    fn administrative_record(&self) -> Option<BundleRule>
+        ensures { (byte : Option ℕ) (size : ℕ)
+            → result ≡ administrative_record (bundle_of self.now byte size) }
+    {
+        let security = self.security.as_slice();
+        first_found(self.blocks.as_slice(), |block| if_malformed_record(security, block))
+    }
+}
