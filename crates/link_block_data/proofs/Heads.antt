@@ -1,8 +1,8 @@
 -- The rest after a complete head, by what is due.
 
 use Rattle.std.proofs.Common.{◌≡◌, ℕ, zero, suc, ◌-◌, ◌≤◌, Bool, true, false, List, [], ◌∷◌, length, Option, Some, None, Result, Ok, Err, refl, sym, ap, ◌∙◌, arith}
-use Rattle.std.specs.{Prelude.{◌==◌, ◌||◌, if◌then◌else◌}, List.list_any}
-use Rattle.std.proofs.{lemmas.Bool.ne_eqb, Math.Bool.{or-false, or_assoc}}
+use Rattle.std.specs.Prelude.{◌==◌, if◌then◌else◌}
+use Rattle.std.proofs.lemmas.Bool.{ne_eqb}
 use Rattle.link_cbor.specs.declared.head.Head.{Head}
 use Rattle.link_bundle_types.specs.declared.eid.Eid.TheVariants.{DtnNone}
 use Rattle.link_bundle_types.specs.declared.fault.BundleFault.{BundleFault}
@@ -15,7 +15,7 @@ use Rattle.link_bundle_blocks.specs.Primary.{fragment_at}
 use Rattle.link_bundle.specs.Left.{numbered, scheme_left, node_left, service_left, name_left}
 use Rattle.link_block_data.specs.declared.values.Assertion.{Assertion}
 use Rattle.link_block_data.specs.declared.values.Assertion.TheVariants.{No, Yes, YesAt}
-use Rattle.link_block_data.specs.declared.{values.Integer.Integer, due.Owner.Owner}
+use Rattle.link_block_data.specs.declared.{values.{DataFault.DataFault, Integer.Integer}, due.Owner.Owner}
 use Rattle.link_block_data.specs.declared.due.Owner.TheVariants as owner
 use Rattle.link_block_data.specs.declared.due.Status.{Status}
 use Rattle.link_block_data.specs.declared.due.Status.TheVariants as status
@@ -31,33 +31,33 @@ use Rattle.link_block_data.specs.declared.due.DataStage.TheVariants.{Head as AtH
 use Rattle.link_block_data.specs.declared.draft.Draft.{Draft}
 use Rattle.link_block_data.specs.BlockData.{BlockData, items_at, assertion_at, located}
 use Rattle.link_block_data.specs.DataRows.{integer, assertion, four_or_six, four_or_more, one_or_two}
-use Rattle.link_block_data.specs.Turns.{others_due, targets_due, first_of, first_number, specific, with_assertion, with_targets, with_primary, with_context, with_eid, took_assertion, took, took_dtn, took_asserted, judged}
+use Rattle.link_block_data.specs.Turns.{others_due, targets_due, first_of, first_number, specific, with_assertion, with_targets, with_target, with_context, with_eid, took_assertion, took, took_dtn, took_asserted, judged}
 use Rattle.link_block_data.specs.Left.{ended, after_fragment, sequence_left, time_left, by_eid, reason_left, others_left, received_left, by_assertion, boolean_left, boolean_at, assertions_left, report_left, flags_left, context_left, targets_left, limit_left, type_left, number_left, pair_left, due_left, stage_left, goes_on}
 use Rattle.link_block_data.proofs.Names.{then_then, same_then, owner_ends, by_eid-then, name_begins}
 
 -- ---- a row
 
 -- the rest at a stage, with the values there
-abbrev pub rest_at : DataStage × Draft → List ℕ → ℕ → Result BlockData ℕ
+abbrev pub rest_at : DataStage × Draft → List ℕ → ℕ → Result BlockData DataFault
 rest_at turn bytes next = stage_left turn.0 turn.1 bytes next next
 
 -- the rest after the outcome of a row
 by_outcome : {A : Type 0} (rest : ReadAt A → Result BlockData Stop) (after : A → DataStage × Draft)
     (outcome : Result A BundleFault) (bytes : List ℕ) (offset next : ℕ)
-    → ((value : A) → located (rest (Ok (value, next))) ≡ rest_at (after value) bytes next)
+    → ((value : A) → located bytes (rest (Ok (value, next))) ≡ rest_at (after value) bytes next)
     → ((stop : Stop) → rest (Err stop) ≡ Err stop)
-    → located (rest (outcome_at offset next outcome))
+    → located bytes (rest (outcome_at offset next outcome))
     ≡ goes_on (outcome >>= λ value. Ok (after value)) bytes offset next
 by_outcome rest after (Ok value) bytes offset next accepts refuses = accepts value
 by_outcome rest after (Err fault) bytes offset next accepts refuses =
-    ap located (refuses (stopped fault offset))
+    ap (located bytes) (refuses (stopped fault offset))
 
 by_row : {A : Type 0} (rest : ReadAt A → Result BlockData Stop) (after : A → DataStage × Draft)
     (row : Head → Result A BundleFault) (bytes : List ℕ) (offset next : ℕ) (head : Head)
     → head_at bytes offset ≡ Ok (head, next)
-    → ((value : A) → located (rest (Ok (value, next))) ≡ rest_at (after value) bytes next)
+    → ((value : A) → located bytes (rest (Ok (value, next))) ≡ rest_at (after value) bytes next)
     → ((stop : Stop) → rest (Err stop) ≡ Err stop)
-    → located (rest (row_at row bytes offset))
+    → located bytes (rest (row_at row bytes offset))
     ≡ goes_on (row head >>= λ value. Ok (after value)) bytes offset next
 unfolding row_at
 by_row rest after row bytes offset next head whole accepts refuses =
@@ -66,7 +66,7 @@ by_row rest after row bytes offset next head whole accepts refuses =
 -- ---- endpoint IDs
 
 scheme_turn : (owner : Owner) (scheme : Scheme) (draft : Draft) (bytes : List ℕ) (next : ℕ)
-    → located (by_eid owner draft bytes (specific_at scheme bytes next))
+    → located bytes (by_eid owner draft bytes (specific_at scheme bytes next))
     ≡ rest_at (AtHead (specific owner scheme), draft) bytes next
 unfolding stage_left due_left
 scheme_turn owner scheme_.Dtn draft bytes next = refl
@@ -74,7 +74,7 @@ scheme_turn owner scheme_.Ipn draft bytes next = refl
 
 dtn_turn : (owner : Owner) (part : Option ℕ) (draft : Draft) (bytes : List ℕ) (next : ℕ)
     → next ≤ length bytes
-    → located (by_eid owner draft bytes (dtn_at part bytes next))
+    → located bytes (by_eid owner draft bytes (dtn_at part bytes next))
     ≡ rest_at (took_dtn owner part draft) bytes next
 unfolding dtn_at name_left
 dtn_turn owner None draft bytes next within = owner_ends owner (with_eid DtnNone draft) bytes next
@@ -82,7 +82,7 @@ dtn_turn owner (Some size) draft bytes next within =
     name_begins owner draft [] size bytes next within
 
 ipn_turn : (three : Bool) (owner : Owner) (draft : Draft) (bytes : List ℕ) (next : ℕ)
-    → located (by_eid owner draft bytes (ipn_at three bytes next))
+    → located bytes (by_eid owner draft bytes (ipn_at three bytes next))
     ≡ rest_at (
       AtHead (if three then due.Number (number.Allocator owner)
           else due.Number (number.Node owner None)),
@@ -90,9 +90,9 @@ ipn_turn : (three : Bool) (owner : Owner) (draft : Draft) (bytes : List ℕ) (ne
     ) bytes next
 unfolding stage_left due_left ipn_at node_left service_left
 ipn_turn true owner draft bytes next =
-    ap located (by_eid-then owner draft bytes (row_at unsigned bytes next) _)
+    ap (located bytes) (by_eid-then owner draft bytes (row_at unsigned bytes next) _)
 ipn_turn false owner draft bytes next =
-    ap located (by_eid-then owner draft bytes (row_at unsigned bytes next) _)
+    ap (located bytes) (by_eid-then owner draft bytes (row_at unsigned bytes next) _)
 
 -- ---- status assertions and targets
 
@@ -114,31 +114,23 @@ some_due left none next =
     rw (some, less) refl
 
 others_turn : (left : ℕ) (draft : Draft) (bytes : List ℕ) (next : ℕ)
-    → located (others_left left draft bytes next)
+    → located bytes (others_left left draft bytes next)
     ≡ rest_at (AtHead (others_due left), draft) bytes next
 unfolding stage_left due_left others_left items_at reason_left
 others_turn zero draft bytes next = refl
 others_turn (suc left) draft bytes next =
-    ap located (items_then (assertion_at bytes next) (items_at assertion_at left bytes) _)
+    ap (located bytes) (items_then (assertion_at bytes next) (items_at assertion_at left bytes) _)
     ∙ ap (λ (which : Due). rest_at (AtHead which, draft) bytes next)
     (sym (some_due left (due.Number number.Reason) (λ left. due.Assertion (status.Other left))))
 
--- whether 0 is among the targets so far is kept
-more_targets : (draft : Draft) (first more : Bool)
-    → with_primary (first || more) draft ≡ with_primary more (with_primary first draft)
-more_targets draft first more = rw or_assoc refl
-
 targets_turn : (left : ℕ) (draft : Draft) (bytes : List ℕ) (next : ℕ)
-    → located (targets_left left draft bytes next)
+    → located bytes (targets_left left draft bytes next)
     ≡ rest_at (AtHead (targets_due left), draft) bytes next
 unfolding stage_left due_left targets_left items_at
-targets_turn zero draft bytes next = rw or-false refl
+targets_turn zero draft bytes next = refl
 targets_turn (suc left) draft bytes next =
-    ap located (items_then (row_at unsigned bytes next) (items_at (row_at unsigned) left bytes) _)
-    ∙ ap located (same_then (row_at unsigned bytes next) _ _ (λ x.
-    same_then (items_at (row_at unsigned) left bytes x.1) _ _ (λ y.
-    ap (λ (draft : Draft). context_left draft bytes y.1)
-    (more_targets draft (x.0 == 0) (list_any (λ target. target == 0) y.0)))))
+    ap (located bytes)
+    (items_then (row_at unsigned bytes next) (items_at (row_at unsigned) left bytes) _)
     ∙ ap (λ (which : Due). rest_at (AtHead which, draft) bytes next)
     (sym (some_due left due.ContextId (λ left. due.Number (number.Target left))))
 
@@ -160,7 +152,7 @@ by_assertion-then status draft bytes (Ok x) next = refl
 by_assertion-then status draft bytes (Err stop) next = by_assertion-stopped status draft bytes stop
 
 status_turn : (status : Status) (assertion : Assertion) (draft : Draft) (bytes : List ℕ) (next : ℕ)
-    → located (by_assertion status draft bytes (Ok (assertion, next)))
+    → located bytes (by_assertion status draft bytes (Ok (assertion, next)))
     ≡ rest_at (took_assertion status assertion draft) bytes next
 unfolding stage_left due_left
 status_turn status.Received assertion draft bytes next = refl
@@ -172,11 +164,12 @@ status_turn (status.Other left) assertion draft bytes next = others_turn left dr
 
 asserted_turn : (status : Status) (has_time asserted : Bool) (draft : Draft) (bytes : List ℕ)
     (next : ℕ)
-    → located (by_assertion status draft bytes (boolean_left has_time bytes (Ok (asserted, next))))
+    → located bytes
+    (by_assertion status draft bytes (boolean_left has_time bytes (Ok (asserted, next))))
     ≡ rest_at (took_asserted status has_time asserted draft) bytes next
 unfolding stage_left due_left
 asserted_turn status true asserted draft bytes next =
-    ap located (by_assertion-then status draft bytes (row_at unsigned bytes next) _)
+    ap (located bytes) (by_assertion-then status draft bytes (row_at unsigned bytes next) _)
 asserted_turn status false asserted draft bytes next =
     status_turn status (if asserted then Yes else No) draft bytes next
 
@@ -195,14 +188,14 @@ assertion_parts bytes offset =
 -- ---- unsigned integers
 
 eid_turn : (owner : Owner) (draft : Draft) (bytes : List ℕ) (next : ℕ)
-    → located (by_eid owner draft bytes (eid_at bytes next))
+    → located bytes (by_eid owner draft bytes (eid_at bytes next))
     ≡ rest_at (AtHead (due.Pair (pair_.Eid owner)), draft) bytes next
 unfolding stage_left due_left eid_at scheme_left
 eid_turn owner draft bytes next =
-    ap located (by_eid-then owner draft bytes (row_at pair bytes next) _)
+    ap (located bytes) (by_eid-then owner draft bytes (row_at pair bytes next) _)
 
 type_turn : (is_report : Bool) (type : ℕ) (draft : Draft) (bytes : List ℕ) (next : ℕ)
-    → located (if is_report then report_left draft bytes next
+    → located bytes (if is_report then report_left draft bytes next
     else ended (found.OtherRecord type) draft bytes next)
     ≡ rest_at ((if is_report then AtHead due.Report else Read (found.OtherRecord type)), draft)
     bytes next
@@ -218,7 +211,7 @@ after_fragment-then draft bytes (Ok x) next = refl
 after_fragment-then draft bytes (Err stop) next = refl
 
 fragment_turn : (is_fragment : Bool) (draft : Draft) (bytes : List ℕ) (next : ℕ)
-    → located (after_fragment draft bytes (fragment_at is_fragment bytes next))
+    → located bytes (after_fragment draft bytes (fragment_at is_fragment bytes next))
     ≡ rest_at (if is_fragment then (AtHead (due.Number number.FragmentOffset), draft)
     else (
       Read found.StatusReport,
@@ -227,18 +220,19 @@ fragment_turn : (is_fragment : Bool) (draft : Draft) (bytes : List ℕ) (next : 
 unfolding stage_left due_left fragment_at
 fragment_turn false draft bytes next = refl
 fragment_turn true draft bytes next =
-    ap located (after_fragment-then draft bytes (row_at unsigned bytes next) _
+    ap (located bytes) (after_fragment-then draft bytes (row_at unsigned bytes next) _
     ∙ same_then (row_at unsigned bytes next) _ _
     (λ x. after_fragment-then draft bytes (row_at unsigned bytes x.1) _))
 
 number_turn : (which : Number) (value : ℕ) (draft : Draft) (bytes : List ℕ) (next : ℕ)
-    → located (number_left which draft value bytes next) ≡ rest_at (took which value draft) bytes next
+    → located bytes (number_left which draft value bytes next)
+    ≡ rest_at (took which value draft) bytes next
 unfolding stage_left due_left sequence_left node_left service_left
 number_turn number.Age value draft bytes next = refl
 number_turn number.HopLimit value draft bytes next = refl
 number_turn (number.HopCount limit) value draft bytes next = refl
 number_turn (number.Target left) value draft bytes next =
-    targets_turn left (with_primary (value == 0) draft) bytes next
+    targets_turn left (with_target draft value) bytes next
 number_turn number.ContextFlags value draft bytes next = eid_turn owner.Security draft bytes next
 number_turn number.RecordType value draft bytes next = type_turn (value == 1) value draft bytes next
 number_turn (number.AssertedTime status) value draft bytes next =
@@ -253,14 +247,14 @@ number_turn number.Sequence value draft bytes next =
 number_turn number.FragmentOffset value draft bytes next = refl
 number_turn (number.FragmentLength start) value draft bytes next = refl
 number_turn (number.Allocator owner) value draft bytes next =
-    ap located (by_eid-then owner draft bytes (row_at unsigned bytes next) _)
+    ap (located bytes) (by_eid-then owner draft bytes (row_at unsigned bytes next) _)
 number_turn (number.Node owner allocator) value draft bytes next =
-    ap located (by_eid-then owner draft bytes (row_at unsigned bytes next) _)
+    ap (located bytes) (by_eid-then owner draft bytes (row_at unsigned bytes next) _)
 number_turn (number.Service owner allocator node) value draft bytes next =
     owner_ends owner (with_eid (numbered allocator node value) draft) bytes next
 
 pair_turn : (which : Pair) (draft : Draft) (bytes : List ℕ) (next : ℕ)
-    → located (pair_left which draft bytes next)
+    → located bytes (pair_left which draft bytes next)
     ≡ rest_at (AtHead (first_of which), draft) bytes next
 unfolding stage_left due_left limit_left type_left time_left
 pair_turn (pair_.Eid owner) draft bytes next = refl
@@ -272,7 +266,7 @@ pair_turn pair_.Timestamp draft bytes next = refl
 
 pub head_turn : (which : Due) (draft : Draft) (head : Head) (bytes : List ℕ) (offset next : ℕ)
     → head_at bytes offset ≡ Ok (head, next) → next ≤ length bytes
-    → located (due_left which draft bytes offset)
+    → located bytes (due_left which draft bytes offset)
     ≡ goes_on (judged which (next - offset) head draft) bytes offset next
 unfolding due_left specific_at scheme_left context_left report_left assertions_left stage_left
     flags_left boolean_at after_array
@@ -325,7 +319,7 @@ head_turn due.Assertions draft head bytes offset next whole within =
     bytes offset next head whole
     (λ count. refl) (λ stop. refl)
 head_turn (due.Assertion status) draft head bytes offset next whole within =
-    ap (λ (reading : ReadAt Assertion). located (by_assertion status draft bytes reading))
+    ap (λ (reading : ReadAt Assertion). located bytes (by_assertion status draft bytes reading))
     (assertion_parts bytes offset)
     ∙ by_row (λ (reading : ReadAt ℕ). by_assertion status draft bytes
     (reading >>= λ (count, start). after_array (count == 2) bytes start))

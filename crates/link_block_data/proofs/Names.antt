@@ -35,7 +35,7 @@ same_then (Err stop) next other same = refl
 
 -- the rest after an endpoint ID
 pub owner_ends : (owner : Owner) (draft : Draft) (bytes : List ℕ) (next : ℕ)
-    → located (owner_left owner draft bytes next)
+    → located bytes (owner_left owner draft bytes next)
     ≡ stage_left (after_eid owner) draft bytes next next
 unfolding stage_left due_left timestamp_left
 owner_ends owner.PreviousNode draft bytes next = refl
@@ -52,7 +52,7 @@ by_eid-then owner draft bytes (Err stop) next = refl
 -- the rest at a name that begins with these bytes, by whether it is whole
 chosen : (whole : Bool) (owner : Owner) (draft : Draft) (name : List ℕ) (left : ℕ) (bytes : List ℕ)
     (next : ℕ) → next ≤ length bytes → (left == 0) ≡ whole
-    → located (by_eid owner draft bytes (name_left name left bytes next))
+    → located bytes (by_eid owner draft bytes (name_left name left bytes next))
     ≡ stage_left (if whole then after_eid owner else Name owner left)
     (with_eid (Dtn (record { items = name })) draft) bytes next next
 unfolding stage_left name_left
@@ -66,7 +66,7 @@ chosen false owner draft name left bytes next within whole = refl
 
 pub name_begins : (owner : Owner) (draft : Draft) (name : List ℕ) (left : ℕ) (bytes : List ℕ)
     (next : ℕ) → next ≤ length bytes
-    → located (by_eid owner draft bytes (name_left name left bytes next))
+    → located bytes (by_eid owner draft bytes (name_left name left bytes next))
     ≡ stage_left (name_due owner left) (with_eid (Dtn (record { items = name })) draft) bytes next
     next
 name_begins owner draft name left bytes next within =
@@ -82,6 +82,6 @@ pub name_goes_on : (owner : Owner) (draft : Draft) (left : ℕ) (bytes more run 
     (offset + length run) (offset + length run)
 unfolding stage_left
 name_goes_on owner draft left bytes more run head offset here some fits =
-    ap (λ (reading : ReadAt Eid). located (by_eid owner draft bytes reading))
+    ap (λ (reading : ReadAt Eid). located bytes (by_eid owner draft bytes reading))
     (name_left-run (name_of draft.eid) run left bytes more offset here fits)
     ∙ name_begins owner draft _ _ bytes _ (run_within bytes more run offset here some)

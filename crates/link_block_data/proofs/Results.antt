@@ -11,14 +11,14 @@ use Rattle.link_bundle.proofs.Verdicts.{head_at-cut}
 use Rattle.link_block_data.specs.declared.{kind.DataKind.DataKind, due.Due.Due, due.Owner.Owner}
 use Rattle.link_block_data.specs.declared.due.{Found.Found, DataStage.DataStage}
 use Rattle.link_block_data.specs.declared.due.DataStage.TheVariants.{Head, Name, Read, Failed}
-use Rattle.link_block_data.specs.declared.draft.Draft.{Draft}
-use Rattle.link_block_data.specs.BlockData.{BlockData, alone, located, data_of}
+use Rattle.link_block_data.specs.declared.{draft.Draft.Draft, values.DataFault.DataFault}
+use Rattle.link_block_data.specs.BlockData.{BlockData, alone, fault_at, located, data_of}
 use Rattle.link_block_data.specs.{Left.{data_from, may_follow, stage_left}, Scan.HasSeen}
 use Rattle.link_block_data.proofs.Stops.{due_left-stopped}
 
 ended_there : (follow : Bool) (found : BlockData) (bytes : List ℕ) (offset : ℕ)
     → IsTrue (follow || (offset == length bytes))
-    → located (if follow then Ok found else alone bytes offset found) ≡ Ok found
+    → located bytes (if follow then Ok found else alone bytes offset found) ≡ Ok found
 unfolding alone
 ended_there true found bytes offset stands = refl
 ended_there false found bytes offset stands = rw stands refl
@@ -29,32 +29,33 @@ module _ {kind : DataKind} {draft : Draft} {head : HeadScan} {offset count : ℕ
       → data_of kind seen ≡ stage_left stage draft seen offset (length seen)
   read_now come = rw append-nil at (come.reads [])
 
-  pub lasts_failed : {at : ℕ} (more : List ℕ)
+  pub lasts_failed : {at : DataFault} (more : List ℕ)
       → HasSeen kind (Failed at) draft head offset count seen → data_of kind (seen ++ more) ≡ Err at
   unfolding stage_left
   lasts_failed more come = come.reads more
 
-  pub result_failed : {at : ℕ} → HasSeen kind (Failed at) draft head offset count seen
+  pub result_failed : {at : DataFault} → HasSeen kind (Failed at) draft head offset count seen
       → data_of kind seen ≡ Err at
   unfolding stage_left
   result_failed come = read_now come
 
   pub result_head : {which : Due} → HasSeen kind (Head which) draft head offset count seen
-      → data_of kind seen ≡ Err count
+      → data_of kind seen ≡ Err (record { offset = count; is_limit = false })
   unfolding stage_left
   result_head {which = which} come =
       read_now come
-      ∙ ap located (due_left-stopped which draft seen offset (stopped Cut (length seen))
+      ∙ ap (located seen) (due_left-stopped which draft seen offset (stopped Cut (length seen))
       (head_at-cut seen offset come.stands.cut))
-      ∙ ap Err (sym come.counted)
+      ∙ ap (λ (at : ℕ). Err (fault_at seen Cut at)) (sym come.counted)
 
   pub result_name : {owner : Owner} {left : ℕ}
       → HasSeen kind (Name owner left) draft head offset count seen → 0 < left
-      → data_of kind seen ≡ Err count
+      → data_of kind seen ≡ Err (record { offset = count; is_limit = false })
   unfolding stage_left name_left
   result_name {left = left} come some =
       read_now come
-      ∙ rw (bytes_at-cut left seen (length seen) (omega arith)) (ap Err (sym come.counted))
+      ∙ rw (bytes_at-cut left seen (length seen) (omega arith))
+      (ap (λ (at : ℕ). Err (fault_at seen Cut at)) (sym come.counted))
 
   pub result_read : {found : Found} → HasSeen kind (Read found) draft head offset count seen
       → data_of kind seen ≡ Ok (data_from found draft)

@@ -1,20 +1,21 @@
 -- More bytes, at each stage of a scan.
 
-use Rattle.std.proofs.Common.{◌≡◌, ℕ, ◌+◌, ◌-◌, ◌<◌, ◌≤◌, true, false, List, [], ◌++◌, length, drop, Result, Ok, Err, refl, sym, ap, ◌∙◌, append_assoc, length-append, length-drop, arith}
+use Rattle.std.proofs.Common.{◌≡◌, ℕ, ◌+◌, ◌-◌, ◌<◌, ◌≤◌, Bool, true, false, List, [], ◌++◌, length, drop, Result, Ok, Err, refl, sym, ap, ◌∙◌, append_assoc, length-append, length-drop, arith}
 use Rattle.std.specs.Prelude.{IsTrue}
 use Rattle.std.proofs.lemmas.{Bool.{eq-eqb, eqb-true, ne_eqb}, List.drop-append-le}
 use Rattle.std.proofs.{Math.Bool.or-true, lemmas.List.Elements.All-nil}
 use Rattle.link_cbor.specs.declared.{head.Head.Head as HeadItem, head_scan.HeadScan.HeadScan}
-use Rattle.link_cbor.specs.Head.{AreBytes, Cut as CutHead, IllFormed, Whole, head_front}
+use Rattle.link_cbor.specs.Head.{AreBytes, HeadFront, Cut as CutHead, IllFormed, Whole, head_front}
 use Rattle.link_cbor.specs.HeadScan.{HasScannedHead}
+use Rattle.link_cbor.proofs.HeadLaws.{whole_stays}
 use Rattle.link_bundle.proofs.Steps.{next_run, nothing_yet, all_grown, head_at-whole, head_at-bad}
 use Rattle.link_bundle_types.specs.declared.fault.BundleFault.{BundleFault}
 use Rattle.link_bundle_types.specs.declared.fault.BundleFault.TheVariants.{BadHead}
 use Rattle.link_bundle_blocks.specs.Reading.{stopped}
-use Rattle.link_block_data.specs.declared.{kind.DataKind.DataKind, due.Due.Due, due.Owner.Owner}
+use Rattle.link_block_data.specs.declared.{kind.DataKind.DataKind, due.Due.Due, due.Owner.Owner, values.DataFault.DataFault}
 use Rattle.link_block_data.specs.declared.due.{Found.Found, DataStage.DataStage}
 use Rattle.link_block_data.specs.declared.due.DataStage.TheVariants.{Head, Name, Read, Failed}
-use Rattle.link_block_data.specs.{declared.draft.Draft.Draft, BlockData.{alone, located, data_of}}
+use Rattle.link_block_data.specs.{declared.draft.Draft.Draft, BlockData.{alone, is_limit, located, data_of}}
 use Rattle.link_block_data.specs.Turns.{first_due, took_run, judged}
 use Rattle.link_block_data.specs.Left.{may_follow, stage_left, goes_on}
 use Rattle.link_block_data.specs.{declared.scan.DataScan.DataScan, Fits.scan_fits}
@@ -75,7 +76,8 @@ pub begun : {kind : DataKind} {which : Due} (draft : Draft) {head : HeadScan}
     → HasSeen kind (Head which) draft head 0 0 []
 unfolding stage_left data_of
 begun {kind = kind} draft first fresh =
-    entered (All-nil (λ (b : ℕ). b < 256)) refl refl fresh (λ more. rw first (ap located (starts kind draft more)))
+    entered (All-nil (λ (b : ℕ). b < 256)) refl refl fresh
+    (λ more. rw first (ap (located more) (starts kind draft more)))
 
 -- ---- heads
 
@@ -104,7 +106,7 @@ module _ {kind : DataKind} {which : Due} {draft : Draft} {head : HeadScan} {offs
   fresh_at here = rw (nothing_yet offset seen here) at come.stands.scanned
 
 -- data that is malformed at this offset, whatever bytes follow
-failed : {kind : DataKind} {at : ℕ} {draft : Draft} {head : HeadScan} {offset count : ℕ}
+failed : {kind : DataKind} {at : DataFault} {draft : Draft} {head : HeadScan} {offset count : ℕ}
     {seen : List ℕ} → AreBytes seen → count ≡ length seen
     → ((more : List ℕ) → data_of kind (seen ++ more) ≡ Err at)
     → HasSeen kind (Failed at) draft head offset count seen
@@ -127,13 +129,16 @@ module _ {kind : DataKind} {which : Due} {draft : Draft} {offset count : ℕ} {s
   }
 
   -- the head is ill-formed
-  pub bad_head : {head : HeadScan} → head_front (drop offset seen) ≡ IllFormed
-      → HasSeen kind (Failed offset) draft head offset count seen
-  bad_head outcome =
+  pub bad_head : {at : DataFault} {head : HeadScan} → head_front (drop offset seen) ≡ IllFormed
+      → at ≡ record { offset = offset; is_limit = false }
+      → HasSeen kind (Failed at) draft head offset count seen
+  bad_head outcome there =
       failed come.all_bytes come.counted
       (λ more. come.reads more
-      ∙ ap located (due_left-stopped which draft (seen ++ more) offset (stopped BadHead offset)
-      (head_at-bad offset seen more come.in_bytes outcome)))
+      ∙ ap (located (seen ++ more))
+      (due_left-stopped which draft (seen ++ more) offset (stopped BadHead offset)
+      (head_at-bad offset seen more come.in_bytes outcome))
+      ∙ ap Err (sym there))
 
   -- the head is whole
   module _ {item : HeadItem} {size : ℕ}
@@ -156,10 +161,21 @@ module _ {kind : DataKind} {which : Due} {draft : Draft} {offset count : ℕ} {s
         → HasSeen kind stage new head count count seen
     went_on is fresh = entered come.all_bytes come.counted come.counted fresh (turned_head is)
 
-    pub refused : {fault : BundleFault} {new : Draft} {head : HeadScan}
+    pub refused : {fault : BundleFault} {limit : Bool} {new : Draft} {head : HeadScan}
         → Err fault ≡ judged which size item draft
-        → HasSeen kind (Failed offset) new head offset count seen
-    refused is = failed come.all_bytes come.counted (turned_head is)
+        → ((size : ℕ) → limit ≡ is_limit fault (Whole item size))
+        → HasSeen kind (Failed (record { offset = offset; is_limit = limit })) new head offset count
+        seen
+    refused {fault = fault} is limits =
+        failed come.all_bytes come.counted
+        (λ more.
+        let front : head_front (drop offset (seen ++ more))
+        ≡ Whole item (length (drop offset seen)) =
+        rw (drop-append-le offset seen more come.in_bytes)
+        (whole_stays (drop offset seen) more item _ outcome) in
+        turned_head is more
+        ∙ ap (λ (limit : Bool). Err (record { offset = offset; is_limit = limit }))
+        (ap (λ (front : HeadFront). is_limit fault front) front ∙ sym (limits _)))
 
 -- ---- names
 
@@ -186,7 +202,7 @@ grown_name {owner = owner} {left = left} {draft = draft} {count = count} {seen =
 
 module _ {kind : DataKind} {draft : Draft} {head : HeadScan} {offset old count : ℕ}
     {seen : List ℕ} (run : List ℕ) (are : AreBytes run) (grows : count ≡ old + length run) where
-  pub grown_failed : {at : ℕ} → HasSeen kind (Failed at) draft head offset old seen
+  pub grown_failed : {at : DataFault} → HasSeen kind (Failed at) draft head offset old seen
       → HasSeen kind (Failed at) draft head offset count (seen ++ run)
   unfolding stage_left
   grown_failed {at = at} come =
@@ -206,10 +222,11 @@ module _ {kind : DataKind} {draft : Draft} {head : HeadScan} {offset old count :
     }
 
     -- bytes that may not follow it
-    pub grown_closed : 0 < length run → may_follow found ≡ false
-        → HasSeen kind (Failed offset) draft head offset count (seen ++ run)
+    pub grown_closed : {at : DataFault} → 0 < length run → may_follow found ≡ false
+        → at ≡ record { offset = offset; is_limit = false }
+        → HasSeen kind (Failed at) draft head offset count (seen ++ run)
     unfolding stage_left alone
-    grown_closed some closed =
+    grown_closed some closed there =
         let here = eqb-true offset (length seen) (rw closed at come.stands) in
         failed (all_grown seen run come.all_bytes are) (omega (arith, length-append seen run, come.counted))
         (λ more.
@@ -224,7 +241,7 @@ module _ {kind : DataKind} {draft : Draft} {head : HeadScan} {offset old count :
             length-append (seen ++ run) more,
             length-append seen run,
           )),
-        ) refl)
+        ) (ap Err (sym there)))
 
 -- ---- one run after another
 

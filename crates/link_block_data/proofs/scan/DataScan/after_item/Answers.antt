@@ -17,5 +17,5 @@ returns c = record {
   seen = λ kind seen come.
       grown_closed c.args.run.now (slice_bytes c.args.run.now (λ k. omega (arith, c.type_inv.run k))) refl
       (at_stage c.args.self.now c.requires.stage come) c.requires.some
-      (sym c.may_follow.ensures ∙ c.if-may_follow.false);
+      (sym c.may_follow.ensures ∙ c.if-may_follow.false) c.no_limit.ensures;
 }

@@ -33,7 +33,8 @@ returns-in-Bad c = record {
   size = search rules;
   seen = λ kind seen come.
       let after = (goal.at.returns-in-Bad c).After-outcome in
-      bad_head (grown after come) (c.in-Bad.ensures.front _ (scanned after come));
+      bad_head (grown after come) (c.in-Bad.ensures.front _ (scanned after come))
+      c.no_limit.ensures;
 }
 
 pub returns-in-Done : goal.returns-in-Done

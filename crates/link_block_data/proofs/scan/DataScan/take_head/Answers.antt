@@ -7,4 +7,4 @@ returns-in-Ok-clause-seen c = λ kind seen come whole sized fresh.
 
 pub returns-in-Err-clause-seen : goal.returns-in-Err-clause-seen
 returns-in-Err-clause-seen c = λ kind seen come whole sized fresh.
-    refused come whole sized c.in-Err.ensures.judged
+    refused come whole sized c.in-Err.ensures.judged c.is_limit.ensures

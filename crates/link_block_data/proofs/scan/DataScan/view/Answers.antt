@@ -1,4 +1,4 @@
-use Rattle.std.proofs.Common.{Ok, sym, ap, ◌∙◌, ⊎_elim}
+use Rattle.std.proofs.Common.{Ok, Err, sym, ap, ◌∙◌, ⊎_elim}
 use Rattle.link_bundle_types.specs.KeptEid.{name_fits}
 use Rattle.link_bundle.proofs.Fields.{some_left}
 use Rattle.link_block_data.proofs.Steps.{at_stage, fits_at}
@@ -20,7 +20,8 @@ returns-in-Failed-clause-lasts c = λ below kind seen come more.
 pub returns-in-Head-clause-seen : goal.returns-in-Head-clause-seen
 returns-in-Head-clause-seen c = λ kind seen come.
     let now = c.args.self.now in
-    ⊎_elim
+    ap Err c.no_limit.ensures
+    ∙ ⊎_elim
     (λ head. sym (result_head (at_stage now head.1 come)))
     (λ name. sym (result_name (at_stage now name.2 come)
     (some_left name.1 (name_fits now.draft.eid name.1) (fits_at now _ name.2))))
