@@ -241,8 +241,8 @@ pub fn blocks(bytes: &[u8], options: &BlocksOptions) -> Result<Run, ToolError> {
     })
 }
 
-/// `tcpclkit check`: a line for each rule of the RFCs that the sender of a recording breaks, or
-/// that bundles break. The exit status is 0 if no line was written, and 3 after a fault.
+/// `tcpclkit check`: a line for each of 37 rules of the RFCs that the sender of a recording breaks,
+/// or that bundles break. The exit status is 0 if no line was written, and 3 after a fault.
 ///
 /// # Errors
 ///

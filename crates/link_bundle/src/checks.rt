@@ -4,7 +4,7 @@ ghost use Rattle.std.specs.Prelude.{◌≡◌, ℕ, List, [], ◌∷◌, ◌++�
 use crate::stage::CheckType;
 use link_cbor::{Check, CheckKind};
 
-/// The checks that cover a block, from the head of its array on (RFC 9171 section 4.2.1).
+/// The checks that cover a block, from the head of its array on (RFC 9171 sections 4.3.1, 4.3.2).
 ///
 /// The check type comes after other heads. Until it is known both checks are computed, and then
 /// only the one that the block has.

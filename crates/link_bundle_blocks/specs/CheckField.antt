@@ -1,4 +1,4 @@
--- Check fields (RFC 9171 section 4.2.1).
+-- Check fields (RFC 9171 sections 4.2.2, 4.3.1 and 4.3.2).
 
 use Rattle.std.specs.Prelude.{ℕ, ◌+◌, ◌*◌, ◌==◌, Bool, true, List, ◌++◌, Option, Some, None, Ok, Err, fold, replicate, slice_range, if◌then◌else◌}
 use Rattle.link_cbor.specs.declared.check.CheckKind.{CheckKind}
@@ -17,7 +17,7 @@ unfoldable pub check_of : CheckKind → ℕ → ℕ → List ℕ → ℕ
 check_of kind start content bytes =
     crc kind (slice_range bytes start content ++ replicate (check_width kind) 0)
 
--- The check field at an offset, in a block that begins at `start` (section 4.2.1). A block without
+-- The check field at an offset, in a block that begins at `start` (section 4.2.2). A block without
 -- a check has none. The value is always `true` and has no meaning: a wrong check is a fault.
 unfoldable pub field_at : Option CheckKind → ℕ → List ℕ → ℕ → ReadAt Bool
 field_at None start bytes offset = Ok (true, offset)

@@ -150,7 +150,7 @@ pub fn check_of(kind: CheckKind, block: &[u8]) -> u32
     check.value()
 }
 
-/// Reads the check field of a block, if it has one (RFC 9171 section 4.2.1).
+/// Reads the check field of a block, if it has one (RFC 9171 section 4.2.2).
 ///
 /// The block begins at `start`. Returns the offset after the field. The `true` of the contract has
 /// no meaning: the definition of `field_at` has no other value.

@@ -147,7 +147,7 @@ block_check_type count head = do
   kind ← check_type head
   wanted (count == 5 + check_elements kind) kind BadCount
 
--- the length of a check value in bytes (sections 4.2.1 and 4.2.2)
+-- the length of a check value in bytes (section 4.2.2)
 abbrev pub check_width : CheckKind → ℕ
 check_width Crc16 = 2
 check_width Crc32 = 4

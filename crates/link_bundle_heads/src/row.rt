@@ -315,7 +315,7 @@ pub fn block_check_type(count: u64, head: Head) -> Result<Option<CheckKind>, Bun
     }
 }
 
-/// The length of a check value in bytes (RFC 9171 sections 4.2.1 and 4.2.2).
+/// The length of a check value in bytes (RFC 9171 section 4.2.2).
 #[inline(always)]
 pub fn check_width(kind: CheckKind) -> u64
     ensures { result ≡ row.check_width kind }

@@ -109,7 +109,7 @@ Example:
   0 end length=34 good";
 
 const CHECK_ABOUT: &str =
-    "Writes a line for each rule of the RFCs that the sender of a recording breaks";
+    "Writes a line for each of 37 rules of the RFCs that the sender of a recording breaks";
 
 const CHECK_HELP: &str =
     "A line has an offset, the level (must or should), the rule, and what broke it. The offset is that

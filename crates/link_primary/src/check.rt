@@ -1,4 +1,4 @@
-//! Reads the check field of a primary block (RFC 9171 section 4.2.1).
+//! Reads the check field of a primary block (RFC 9171 sections 4.2.2 and 4.3.1).
 ghost use Rattle.std.specs.Prelude.{◌≡◌, is_some, Some};
 ghost use Rattle.link_bundle_blocks.specs.CheckField.{field_at};
 ghost use Rattle.link_primary.specs.Accepted.{accepted};

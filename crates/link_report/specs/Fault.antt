@@ -9,7 +9,7 @@ use Rattle.link_report.specs.declared.fault.Fault.TheVariants.{Wire, Order, Bund
 use Rattle.link_report.specs.BundleFault.{code_text, bundle_fault_text}
 use Rattle.link_report.specs.Text.{hex2, number_text, newline}
 
--- a fault of the wire (RFC 9174 sections 4.1 to 4.8 and 5.2)
+-- a fault of the wire (RFC 9174 sections 4.2, 4.5, 4.6, 4.8, 5.1, 5.2 and 6.1)
 unfoldable pub wire_text : WireFault → List ℕ
 wire_text wire.Truncated = codes "truncated"
 wire_text wire.BadMagic = codes "not a contact header"
@@ -20,7 +20,7 @@ wire_text (wire.ListTooLong size) = number_text (codes "extension list too long:
 wire_text wire.TooManyItems = codes "too many extension items"
 wire_text wire.ItemsOverrun = codes "extension items overrun their list"
 
--- a fault of the order of messages (RFC 9174 sections 4.6, 5.2 and 6.1)
+-- a fault of the order of messages (RFC 9174 sections 4, 4.7, 5.1.2, 5.2 and 6.1)
 unfoldable pub order_text : OrderFault → List ℕ
 order_text order.SecondSessInit = codes "second session initiation"
 order_text order.SegmentBeforeSessInit = codes "segment before session initiation"

@@ -52,7 +52,7 @@ unfoldable pub has_sess_term : List Message → Bool
 has_sess_term before = list_any is_sess_term (events_of before)
 
 -- The transfer that is open after a segment: its own, unless it has END. No other is open, since
--- segments of two transfers are never interleaved (section 5.2.2).
+-- segments of two transfers are never interleaved (sections 5.2 and 5.2.2).
 abbrev pub open_after : Event → Option ℕ
 open_after (Segment flags id) = if is_end flags then None else Some id
 open_after SessInit = None
@@ -78,8 +78,9 @@ is_of transfer Other = false
 
 -- The first reason why a message may not come. `initiated` is whether a SESS_INIT was accepted
 -- before, and `terminated` is whether a SESS_TERM was. `transfer` is the open transfer.
--- 1. SESS_INIT sets the parameters of the whole session (section 4.6), so a second one is refused.
--- 2. No bundle is transferred before the parameters are set (section 4.6).
+-- 1. The parameters of a session do not change (section 4.7), and a SESS_INIT is not expected once
+--    it is established (section 5.1.2). So a second one is refused.
+-- 2. No bundle is transferred before the session is established (section 4).
 -- 3. A segment without START continues the transfer of the segments before it (section 5.2.2), so
 --    that transfer has to be open.
 -- 4. A segment with START is the first of its transfer (section 5.2.2), so the transfer may not be

@@ -43,7 +43,7 @@ pub struct Taken {
 
 /// Judges the order of the messages that one entity sends in a session.
 ///
-/// The rules are those of RFC 9174 sections 4.6, 5.2 and 6.1.
+/// The rules are those of RFC 9174 sections 4, 4.7, 5.1.2, 5.2 and 6.1.
 #[derive(Clone, Copy, Debug)]
 pub struct Joiner {
     /// Whether a SESS_INIT was accepted.

@@ -117,7 +117,7 @@ items_of owner size bytes = do
   (items, bytes) ← items_at owner most_items size bytes
   Ok (record { items = items }, bytes)
 
--- an extension list (section 4.8): its length in bytes, which is limited, and its items
+-- an extension list: its length in bytes (section 4.6), which is limited, and its items (4.8)
 unfoldable pub list_at : ListOf → List ℕ → Part (ArrayVec Item)
 list_at owner bytes = do
   (size, bytes) ← number_at 4 bytes

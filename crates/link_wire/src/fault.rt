@@ -5,8 +5,8 @@ use thiserror::Error;
 
 /// The first fault of a byte stream that is not a recorded session.
 ///
-/// The format of a session is that of RFC 9174 sections 4.1 to 4.8 and 5.2. The limits are this
-/// crate's own.
+/// The format of a session is that of RFC 9174 sections 4.2, 4.5, 4.6, 4.8, 5.1, 5.2 and 6.1. The
+/// limits are this crate's own.
 #[derive(Clone, Copy, Debug, PartialEq, Eq, Error)]
 pub enum WireFault {
     /// The stream ends inside the contact header, a message's head or a segment's data.

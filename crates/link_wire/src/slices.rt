@@ -289,7 +289,7 @@ fn items_of(bytes: &[u8], start: usize, owner: ListOf, size: u32) -> Result<usiz
     Ok(at)
 }
 
-/// Reads an extension list: its length, and then its items (RFC 9174 section 4.8).
+/// Reads an extension list: its length, and then its items (RFC 9174 sections 4.6 and 4.8).
 #[tactic(auto, unfolding(crate::specs::Message::list_at))]
 fn list_at(bytes: &[u8], at: usize, owner: ListOf) -> Result<(Span, usize), WireFault>
     requires { at ≤ length bytes.now }
