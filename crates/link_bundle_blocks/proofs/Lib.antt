@@ -9,6 +9,7 @@ pub mod Lengths
 pub mod Payloads
 pub mod Showing
 pub mod Lying
+pub mod Few
 pub mod Tiling
 pub mod Shifting
 pub mod Beginnings

@@ -21,7 +21,7 @@ abbrev Lie : List ℕ → Result Bundle Stop → Type 0
 Lie bytes reading = All (LiesWithin (length bytes)) (blocks_of reading)
 
 -- a stop outside the data of blocks
-stops_bare : {A : Type 0} (bytes : List ℕ) (offset : ℕ) (stop : Stop) (later : ReadAt A)
+pub stops_bare : {A : Type 0} (bytes : List ℕ) (offset : ℕ) (stop : Stop) (later : ReadAt A)
     → Reads bytes offset (Err stop) later → stop.blocks ≡ []
 stops_bare bytes offset stop later (short cut onward past) = ap (λ (stop : Stop). stop.blocks) cut
 stops_bare bytes offset stop later (whole is onward within) =

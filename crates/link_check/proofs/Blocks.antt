@@ -1,19 +1,18 @@
 -- The whole blocks of a bundle, and what a reader keeps of them, when more bytes follow.
-use Rattle.std.proofs.Common.{◌≡◌, ℕ, ◌<◌, ◌≤◌, ◌⊎◌, false, List, [], ◌∷◌, ◌++◌, length, Option, Some, None, fold, All, refl, ap, sym, ◌∙◌, ⊎_elim, append-nil, length-append, arith}
+use Rattle.std.proofs.Common.{◌≡◌, ℕ, suc, ◌+◌, ◌<◌, ◌≤◌, ◌⊎◌, Bool, true, false, List, [], ◌∷◌, ◌++◌, length, Option, Some, None, fold, All, refl, ap, sym, ◌∙◌, ⊎_elim, append-nil, length-append, arith}
 use Rattle.std.proofs.lemmas.Grind.{fold-append}
 use Rattle.link_cbor.specs.declared.check.CheckKind.{CheckKind}
 use Rattle.link_bundle_types.specs.declared.info.BundleInfo.{BundleInfo}
 use Rattle.link_bundle_blocks.specs.Blocks.{Primary, Block, PrimaryOf, CanonicalOf, LiesWithin}
 use Rattle.link_bundle_blocks.specs.Bundle.{blocks_in, bundle_goes}
 use Rattle.link_bundle_blocks.specs.declared.block.CanonicalBlock.{CanonicalBlock}
-use Rattle.link_bundle_blocks.proofs.{Lying.BlocksWithin-holds, Showing.BlocksEnd-holds}
+use Rattle.link_bundle_blocks.proofs.{Few.few_blocks, Lying.BlocksWithin-holds, Showing.BlocksEnd-holds}
 use Rattle.link_blocks.specs.BlockLines.{flags_after, found_in}
 use Rattle.link_blocks.proofs.{Lines.{all_first, all_rest, data_grown, no_blocks}, Judged.rest_read}
 use Rattle.link_rules.specs.Heads.{first_long}
 use Rattle.link_bundle_rules.specs.BundleRules.{broken_bundle_rules}
-use Rattle.link_bundle_rules.specs.{ReadBundle.{ReadBundle, with_block}, Remembered.Remembers}
+use Rattle.link_bundle_rules.specs.{History.bundle_of, ReadBundle.{ReadBundle, begun, block_facts, with_block}}
 use Rattle.link_bundle_rules.specs.declared.history.BundleHistory.{BundleHistory}
-use Rattle.link_bundle_rules.specs.declared.rule.BundleRule.{BundleRule}
 use Rattle.link_check.specs.BundleReader.{HasHistory, IsReadingBlocks}
 use Rattle.link_check.specs.BundleRules.{bundle_rules, read_bundle, rules_of, with_next}
 use Rattle.link_check.specs.declared.bundle.BundleReader.{BundleReader}
@@ -24,8 +23,8 @@ none_read : read_bundle [] ≡ None
 unfolding read_bundle
 none_read = ap (fold (with_next []) None) no_blocks
 
-pub no_history : HasHistory None (read_bundle []) []
-no_history = rw none_read tt
+pub no_history : (history : BundleHistory) → HasHistory false history (read_bundle []) []
+no_history history = rw none_read tt
 
 -- ---- more bytes
 
@@ -64,97 +63,86 @@ module _ (content more : List ℕ) where
 
   -- ---- no block has ended
 
-  same_by : (history : Option BundleHistory) (read : Option ReadBundle)
+  same_by : (begins : Bool) (history : BundleHistory) (read : Option ReadBundle)
       → blocks_in (content ++ more) ≡ blocks_in content
-      → HasHistory history read content → HasHistory history read (content ++ more)
-  same_by None None same was = tt
-  same_by None (Some bundle) same was = absurd was
-  same_by (Some history) None same was = absurd was
-  same_by (Some history) (Some bundle) same was = record {
-    remembers = was.remembers;
+      → HasHistory begins history read content → HasHistory begins history read (content ++ more)
+  same_by false history None same was = tt
+  same_by false history (Some bundle) same was = absurd was
+  same_by true history None same was = absurd was
+  same_by true history (Some bundle) same was = record {
+    same = was.same;
     flags = rw same was.flags;
-    few = omega (arith, was.few, length-append content more);
+    few = rw same was.few;
   }
 
-  pub history_same : (history : Option BundleHistory)
+  pub history_same : (begins : Bool) (history : BundleHistory)
       → blocks_in (content ++ more) ≡ blocks_in content
-      → HasHistory history (read_bundle content) content
-      → HasHistory history (read_bundle (content ++ more)) (content ++ more)
-  history_same history same was =
+      → HasHistory begins history (read_bundle content) content
+      → HasHistory begins history (read_bundle (content ++ more)) (content ++ more)
+  history_same begins history same was =
       rw (read_more [] (same ∙ sym (append-nil (blocks_in content))))
-      (same_by history (read_bundle content) same was)
+      (same_by begins history (read_bundle content) same was)
 
   -- ---- the primary block has ended
 
   pub history_begins : (history : BundleHistory) (primary : Primary) (check : Option CheckKind)
       (end : ℕ) → blocks_in (content ++ more) ≡ blocks_in content ++ PrimaryOf primary check end ∷ []
-      → ((bundle : ReadBundle) → bundle.primary ≡ primary → bundle.check ≡ check
-      → bundle.blocks ≡ [] → Remembers history bundle)
-      → HasHistory (Some history) (read_bundle (content ++ more)) (content ++ more)
-  history_begins history primary check end grown begun =
+      → bundle_of history None 0 ≡ begun primary check
+      → HasHistory true history (read_bundle (content ++ more)) (content ++ more)
+  history_begins history primary check end grown same =
       rw (read_more (PrimaryOf primary check end ∷ []) grown) (record {
-        remembers = begun (record {
-          primary = primary;
-          check = check;
-          blocks = [];
-          long_head = None;
-          payload_length = 0;
-        }) refl refl refl;
+        same = same;
         flags = sym (flags_more (PrimaryOf primary check end ∷ []) grown);
-        few = omega arith;
+        few = omega (
+          arith,
+          ap length grown,
+          length-append (blocks_in content) (PrimaryOf primary check end ∷ []),
+        );
       })
 
   -- ---- a canonical block has ended
 
-  module _ (block : CanonicalBlock) where
+  module _ (block : CanonicalBlock)
+      (grown : blocks_in (content ++ more) ≡ blocks_in content ++ CanonicalOf block ∷ []) where
     -- the next history has the block too
     abbrev pub Adds : (old new : BundleHistory) → Type 0
-    Adds old new = (bundle : ReadBundle) → Remembers old bundle
-        → bundle.primary.flags ≡ fold flags_after 0 (blocks_in (content ++ more))
-        → Remembers new (with_block bundle (record {
-          block = block;
-          found = found_in bundle.primary.flags (content ++ more) block;
-        }))
+    Adds old new = length old.blocks.items < 64 → bundle_of new None 0
+        ≡ with_block (bundle_of old None 0) block
+        (found_in (fold flags_after 0 (blocks_in (content ++ more))) (content ++ more) block)
 
-    -- there is no primary block before it
-    none_by : (read : Option ReadBundle) → HasHistory None read content
-        → HasHistory None (with_next (content ++ more) read (CanonicalOf block)) (content ++ more)
-    none_by None was = tt
-    none_by (Some bundle) was = absurd was
+    adds_by : (begins : Bool) (old new : BundleHistory) (read : Option ReadBundle)
+        → HasHistory begins old read content → Adds old new
+        → HasHistory begins new (with_next (content ++ more) read (CanonicalOf block)) (content ++ more)
+    adds_by false old new None was adds = tt
+    adds_by false old new (Some bundle) was adds = absurd was
+    adds_by true old new None was adds = absurd was
+    adds_by true old new (Some bundle) was adds =
+        let now = content ++ more in
+        let flags : bundle.primary.flags ≡ fold flags_after 0 (blocks_in now) =
+        was.flags ∙ sym (flags_more (CanonicalOf block ∷ []) grown) in
+        let one_more : length (blocks_in now) ≡ length (blocks_in content) + 1 =
+        ap length grown ∙ length-append (blocks_in content) (CanonicalOf block ∷ []) in
+        let here : length old.blocks.items ≡ length bundle.blocks =
+        ap (λ (bundle : ReadBundle). length bundle.blocks) was.same in
+        let added = adds (omega (arith, few_blocks now, one_more, was.few, here)) in
+        record {
+          same = rw (was.same, ← flags) at added;
+          flags = flags;
+          few = omega (
+            arith,
+            was.few,
+            one_more,
+            length-append bundle.blocks
+            (block_facts block (found_in bundle.primary.flags now block) ∷ []),
+          );
+        }
 
-    module _ (grown : blocks_in (content ++ more) ≡ blocks_in content ++ CanonicalOf block ∷ []) where
-      pub history_none : HasHistory None (read_bundle content) content
-          → HasHistory None (read_bundle (content ++ more)) (content ++ more)
-      history_none was =
-          rw (read_more (CanonicalOf block ∷ []) grown) (none_by (read_bundle content) was)
-
-      adds_by : (old new : BundleHistory) (read : Option ReadBundle) → 0 < length more
-          → HasHistory (Some old) read content → Adds old new
-          → HasHistory (Some new) (with_next (content ++ more) read (CanonicalOf block)) (content ++ more)
-      adds_by old new None some was adds = absurd was
-      adds_by old new (Some bundle) some was adds =
-          let flags : bundle.primary.flags ≡ fold flags_after 0 (blocks_in (content ++ more)) =
-          was.flags ∙ sym (flags_more (CanonicalOf block ∷ []) grown) in
-          record {
-            remembers = adds bundle was.remembers flags;
-            flags = flags;
-            few = omega (
-              arith,
-              was.few,
-              length-append content more,
-              length-append bundle.blocks (record {
-                block = block;
-                found = found_in bundle.primary.flags (content ++ more) block;
-              } ∷ []),
-            );
-          }
-
-      pub history_adds : (old new : BundleHistory) → 0 < length more
-          → HasHistory (Some old) (read_bundle content) content → Adds old new
-          → HasHistory (Some new) (read_bundle (content ++ more)) (content ++ more)
-      history_adds old new some was adds =
-          rw (read_more (CanonicalOf block ∷ []) grown)
-          (adds_by old new (read_bundle content) some was adds)
+    pub history_adds : (begins : Bool) (old new : BundleHistory)
+        → HasHistory begins old (read_bundle content) content → Adds old new
+        → HasHistory begins new (read_bundle (content ++ more)) (content ++ more)
+    history_adds begins old new was adds =
+        rw (read_more (CanonicalOf block ∷ []) grown)
+        (adds_by begins old new (read_bundle content) was adds)
 
 -- no more blocks come in the rest, or there is none
 pub rest_blocks : (now : BundleReader) (content rest : List ℕ)
@@ -162,7 +150,7 @@ pub rest_blocks : (now : BundleReader) (content rest : List ℕ)
     → IsReadingBlocks now (content ++ rest)
 rest_blocks now content rest ends was = record {
   reading = rest_read now.blocks content rest ends was.reading;
-  history = history_same content rest now.history (⊎_elim
+  history = history_same content rest now.begun now.history (⊎_elim
       (λ stops. BlocksEnd-holds content rest stops)
       (λ none. rw none (ap blocks_in (append-nil content)))
       ends) was.history;
@@ -170,36 +158,25 @@ rest_blocks now content rest ends was = record {
 
 -- ---- the rules
 
-module _ (content : List ℕ) (info : BundleInfo) where
-  none_broken : (read : Option ReadBundle) → HasHistory None read content
-      → [] ≡ rules_of content info.payload read
-  none_broken None was = refl
-  none_broken (Some bundle) was = absurd was
+module _ (content : List ℕ) (info : BundleInfo) (history : BundleHistory) where
+  none_by : (read : Option ReadBundle) → HasHistory false history read content
+      → rules_of content info.payload read ≡ []
+  none_by None was = refl
+  none_by (Some bundle) was = absurd was
 
-  pub rules_none : HasHistory None (read_bundle content) content → [] ≡ bundle_rules content info
+  pub rules_none : HasHistory false history (read_bundle content) content
+      → bundle_rules content info ≡ []
   unfolding bundle_rules
-  rules_none was = none_broken (read_bundle content) was
+  rules_none was = none_by (read_bundle content) was
 
-  module _ (history : BundleHistory) (items : List BundleRule) where
-    -- these are the rules that a bundle breaks which the history remembers
-    abbrev pub AreBroken : Type 0
-    AreBroken = (bundle : ReadBundle) → Remembers history bundle
-        → length bundle.blocks ≤ length content → bundle.long_head ≡ first_long content
-        → bundle.payload_length ≡ info.payload → items ≡ broken_bundle_rules bundle
+  some_by : (read : Option ReadBundle) → HasHistory true history read content
+      → rules_of content info.payload read
+      ≡ broken_bundle_rules (bundle_of history (first_long content) info.payload)
+  some_by None was = absurd was
+  some_by (Some bundle) was = rw (← was.same) refl
 
-    some_broken : (read : Option ReadBundle) → HasHistory (Some history) read content → AreBroken
-        → items ≡ rules_of content info.payload read
-    some_broken None was broken = absurd was
-    some_broken (Some bundle) was broken =
-        broken (record bundle { long_head = first_long content; payload_length = info.payload })
-        (record {
-          primary = was.remembers.primary;
-          flags = was.remembers.flags;
-          extensions = was.remembers.extensions;
-          security = was.remembers.security;
-        }) was.few refl refl
-
-    pub rules_some : HasHistory (Some history) (read_bundle content) content → AreBroken
-        → items ≡ bundle_rules content info
-    unfolding bundle_rules
-    rules_some was broken = some_broken (read_bundle content) was broken
+  pub rules_some : HasHistory true history (read_bundle content) content
+      → bundle_rules content info
+      ≡ broken_bundle_rules (bundle_of history (first_long content) info.payload)
+  unfolding bundle_rules
+  rules_some was = some_by (read_bundle content) was

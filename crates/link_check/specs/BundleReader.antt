@@ -1,5 +1,5 @@
 -- Relations: what a reader keeps of the bytes of a bundle.
-use Rattle.std.specs.Prelude.{◌≡◌, ℕ, suc, Bool, true, false, List, length, Option, Some, None, fold}
+use Rattle.std.specs.Prelude.{◌≡◌, ◌≤◌, ℕ, suc, Bool, true, false, List, length, Option, Some, None, fold}
 use Rattle.link_bundle_blocks.specs.Bundle.{blocks_in}
 use Rattle.link_blocks.specs.BlockLines.{flags_after}
 use Rattle.link_blocks.specs.DataReader.{IsReading, read_size}
@@ -14,7 +14,7 @@ pub record IsHistory (history : BundleHistory) (bundle : ReadBundle) (content : 
     : Type 0 where
   pub same : bundle_of history None 0 ≡ bundle
   pub flags : bundle.primary.flags ≡ fold flags_after 0 (blocks_in content)
-  pub counted : suc (length bundle.blocks) ≡ length (blocks_in content)
+  pub few : suc (length bundle.blocks) ≤ length (blocks_in content)
 
 -- the history has begun once the primary block is whole
 abbrev pub HasHistory : (begun : Bool) → BundleHistory → Option ReadBundle → (content : List ℕ)

@@ -108,6 +108,7 @@ impl BundleReader {
         ensures scanned { scan_size scan.new ≤ before + length piece.now }
         ensures read { data_size self.new ≤ before + length piece.now }
         ensures heads { self.new.heads ≡ self.old.heads }
+        ensures prefix { self.new.prefix ≡ self.old.prefix }
         ensures judged { (content : List ℕ) → length content ≡ before → HasJudged scan.old content
             → HasJudged scan.new (content ++ piece.now) }
         ensures reads { (content : List ℕ) → length content ≡ before → HasJudged scan.old content
@@ -130,6 +131,7 @@ impl BundleReader {
         requires read { data_size self.old ≤ before }
         ensures read { data_size self.new ≤ before + length run.now }
         ensures heads { self.new.heads ≡ self.old.heads }
+        ensures prefix { self.new.prefix ≡ self.old.prefix }
         ensures reads { (seen : List ℕ) → length seen ≡ before → IsReadingBlocks self.old seen
             → 0 < length run.now → bundle_goes seen ≡ true
             → HasScanned scan.now (seen ++ run.now)

@@ -9,4 +9,5 @@ returns-clause-reads c = λ content same judged reads.
           (record { reading = reads.blocks.reading; history = reads.blocks.history });
       walked = rw c.take_blocks.ensures.heads
           (c.take.ensures content (omega (arith, same, length-append content piece)) reads.walked);
+      begins = rw c.take_blocks.ensures.prefix (c.take-2.ensures content reads.begins);
     }

@@ -63,6 +63,7 @@ loop-taken-preserved c =
         length-take c.feed_block-count.result (drop c.loop-taken.taken piece),
       );
       heads = c.take_run.ensures.heads ∙ c.loop-taken.invariant.heads;
+      prefix = c.take_run.ensures.prefix ∙ c.loop-taken.invariant.prefix;
       judged = λ content same judged.
           all_judged c.feed_block-count.new.self _ (ran at content same judged).come;
       reads = λ content same judged reading. (ran at content same judged).reads reading;

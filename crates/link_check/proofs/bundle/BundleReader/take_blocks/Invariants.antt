@@ -10,6 +10,7 @@ invariant-loop-taken l = record {
   scanned : scan_size l.scan ≤ l.before + l.taken;
   read : data_size l.self ≤ l.before + l.taken;
   heads : l.self.heads ≡ l.fn.self.heads;
+  prefix : l.self.prefix ≡ l.fn.self.prefix;
   judged : (content : List ℕ) → length content ≡ l.before → HasJudged l.fn.scan content
       → HasJudged l.scan (content ++ take l.taken l.piece);
   reads : (content : List ℕ) → length content ≡ l.before → HasJudged l.fn.scan content

@@ -25,7 +25,7 @@ pub returns-in-Ok : goal.returns-in-Ok
 returns-in-Ok g c = λ begun checks.
     rw (good_are g c begun checks)
     at (c.write_rules.ensures begun.content (viewed_info c.in-Ok.info) checks.reading
-    (omega (arith, checks.judging.size, c.args.self.now.judge.limit)) refl)
+    refl)
 
 -- the rule of data that is no bundle is the one that was written
 bad_are : (g : _) (c : goal.After-write_rules-in-Err g) (begun : Begun) → IsChecking c.args.self.now begun
@@ -38,7 +38,7 @@ bad_are g c begun checks =
     let is : verdict begun.content ≡ Err (c.in-Err.fault, c.in-Err.byte) =
     sym (c.in-Err.ensures.seen judged.seen judged.scanned ∙ verdict_judged judge.scan begun.content judged) in
     let broken = c.data_rule-rule.ensures begun.content
-    (c.first_indefinite.ensures begun.content checks.reading) in
+    (c.unread.ensures begun.content checks.reading) in
     rw (is, checks.offset, checks.judging.id, ← broken) refl
 
 pub returns-in-Err : goal.returns-in-Err
