@@ -289,6 +289,11 @@ def levels():
     yield stream_row("a SESS_INIT that changes the session", changed, [
         "125 must order fault=second-session-initiation",
     ], must=True)
+    # A transfer begins at 6, before the SESS_INIT at 37. A segment of it is at 69.
+    inner, ends = make.xfer_segment(0, 0, CLEAN[9:20]), make.xfer_segment(END, 0, CLEAN[20:])
+    yield row("a SESS_INIT amid a transfer", CONTACT + BEGINS + INIT + inner + OTHER_INTERVAL + ends, [
+        "6 must order fault=segment-before-session-initiation", "98 must order fault=second-session-initiation",
+    ], {"must": True})
     # A message of a transfer before the first SESS_INIT does not count.
     early = CONTACT + make.xfer_ack(BOTH, 0, 1) + INIT + OTHER_INTERVAL
     lines = ["6 should before-session type=02", "56 should order fault=second-session-initiation"]
