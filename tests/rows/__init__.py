@@ -9,6 +9,7 @@ spelled out in hexadecimal or made by those of tests/inputs.
     broken  `check`: for each rule, what breaks it alone and what just keeps it
     faults  `check`: each fault, in a stream that has no other
     runs    `check`: several rules at once, the options, and the status
+    rfc9173 both: the bundles of RFC 9173 appendix A
     laws    what holds of `blocks` and `check` for any input
 """
 
