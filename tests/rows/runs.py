@@ -131,6 +131,10 @@ def of_one_bundle():
         "0 must hop-count bundle=0 blocks=2",
         "0 must block-data bundle=0 block=4 byte=31",
     ])
+
+
+def not_read():
+    """Blocks that are not read beside some that are wrong."""
     # Blocks of 7 bytes are at 25 and 32, and a payload at 39, whose data is at 45.
     open_age, text = block(7, 2, b"\xbf"), block(6, 3, b"\x60")
     yield bundle_row("a block that is not read, and one that is wrong", bundle(open_age, text), [
@@ -321,5 +325,5 @@ def files():
 
 def rows():
     """The rows of this file."""
-    for part in (of_one_message, of_one_bundle, ciphertext, fragments, transfers, once, faults, levels, files):
+    for part in (of_one_message, of_one_bundle, not_read, ciphertext, fragments, transfers, once, faults, levels, files):
         yield from part()
