@@ -660,19 +660,6 @@ def named(rules):
         yield from ((f"{rule}, kept {number}", it, [], *options) for number, (it, *options) in enumerate(kept(keeping)))
 
 
-def smallest():
-    """Yields each rule, the shortest recording that breaks it, and the first that keeps it.
-
-    Each recording has its options, if it has any.
-    """
-    wholes = [(MESSAGES, lambda it: it), (TRANSFERS, lambda it: HEAD + it), (BUNDLES, lambda it: HEAD + sent(it))]
-    for rules, whole in wholes:
-        for rule, (breaking, keeping) in rules.items():
-            content, _, *options = min(breaking, key=lambda it: len(it[0]))
-            other, *others = kept(keeping)[0]
-            yield rule, (whole(content), *options), (whole(other), *others)
-
-
 def of(line, at, word):
     """The lines of a transfer or a bundle: those of a line that is spelled as above, or none."""
     return [f"{at} {line.replace(':', f' {word}')}"] if line else []
