@@ -16,7 +16,7 @@ TOP = Path(__file__).resolve().parent.parent
 sys.path.insert(0, str(TOP / "tests"))
 
 from model import checking, tools
-from rows import broken, faults
+from rows import corpus, faults
 
 TABLE = "expected"
 COLUMNS = "file shows kind rfc options list-status list unpack-status unpack check-status check".split()
@@ -28,7 +28,7 @@ LINES, NOTHING = " | ", "-"
 class Stream(NamedTuple):
     """A stream of the folder: the name of its file, what it shows, its kind, and the RFC and section.
 
-    `options` are those of `check`. The kind is the level of a rule that is broken, `kept`, `fault` or `limit`.
+    `options` are those of `check`. The kind is a word that the help of scripts/faults explains.
     """
     file: str
     shows: str
@@ -54,18 +54,17 @@ def of_faults():
     """The streams with a fault of the wire, of the order of messages, or of a bundle."""
     for it in faults.ALL:
         group, name = it.name.split("-", 1)
-        shows, kind = name.split("-")[0] if group == "bundle" else name, "limit" if it.is_limit else "fault"
-        yield Stream(f"{it.name}.tcpcl", shows, kind, it.rfc, it.content, {})
+        shows = name.split("-")[0] if group == "bundle" else name
+        yield Stream(f"{it.name}.tcpcl", shows, it.kind, it.rfc, it.content, {})
 
 
 def of_rules():
-    """For each rule of `check`, a stream that breaks it alone, and one that just keeps it."""
+    """For each rule of `check` and each cause, a stream that breaks it alone, and one that just keeps it."""
     named = sections()
-    for rule, breaking, keeping in broken.smallest():
-        for word, content, *options in [("rule", *breaking), ("keeps", *keeping)]:
-            options = options[0] if options else {}
-            _, level, *_ = checking.checking(content, **options)[0].decode().split() or ("", "kept")
-            yield Stream(f"{word}-{rule}.tcpcl", rule, level, named[rule], content, options)
+    for it in corpus.pairs():
+        level, kept = it.lines[0].split(" ")[1], "answer" if it.is_answer else "kept"
+        for word, kind, content in [("rule", level, it.broken), ("keeps", kept, it.kept)]:
+            yield Stream(f"{word}-{it.name}.tcpcl", it.rule, kind, named[it.rule], content, it.options)
 
 
 def words(options):

@@ -34,9 +34,9 @@ FRAGMENT = [
 BUNDLES = {"bundle with checks": CHECKED, "fragment": FRAGMENT}
 
 # Heads of each major type and of each length. Some are ill-formed, some are cut, some have an
-# indefinite length, and one is the break.
+# indefinite length, one is the tag of embedded CBOR, and one is the break.
 KINDS = [bytes.fromhex(it) for it in [
-    "00", "17", "1818", "20", "40", "60", "80", "c0", "e0", "f4", "f7", "f81f", "f820", "f90000", "fb0000000000000000",
+    "00", "17", "1818", "20", "40", "60", "80", "c0", "d818", "e0", "f4", "f7", "f81f", "f820", "f90000", "fb0000000000000000",
     "1c", "1d", "1e", "1f", "3f", "5c", "5f", "7f", "9e", "9f", "bf", "df", "fc", "ff", "f8", "18", "1900", "1a000000",
 ]]
 

@@ -46,7 +46,7 @@ def status_report(rng):
 def data_of(rng, kind):
     """The heads of the data of a block of a type whose data is read."""
     if kind in (11, 12):
-        targets = [rng.choice((0, 1, 2, 3)) for _ in range(rng.choice((0, 1, 1, 2, 5)))]
+        targets = [rng.choice((0, 1, 2, 3)) for _ in range(rng.choice((0, 1, 1, 2, 5, 64, 65)))]
         return spelling.security(targets, rng.choice((1, 2, -1, -2**64)), endpoint(rng), rng.choice((0, 1)))
     one, two = rng.choice(NUMBERS), rng.choice(NUMBERS)
     return {1: status_report(rng), 6: spelling.endpoint(endpoint(rng)), 7: [spelling.unsigned(one)],
@@ -141,7 +141,7 @@ def other_message(rng):
 
 def transfer(rng, number):
     """The messages of a transfer, in segments of random lengths with other messages between."""
-    data = bundle(rng) if rng.random() < 0.8 else damage(rng, bundle(rng))
+    data = bundle(rng) if rng.random() < 0.8 else damage(rng, rng.choice((b"", b"\xd9\xd9\xf7")) + bundle(rng))
     cuts = sorted(rng.randint(0, len(data)) for _ in range(rng.choice((0, 0, 1, 2, 5))))
     chunks = [data[begin:end] for begin, end in zip([0] + cuts, cuts + [len(data)])]
     for index, chunk in enumerate(chunks):
@@ -149,6 +149,11 @@ def transfer(rng, number):
         yield segment(flags, number, chunk, items(rng, len(data)) if index == 0 else ())
         if rng.random() < 0.2:
             yield other_message(rng)
+
+
+def later_sess_init(rng):
+    """A SESS_INIT with the parameters of the first one in most cases, or with another."""
+    return sess_init(**rng.choice(({}, {}, {}, {"keepalive": 0}, {"segment_mru": 5}, {"transfer_mru": 2**64 - 1})))
 
 
 def stream(rng):
@@ -161,7 +166,7 @@ def stream(rng):
     for number in range(rng.choice((0, 1, 2, 3, 6))):
         sent = list(transfer(rng, number if rng.random() < 0.9 else rng.randint(0, 3)))
         messages += sent[:-1] if rng.random() < 0.1 else sent
-    for late in ([b"\x05\x01\x03"], sess_init(), segment(0, 0, b"x"), segment(START, 1, b"")):
+    for late in ([b"\x05\x01\x03"], later_sess_init(rng), segment(0, 0, b"x"), segment(START, 1, b"")):
         if rng.random() < 0.08:
             messages.insert(rng.randint(0, len(messages)), late)
     content = laid([CONTACT, *[piece for message in messages for piece in message]])[0]
@@ -174,6 +179,7 @@ def disordered(rng):
     for _ in range(rng.randint(1, 4)):
         messages += transfer(rng, rng.randint(0, 2))
     messages.insert(rng.randint(0, len(messages)), [b"\x05\x00\x03"])
+    messages.insert(rng.randint(1, len(messages)), later_sess_init(rng))
     for _ in range(rng.choice((1, 2, 3, 8))):
         it = messages[rng.randrange(len(messages))]
         if rng.random() < 0.6:

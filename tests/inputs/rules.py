@@ -64,6 +64,26 @@ def messages_before():
         yield stream(sess_init(keepalive=0), *them), CHECKS[:1]
 
 
+def session_parameters():
+    """Every three SESS_INITs of some with other parameters, with each message before and between.
+
+    One of these messages is a segment of a transfer that began before the first SESS_INIT.
+    """
+    inits = [
+        sess_init(), sess_init(keepalive=61), sess_init(segment_mru=65537), sess_init(transfer_mru=2**63),
+        sess_init(node=b"", items=[item("session", 0, 0x8000, b"")]),
+    ]
+    between = [
+        [], [b"\x04"], [b"\x05\x00\x00"], [b"\x06\x03\x07"], ack(0, 0, 5), [b"\x03\x00" + bytes(8)],
+        segment(START, 0, b""), segment(0, 0, b"x"), segment(END, 1, b""),
+    ]
+    for one, two in itertools.product(between, repeat=2):
+        for them in itertools.product(inits[:2], inits, (sess_init(), sess_init(keepalive=61))):
+            first, second, third = them
+            yield stream(one, first, two, second, third), CHECKS[:1]
+            yield stream(segment(START, 0, b""), first, one, second, two, third), CHECKS[:1]
+
+
 def transfer_ids():
     """Every five of some IDs. The last transfer of each is left open."""
     for them in itertools.product((0, 1, 2, 4, LAST), repeat=5):
@@ -137,11 +157,33 @@ def dtn_names():
         yield checked([primary(*them, 1, 0x04, (1, 0)), canonical(1, 1, b"")])
 
 
+def confidential(number, targets, length=None):
+    """A block confidentiality block with these targets. Its data may be cut."""
+    return canonical(12, number, encoded(security(targets, 2, (1, 1)))[:length])
+
+
 def fragments():
-    """Fragments whose offset, length and total length are at their limits."""
+    """Fragments whose offset, length and total length are at their limits.
+
+    The payload may be ciphertext in some.
+    """
+    hiding = [[], [confidential(9, [1])], [confidential(9, [0, 2])], [confidential(9, [1], 2)]]
     for offset, whole in itertools.product((0, 1, 2, 3, LAST - 1, LAST), (0, 1, 2, 3, 4, LAST)):
-        for length, flags in itertools.product(range(5), (0x01, 0x03, 0x05)):
-            yield checked(bundle(flags=flags, fragment=(offset, whole), payload=bytes(length)))
+        for length, flags, blocks in itertools.product(range(5), (0x01, 0x03, 0x05), hiding):
+            yield checked(bundle(*blocks, flags=flags, fragment=(offset, whole), payload=bytes(length)))
+
+
+def blocks_of_fragments():
+    """Fragments, and a bundle that is none, with and without what their source had to add."""
+    integrity = [[]] + [[canonical(11, 2, it)] for it in (
+        encoded(security([0], 1, (1, 1))), encoded(security([1], 1, (1, 1))), b"\x81",
+    )]
+    ages = [[canonical(7, number, b"\x05") for number in range(3, 3 + count)] for count in range(3)]
+    hiding = [[], [confidential(9, [2])], [confidential(9, [3])]]
+    for place in ((), (0, 9), (1, 9), (LAST - 3, LAST)):
+        for time, kind, one, two, three in itertools.product((0, 1), (0, 2), integrity, ages, hiding):
+            begin = {"flags": 0x01 if place else 0, "fragment": place, "kind": kind, "stamp": (time, 7)}
+            yield spelled(bundle(*one, *two, *three, **begin))[0], BUNDLE_CHECKS
 
 
 def blocks_together():
@@ -156,6 +198,43 @@ def blocks_together():
         blocks = [canonical(kind, number, data) for number, (kind, data) in enumerate(them, 2)]
         for begin in heads:
             yield checked(bundle(*blocks, **begin))
+
+
+def hidden_data():
+    """Blocks whose data may be ciphertext, before, after and between those that may say so."""
+    choices = [list(them) for count in range(5) for them in itertools.combinations((0, 1, 2, 3), count)]
+    others = list(range(300, 363))
+    hiding = [[confidential(9, it)] for it in choices] + [
+        [], [confidential(9, [2], 1)], [confidential(9, [2, 300], 3)], [confidential(9, [*others, 2])],
+        [confidential(9, [2, *others, 363])], [confidential(9, [*others, 363, 364])], [confidential(9, [8]), confidential(8, [3])],
+    ]
+    firsts = [
+        (6, b"\x82\x01\x00"), (7, b"\xff"), (10, b"\x82\x05\x06"), (10, b"\x82\x00\x00"), (10, b"\x9f"), (11, b"\x81"),
+        (11, encoded(security([0], 1, (1, 1)))), (11, encoded(security([1], 1, (1, 1)))),
+    ]
+    seconds = [(6, b"\x9f"), (6, b"\x60"), (10, b"\x82\x05\x06"), (192, b"")]
+    heads = [
+        {}, {"flags": 0x02, "payload": b"\x82\x01"}, {"flags": 0x02, "payload": b"\x9f"},
+        {"flags": 0x01, "fragment": (0, 3), "kind": 0}, {"flags": 0x01, "fragment": (1, 3), "kind": 0},
+    ]
+    for them, one, two, begin in itertools.product(hiding, firsts, seconds, heads):
+        first, second = canonical(one[0], 2, one[1]), canonical(two[0], 3, two[1])
+        yield checked(bundle(*them, first, second, **begin))
+        yield checked(bundle(first, *them, second, **begin))
+        yield checked(bundle(first, second, *them, **begin))
+
+
+def hidden_among_many():
+    """As many blocks as a bundle has, of which all but one may be ciphertext, or all but two."""
+    kinds = [(6, b"\xff"), (7, b"\x9f"), (10, b"\x82"), (10, b"\x82\x01\x7f")]
+    blocks = {number: canonical(kinds[number % 4][0], number, kinds[number % 4][1]) for number in range(2, 63)}
+    for left in range(2, 63):
+        for more in (left, left + 1 if left < 62 else 2):
+            targets = [number for number in blocks if number not in (left, more)]
+            whole, halves = [confidential(63, targets)], [confidential(63, targets[::2]), confidential(64, targets[1::2])]
+            for begin in ({}, {"flags": 0x02, "payload": b"\x9f"}):
+                yield checked(bundle(*blocks.values(), *whole, **begin))
+                yield checked(bundle(*halves, *blocks.values(), **begin))
 
 
 def hop_counts():
@@ -215,19 +294,44 @@ def indefinite():
 
     So the fault is a limit of the toolkit in some, and not in others.
     """
+    others = (b"\x1f", b"\x3f", b"\x5f", b"\x7f", b"\x9f", b"\xbf", b"\xdf", b"\xff", b"\x5e", b"\x9c")
     for blocks in LONG:
-        heads = [it for block in blocks for it in block]
-        for number in range(len(heads)):
-            for other in (b"\x1f", b"\x3f", b"\x5f", b"\x7f", b"\x9f", b"\xbf", b"\xdf", b"\xff", b"\x5e", b"\x9c"):
-                content, after = spelled(blocks, number, other)
-                yield carried(content), CHECKS[:1]
-                begin, rest = content[:after - 1], content[after - 1:after]
-                yield stream(sess_init(), segment(START, 0, begin), segment(END, 0, rest)), CHECKS[:1]
+        yield from replaced(blocks, others)
+
+
+def replaced(blocks, others):
+    """Transfers of a bundle with each of some heads in place of each of its heads.
+
+    In others, the bundle ends with that head, whose last byte is in a segment of its own.
+    """
+    for number in range(sum(map(len, blocks))):
+        for other in others:
+            content, after = spelled(blocks, number, other)
+            yield carried(content), CHECKS[:1]
+            begin, rest = content[:after - 1], content[after - 1:after]
+            yield stream(sess_init(), segment(START, 0, begin), segment(END, 0, rest)), CHECKS[:1]
+
+
+def tags():
+    """Bundles with a tag in place of each of their heads, and before their first byte.
+
+    The tag of CBOR itself comes in each number of segments, cut, and with each of its bytes changed.
+    """
+    for blocks in LONG:
+        yield from replaced(blocks, (b"\xd8\x18", b"\xd8\x19", b"\xd8", b"\xd9\x00\x18", b"\xc0", b"\xd7", b"\xd9\xd9\xf7"))
+    tagged = b"\xd9\xd9\xf7" + spelled(LONG[1])[0]
+    for length in (*range(6), len(tagged)):
+        yield carried(tagged[:length]), CHECKS
+        for one, two in itertools.combinations_with_replacement(range(min(length, 5) + 1), 2):
+            them = segment(START, 0, tagged[:one]), segment(0, 0, tagged[one:two]), segment(END, 0, tagged[two:length])
+            yield stream(sess_init(), *them), CHECKS[:1]
+    for at, byte in itertools.product(range(4), range(256)):
+        yield carried(tagged[:at] + bytes([byte]) + tagged[at + 1:]), CHECKS[:1]
 
 
 def groups():
     """The groups of this file."""
-    for make in (messages_before, transfer_ids, limits_of_the_peer, node_ids, flags_of_messages, flags_of_bundles,
-                 flags_of_blocks, dtn_names, fragments, blocks_together, hop_counts, security_targets, long_heads,
-                 indefinite):
+    for make in (messages_before, session_parameters, transfer_ids, limits_of_the_peer, node_ids, flags_of_messages,
+                 flags_of_bundles, flags_of_blocks, dtn_names, fragments, blocks_of_fragments, blocks_together, hidden_data,
+                 hidden_among_many, hop_counts, security_targets, long_heads, indefinite, tags):
         yield f"rules: {make.__name__.replace('_', ' ')}", make

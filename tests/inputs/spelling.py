@@ -66,9 +66,9 @@ def listed(name, items):
     return Length(f"{name} list", 4, 65536, item_bytes, [piece for it in items for piece in it])
 
 
-def sess_init(node=b"ipn:1.0", items=(), keepalive=60):
+def sess_init(node=b"ipn:1.0", items=(), keepalive=60, segment_mru=65536, transfer_mru=1048576):
     """SESS_INIT (section 4.6)."""
-    head = struct.pack(">BHQQ", 0x07, keepalive, 65536, 1048576)
+    head = struct.pack(">BHQQ", 0x07, keepalive, segment_mru, transfer_mru)
     return [head, Length("node id", 2, 1024, lambda length: b"n" * length, [node]), listed("session", items)]
 
 

@@ -26,8 +26,12 @@ ANY = range(2**64)
 
 
 class Malformed(NamedTuple):
-    """Data that is not that of its type, and the offset in the bundle at which it fails."""
+    """Data that is not that of its type, and the offset in the bundle at which it fails.
+
+    `is_limit` says that the toolkit does not read it, and the RFC may permit it.
+    """
     at: int
+    is_limit: bool = False
 
 
 class PreviousNode(NamedTuple):
@@ -74,6 +78,14 @@ class OtherRecord(NamedTuple):
 
 class DataScan(bundle.Scan):
     """The data of a block. Where a fault of it is, the block fails; its code is not shown."""
+
+    def is_limit(self, code):
+        """Whether the last head fails by a limit of the toolkit.
+
+        These are another scheme than dtn and ipn, a long name, and a head of indefinite length. An
+        item that ends too early (B1) is none, nor are bytes behind a whole item (B2).
+        """
+        return code in ("B9", "B11") or code not in ("B1", "B2") and self.content[self.place] in bundle.INDEFINITE
 
     def boolean(self):
         """A Boolean. It is one byte, so a longer head with the same number is none."""
@@ -181,8 +193,9 @@ def content_of(block, bundle_flags):
     reader = reader_of(block.kind, bundle_flags)
     if reader is None:
         return None
+    scan = DataScan(block.data)
     try:
-        return reader(DataScan(block.data))
+        return reader(scan)
     except bundle.Fault as fault:
-        _, place, _ = fault.args
-        return Malformed(block.data_at + place)
+        code, place, _ = fault.args
+        return Malformed(block.data_at + place, scan.is_limit(code))

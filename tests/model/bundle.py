@@ -8,6 +8,13 @@ UNSIGNED, BYTES, TEXT, ARRAY = 0, 2, 3, 4
 MAX_NAME = 1024
 MAX_BLOCKS = 64
 
+# First bytes of a head of indefinite length: of bytes, text, an array and a map (RFC 8949 section
+# 3.2)
+INDEFINITE = b"\x5f\x7f\x9f\xbf"
+
+# The two byte strings of a block: its data, and its check value
+DATA, CHECK = "data", "check"
+
 
 class Identity(NamedTuple):
     """The values by which a line names a bundle.
@@ -59,6 +66,7 @@ class Judgement(NamedTuple):
     shows the fault, and for B1 the number of all bytes. `payload` is the offset of the payload's
     data and its length by its head, if that head was good. `primary` and `blocks` are the blocks
     that are whole and good. `long_head` is the offset of the first head that is longer than needed.
+    `due` is DATA or CHECK if the fault is at a head in place of that byte string's, and else None.
     """
     fault: Optional[tuple]
     identity: Optional[Identity]
@@ -67,6 +75,7 @@ class Judgement(NamedTuple):
     primary: Optional[Primary] = None
     blocks: tuple = ()
     long_head: Optional[int] = None
+    due: Optional[str] = None
 
 
 class Fault(Exception):
@@ -87,7 +96,7 @@ class Scan:
     def __init__(self, content):
         self.content, self.at, self.place, self.payload = content, 0, 0, None
         self.primary_block, self.blocks, self.long_head = None, [], None
-        self.fields, self.is_whole = [], False
+        self.fields, self.is_whole, self.due = [], False, None
 
     def fault(self, code):
         """Raises a fault of the last head. The last byte judged shows the fault."""
@@ -141,11 +150,13 @@ class Scan:
             self.fault("B6")
         return value
 
-    def length(self):
-        """The length of a byte string."""
+    def length(self, due):
+        """The length of a byte string, which is DATA or CHECK."""
+        self.due = due
         major, value = self.head()
         if major != BYTES or value is None:
             self.fault("B5")
+        self.due = None
         return value
 
     def check_type(self, count, without):
@@ -161,11 +172,14 @@ class Scan:
         return kind
 
     def check_field(self, start, kind):
-        """The check field of a block that begins at `start`, if it has one (section 4.2.1)."""
+        """The check field of a block that begins at `start`, if it has one (section 4.2.2).
+
+        Sections 4.3.1 and 4.3.2 say which bytes it covers.
+        """
         if kind == 0:
             return
         width = WIDTH[kind]
-        if self.length() != width:
+        if self.length(CHECK) != width:
             self.fault("B12")
         stands = self.take(width)
         if stands != check(kind, self.content[start:self.at - width] + bytes(width)):
@@ -240,7 +254,7 @@ class Scan:
         number = self.number(kind, earlier)
         flags = self.unsigned()
         check_kind = self.check_type(count, 5)
-        length = self.length()
+        length = self.length(DATA)
         if number == 1:
             self.payload = self.at, length
         data_at, data = self.at, self.take(length)
@@ -283,7 +297,8 @@ def first(content):
     except Fault as it:
         code, place, length = it.args
         fault, identity = (code, place), None
-    return Judgement(fault, identity, length, scan.payload, scan.primary_block, tuple(scan.blocks), scan.long_head)
+    kept = scan.payload, scan.primary_block, tuple(scan.blocks), scan.long_head, scan.due
+    return Judgement(fault, identity, length, *kept)
 
 
 def primary(content):

@@ -25,8 +25,13 @@ BUNDLE_FLAGS = FRAGMENT | ADMINISTRATIVE | NO_FRAGMENTS | 0x000020 | 0x000040 | 
 BLOCK_REPORT = 0x02
 BLOCK_FLAGS = 0x01 | BLOCK_REPORT | 0x04 | 0x10
 
-# The number of the primary block among the targets of a security block (RFC 9172 section 3.6)
+# The number of the primary block among the targets of a security block (RFC 9172 section 3.6), and
+# the number of the payload block (section 4.1)
 PRIMARY = 0
+PAYLOAD_NUMBER = 1
+
+# The most targets of a block confidentiality block that say which data is hidden
+MAX_TARGETS = 64
 
 # A dtn name: `//`, a node name, `/`, and a demux (section 4.2.5.1.1). Either may be empty.
 NAME = re.compile(rb"//[\x21-\x7e]*/[\x21-\x7e]*")
@@ -48,9 +53,27 @@ def targets(it, kind):
     return [(number, each.targets) for number, each in contents if not isinstance(each, Malformed)]
 
 
-def is_hidden(it):
-    """Whether data of blocks may be ciphertext, since a block confidentiality block is there."""
-    return bool(of_kind(it, CONFIDENTIALITY))
+def hides_all(it):
+    """Whether some block confidentiality block does not say which blocks it hides.
+
+    It is malformed, or has too many targets.
+    """
+    contents = [content(it, block) for block in of_kind(it, CONFIDENTIALITY)]
+    return any(isinstance(each, Malformed) or len(each.targets) > MAX_TARGETS for each in contents)
+
+
+def is_hidden(it, block):
+    """Whether the data of a block may be ciphertext, by the block confidentiality blocks.
+
+    Such a block itself is never ciphertext (RFC 9172 section 3.8).
+    """
+    is_target = any(block.number in each for _, each in targets(it, CONFIDENTIALITY))
+    return block.kind != CONFIDENTIALITY and (is_target or hides_all(it))
+
+
+def is_payload_hidden(it):
+    """Whether the payload may be ciphertext."""
+    return is_hidden(it, it.blocks[-1])
 
 
 def asks_for_reports(it):
@@ -74,7 +97,7 @@ def flags_of(it):
 
 
 def long_head(it):
-    """Each head is the shortest for its number (section 4)."""
+    """Each head is the shortest for its number (section 4.1)."""
     return None if it.long_head is None else f"byte={it.long_head}"
 
 
@@ -88,10 +111,22 @@ def primary_check(it):
 
     A block whose targets cannot be read may protect it.
     """
-    blocks = of_kind(it, INTEGRITY)
-    is_unknown = is_hidden(it) or any(isinstance(content(it, block), Malformed) for block in blocks)
-    may_protect = blocks and is_unknown or any(PRIMARY in each for _, each in targets(it, INTEGRITY))
-    return None if it.primary.check or may_protect else ""
+    is_protected = any(may_protect(it, block) for block in of_kind(it, INTEGRITY))
+    return None if it.primary.check or is_protected else ""
+
+
+def may_protect(it, block):
+    """Whether a block integrity block may have the primary block as a target."""
+    said = content(it, block)
+    return is_hidden(it, block) or isinstance(said, Malformed) or PRIMARY in said.targets
+
+
+def has_all_blocks(it):
+    """Whether a bundle has all blocks of the one that was made. A later fragment may lack some.
+
+    (Section 5.8.)
+    """
+    return it.primary.fragment is None or it.primary.fragment[0] == 0
 
 
 def anonymous(it):
@@ -108,9 +143,9 @@ def record_reports(it):
 def block_reports(it):
     """The blocks of an administrative record, or of a bundle without a source, ask for no reports.
 
-    (Section 4.2.4.) The payload block may.
+    (Section 4.2.4: every canonical block.)
     """
-    asking = [block for block in it.blocks if block.kind != PAYLOAD and block.flags & BLOCK_REPORT]
+    asking = [block for block in it.blocks if block.flags & BLOCK_REPORT]
     return f"block={asking[0].number}" if asking and (is_record(it) or is_anonymous(it)) else None
 
 
@@ -129,13 +164,26 @@ def dtn_name(it):
 
 
 def fragment(it):
-    """A fragment may be one, and is a part of its application data (sections 4.2.3 and 5.8)."""
+    """A fragment may be one, and is a part of its application data.
+
+    (Sections 3.1, 4.3.1, 5.8 and 5.9.) The length of ciphertext may be another than that of the
+    data.
+    """
     if it.primary.fragment is None:
         return None
     (offset, total), length = it.primary.fragment, it.identity.payload
-    is_part = 0 < length < total and offset + length <= total
-    is_allowed = not it.primary.flags & NO_FRAGMENTS
-    return None if is_part and is_allowed else f"offset={offset} length={length} total={total}"
+    is_beyond = offset + length > total and not is_payload_hidden(it)
+    is_wrong = it.primary.flags & NO_FRAGMENTS or length == 0 or is_beyond
+    return f"offset={offset} length={length} total={total}" if is_wrong else None
+
+
+def whole_fragment(it):
+    """A fragment is less than the whole data (section 5.8).
+
+    A node on the path may have put it together again (section 5.9).
+    """
+    is_whole = it.primary.fragment == (0, it.identity.payload) and not is_payload_hidden(it)
+    return f"total={it.identity.payload}" if is_whole else None
 
 
 def age(it):
@@ -144,8 +192,13 @@ def age(it):
     return f"blocks={blocks}" if blocks > 1 or it.primary.time == 0 and blocks == 0 else None
 
 
+def is_age_due(it):
+    """Whether a wrong number of bundle age blocks is the node's fault, whatever was fragmented."""
+    return has_all_blocks(it) or len(of_kind(it, BUNDLE_AGE)) > 1
+
+
 def previous_node(it):
-    """A bundle has one previous node block at most (section 4.4.1). The RFC forbids no second one."""
+    """A bundle has one previous node block at most (section 4.4.1)."""
     blocks = len(of_kind(it, PREVIOUS_NODE))
     return f"blocks={blocks}" if blocks > 1 else None
 
@@ -153,7 +206,7 @@ def previous_node(it):
 def first_hop_count(it):
     """What the first hop count block says. None if there is none, or it cannot be read."""
     blocks = of_kind(it, HOP_COUNT)
-    if not blocks or is_hidden(it):
+    if not blocks or is_hidden(it, blocks[0]):
         return None
     first = content(it, blocks[0])
     return None if isinstance(first, Malformed) else first
@@ -182,24 +235,44 @@ def hops(it):
     return f"limit={first.limit} count={first.count}" if first and first.count > first.limit else None
 
 
-def malformed(it, kinds):
-    """The number of each block of these types that is malformed, and where.
+def malformed(it, is_limit):
+    """The number of each block that is malformed, and where, in their order.
 
-    There are none where the data may be ciphertext.
+    The blocks are those of previous node, bundle age and hop count, and the payload of an
+    administrative record that is no fragment. Data that may be ciphertext is passed over. `is_limit`
+    says whether the blocks are those that the toolkit does not read, or those that the RFC forbids.
     """
-    if is_hidden(it):
-        return []
-    contents = [(block.number, content(it, block)) for block in it.blocks if block.kind in kinds]
-    return [(number, each.at) for number, each in contents if isinstance(each, Malformed)]
+    kinds = (PREVIOUS_NODE, BUNDLE_AGE, HOP_COUNT, PAYLOAD)
+    blocks = [block for block in it.blocks if block.kind in kinds and not is_hidden(it, block)]
+    contents = [(block.number, content(it, block)) for block in blocks]
+    return [
+        (number, each.at) for number, each in contents
+        if isinstance(each, Malformed) and each.is_limit == is_limit
+    ]
 
 
 def block_data(it):
-    """The data of previous node, bundle age and hop count blocks is well formed (section 4.4)."""
-    wrong = malformed(it, (PREVIOUS_NODE, BUNDLE_AGE, HOP_COUNT))
+    """The data of previous node, bundle age and hop count blocks is well formed.
+
+    (Sections 4.4.1 to 4.4.3.)
+    """
+    wrong = [(number, at) for number, at in malformed(it, False) if number != PAYLOAD_NUMBER]
+    return f"block={wrong[0][0]} byte={wrong[0][1]}" if wrong else None
+
+
+def data_not_read(it):
+    """The data of blocks and an administrative record are within the limits of the toolkit.
+
+    (Section 4.1.)
+    """
+    wrong = malformed(it, True)
     return f"block={wrong[0][0]} byte={wrong[0][1]}" if wrong else None
 
 
 def record(it):
-    """The payload of an administrative record is well formed (section 6.1). No fragment is read."""
-    wrong = malformed(it, (PAYLOAD,))
-    return f"byte={wrong[0][1]}" if wrong else None
+    """The payload of an administrative record is well formed (sections 6.1 and 6.1.1).
+
+    No fragment is read.
+    """
+    wrong = [at for number, at in malformed(it, False) if number == PAYLOAD_NUMBER]
+    return f"byte={wrong[0]}" if wrong else None

@@ -1,4 +1,4 @@
-"""The two check values of bundles (RFC 9171 section 4.2.1): "Check fields".
+"""The two check values of bundles (RFC 9171 sections 4.2.1 and 4.2.2): "Check fields".
 
 Both registers shift to the right, the least significant bit first. So the bits of each polynomial
 are in reverse order.

@@ -59,29 +59,41 @@ def item_flags(turn):
     return reserved[0] if reserved else None
 
 
-def fault(turn):
-    """Why a message is refused, or None, with hyphens for spaces."""
+def order(turn):
+    """Messages are in order (sections 4, 4.7, 5.1.2, 5.2, 5.2.1, 5.2.2 and 6.1)."""
     return turn.head.why and f"fault={turn.head.why.replace(' ', '-')}"
 
 
-def order(turn):
-    """Messages are in order (sections 4.6, 5.2.1, 5.2.2 and 6.1), but for a second SESS_INIT."""
-    return None if isinstance(turn.head.it, wire.SessInit) else fault(turn)
+def parameters(it):
+    """The parameters of a session that a SESS_INIT has for every peer (section 4.6)."""
+    return it.keepalive, it.segment_mru, it.transfer_mru
 
 
-def one_sess_init(turn):
-    """There is one SESS_INIT (section 4.6). It is the same rule as `order`, of another level."""
-    return fault(turn) if isinstance(turn.head.it, wire.SessInit) else None
+def changes_session(turn):
+    """Whether a refused message changes the session, or its transfers.
+
+    A later SESS_INIT is a change of parameters (section 4.7) if a message of a transfer shows that
+    the session was established, and if they differ. Any other refused message is a change.
+    """
+    if not isinstance(turn.head.it, wire.SessInit):
+        return True
+    before = [head.it for head in turn.before]
+    first = next(number for number, it in enumerate(before) if isinstance(it, wire.SessInit))
+    is_established = any(isinstance(it, (wire.Segment, wire.Ack, wire.Refuse)) for it in before[first:])
+    return is_established and parameters(turn.head.it) != parameters(before[first])
 
 
 def before_session(turn):
-    """No XFER_ACK, XFER_REFUSE or KEEPALIVE comes before the first SESS_INIT (section 4.6)."""
+    """No XFER_ACK, XFER_REFUSE or KEEPALIVE comes before the first SESS_INIT.
+
+    (Sections 4 and 5.1.2.)
+    """
     kind = TYPES.get(type(turn.head.it))
     return f"type={kind:02x}" if kind and not earlier(turn, wire.SessInit) else None
 
 
 def interleaved(turn):
-    """A transfer does not begin while one of another ID is open (section 5.2.2).
+    """A transfer does not begin while one of another ID is open (sections 5.2 and 5.2.2).
 
     The other recording may have a refusal of the open one. So its sender may be right.
     """
@@ -119,7 +131,7 @@ def transfer_id(turn):
 
 
 def peer_segment(turn):
-    """A segment's data is no longer than the peer's segment MRU (section 4.6)."""
+    """A segment's data is no longer than the peer's segment MRU (sections 4.6 and 5.2)."""
     it, limit = turn.head.it, turn.peer_segment
     if limit is None or not isinstance(it, wire.Segment) or it.length <= limit:
         return None

@@ -8,9 +8,12 @@ MUST, SHOULD = "must", "should"
 
 
 class Rule(NamedTuple):
-    """A rule: its name, its level, and what returns the words of its line where it is broken."""
+    """A rule: its name, its level, and what returns the words of its line where it is broken.
+
+    The level is a word, or what returns whether this case is a must.
+    """
     name: str
-    level: str
+    level: object
     broken: Callable
 
 
@@ -19,8 +22,7 @@ CONTACT = [Rule("contact-flags", MUST, message_rules.contact_flags)]
 MESSAGES = [
     Rule("node-id", MUST, message_rules.node_id),
     Rule("item-flags", MUST, message_rules.item_flags),
-    Rule("order", MUST, message_rules.order),
-    Rule("order", SHOULD, message_rules.one_sess_init),
+    Rule("order", message_rules.changes_session, message_rules.order),
     Rule("before-session", SHOULD, message_rules.before_session),
     Rule("interleaved", SHOULD, message_rules.interleaved),
     Rule("segment-flags", MUST, message_rules.segment_flags),
@@ -47,21 +49,30 @@ TRANSFERS = [
 BUNDLES = [
     Rule("long-head", MUST, bundle_rules.long_head),
     Rule("bundle-flags", SHOULD, bundle_rules.bundle_flags),
-    Rule("primary-check", MUST, bundle_rules.primary_check),
+    Rule("primary-check", bundle_rules.has_all_blocks, bundle_rules.primary_check),
     Rule("anonymous", MUST, bundle_rules.anonymous),
     Rule("record-reports", MUST, bundle_rules.record_reports),
     Rule("block-reports", MUST, bundle_rules.block_reports),
     Rule("block-flags", SHOULD, bundle_rules.block_flags),
     Rule("dtn-name", MUST, bundle_rules.dtn_name),
     Rule("fragment", MUST, bundle_rules.fragment),
-    Rule("age", MUST, bundle_rules.age),
-    Rule("previous-node", SHOULD, bundle_rules.previous_node),
+    Rule("whole-fragment", SHOULD, bundle_rules.whole_fragment),
+    Rule("age", bundle_rules.is_age_due, bundle_rules.age),
+    Rule("previous-node", MUST, bundle_rules.previous_node),
     Rule("hop-count", MUST, bundle_rules.hop_count),
     Rule("confidential-primary", MUST, bundle_rules.confidential_primary),
     Rule("hops", SHOULD, bundle_rules.hops),
     Rule("block-data", MUST, bundle_rules.block_data),
+    Rule("data-not-read", SHOULD, bundle_rules.data_not_read),
     Rule("record", MUST, bundle_rules.record),
 ]
+
+
+def level_of(rule, it):
+    """The level of a rule where it is broken."""
+    if isinstance(rule.level, str):
+        return rule.level
+    return MUST if rule.level(it) else SHOULD
 
 
 def broken(rules, it, at, of=""):
@@ -69,4 +80,5 @@ def broken(rules, it, at, of=""):
     for rule in rules:
         words = rule.broken(it)
         if words is not None:
-            yield rule.level, " ".join(word for word in (f"{at} {rule.level} {rule.name}", of, words) if word)
+            level = level_of(rule, it)
+            yield level, " ".join(word for word in (f"{at} {level} {rule.name}", of, words) if word)

@@ -1,23 +1,26 @@
-"""Rules of transfers (RFC 9174 section 5.2 and RFC 9171 section 4): a function for each.
+"""Rules of transfers (RFC 9174 sections 5.2 and 6.1, and RFC 9171 section 4): a function for each.
 
 It takes a `Transfer` that is over. It returns None if the transfer keeps the rule, and otherwise
 the words of its line. Only `unfinished` is judged of a transfer that is not closed.
 """
 
-from . import tools, wire
+from . import bundle, tools, wire
 
 # Faults by which the toolkit reads less than RFC 9171 permits: another scheme than dtn and ipn, a
 # long name, and more than 64 blocks
 LIMITS = ("B9", "B11", "B16")
 
-# Faults that a head of indefinite length has, and what its first byte then is (RFC 8949 section 3).
-# RFC 9171 section 4 permits such lengths.
+# Faults that a head of indefinite length has. RFC 9171 section 4.1 permits such lengths, but not of
+# the byte strings that have a block's data (section 4.3.2) and its check value (section 4.2.2).
 WRONG_KIND = ("B5", "B10")
-INDEFINITE = (0x5F, 0x7F, 0x9F, 0xBF)
+BYTE_STRING = 0x5F
+
+# A tag of a bundle before its first byte, and a tag before the data of a block (RFC 9171 appendix B)
+TAGGED_BUNDLE, TAGGED_DATA = b"\xd9\xd9\xf7\x9f", b"\xd8\x18"
 
 
 def unfinished(transfer):
-    """A transfer is finished when the stream ends (RFC 9174 section 5.2.2)."""
+    """A transfer is finished when the stream ends (RFC 9174 sections 5.2.2 and 6.1)."""
     return f"length={len(transfer.data)}"
 
 
@@ -39,10 +42,25 @@ def length_of_one_segment(transfer):
     return "" if is_one and tools.length_items(transfer.items) else None
 
 
-def is_limit(transfer):
-    """Whether the fault of a transfer's bundle is a limit of the toolkit, not the node's."""
+def is_indefinite(transfer):
+    """Whether the fault of a transfer's bundle is an indefinite length that the RFC permits."""
     code, place = transfer.judged.fault
-    return code in LIMITS or code in WRONG_KIND and transfer.data[place] in INDEFINITE
+    if code not in WRONG_KIND or transfer.data[place] not in bundle.INDEFINITE:
+        return False
+    return transfer.data[place] != BYTE_STRING or transfer.judged.due is None
+
+
+def is_tagged(transfer):
+    """Whether the fault of a transfer's bundle is a tag where appendix B has one."""
+    code, place = transfer.judged.fault
+    is_of_data = code == "B5" and transfer.judged.due == bundle.DATA and transfer.data.startswith(TAGGED_DATA, place)
+    return is_of_data or code == "B3" and transfer.data.startswith(TAGGED_BUNDLE)
+
+
+def is_limit(transfer):
+    """Whether the fault of a transfer's bundle may be a limit of the toolkit, not the node's."""
+    code, _ = transfer.judged.fault
+    return code in LIMITS or is_indefinite(transfer) or is_tagged(transfer)
 
 
 def fault(transfer):
@@ -52,10 +70,10 @@ def fault(transfer):
 
 
 def is_bundle(transfer):
-    """The data of a transfer is a bundle (RFC 9171 section 4)."""
+    """The data of a transfer is one bundle (RFC 9171 section 4 and RFC 9174 section 5.2)."""
     return fault(transfer) if transfer.judged.fault and not is_limit(transfer) else None
 
 
 def not_read(transfer):
-    """The data of a transfer is within the limits of the toolkit."""
+    """The data of a transfer is within the limits of the toolkit (RFC 9171 section 4.1)."""
     return fault(transfer) if transfer.judged.fault and is_limit(transfer) else None

@@ -1,10 +1,9 @@
 """`check`: for each rule, small recordings that break it alone, and some that just keep it.
 
-The shortest one that breaks a rule and the first one that keeps it are in examples/faults too.
-
 Offsets: a recording begins with a contact header of 6 bytes and a SESS_INIT of 32. The lengths
-before the data of a segment are in `lines`, an XFER_ACK has 18 bytes, and a SESS_TERM has 3. The
-bundle CLEAN has 33 bytes. So a transfer of it in one segment ends at 93.
+before the data of a segment are in `lines`. An XFER_ACK has 18 bytes, an XFER_REFUSE has 10, and a
+SESS_TERM and a MSG_REJECT have 3. The bundle CLEAN has 33 bytes. So a transfer of it in one segment
+ends at 93.
 """
 
 import make
@@ -19,10 +18,10 @@ CONTACT, INIT, KEEPALIVE = make.CONTACT, make.sess_init(), make.KEEPALIVE
 VERSION, CHECK_FIELD = 1, 21
 
 
-def blocks_of(*blocks, flags=0, stamp=(1, 0), kind=1, source=(1, 1), destination=(2, 1), report=None,
+def blocks_of(*blocks, flags=0, stamp=(1, 0), lifetime=0, kind=1, source=(1, 1), destination=(2, 1), report=None,
               fragment=(), payload=b"x", payload_flags=0):
     """The blocks of a bundle. Its primary block is at 1, and has 24 bytes if nothing is changed."""
-    begin = primary(destination, source, report, kind, flags, stamp, 0, fragment)
+    begin = primary(destination, source, report, kind, flags, stamp, lifetime, fragment)
     return [begin, *blocks, canonical(1, 1, payload, flags=payload_flags)]
 
 
@@ -43,25 +42,45 @@ def block(kind, number, data, flags=0):
     return canonical(kind, number, data if isinstance(data, bytes) else encoded(data), flags=flags)
 
 
-def hiding(number, target):
-    """A block confidentiality block with one target, and no results (RFC 9172 section 3.6)."""
-    return block(12, number, [*security([target], 2, (1, 1)), array(1), array(0)])
+def hiding(number, *targets):
+    """A block confidentiality block with these targets, and no results (RFC 9172 section 3.6).
+
+    With one target below 24 it has 17 bytes.
+    """
+    return block(12, number, [*security(targets, 2, (1, 1)), array(len(targets)), *[array(0) for _ in targets]])
 
 
 # A bundle that breaks no rule: 33 bytes. The payload's head is at 25, and its data at 31.
 CLEAN = bundle()
 
-# Blocks by their types: previous node, bundle age, hop count, integrity, confidentiality
+# Blocks by their types: previous node, bundle age, hop count. An age has 7 bytes.
 NODE = block(6, 2, endpoint((1, 0)))
 AGE = block(7, 2, b"\x05")
 HOPS = block(10, 2, hop_count(30, 1))
+
+# Blocks of integrity and of confidentiality. These say of the payload that it is ciphertext, of
+# block 2, and of 64 and of 65 blocks that are not there. The last has the beginning of a target.
+INTEGRITY = block(11, 2, security([1], 1, (1, 1)))
 HIDDEN = hiding(9, 1)
+HIDDEN_2 = hiding(9, 2)
+HIDDEN_64, HIDDEN_65 = hiding(9, *range(300, 364)), hiding(9, *range(300, 365))
+HIDDEN_CUT = block(12, 9, b"\x81\x18")
+
+# An age with a check, which is at 32 in a bundle
+CHECKED_AGE = canonical(7, 2, b"\x05", 1)
 
 # An administrative record (RFC 9171 section 6.1), of a type that is not read
 RECORD = b"\x82\x02\x00"
 
+# The same with an array of indefinite length
+OPEN_RECORD = b"\x9f\x02\x00\xff"
+
 # The greatest transfer ID
 LAST = 2**64 - 1
+
+# A SESS_INIT with another interval, with another segment MRU, and with another transfer MRU
+OTHER_INTERVAL = make.sess_init(keepalive=30)
+OTHER_SEGMENT, OTHER_TRANSFER = (INIT[:at] + b"\x01" + INIT[at + 1:] for at in (10, 18))
 
 
 def sent(data, ident=0, *items):
@@ -72,6 +91,39 @@ def sent(data, ident=0, *items):
 def two(data, at, *items):
     """A transfer in two segments, the first with `at` bytes."""
     return make.xfer_segment(START, 0, data[:at], *items) + make.xfer_segment(END, 0, data[at:])
+
+
+def of_sess_init():
+    """Recordings with a second SESS_INIT, and their lines.
+
+    It is a must if it changes a parameter after a message of a transfer (RFC 9174 section 4.7).
+    """
+    ack, refuse, stray = make.xfer_ack(BOTH, 0, 1), make.xfer_refuse(0, 0), make.xfer_segment(END, 5, b"")
+    second, before = "order fault=second-session-initiation", "order fault=segment-before-session-initiation"
+    return [
+        (HEAD + INIT, [f"38 should {second}"]),
+        (HEAD + INIT + INIT, [f"38 should {second}", f"70 should {second}"]),
+        # After a message of a transfer, with each parameter
+        (HEAD + sent(CLEAN) + OTHER_INTERVAL, [f"93 must {second}"]),
+        (HEAD + ack + OTHER_SEGMENT, [f"56 must {second}"]),
+        (HEAD + refuse + OTHER_TRANSFER, [f"48 must {second}"]),
+        (HEAD + stray + OTHER_INTERVAL, ["38 must order fault=no-such-open-transfer", f"56 must {second}"]),
+        (HEAD + INIT + sent(CLEAN) + OTHER_INTERVAL, [f"38 should {second}", f"125 must {second}"]),
+        # The first one counts, and not the one before
+        (HEAD + sent(CLEAN) + OTHER_INTERVAL + INIT, [f"93 must {second}", f"125 should {second}"]),
+        (HEAD + OTHER_INTERVAL + sent(CLEAN) + OTHER_INTERVAL, [f"38 should {second}", f"125 must {second}"]),
+        # With the same parameters, and another node ID or an item
+        (HEAD + sent(CLEAN) + INIT, [f"93 should {second}"]),
+        (HEAD + ack + make.sess_init(node=b"ipn:9.0"), [f"56 should {second}"]),
+        (HEAD + refuse + make.sess_init(make.item(0, 0x8000, b"")), [f"48 should {second}"]),
+        # With others, after no message of a transfer
+        (HEAD + OTHER_INTERVAL, [f"38 should {second}"]),
+        (HEAD + OTHER_SEGMENT + sent(CLEAN), [f"38 should {second}"]),
+        (HEAD + KEEPALIVE + OTHER_TRANSFER, [f"39 should {second}"]),
+        (HEAD + make.sess_term(0, 0) + OTHER_INTERVAL, [f"41 should {second}"]),
+        (HEAD + make.msg_reject(3, 7) + OTHER_SEGMENT, [f"41 should {second}"]),
+        (CONTACT + sent(CLEAN) + INIT + OTHER_INTERVAL, [f"6 must {before}", f"93 should {second}"]),
+    ]
 
 
 # For each rule of messages, the lines of recordings that break it alone, and recordings that keep
@@ -114,10 +166,7 @@ MESSAGES = {
             (CONTACT + make.xfer_segment(END, 0, b""), ["6 must order fault=segment-before-session-initiation"]),
             (HEAD + make.xfer_segment(END, 0, b""), ["38 must order fault=no-such-open-transfer"]),
             (HEAD + make.sess_term(0, 0) + sent(CLEAN), ["41 must order fault=start-after-session-termination"]),
-            (HEAD + INIT, ["38 should order fault=second-session-initiation"]),
-            (HEAD + INIT + INIT, [
-                "38 should order fault=second-session-initiation", "70 should order fault=second-session-initiation",
-            ]),
+            *of_sess_init(),
         ],
         [
             HEAD + make.xfer_segment(START, 0, CLEAN[:9]) + make.sess_term(0, 0) + make.xfer_segment(END, 0, CLEAN[9:]),
@@ -249,6 +298,24 @@ TRANSFERS = {
             (sent(b"\x9f\xff"), "must bundle: code=B5 byte=1"),
             (sent(b"\x9f\x88\x3f"), "must bundle: code=B4 byte=2"),
             (sent(b"\x9f\x88\x07\x00\x00\x82\x01\x80"), "must bundle: code=B10 byte=7"),
+            # Byte strings of indefinite length: the payload, the data of a block, and check values
+            (sent(CLEAN[:30] + b"\x5f\x41x\xff\xff"), "must bundle: code=B5 byte=30"),
+            (sent(bundle(AGE)[:30] + b"\x5f"), "must bundle: code=B5 byte=30"),
+            (sent(CLEAN[:22] + b"\x5f"), "must bundle: code=B5 byte=22"),
+            (sent(bundle(CHECKED_AGE)[:32] + b"\x5f"), "must bundle: code=B5 byte=32"),
+            # The tag of CBOR itself before less than a bundle, and another
+            (sent(b"\xd9\xd9\xf7"), "must bundle: code=B3 byte=0"),
+            (sent(b"\xd9\xd9\xf7\x98"), "must bundle: code=B3 byte=0"),
+            (sent(b"\xd9\xd9\xf8" + CLEAN), "must bundle: code=B3 byte=0"),
+            (sent(b"\xd9\xd9\xf7\xd9\xd9\xf7" + CLEAN), "must bundle: code=B3 byte=0"),
+            (sent(b"\x5f" + CLEAN), "must bundle: code=B3 byte=0"),
+            # The tag of embedded CBOR where something else than data is due, and in a longer form
+            (sent(CLEAN[:22] + b"\xd8\x18\x42"), "must bundle: code=B5 byte=22"),
+            (sent(CLEAN[:21] + b"\xd8\x18\x00"), "must bundle: code=B5 byte=21"),
+            (sent(CLEAN[:25] + b"\xd8\x18\x85"), "must bundle: code=B5 byte=25"),
+            (sent(CLEAN[:30] + b"\xd9\x00\x18\x41x\xff"), "must bundle: code=B5 byte=30"),
+            (sent(CLEAN[:30] + b"\xd8\x19\x41x\xff"), "must bundle: code=B5 byte=30"),
+            (sent(CLEAN[:30] + b"\xd8"), "must bundle: code=B1 byte=31"),
         ],
         [sent(CLEAN)],
     ),
@@ -259,12 +326,27 @@ TRANSFERS = {
             (sent(b"\x9f\x88\x07\x00\x00\x82\x01\x79\x04\x01"), "should not-read: code=B11 byte=7"),
             # The 65th block. The primary block has 24 bytes, 22 blocks have 6, and 42 have 7.
             (sent(bundle(*[block(0, number, b"") for number in range(2, 67)])), "should not-read: code=B16 byte=451"),
-            # Of indefinite length: a payload, an array, a map, a name, and an ipn part
-            (sent(CLEAN[:30] + b"\x5f"), "should not-read: code=B5 byte=30"),
+            # Of indefinite length: an array, a map, a name, an ipn part, and a byte string for each
             (sent(b"\x9f\x9f"), "should not-read: code=B5 byte=1"),
             (sent(b"\x9f\x88\xbf"), "should not-read: code=B5 byte=2"),
             (sent(b"\x9f\x88\x07\x00\x00\x82\x01\x7f"), "should not-read: code=B10 byte=7"),
             (sent(b"\x9f\x88\x07\x00\x00\x82\x02\x9f"), "should not-read: code=B10 byte=7"),
+            (sent(b"\x9f\x5f"), "should not-read: code=B5 byte=1"),
+            (sent(b"\x9f\x88\x5f"), "should not-read: code=B5 byte=2"),
+            (sent(b"\x9f\x88\x07\x00\x00\x82\x01\x5f"), "should not-read: code=B10 byte=7"),
+            (sent(b"\x9f\x88\x07\x00\x00\x82\x02\x5f"), "should not-read: code=B10 byte=7"),
+            (sent(CLEAN[:25] + b"\x5f"), "should not-read: code=B5 byte=25"),
+            # Of indefinite length, but no byte string: a payload and a check value
+            (sent(CLEAN[:30] + b"\x9f"), "should not-read: code=B5 byte=30"),
+            (sent(CLEAN[:30] + b"\x7f"), "should not-read: code=B5 byte=30"),
+            (sent(CLEAN[:22] + b"\x9f"), "should not-read: code=B5 byte=22"),
+            # The tag of CBOR itself before a bundle, and that of embedded CBOR before data
+            (sent(b"\xd9\xd9\xf7" + CLEAN), "should not-read: code=B3 byte=0"),
+            (sent(b"\xd9\xd9\xf7\x9f"), "should not-read: code=B3 byte=0"),
+            (two(b"\xd9\xd9\xf7" + CLEAN, 2), "should not-read: code=B3 byte=0"),
+            (sent(CLEAN[:30] + b"\xd8\x18\x41x\xff"), "should not-read: code=B5 byte=30"),
+            (sent(CLEAN[:30] + b"\xd8\x18"), "should not-read: code=B5 byte=30"),
+            (two(bundle(AGE)[:30] + b"\xd8\x18\x41\x05", 31), "should not-read: code=B5 byte=30"),
         ],
         [sent(bundle(*[block(192, number, b"") for number in range(2, 65)]))],
     ),
@@ -295,12 +377,25 @@ BUNDLES = {
             (bundle(block(11, 2, security([1], 1, (1, 1))), kind=0), "must primary-check:"),
             (bundle(block(192, 2, security([0], 1, (1, 1))), kind=0), "must primary-check:"),
             (bundle(HIDDEN, kind=0), "must primary-check:"),
+            (bundle(HIDDEN_CUT, kind=0), "must primary-check:"),
+            # The block of integrity is no ciphertext
+            (bundle(INTEGRITY, HIDDEN, kind=0), "must primary-check:"),
+            (bundle(INTEGRITY, HIDDEN_64, kind=0), "must primary-check:"),
+            # Fragments at the beginning of the data and behind it
+            (bundle(kind=0, flags=0x01, fragment=(0, 3)), "must primary-check:"),
+            (bundle(kind=0, flags=0x01, fragment=(1, 3)), "should primary-check:"),
+            (bundle(INTEGRITY, kind=0, flags=0x01, fragment=(LAST - 1, LAST)), "should primary-check:"),
         ],
         [
             bundle(kind=2),
             bundle(block(11, 2, security([1, 0], 1, (1, 1))), kind=0),
             bundle(block(11, 2, b"\x81\x01"), kind=0),
-            bundle(block(11, 2, security([1], 1, (1, 1))), HIDDEN, kind=0),
+            # The block of integrity is ciphertext, or may be
+            bundle(INTEGRITY, HIDDEN_2, kind=0),
+            bundle(HIDDEN_2, INTEGRITY, kind=0),
+            bundle(INTEGRITY, HIDDEN_65, kind=0),
+            bundle(INTEGRITY, HIDDEN_CUT, kind=0),
+            bundle(kind=1, flags=0x01, fragment=(1, 3)),
         ],
     ),
     "anonymous": (
@@ -323,8 +418,15 @@ BUNDLES = {
              "must block-reports: block=2"),
             (bundle(block(192, 2, b"", flags=0x02), source=None, flags=0x04), "must block-reports: block=2"),
             (bundle(block(192, 2, b"", flags=0x07), source=None, flags=0x04), "must block-reports: block=2"),
+            (bundle(source=None, flags=0x04, payload_flags=0x02), "must block-reports: block=1"),
+            (bundle(flags=0x02, payload=RECORD, payload_flags=0x17), "must block-reports: block=1"),
+            (bundle(block(192, 2, b"", flags=0x02), source=None, flags=0x04, payload_flags=0x02),
+             "must block-reports: block=2"),
         ],
-        [bundle(block(192, 2, b"", flags=0x02)), bundle(source=None, flags=0x04, payload_flags=0x02)],
+        [
+            bundle(block(192, 2, b"", flags=0x02)), bundle(payload_flags=0x02),
+            bundle(source=None, flags=0x04, payload_flags=0x15),
+        ],
     ),
     "block-flags": (
         [
@@ -356,20 +458,50 @@ BUNDLES = {
             (bundle(flags=0x05, fragment=(0, 2)), "must fragment: offset=0 length=1 total=2"),
             (bundle(flags=0x01, fragment=(0, 2), payload=b""), "must fragment: offset=0 length=0 total=2"),
             (bundle(flags=0x01, fragment=(2, 2)), "must fragment: offset=2 length=1 total=2"),
-            (bundle(flags=0x01, fragment=(0, 1)), "must fragment: offset=0 length=1 total=1"),
+            (bundle(flags=0x01, fragment=(1, 1)), "must fragment: offset=1 length=1 total=1"),
+            (bundle(flags=0x01, fragment=(0, 1), payload=b"xy"), "must fragment: offset=0 length=2 total=1"),
             (bundle(flags=0x01, fragment=(LAST, LAST)), f"must fragment: offset={LAST} length=1 total={LAST}"),
+            # Ciphertext may pass the end, but is not empty. Another block says nothing of the payload.
+            (bundle(HIDDEN, flags=0x01, fragment=(0, 2), payload=b""), "must fragment: offset=0 length=0 total=2"),
+            (bundle(HIDDEN, flags=0x05, fragment=(0, 2)), "must fragment: offset=0 length=1 total=2"),
+            (bundle(AGE, HIDDEN_2, flags=0x01, fragment=(2, 2)), "must fragment: offset=2 length=1 total=2"),
+            (bundle(HIDDEN_64, flags=0x01, fragment=(2, 2)), "must fragment: offset=2 length=1 total=2"),
         ],
-        [bundle(flags=0x01, fragment=(0, 2)), bundle(flags=0x01, fragment=(1, 2)), bundle(flags=0x04)],
+        [
+            bundle(flags=0x01, fragment=(0, 2)), bundle(flags=0x01, fragment=(1, 2)), bundle(flags=0x04),
+            bundle(HIDDEN, flags=0x01, fragment=(2, 2)), bundle(HIDDEN_65, flags=0x01, fragment=(LAST, LAST)),
+            bundle(HIDDEN_CUT, flags=0x01, fragment=(1, 1)),
+        ],
+    ),
+    "whole-fragment": (
+        [
+            (bundle(flags=0x01, fragment=(0, 1)), "should whole-fragment: total=1"),
+            (bundle(flags=0x01, fragment=(0, 300), payload=bytes(300)), "should whole-fragment: total=300"),
+            (bundle(AGE, HIDDEN_2, flags=0x01, fragment=(0, 1)), "should whole-fragment: total=1"),
+            (bundle(HIDDEN_64, flags=0x01, fragment=(0, 1)), "should whole-fragment: total=1"),
+        ],
+        [
+            bundle(flags=0x01, fragment=(0, 2)), bundle(flags=0x01, fragment=(1, 2)), bundle(payload=b""),
+            bundle(HIDDEN, flags=0x01, fragment=(0, 1)), bundle(HIDDEN_65, flags=0x01, fragment=(0, 1)),
+            bundle(HIDDEN_CUT, flags=0x01, fragment=(0, 1)),
+        ],
     ),
     "age": (
         [
             (bundle(stamp=(0, 5)), "must age: blocks=0"),
             (bundle(AGE, block(7, 3, b"\x06")), "must age: blocks=2"),
+            (bundle(stamp=(0, 5), flags=0x01, fragment=(0, 3)), "must age: blocks=0"),
+            (bundle(stamp=(0, 5), flags=0x01, fragment=(1, 3)), "should age: blocks=0"),
+            (bundle(AGE, block(7, 3, b"\x06"), flags=0x01, fragment=(1, 3)), "must age: blocks=2"),
+            (bundle(AGE, block(7, 3, b"\x06"), stamp=(0, 5), flags=0x01, fragment=(1, 3)), "must age: blocks=2"),
         ],
-        [bundle(AGE, stamp=(0, 0)), bundle(AGE), bundle(stamp=(1, 0))],
+        [bundle(AGE, stamp=(0, 0)), bundle(AGE), bundle(stamp=(1, 0)), bundle(flags=0x01, fragment=(1, 3))],
     ),
     "previous-node": (
-        [(bundle(NODE, block(6, 3, endpoint((5, 0)))), "should previous-node: blocks=2")],
+        [
+            (bundle(NODE, block(6, 3, endpoint((5, 0)))), "must previous-node: blocks=2"),
+            (bundle(NODE, block(6, 3, b""), hiding(9, 3)), "must previous-node: blocks=2"),
+        ],
         [bundle(NODE)],
     ),
     "hop-count": (
@@ -377,11 +509,20 @@ BUNDLES = {
             (bundle(HOPS, block(10, 3, hop_count(0, 0))), "must hop-count: blocks=2 limit=30"),
             (bundle(block(10, 2, hop_count(0, 0))), "must hop-count: blocks=1 limit=0"),
             (bundle(block(10, 2, hop_count(256, 0))), "must hop-count: blocks=1 limit=256"),
-            (bundle(HOPS, block(10, 3, b""), HIDDEN), "must hop-count: blocks=2"),
+            # The first one is ciphertext, or may be. The limit of another one does not count.
+            (bundle(HOPS, block(10, 3, hop_count(0, 0)), HIDDEN_2), "must hop-count: blocks=2"),
+            (bundle(HOPS, block(10, 3, hop_count(0, 0)), HIDDEN_65), "must hop-count: blocks=2"),
+            (bundle(HIDDEN_CUT, HOPS, block(10, 3, b"")), "must hop-count: blocks=2"),
+            # The first one is no ciphertext
+            (bundle(HOPS, block(10, 3, hop_count(0, 0)), HIDDEN), "must hop-count: blocks=2 limit=30"),
+            (bundle(HOPS, block(10, 3, b""), hiding(9, 3)), "must hop-count: blocks=2 limit=30"),
+            (bundle(block(10, 2, hop_count(0, 0)), HIDDEN), "must hop-count: blocks=1 limit=0"),
+            (bundle(block(10, 2, hop_count(0, 0)), HIDDEN_64), "must hop-count: blocks=1 limit=0"),
         ],
         [
             bundle(block(10, 2, hop_count(1, 1))), bundle(block(10, 2, hop_count(255, 0))),
-            bundle(block(10, 2, hop_count(0, 0)), HIDDEN),
+            bundle(block(10, 2, hop_count(0, 0)), HIDDEN_2), bundle(HIDDEN_2, block(10, 2, hop_count(0, 0))),
+            bundle(block(10, 2, hop_count(0, 0)), HIDDEN_65), bundle(block(10, 2, hop_count(0, 0)), HIDDEN_CUT),
         ],
     ),
     "confidential-primary": (
@@ -392,30 +533,111 @@ BUNDLES = {
         [bundle(HIDDEN), bundle(block(12, 2, b"\x81\x00"))],
     ),
     "hops": (
-        [(bundle(block(10, 2, hop_count(5, 6))), "should hops: limit=5 count=6")],
-        [bundle(block(10, 2, hop_count(5, 5))), bundle(block(10, 2, hop_count(5, 6)), HIDDEN)],
+        [
+            (bundle(block(10, 2, hop_count(5, 6))), "should hops: limit=5 count=6"),
+            (bundle(block(10, 2, hop_count(5, 6)), HIDDEN), "should hops: limit=5 count=6"),
+            (bundle(HIDDEN_64, block(10, 2, hop_count(5, 6))), "should hops: limit=5 count=6"),
+        ],
+        [
+            bundle(block(10, 2, hop_count(5, 5))), bundle(block(10, 2, hop_count(5, 6)), HIDDEN_2),
+            bundle(HIDDEN_65, block(10, 2, hop_count(5, 6))), bundle(HIDDEN_CUT, block(10, 2, hop_count(5, 6))),
+        ],
     ),
     "block-data": (
         [
             (bundle(AGE, block(6, 3, b"\x00")), "must block-data: block=3 byte=38"),
             (bundle(block(7, 2, b"")), "must block-data: block=2 byte=31"),
             (bundle(block(10, 2, b"\x82\x05\x05\x05")), "must block-data: block=2 byte=34"),
+            # Bytes behind a whole item, also such as begin an item of indefinite length
+            (bundle(block(7, 2, b"\x05\x9f")), "must block-data: block=2 byte=32"),
+            (bundle(block(10, 2, b"\x82\x05\x05\x5f")), "must block-data: block=2 byte=34"),
+            # Other heads of information 31, and a head that is ill-formed
+            (bundle(block(7, 2, b"\xff")), "must block-data: block=2 byte=31"),
+            (bundle(block(7, 2, b"\x1f")), "must block-data: block=2 byte=31"),
+            (bundle(block(7, 2, b"\xdf")), "must block-data: block=2 byte=31"),
+            (bundle(block(7, 2, b"\x5e")), "must block-data: block=2 byte=31"),
+            # A scheme that is no number, and a name that is cut
+            (bundle(block(6, 2, b"\x82\x20\x00")), "must block-data: block=2 byte=32"),
+            (bundle(block(6, 2, b"\x82\x01\x79\x04\x00a")), "must block-data: block=2 byte=37"),
+            # The first one that is no ciphertext. One of 7 bytes is before it, and one of 6 after it.
+            (bundle(block(7, 2, b"\xff"), block(6, 3, b""), HIDDEN_2), "must block-data: block=3 byte=38"),
+            (bundle(AGE, block(6, 3, b""), HIDDEN), "must block-data: block=3 byte=38"),
+            (bundle(block(7, 2, b""), HIDDEN_64), "must block-data: block=2 byte=31"),
+            (bundle(block(7, 2, b""), block(192, 9, encoded(security([2], 2, (1, 1))))),
+             "must block-data: block=2 byte=31"),
         ],
         [
             bundle(AGE),
             bundle(NODE, block(7, 3, b"\x05"), block(10, 4, hop_count(9, 0))),
-            bundle(block(7, 2, b""), HIDDEN),
             bundle(block(11, 2, b"")),
+            # What may be ciphertext
+            bundle(block(7, 2, b""), HIDDEN_2), bundle(HIDDEN_2, block(7, 2, b"")),
+            bundle(block(7, 2, b""), HIDDEN_65), bundle(block(7, 2, b""), HIDDEN_CUT),
+            bundle(block(7, 2, b""), block(6, 3, b""), block(10, 4, b"\xff"), hiding(9, 4, 300, 2, 3)),
+            # A block of confidentiality is no ciphertext
+            bundle(hiding(9, 8), hiding(8, 2), block(7, 2, b"")),
+        ],
+    ),
+    "data-not-read": (
+        [
+            (bundle(block(10, 2, b"\x9f\x18\x20\x01\xff")), "should data-not-read: block=2 byte=31"),
+            (bundle(block(10, 2, b"\x82\x05\x7f")), "should data-not-read: block=2 byte=33"),
+            (bundle(block(7, 2, b"\x5f\x41\x05\xff")), "should data-not-read: block=2 byte=31"),
+            (bundle(block(7, 2, b"\xbf")), "should data-not-read: block=2 byte=31"),
+            (bundle(block(6, 2, b"\x9f\x02\x82\x01\x00\xff")), "should data-not-read: block=2 byte=31"),
+            (bundle(block(6, 2, b"\x82\x9f")), "should data-not-read: block=2 byte=32"),
+            (bundle(block(6, 2, b"\x82\x02\x9f\x01\x00\xff")), "should data-not-read: block=2 byte=33"),
+            (bundle(block(6, 2, b"\x82\x02\x82\x01\x5f")), "should data-not-read: block=2 byte=35"),
+            (bundle(block(6, 2, b"\x82\x01\x7f\x63//n\x61/\xff")), "should data-not-read: block=2 byte=33"),
+            (bundle(block(6, 2, b"\x82\x01\x5f\x41a\xff")), "should data-not-read: block=2 byte=33"),
+            # Other schemes than dtn and ipn
+            (bundle(block(6, 2, b"\x82\x1a\x00\x01\x00\x00\x00")), "should data-not-read: block=2 byte=32"),
+            (bundle(block(6, 2, b"\x82\x03")), "should data-not-read: block=2 byte=32"),
+            (bundle(block(6, 2, b"\x82\x00\x00")), "should data-not-read: block=2 byte=32"),
+            # A name of 1,025 bytes, whole and not there. The data of the first is at 33.
+            (bundle(block(6, 2, endpoint(b"//" + b"n" * 1022 + b"/"))), "should data-not-read: block=2 byte=35"),
+            (bundle(block(6, 2, b"\x82\x01\x79\x04\x01")), "should data-not-read: block=2 byte=33"),
+            # A record, of which the data is at 31
+            (bundle(flags=0x02, payload=OPEN_RECORD), "should data-not-read: block=1 byte=31"),
+            (bundle(flags=0x02, payload=b"\x82\x9f"), "should data-not-read: block=1 byte=32"),
+            (bundle(flags=0x02, payload=b"\x82\x01\x84\x9f\x81\xf4"), "should data-not-read: block=1 byte=34"),
+            (bundle(flags=0x02, payload=b"\x82\x01\x84\x84\x81\xf4\x81\xf4\x81\xf4\x81\xf4\x00\x82\x18\xff"),
+             "should data-not-read: block=1 byte=45"),
+            # The first one in their order, also before a record
+            (bundle(block(7, 3, b"\xbf"), block(6, 2, b"\x9f"), flags=0x02, payload=OPEN_RECORD),
+             "should data-not-read: block=3 byte=31"),
+            (bundle(AGE, flags=0x02, payload=OPEN_RECORD), "should data-not-read: block=1 byte=38"),
+            # The first one that is no ciphertext. One of 7 bytes is before it.
+            (bundle(block(7, 2, b"\xbf"), block(6, 3, b"\x9f"), HIDDEN_2), "should data-not-read: block=3 byte=38"),
+            (bundle(block(7, 2, b"\xbf"), HIDDEN), "should data-not-read: block=2 byte=31"),
+            (bundle(block(7, 2, b"\xbf"), flags=0x02, payload=OPEN_RECORD), "should data-not-read: block=2 byte=31"),
+            (bundle(block(7, 2, b"\xbf"), HIDDEN_2, flags=0x02, payload=OPEN_RECORD),
+             "should data-not-read: block=1 byte=55"),
+            (bundle(block(7, 2, b"\xbf"), HIDDEN_64), "should data-not-read: block=2 byte=31"),
+        ],
+        [
+            bundle(HOPS),
+            bundle(block(6, 2, endpoint(b"//" + b"n" * 1021 + b"/"))),
+            bundle(block(7, 2, b"\xbf"), HIDDEN_2), bundle(HIDDEN_2, block(7, 2, b"\xbf")),
+            bundle(block(7, 2, b"\xbf"), HIDDEN_65), bundle(block(7, 2, b"\xbf"), HIDDEN_CUT),
+            bundle(HIDDEN, flags=0x02, payload=OPEN_RECORD),
+            # Security blocks and payloads that are no record, or a part of one
+            bundle(block(11, 2, b"\x9f")), bundle(payload=OPEN_RECORD),
+            bundle(flags=0x03, fragment=(0, 9), payload=OPEN_RECORD),
         ],
     ),
     "record": (
         [
             (bundle(flags=0x02), "must record: byte=32"),
             (bundle(flags=0x02, payload=b"\x82\x01\x84"), "must record: byte=34"),
+            (bundle(flags=0x02, payload=b"\x82\xff"), "must record: byte=32"),
+            # Another block is ciphertext. It has 7 bytes, and the one that says so has 17.
+            (bundle(AGE, HIDDEN_2, flags=0x02), "must record: byte=56"),
         ],
         [
             bundle(flags=0x02, payload=RECORD), bundle(flags=0x02, payload=b"\x82\x02"),
             bundle(flags=0x03, fragment=(0, 2)), bundle(HIDDEN, flags=0x02), bundle(payload=b"\x00"),
+            bundle(HIDDEN_65, flags=0x02), bundle(HIDDEN_CUT, flags=0x02),
         ],
     ),
 }
@@ -436,19 +658,6 @@ def named(rules):
     for rule, (breaking, keeping) in rules.items():
         yield from ((f"{rule}, broken {number}", *it) for number, it in enumerate(breaking))
         yield from ((f"{rule}, kept {number}", it, [], *options) for number, (it, *options) in enumerate(kept(keeping)))
-
-
-def smallest():
-    """Yields each rule, the shortest recording that breaks it, and the first that keeps it.
-
-    Each recording has its options, if it has any.
-    """
-    wholes = [(MESSAGES, lambda it: it), (TRANSFERS, lambda it: HEAD + it), (BUNDLES, lambda it: HEAD + sent(it))]
-    for rules, whole in wholes:
-        for rule, (breaking, keeping) in rules.items():
-            content, _, *options = min(breaking, key=lambda it: len(it[0]))
-            other, *others = kept(keeping)[0]
-            yield rule, (whole(content), *options), (whole(other), *others)
 
 
 def of(line, at, word):

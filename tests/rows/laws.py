@@ -20,7 +20,7 @@ SEEDS = range(60)
 MOST = 300
 
 NAMES = {rule.name for rule in rules.BUNDLES}
-EXCUSED = {"B9", "B11", "B16", "B5", "B10"}
+EXCUSED = {"B9", "B11", "B16", "B5", "B10", "B3"}
 
 
 def lines_of(content):
@@ -165,7 +165,7 @@ def mostly_good():
     messages = [
         INIT, make.sess_term(0, 0), KEEPALIVE, sent(CLEAN), sent(CLEAN, 1), sent(CLEAN, 2, make.length_item(33)),
         make.xfer_segment(START, 3, CLEAN[:9], make.length_item(33)), make.xfer_segment(END, 3, CLEAN[9:]),
-        sent(b"\x9f\x9f", 4),
+        sent(b"\x9f\x9f", 4), sent(b"\xd9\xd9\xf7" + CLEAN, 5), make.sess_init(keepalive=0), make.xfer_ack(START, 0, 9),
     ]
     for them in itertools.product(messages, repeat=3):
         yield CONTACT + INIT + b"".join(them)

@@ -4,7 +4,10 @@ import make
 from inputs.spelling import head, hop_count, security, spelled
 
 from . import Row
-from .broken import AGE, CLEAN, INIT, KEEPALIVE, LAST, VERSION, block, blocks_of, bundle, row, sent, two
+from .broken import (
+    AGE, CLEAN, CONTACT, HIDDEN, INIT, INTEGRITY, KEEPALIVE, LAST, OPEN_RECORD, OTHER_INTERVAL, VERSION, block, blocks_of,
+    bundle, hiding, row, sent, two,
+)
 from .lines import BOTH, END, HEAD, START
 
 ALONE = {"bundles": True}
@@ -23,12 +26,12 @@ EMPTY, OPENED = make.xfer_segment(BOTH, 5, b""), make.xfer_segment(START, 6, b""
 TERM = make.sess_term(2, 0)
 
 # A bundle that breaks each rule of bundles that can be broken together, in their order. The primary
-# block has 23 bytes, so the data of the first block is at 30.
+# block has 23 bytes, so the data of the first block is at 30, and that of the second one at 37.
 EVERY_RULE, _ = spelled(
     blocks_of(
-        block(6, 2, b"\x00"), block(6, 3, b"\x82\x01\x00"),
+        block(6, 2, b"\x00"), block(6, 3, b"\x9f"),
         block(10, 4, hop_count(0, 1), flags=0x0A), block(10, 5, b""),
-        flags=0x400B, kind=0, source=None, destination=b"n", stamp=(0, 0), fragment=(0, 1),
+        flags=0x400B, kind=0, source=None, destination=b"n", stamp=(0, 0), fragment=(0, 0), payload=b"",
     ),
     VERSION, head(0, 7, 1),
 )
@@ -41,12 +44,14 @@ EVERY_LINE = [
     "0 must block-reports bundle=0 block=4",
     "0 should block-flags bundle=0 block=4 flags=0a",
     "0 must dtn-name bundle=0 of=destination",
-    "0 must fragment bundle=0 offset=0 length=1 total=1",
+    "0 must fragment bundle=0 offset=0 length=0 total=0",
+    "0 should whole-fragment bundle=0 total=0",
     "0 must age bundle=0 blocks=0",
-    "0 should previous-node bundle=0 blocks=2",
+    "0 must previous-node bundle=0 blocks=2",
     "0 must hop-count bundle=0 blocks=2 limit=0",
     "0 should hops bundle=0 limit=0 count=1",
     "0 must block-data bundle=0 block=2 byte=30",
+    "0 should data-not-read bundle=0 block=3 byte=37",
 ]
 
 
@@ -94,7 +99,7 @@ def of_one_message():
 
 
 def of_one_bundle():
-    """Several rules that one transfer or one bundle breaks, and data that may be ciphertext."""
+    """Several rules that one transfer or one bundle breaks."""
     yield stream_row("a wrong length and no bundle", [make.xfer_segment(BOTH, 0, b"\x00", length(2))], [
         "38 must length-differs transfer=0 announced=2 length=1",
         "38 should length-of-one-segment transfer=0",
@@ -126,10 +131,74 @@ def of_one_bundle():
         "0 must hop-count bundle=0 blocks=2",
         "0 must block-data bundle=0 block=4 byte=31",
     ])
-    hidden = block(12, 2, security([0], 2, (1, 1)))
-    yield bundle_row("data that may be ciphertext", bundle(hidden, hops, cut, block(7, 5, b""), flags=0x02), [
+
+
+def not_read():
+    """Blocks that are not read beside some that are wrong."""
+    # Blocks of 7 bytes are at 25 and 32, and a payload at 39, whose data is at 45.
+    open_age, text = block(7, 2, b"\xbf"), block(6, 3, b"\x60")
+    yield bundle_row("a block that is not read, and one that is wrong", bundle(open_age, text), [
+        "0 must block-data bundle=0 block=3 byte=38",
+        "0 should data-not-read bundle=0 block=2 byte=31",
+    ])
+    yield bundle_row("a record that is not read", bundle(text, AGE, flags=0x02, payload=OPEN_RECORD), [
+        "0 must block-data bundle=0 block=3 byte=31",
+        "0 should data-not-read bundle=0 block=1 byte=45",
+    ])
+    yield bundle_row("a block that is not read, and a record", bundle(AGE, block(6, 3, b"\x9f"), flags=0x02), [
+        "0 should data-not-read bundle=0 block=3 byte=38",
+        "0 must record bundle=0 byte=46",
+    ])
+
+
+def ciphertext():
+    """Data that may be ciphertext. The blocks of confidentiality that say so have 17 bytes."""
+    hops, cut, age = block(10, 3, hop_count(0, 1)), block(10, 4, b""), block(7, 5, b"")
+    yield bundle_row("every block", bundle(hops, cut, age, hiding(9, 0, 1, 3, 4, 5), flags=0x02), [
         "0 must hop-count bundle=0 blocks=2",
-        "0 must confidential-primary bundle=0 block=2",
+        "0 must confidential-primary bundle=0 block=9",
+    ])
+    # The hop counts are at 42 and 51, the age at 57, and the payload at 63.
+    yield bundle_row("only the primary block", bundle(hiding(9, 0), hops, cut, age, flags=0x02), [
+        "0 must hop-count bundle=0 blocks=2 limit=0",
+        "0 must confidential-primary bundle=0 block=9",
+        "0 should hops bundle=0 limit=0 count=1",
+        "0 must block-data bundle=0 block=4 byte=57",
+        "0 must record bundle=0 byte=70",
+    ])
+    # The hop counts are at 25 and 34.
+    yield bundle_row("the payload and the age", bundle(hops, cut, age, hiding(9, 1), hiding(8, 5), flags=0x02), [
+        "0 must hop-count bundle=0 blocks=2 limit=0",
+        "0 should hops bundle=0 limit=0 count=1",
+        "0 must block-data bundle=0 block=4 byte=40",
+    ])
+    many = block(12, 9, security([0, *range(1, 65)], 2, (1, 1)))
+    yield bundle_row("too many targets", bundle(hops, cut, age, INTEGRITY, many, kind=0, flags=0x02), [
+        "0 must hop-count bundle=0 blocks=2",
+        "0 must confidential-primary bundle=0 block=9",
+    ])
+    yield bundle_row("a fragment without its end", bundle(HIDDEN, flags=0x05, fragment=(0, 0), payload=b""), [
+        "0 must fragment bundle=0 offset=0 length=0 total=0",
+    ])
+
+
+def fragments():
+    """What the last fragment of a bundle lacks, and a fragment of no data."""
+    late = {"flags": 0x01, "stamp": (0, 5), "kind": 0}
+    lines = ["0 should primary-check bundle=0", "0 should age bundle=0 blocks=0"]
+    yield bundle_row("a late fragment", bundle(**late, fragment=(1, 2)), lines)
+    yield bundle_row("a late fragment, must", bundle(**late, fragment=(1, 2)), [], must=True)
+    yield bundle_row("the first fragment", bundle(**late, fragment=(0, 2)), [
+        "0 must primary-check bundle=0", "0 must age bundle=0 blocks=0",
+    ])
+    yield bundle_row("a late fragment with two ages", bundle(AGE, block(7, 3, b"\x06"), **late, fragment=(1, 2)), [
+        "0 must age bundle=0 blocks=2",
+    ], must=True)
+    yield bundle_row("a fragment of no data", bundle(flags=0x01, fragment=(0, 0), payload=b""), [
+        "0 must fragment bundle=0 offset=0 length=0 total=0", "0 should whole-fragment bundle=0 total=0",
+    ])
+    yield bundle_row("a whole fragment that must be none", bundle(flags=0x05, fragment=(0, 1)), [
+        "0 must fragment bundle=0 offset=0 length=1 total=1", "0 should whole-fragment bundle=0 total=1",
     ])
 
 
@@ -220,6 +289,20 @@ def levels():
     ])
     yield stream_row("must", [sent(TWO_RULES), INIT], ["38 must age transfer=0 blocks=0"], must=True)
     yield stream_row("none of must", [INIT, OPENED], [], must=True)
+    changed = [OTHER_INTERVAL, sent(CLEAN), OTHER_INTERVAL, INIT]
+    yield stream_row("a SESS_INIT that changes the session", changed, [
+        "125 must order fault=second-session-initiation",
+    ], must=True)
+    # A transfer begins at 6, before the SESS_INIT at 37. A segment of it is at 69.
+    inner, ends = make.xfer_segment(0, 0, CLEAN[9:20]), make.xfer_segment(END, 0, CLEAN[20:])
+    yield row("a SESS_INIT amid a transfer", CONTACT + BEGINS + INIT + inner + OTHER_INTERVAL + ends, [
+        "6 must order fault=segment-before-session-initiation", "98 must order fault=second-session-initiation",
+    ], {"must": True})
+    # A message of a transfer before the first SESS_INIT does not count.
+    early = CONTACT + make.xfer_ack(BOTH, 0, 1) + INIT + OTHER_INTERVAL
+    lines = ["6 should before-session type=02", "56 should order fault=second-session-initiation"]
+    yield row("a SESS_INIT after an early XFER_ACK", early, lines)
+    yield row("none of must after an early XFER_ACK", early, [], {"must": True})
     fault = ["tcpclkit: byte 70: unknown message type 00"]
     yield stream_row("none of must before a fault", [INIT, b"\x00"], [], fault, 3, must=True)
     yield bundle_row("must, of a bundle", TWO_RULES, ["0 must age bundle=0 blocks=0"], must=True)
@@ -242,5 +325,5 @@ def files():
 
 def rows():
     """The rows of this file."""
-    for part in (of_one_message, of_one_bundle, transfers, once, faults, levels, files):
+    for part in (of_one_message, of_one_bundle, not_read, ciphertext, fragments, transfers, once, faults, levels, files):
         yield from part()

@@ -1,0 +1,322 @@
+"""`check`: the streams of examples/faults that break a rule alone or keep it.
+
+There are two for each rule, and two for each further cause by which a rule is broken or kept. What
+keeps a rule keeps all that the RFCs ask for: a receiver that does not take it is wrong. What breaks
+a rule keeps all else, as far as it is there.
+
+So a bundle was made on 2026-01-01 and lives for 20 years. Its primary block has 16 bytes more than
+that of CLEAN: 40 bytes, from 1 on. A block after it is at 41, and its data at 47. The bundle LIVING
+has 49 bytes, and so a transfer of it in one segment ends at 109.
+
+A pair is spelled as its rule, what breaks it, its line, what keeps it, and a cause and options if
+there are any.
+"""
+
+from typing import NamedTuple
+
+import make
+from inputs.spelling import (
+    array, data, encoded, endpoint, head, hop_count, security, spelled, status_report, text, unsigned,
+)
+from model.check import check
+
+from . import Row
+from .broken import (
+    AGE, CONTACT, HOPS, KEEPALIVE, NODE, OTHER_INTERVAL, VERSION, block, blocks_of, bundle, sent, two,
+)
+from .lines import BOTH, END, HEAD, START
+
+# Milliseconds from 2000-01-01 to 2026-01-01, and 20 years of 365.25 days
+MADE, YEARS = 820_540_800_000, 631_152_000_000
+LIVES = {"stamp": (MADE, 0), "lifetime": YEARS}
+
+# The end of a session
+TERM = make.sess_term(0, 0)
+
+# An extension type for private use (RFC 9174 sections 8.3 and 8.4)
+PRIVATE = 0x8000
+
+# A scheme for private use (RFC 9171 section 9.6)
+PRIVATE_SCHEME = 65536
+
+# The SESS_INIT names the node ipn:1.0: the source of a bundle that this node forwards, and the
+# report-to of one that asks it for reports
+FORWARDED, REPORTED = {"source": (3, 1)}, {"report": (1, 0)}
+
+
+class Pair(NamedTuple):
+    """A stream that breaks a rule alone, its lines, and one that just keeps the rule.
+
+    `name` is that of the rule, and of a cause where there are several. `options` are those of
+    `check`. If `is_answer`, the kept one answers a transfer that nobody sent.
+    """
+    rule: str
+    name: str
+    broken: bytes
+    lines: list
+    kept: bytes
+    options: dict
+    is_answer: bool = False
+
+
+def living(*blocks, **fields):
+    """A bundle that lives."""
+    return bundle(*blocks, **{**LIVES, **fields})
+
+
+# 49 bytes. Its check field is at 38, its payload's head at 46, and its payload at 47.
+LIVING = living()
+# The next one of the same source
+NEXT = living(stamp=(MADE, 1))
+
+# A status report, with the time of the reception of a bundle from ipn:2.1
+REPORT = status_report([MADE, False, False, False], 0, (2, 1), (MADE, 0))
+# An administrative record from ipn:1.0 to ipn:2.0
+RECORD = {"flags": 0x02, "source": (1, 0), "destination": (2, 0), "payload": encoded(REPORT)}
+
+
+# ---- blocks of RFC 9172 and RFC 9173
+
+# The initialization vector of RFC 9173 appendix A.2 to A.4, a payload of A.3 and its tag
+VECTOR = b"Twelve121212"
+PAYLOAD = bytes.fromhex("3a09c1e63fe23a7f66a59c7303837241e070b02619fc59c5214a22f08cd70795e73e9a")
+PAYLOAD_TAG = bytes.fromhex("efa4b5ac0108e3816c5606479801bc04")
+# The age 5, and its tag, encrypted in the same way: AES-GCM with the key of A.3 and scope flags 0
+HIDDEN_AGE, AGE_TAG = b"\x6d", bytes.fromhex("54ee44aa45b002f78e9ad991eb1619b9")
+# A block of integrity whose targets are 0 and 1, and its tag. It has the primary block of a bundle
+# without a check, and the payload of A.3.
+HIDDEN_INTEGRITY = bytes.fromhex(
+    "ea6ca18347404c9247c37b9f67f4913685d250842b9654a8cbde50fa960e3ac6ceff7cf3fc9afeca8f36476ff148b675b1c04e84e4b6cadec1"
+    "b5b62dbe0f5c85a1e162181410ba1fbeb65df962f219a8882cb00b1ac70fdc466a38c7"
+)
+INTEGRITY_TAG = bytes.fromhex("a23445b1c041c265cb1b10da38c67668")
+# The code of the age 5 in a block of integrity: HMAC with SHA-256, the key of A.3, and scope flags 0
+AGE_CODE = bytes.fromhex("56ce5e3dcb289518928cadb5be1c6062c7565c69b0e924d4f7af890f8844c807")
+
+
+def results(codes):
+    """The heads of the results of a security block: for each target its code, or none if it is empty."""
+    each = [[array(1), array(2), unsigned(1), data(code)] if code else [array(0)] for code in codes]
+    return [array(len(codes)), *[it for them in each for it in them]]
+
+
+def confidential(number, tags):
+    """A block confidentiality block whose targets have these tags (RFC 9173 section 4).
+
+    It is in every fragment if the payload is a target (RFC 9172 section 3.8).
+    """
+    heads = [*security(list(tags), 2, (1, 1), 1), array(3), array(2), unsigned(1), data(VECTOR)]
+    heads += [array(2), unsigned(2), unsigned(1), array(2), unsigned(4), unsigned(0), *results(tags.values())]
+    return block(12, number, heads, flags=0x01 if 1 in tags else 0)
+
+
+def protecting(number, codes):
+    """A block integrity block whose targets have these codes (RFC 9173 section 3)."""
+    heads = [*security(list(codes), 1, (1, 1), 1), array(2), array(2), unsigned(1), unsigned(5)]
+    return block(11, number, [*heads, array(2), unsigned(3), unsigned(0), *results(codes.values())])
+
+
+# The payload is PAYLOAD.
+CONFIDENTIAL = confidential(4, {1: PAYLOAD_TAG})
+
+
+# ---- bundles that are not read, or are none
+
+
+def with_check(before, after):
+    """A block with a check value of CRC-16 between these bytes of it."""
+    return before + check(1, before + bytes(2) + after) + after
+
+
+def open_array():
+    """LIVING with a primary block that is an array of indefinite length (RFC 9171 section 4.1)."""
+    begin, *others = blocks_of(**LIVES)
+    primary = with_check(b"\x9f" + encoded(begin[1:]), b"\xff")
+    return b"\x9f" + primary + b"".join(map(encoded, others)) + b"\xff"
+
+
+def open_check():
+    """LIVING with a check value of indefinite length, in one piece."""
+    begin, *others = blocks_of(**LIVES)
+    primary = with_check(encoded(begin[:-1]) + b"\x5f\x42", b"\xff")
+    return b"\x9f" + primary + b"".join(map(encoded, others)) + b"\xff"
+
+
+def tagged_data():
+    """A bundle with the tag of embedded CBOR before the data of its block, which is at 46."""
+    return living(HOPS).replace(b"\x44\x82\x18\x1e\x01", b"\xd8\x18\x44\x82\x18\x1e\x01")
+
+
+def long_version():
+    """LIVING with a version that is a byte longer than needed."""
+    return spelled(blocks_of(**LIVES), VERSION, head(0, 7, 1))[0]
+
+
+# ---- streams
+
+
+def closed(*messages):
+    """A recording with these messages after its SESS_INIT, and a SESS_TERM."""
+    return HEAD + b"".join(messages) + TERM
+
+
+def of_sessions():
+    """The pairs of rules of messages, but those of segments and their limits."""
+    yield "contact-flags", b"dtn!\x04\x80", "0 must contact-flags flags=80", closed()
+    node = CONTACT + make.sess_init(node=b":")
+    yield "node-id", node, "6 must node-id length=1", CONTACT + make.sess_init(node=b"dtn://n/") + TERM
+    wrong, good = (CONTACT + make.sess_init(make.item(flags, PRIVATE, b"")) for flags in (0x80, 0x00))
+    yield "item-flags", wrong, "6 must item-flags item=0 flags=80", good + TERM
+    early, late = CONTACT + make.xfer_segment(END, 0, b""), make.xfer_segment(START, 0, LIVING[:9])
+    late += TERM + make.xfer_segment(END, 0, LIVING[9:])
+    yield "order", early, "6 must order fault=segment-before-session-initiation", HEAD + late
+    # Only a session that begins with other parameters has them.
+    changed, begins = HEAD + sent(LIVING) + OTHER_INTERVAL, CONTACT + OTHER_INTERVAL + sent(LIVING) + TERM
+    yield "order", changed, "109 must order fault=second-session-initiation", begins, "changed-parameters"
+    yield "before-session", CONTACT + KEEPALIVE, "6 should before-session type=04", closed(KEEPALIVE)
+    acks = HEAD + make.xfer_ack(START, 0, 20) + make.xfer_ack(END, 0, 19)
+    kept = closed(make.xfer_ack(START, 0, 20), make.xfer_ack(END, 0, 20))
+    yield "ack-length", acks, "56 must ack-length length=19 before=20", kept
+    none, least = (CONTACT + make.sess_init(keepalive=it) + KEEPALIVE for it in (0, 30))
+    yield "keepalive", none, "38 should keepalive", least + TERM
+    yield "term-flags", CONTACT + make.sess_term(0x02, 0), "6 must term-flags flags=02", closed()
+
+
+def of_segments():
+    """The same of rules of segments and of the peer's limits."""
+    opened = HEAD + make.xfer_segment(START, 0, b"") + sent(LIVING, 1)
+    yield "interleaved", opened, "60 should interleaved id=1 open=0", closed(sent(LIVING), sent(NEXT, 1))
+    reserved = HEAD + make.xfer_segment(BOTH | 0x04, 0, LIVING)
+    yield "segment-flags", reserved, "38 must segment-flags flags=07", closed(two(LIVING, 9))
+    twice = HEAD + sent(LIVING) + sent(NEXT)
+    yield "transfer-id", twice, "109 must transfer-id id=0", closed(sent(LIVING), sent(NEXT, 1))
+    longer = HEAD + sent(living(payload=b"xy"))
+    for rule in ("peer-segment", "peer-transfer"):
+        line, options = f"38 must {rule} length=50 limit=49", {rule.replace("-", "_"): 49}
+        yield rule, longer, line, closed(sent(LIVING)), "", options
+
+
+def of_transfers():
+    """The same of rules of transfers. A line is here without `38 `, and with `:` for ` transfer=0`."""
+    yield "unfinished", make.xfer_segment(START, 0, b""), "should unfinished: length=0", sent(LIVING)
+    announced = two(LIVING, 9, make.length_item(49))
+    yield "length-item", two(LIVING, 9, make.item(0, 1, b"")), "must length-item:", announced
+    differs = two(LIVING, 9, make.length_item(50))
+    yield "length-differs", differs, "must length-differs: announced=50 length=49", announced
+    one = sent(LIVING, 0, make.length_item(49))
+    yield "length-of-one-segment", one, "should length-of-one-segment:", two(LIVING, 48, make.length_item(49))
+    yield "bundle", sent(b""), "must bundle: code=B1 byte=0", sent(LIVING)
+    for rule, breaking, line, keeping, *cause in of_faults():
+        yield rule, sent(breaking), line, sent(keeping), *cause
+
+
+def of_faults():
+    """The same of data that is no bundle, or is not read."""
+    # A payload in pieces, and one that looks like it
+    pieces = b"\x5f\x41x\xff"
+    data = LIVING[:46] + pieces + b"\xff"
+    yield "bundle", data, "must bundle: code=B5 byte=46", living(payload=pieces), "indefinite-data"
+    yield "bundle", open_check(), "must bundle: code=B5 byte=38", living(kind=2), "indefinite-check"
+    # As many blocks as are read
+    most = living(*[block(192, number, b"") for number in range(2, 65)])
+    yield "not-read", open_array(), "should not-read: code=B5 byte=1", most
+    tagged = b"\xd9\xd9\xf7" + LIVING
+    yield "not-read", tagged, "should not-read: code=B3 byte=0", living(payload=tagged), "tagged-bundle"
+    yield "not-read", tagged_data(), "should not-read: code=B5 byte=46", living(HOPS), "tagged-data"
+
+
+def of_bundles():
+    """The same of rules of bundles. Each bundle is in a transfer of one segment."""
+    yield "long-head", long_version(), "must long-head: byte=2", living(payload=bytes(24))
+    yield "bundle-flags", living(flags=0x08), "should bundle-flags: flags=08", living(flags=0x074064, **REPORTED)
+    yield "primary-check", living(kind=0), "must primary-check:", living(kind=2)
+    part = {"flags": 0x01, "fragment": (1, 2)}
+    yield "primary-check", living(kind=0, **part), "should primary-check:", living(kind=2, **part), "of-a-fragment"
+    known = living(AGE, protecting(3, {2: AGE_CODE}), CONFIDENTIAL, kind=0, payload=PAYLOAD)
+    unknown = confidential(4, {3: INTEGRITY_TAG, 1: PAYLOAD_TAG})
+    hidden = living(block(11, 3, HIDDEN_INTEGRITY), unknown, kind=0, payload=PAYLOAD)
+    yield "primary-check", known, "must primary-check:", hidden, "confidential"
+    yield "anonymous", living(source=None), "must anonymous: flags=00", living(source=None, flags=0x04)
+    asking = living(**{**RECORD, **REPORTED, "flags": 0x4002})
+    yield "record-reports", asking, "must record-reports: flags=4002", living(**RECORD)
+    other = block(192, 2, b"", flags=0x02)
+    yield "block-reports", living(other, source=None, flags=0x04), "must block-reports: block=2", living(other, **REPORTED)
+    asking, good = living(**RECORD, payload_flags=0x02), living(payload_flags=0x02, **REPORTED)
+    yield "block-reports", asking, "must block-reports: block=1", good, "of-a-payload"
+    good = living(block(7, 2, b"\x05", flags=0x17), **REPORTED)
+    yield "block-flags", living(payload_flags=0x08), "should block-flags: block=1 flags=08", good
+    yield "dtn-name", living(destination=b""), "must dtn-name: of=destination", living(destination=b"//n/")
+    yield from of_fragments(part)
+    clock = {"stamp": (0, 5)}
+    yield "age", living(**clock), "must age: blocks=0", living(AGE, **clock)
+    yield "age", living(**clock, **part), "should age: blocks=0", living(AGE, **clock, **part), "of-a-fragment"
+    twice = living(NODE, block(6, 3, endpoint((5, 0))), **FORWARDED)
+    yield "previous-node", twice, "must previous-node: blocks=2", living(NODE, **FORWARDED)
+    none, most, over, all_of_them = (living(block(10, 2, hop_count(*it))) for it in [(0, 0), (255, 0), (5, 6), (5, 5)])
+    yield "hop-count", none, "must hop-count: blocks=1 limit=0", most
+    whole = confidential(2, {0: PAYLOAD_TAG})
+    yield "confidential-primary", living(whole), "must confidential-primary: block=2", living(CONFIDENTIAL, payload=PAYLOAD)
+    yield "hops", over, "should hops: limit=5 count=6", all_of_them
+    yield from of_data()
+
+
+def of_fragments(part):
+    """Fragments that break `fragment` or `whole-fragment`, and a part that breaks neither."""
+    empty = living(flags=0x01, fragment=(0, 2), payload=b"")
+    yield "fragment", empty, "must fragment: offset=0 length=0 total=2", living(**part)
+    # The ciphertext has the tag at its end, and so the payload is longer than the data by 16 bytes.
+    end = {"flags": 0x01, "fragment": (30, 35), "payload": (PAYLOAD + PAYLOAD_TAG)[30:]}
+    known = living(block(7, 2, HIDDEN_AGE), confidential(4, {2: AGE_TAG}), **end)
+    hidden = living(AGE, confidential(4, {1: b""}), **end)
+    yield "fragment", known, "must fragment: offset=30 length=21 total=35", hidden, "confidential"
+    whole, begins = (living(flags=0x01, fragment=(0, total)) for total in (1, 2))
+    yield "whole-fragment", whole, "should whole-fragment: total=1", begins
+
+
+def of_data():
+    """Blocks and records whose data is wrong, is not read, or is ciphertext, and good ones."""
+    yield "block-data", living(block(7, 2, b"")), "must block-data: block=2 byte=47", living(AGE)
+    known = living(block(7, 2, HIDDEN_AGE), CONFIDENTIAL, payload=PAYLOAD)
+    hidden = living(block(7, 2, HIDDEN_AGE), confidential(4, {2: AGE_TAG}))
+    yield "block-data", known, "must block-data: block=2 byte=47", hidden, "confidential"
+    open_hops = block(10, 2, b"\x9f\x18\x1e\x01\xff")
+    yield "data-not-read", living(open_hops), "should data-not-read: block=2 byte=47", living(HOPS)
+    scheme = block(6, 2, [array(2), unsigned(PRIVATE_SCHEME), unsigned(0)])
+    yield "data-not-read", living(scheme, **FORWARDED), "should data-not-read: block=2 byte=48", living(NODE, **FORWARDED), "scheme"
+    # The head of the data has three bytes, so the name is at 51.
+    longest = b"//" + b"n" * 1021 + b"/"
+    name, good = (living(block(6, 2, [array(2), unsigned(1), text(it)]), **FORWARDED) for it in (longest + b"a", longest))
+    yield "data-not-read", name, "should data-not-read: block=2 byte=51", good, "long-name"
+    # The head of the payload has two bytes, and three heads are before the statuses.
+    begin, statuses, rest = encoded(REPORT[:3]), encoded(REPORT[4:13]), encoded(REPORT[13:])
+    report = living(**{**RECORD, "payload": begin + b"\x9f" + statuses + b"\xff" + rest})
+    part = encoded(status_report([MADE, False, False, False], 0, (2, 1), (MADE, 0), (7, 5)))
+    good = living(**{**RECORD, "payload": part})
+    yield "data-not-read", report, "should data-not-read: block=1 byte=51", good, "record"
+    yield "record", living(flags=0x02), "must record: byte=48", living(**RECORD)
+
+
+def pair(rule, breaking, line, keeping, cause="", options=None):
+    """A pair of streams from the words of the calls above."""
+    name = f"{rule}-{cause}" if cause else rule
+    return Pair(rule, name, breaking, [line], keeping, options or {}, rule == "ack-length")
+
+
+def of_transfer(rule, breaking, line, keeping, *cause):
+    """A pair of streams from a transfer that breaks a rule, and one that keeps it."""
+    return pair(rule, HEAD + breaking, f"38 {line.replace(':', ' transfer=0')}", closed(keeping), *cause)
+
+
+def pairs():
+    """All pairs of streams."""
+    yield from (pair(*it) for it in (*of_sessions(), *of_segments()))
+    yield from (of_transfer(*it) for it in of_transfers())
+    for rule, breaking, line, keeping, *cause in of_bundles():
+        yield of_transfer(rule, sent(breaking), line, sent(keeping), *cause)
+
+
+def rows():
+    """The rows of this file."""
+    for it in pairs():
+        yield Row(f"{it.name}, broken", "check", it.options, it.broken, it.lines, [], 1)
+        yield Row(f"{it.name}, kept", "check", it.options, it.kept, [], [], 0)
