@@ -90,9 +90,7 @@ fn bundle_code(fault: BundleFault) -> u64
         BundleFault::Trailing => 102,
         BundleFault::NotABundle => 103,
         BundleFault::BadHead => 104,
-        BundleFault::WrongKind
-        | BundleFault::WrongDataKind
-        | BundleFault::WrongCheckKind => 105,
+        BundleFault::WrongKind | BundleFault::WrongDataKind | BundleFault::WrongCheckKind => 105,
         BundleFault::BadCount => 106,
         BundleFault::BadVersion => 107,
         BundleFault::BadCheckType => 108,

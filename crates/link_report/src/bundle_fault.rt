@@ -16,9 +16,7 @@ pub fn code_of(fault: BundleFault) -> &'static str
         BundleFault::Trailing => "B2",
         BundleFault::NotABundle => "B3",
         BundleFault::BadHead => "B4",
-        BundleFault::WrongKind
-        | BundleFault::WrongDataKind
-        | BundleFault::WrongCheckKind => "B5",
+        BundleFault::WrongKind | BundleFault::WrongDataKind | BundleFault::WrongCheckKind => "B5",
         BundleFault::BadCount => "B6",
         BundleFault::BadVersion => "B7",
         BundleFault::BadCheckType => "B8",
@@ -45,9 +43,8 @@ pub fn words_of(fault: BundleFault) -> &'static str
         BundleFault::Trailing => "bytes after the bundle",
         BundleFault::NotABundle => "not a bundle",
         BundleFault::BadHead => "ill-formed head",
-        BundleFault::WrongKind
-        | BundleFault::WrongDataKind
-        | BundleFault::WrongCheckKind => "wrong kind of item",
+        BundleFault::WrongKind | BundleFault::WrongDataKind | BundleFault::WrongCheckKind =>
+            "wrong kind of item",
         BundleFault::BadCount => "wrong number of elements",
         BundleFault::BadVersion => "unsupported bundle version",
         BundleFault::BadCheckType => "unknown check type",
