@@ -147,7 +147,7 @@ reading_of kind.Record bytes = administrative_record bytes
 
 -- Whether an item with this fault exceeds a limit of this toolkit, by the head at which it fails: its
 -- length is indefinite, its endpoint scheme is neither dtn nor ipn, or its dtn name is long. RFC 9171
--- permits such items (sections 4.1 and 4.2.5.1).
+-- may permit such an item (sections 4.1 and 4.2.5.1), whatever else is due in its place.
 abbrev pub is_limit : BundleFault → HeadFront → Bool
 is_limit BadScheme front = true
 is_limit EidTooLong front = true
