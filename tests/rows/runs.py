@@ -299,8 +299,11 @@ def levels():
         "6 must order fault=segment-before-session-initiation", "98 must order fault=second-session-initiation",
     ], {"must": True})
     # A message of a transfer before the first SESS_INIT does not count.
-    early = CONTACT + make.xfer_ack(BOTH, 0, 1) + INIT + OTHER_INTERVAL
-    lines = ["6 should before-session type=02", "56 should order fault=second-session-initiation"]
+    early = CONTACT + KEEPALIVE + make.xfer_ack(BOTH, 0, 1) + INIT + OTHER_INTERVAL
+    lines = [
+        "6 should before-session type=04", "7 should before-session type=02",
+        "57 should order fault=second-session-initiation",
+    ]
     yield row("a SESS_INIT after an early XFER_ACK", early, lines)
     yield row("none of must after an early XFER_ACK", early, [], {"must": True})
     fault = ["tcpclkit: byte 70: unknown message type 00"]
