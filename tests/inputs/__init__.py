@@ -9,5 +9,6 @@ with its options.
     block_data the data of blocks, with each head changed and cut at each byte
     limits     counts and sizes at their limits, and past them
     rules      what the rules of `check` depend on, at its limits and in each combination
+    worked     the runs of tests/rows
     randoms    random streams and bundles
 """

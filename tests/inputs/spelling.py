@@ -123,7 +123,7 @@ def data(content):
 
 
 def check_field(kind):
-    """The check field of a block, if its check type has one (section 4.2.1)."""
+    """The check field of a block, if its check type has one (section 4.2.2)."""
     return [Head(2, WIDTH[kind], WIDTH[kind], b"", kind)] if kind else []
 
 

@@ -12,6 +12,7 @@ spelled out in hexadecimal or made by those of tests/inputs.
     runs    `check`: several rules at once, the options, and the status
     rfc9173 both: the bundles of RFC 9173 appendix A
     laws    what holds of `blocks` and `check` for any input
+    table   these files by their names
 """
 
 import os

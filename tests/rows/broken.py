@@ -556,8 +556,10 @@ BUNDLES = {
             (bundle(block(7, 2, b"\x1f")), "must block-data: block=2 byte=31"),
             (bundle(block(7, 2, b"\xdf")), "must block-data: block=2 byte=31"),
             (bundle(block(7, 2, b"\x5e")), "must block-data: block=2 byte=31"),
-            # A scheme that is no number, and a name that is cut
+            # A scheme that is no number, parts that are none of their scheme, and a name that is cut
             (bundle(block(6, 2, b"\x82\x20\x00")), "must block-data: block=2 byte=32"),
+            (bundle(block(6, 2, b"\x82\x01\x01")), "must block-data: block=2 byte=33"),
+            (bundle(block(6, 2, b"\x82\x02\x60")), "must block-data: block=2 byte=33"),
             (bundle(block(6, 2, b"\x82\x01\x79\x04\x00a")), "must block-data: block=2 byte=37"),
             # The first one that is no ciphertext. One of 7 bytes is before it, and one of 6 after it.
             (bundle(block(7, 2, b"\xff"), block(6, 3, b""), HIDDEN_2), "must block-data: block=3 byte=38"),

@@ -30,7 +30,7 @@ TERM = make.sess_term(2, 0)
 EVERY_RULE, _ = spelled(
     blocks_of(
         block(6, 2, b"\x00"), block(6, 3, b"\x9f"),
-        block(10, 4, hop_count(0, 1), flags=0x0A), block(10, 5, b""),
+        block(10, 4, hop_count(0, 1), flags=0x0A), block(10, 5, b""), hiding(6, 0),
         flags=0x400B, kind=0, source=None, destination=b"n", stamp=(0, 0), fragment=(0, 0), payload=b"",
     ),
     VERSION, head(0, 7, 1),
@@ -49,6 +49,7 @@ EVERY_LINE = [
     "0 must age bundle=0 blocks=0",
     "0 must previous-node bundle=0 blocks=2",
     "0 must hop-count bundle=0 blocks=2 limit=0",
+    "0 must confidential-primary bundle=0 block=6",
     "0 should hops bundle=0 limit=0 count=1",
     "0 must block-data bundle=0 block=2 byte=30",
     "0 should data-not-read bundle=0 block=3 byte=37",
@@ -96,6 +97,26 @@ def of_one_message():
         "69 must segment-flags flags=41",
         "69 must peer-segment length=33 limit=32",
     ], peer_segment=32, peer_transfer=33)
+
+
+def of_one_step():
+    """As many lines as a step writes, of a START that closes its transfer. Its bundle has 77 bytes."""
+    most = make.xfer_segment(BOTH | 0x08, 5, EVERY_RULE, length(9), length(9), make.item(0x10, 2, b""))
+    of_bundle = [line.replace("0 ", "85 ", 1).replace("bundle=0", "transfer=5") for line in EVERY_LINE]
+    yield stream_row("the most lines of a step", [EMPTY, OPENED, TERM, most], [
+        "38 must bundle transfer=5 code=B1 byte=0",
+        "82 must term-flags flags=02",
+        "85 must item-flags item=2 flags=10",
+        "85 must order fault=start-after-session-termination",
+        "85 should interleaved id=5 open=6",
+        "85 must segment-flags flags=0b",
+        "85 must transfer-id id=5",
+        "85 must peer-segment length=77 limit=76",
+        "85 must peer-transfer length=77 limit=0",
+        "85 must length-item transfer=5",
+        "85 should length-of-one-segment transfer=5",
+        *of_bundle,
+    ], peer_segment=76, peer_transfer=0)
 
 
 def of_one_bundle():
@@ -299,8 +320,11 @@ def levels():
         "6 must order fault=segment-before-session-initiation", "98 must order fault=second-session-initiation",
     ], {"must": True})
     # A message of a transfer before the first SESS_INIT does not count.
-    early = CONTACT + make.xfer_ack(BOTH, 0, 1) + INIT + OTHER_INTERVAL
-    lines = ["6 should before-session type=02", "56 should order fault=second-session-initiation"]
+    early = CONTACT + KEEPALIVE + make.xfer_ack(BOTH, 0, 1) + INIT + OTHER_INTERVAL
+    lines = [
+        "6 should before-session type=04", "7 should before-session type=02",
+        "57 should order fault=second-session-initiation",
+    ]
     yield row("a SESS_INIT after an early XFER_ACK", early, lines)
     yield row("none of must after an early XFER_ACK", early, [], {"must": True})
     fault = ["tcpclkit: byte 70: unknown message type 00"]
@@ -325,5 +349,7 @@ def files():
 
 def rows():
     """The rows of this file."""
-    for part in (of_one_message, of_one_bundle, not_read, ciphertext, fragments, transfers, once, faults, levels, files):
+    for part in (
+        of_one_message, of_one_step, of_one_bundle, not_read, ciphertext, fragments, transfers, once, faults, levels, files,
+    ):
         yield from part()
