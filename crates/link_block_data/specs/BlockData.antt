@@ -1,5 +1,5 @@
--- What the block-type-specific data of a canonical block says (RFC 9171 section 4.3.2), or why it is
--- malformed. Offsets count from the first byte of the data.
+-- What the block-type-specific data of a canonical block says (RFC 9171 section 4.3.2), or why it
+-- is malformed. Offsets count from the first byte of the data.
 
 use Rattle.std.specs.Prelude.{ℕ, zero, suc, ◌-◌, ◌==◌, Bool, true, false, List, [], ◌∷◌, length, take, drop, Result, Ok, Err, if◌then◌else◌}
 use Rattle.std.specs.List.{list_any}
@@ -145,9 +145,9 @@ reading_of kind.HopCount bytes = hop_count bytes
 reading_of kind.Security bytes = security bytes
 reading_of kind.Record bytes = administrative_record bytes
 
--- Whether an item with this fault exceeds a limit of this toolkit, by the head at which it fails: its
--- length is indefinite, its endpoint scheme is neither dtn nor ipn, or its dtn name is long. RFC 9171
--- may permit such an item (sections 4.1 and 4.2.5.1), whatever else is due in its place.
+-- Whether an item with this fault exceeds a limit of this toolkit, by the head at which it fails.
+-- Its length is indefinite, its endpoint scheme is neither dtn nor ipn, or its dtn name is long.
+-- RFC 9171 may permit such an item (sections 4.1 and 4.2.5.1), whatever else is due in its place.
 abbrev pub is_limit : BundleFault → HeadFront → Bool
 is_limit BadScheme front = true
 is_limit EidTooLong front = true

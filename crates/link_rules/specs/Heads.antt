@@ -10,7 +10,8 @@ use Rattle.link_rules.specs.declared.unread.Unread.{Unread}
 abbrev pub content_size : Head → ℕ
 content_size head = if (head.major == 2) || (head.major == 3) then unwrap_or head.value 0 else 0
 
--- the fewest bytes of a head with this value (sections 4.1 and 4.2.1): one for an indefinite length or the break
+-- the fewest bytes of a head with this value (sections 4.1 and 4.2.1): one for an indefinite length
+-- or the break
 abbrev pub shortest_size : Option ℕ → ℕ
 shortest_size None = 1
 shortest_size (Some value) =
@@ -31,8 +32,8 @@ is_open_string head size = is_indefinite head && (head.major == 2)
 abbrev pub is_open_item : Head → ℕ → Bool
 is_open_item head size = is_indefinite head && not (head.major == 2)
 
--- whether a head is tag 24 in two bytes, d8 18: a byte string that follows has encoded CBOR (section
--- 3.4.5.1)
+-- whether a head is tag 24 in two bytes, d8 18: a byte string that follows has encoded CBOR
+-- (section 3.4.5.1)
 abbrev pub is_encoded : Head → ℕ → Bool
 is_encoded head size = (head.major == 6) && ((size == 2) && (unwrap_or head.value 0 == 24))
 

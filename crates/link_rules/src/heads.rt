@@ -179,8 +179,8 @@ enum WalkStage {
 /// A walk over the heads of a bundle, whose bytes come in pieces of any size.
 ///
 /// It finds the first head that is longer than its number needs, and those of [`Unread`] (RFC 8949
-/// section 3). The bundle's own array head is passed over, and so are the bytes of strings. There is
-/// no head after one that is ill-formed.
+/// section 3). The bundle's own array head is passed over, and so are the bytes of strings. There
+/// is no head after one that is ill-formed.
 ///
 /// It keeps numbers, and no bytes of the bundle.
 #[derive(Clone, Copy, Debug)]
