@@ -1,6 +1,7 @@
 pub mod Pushes
 pub mod Runs
-pub mod Disabling
+pub mod Since
+pub mod Changes
 pub mod Joined
 pub mod Tests
 pub mod Kept

@@ -1,13 +1,8 @@
 -- The heads so far, with one more.
-use Rattle.std.proofs.Common.{◌≡◌, ◌||◌, List, [], ◌∷◌, ◌++◌, reverse, refl, sym, ◌∙◌}
-use Rattle.std.proofs.{Math.Bool.{or-true, or-false}, lemmas.List.{map_push, reverse-append}}
+use Rattle.std.proofs.Common.{◌≡◌, List, [], ◌∷◌, ◌++◌, reverse, Option, Some, None, refl}
+use Rattle.std.{specs.Option.option_or, proofs.lemmas.List.{map_push, reverse-append}}
 use Rattle.link_wire.specs.declared.message.Message.{Message}
-use Rattle.link_transfer.specs.{Event.event_of, Joiner.{IsJoinerAt, joiner_after}}
-use Rattle.link_transfer.specs.Order.{is_sess_init, has_sess_init, has_sess_term, open_of}
-use Rattle.link_transfer.specs.declared.event.{Event.Event, Event.TheVariants.SessInit}
-use Rattle.link_transfer.specs.declared.joiner.Joiner.{Joiner}
-use Rattle.link_transfer.proofs.Joining.{IsJoinerAt-then}
-use Rattle.link_message_rules.specs.Heads.{JudgedHead, messages_of}
+use Rattle.link_message_rules.specs.{Heads.{JudgedHead, messages_of, parameters_of}, Session.first_parameters}
 
 pub messages_of-push : (before : List JudgedHead) (head : JudgedHead)
     → messages_of (before ++ head ∷ []) ≡ messages_of before ++ head.message ∷ []
@@ -18,25 +13,19 @@ pub newest-push : {A : Type 0} (before : List A) (last : A)
     → reverse (before ++ last ∷ []) ≡ last ∷ reverse before
 newest-push before last = reverse-append before (last ∷ [])
 
--- the joiner that has accepted these messages
-abbrev joiner_at : List Message → Joiner
-joiner_at before = record {
-  initiated = has_sess_init before;
-  terminated = has_sess_term before;
-  transfer = open_of before;
-}
+pub or_none : {A : Type 0} (value : Option A) → option_or value None ≡ value
+or_none None = refl
+or_none (Some value) = refl
 
-by_event : (before : List Message) (event : Event)
-    → (joiner_after (joiner_at before) event).initiated
-    ≡ (has_sess_init before || is_sess_init event)
-by_event before SessInit = sym (or-true (has_sess_init before))
-by_event before _ = sym (or-false (has_sess_init before))
+or_assoc : {A : Type 0} (first second third : Option A)
+    → option_or first (option_or second third) ≡ option_or (option_or first second) third
+or_assoc None second third = refl
+or_assoc (Some value) second third = refl
 
-pub has_sess_init_push : (before : List Message) (message : Message)
-    → has_sess_init (before ++ message ∷ [])
-    ≡ (has_sess_init before || is_sess_init (event_of message))
-has_sess_init_push before message =
-    let at : IsJoinerAt (joiner_at before) before =
-    record { initiated = refl; terminated = refl; transfer = refl } in
-    sym (IsJoinerAt-then (joiner_at before) before message (event_of message) refl at).initiated
-    ∙ by_event before (event_of message)
+pub first_parameters_push : (before : List Message) (message : Message)
+    → first_parameters (before ++ message ∷ [])
+    ≡ option_or (first_parameters before) (parameters_of message)
+first_parameters_push [] message = or_none (parameters_of message)
+first_parameters_push (oldest ∷ more) message =
+    rw (first_parameters_push more message)
+    (or_assoc (parameters_of oldest) (first_parameters more) (parameters_of message))

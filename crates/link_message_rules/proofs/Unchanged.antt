@@ -1,25 +1,22 @@
 -- What a message does not change of a history.
-use Rattle.std.proofs.{Common.{◌≡◌, false, List, [], ◌∷◌, ◌++◌, None, refl}, Math.Bool.or-false}
+use Rattle.std.proofs.Common.{◌≡◌, false, List, [], ◌∷◌, ◌++◌, None, refl}
 use Rattle.link_wire.specs.declared.message.Message.{Message}
-use Rattle.link_transfer.specs.{Event.event_of, Order.{is_sess_init, has_sess_init}}
-use Rattle.link_message_rules.specs.Heads.{JudgedHead, segment_of, start_id, is_keepalive, disables_keepalive}
+use Rattle.link_message_rules.specs.Heads.{JudgedHead, segment_of, start_id, is_keepalive, disables_keepalive, parameters_of}
 use Rattle.link_message_rules.specs.Lengths.{ack_of, last_ack, segments_of}
-use Rattle.link_message_rules.specs.{Remembered.keepalives_of, TransferIds.last_run}
-use Rattle.link_message_rules.specs.declared.session.Keepalives.{Keepalives}
-use Rattle.link_message_rules.specs.declared.session.Keepalives.TheVariants.{Enabled}
-use Rattle.link_message_rules.proofs.Disabling.{next_state, keepalives_of_push}
-use Rattle.link_message_rules.proofs.Joined.{segments_of-push}
-use Rattle.link_message_rules.proofs.Pushes.{newest-push, has_sess_init_push}
+use Rattle.link_message_rules.specs.{Session.first_parameters, TransferIds.last_run}
+use Rattle.link_message_rules.specs.Remembered.{keepalives_of, next_since}
+use Rattle.link_message_rules.specs.declared.session.{Since.Since, Since.TheVariants.Neither}
+use Rattle.link_message_rules.proofs.{Since.keepalives_of_push, Joined.segments_of-push}
+use Rattle.link_message_rules.proofs.Pushes.{newest-push, or_none, first_parameters_push}
 
-next_same : (state : Keepalives) → next_state state false false ≡ state
-next_same Enabled = refl
+next_same : (state : Since) → next_since state false false ≡ state
+next_same Neither = refl
 next_same others = refl
 
 module _ (before : List Message) (message : Message) where
-  pub same_initiated : is_sess_init (event_of message) ≡ false
-      → has_sess_init (before ++ message ∷ []) ≡ has_sess_init before
-  same_initiated other =
-      rw (has_sess_init_push before message, other) (or-false (has_sess_init before))
+  pub same_parameters : parameters_of message ≡ None
+      → first_parameters (before ++ message ∷ []) ≡ first_parameters before
+  same_parameters none = rw (first_parameters_push before message, none) (or_none _)
 
   pub same_keepalives : disables_keepalive message ≡ false → is_keepalive message ≡ false
       → keepalives_of (before ++ message ∷ []) ≡ keepalives_of before

@@ -1,5 +1,5 @@
--- The rule that the data of a closed transfer breaks: it is one bundle (RFC 9171 section 4, RFC 9174
--- section 5.2).
+-- The rule that the data of a closed transfer breaks: it is one bundle (RFC 9171 section 4, RFC
+-- 9174 section 5.2).
 use Rattle.std.specs.Prelude.{ℕ, Bool, true, false, ◌||◌, ◌==◌, List, Option, Some, None, Result, Ok, Err, if◌then◌else◌}
 use Rattle.link_bundle_types.specs.declared.fault.BundleFault.{BundleFault}
 use Rattle.link_bundle_types.specs.declared.fault.BundleFault.TheVariants.{NotABundle, WrongKind, WrongDataKind, WrongCheckKind, BadScheme, BadSpecificPart, EidTooLong, TooManyBlocks}
@@ -12,9 +12,8 @@ abbrev pub is_offset : Option ℕ → (byte : ℕ) → Bool
 is_offset None byte = false
 is_offset (Some offset) byte = offset == byte
 
--- Whether data with a fault at an offset may be a bundle that this toolkit does not read, by where it
--- has heads that this toolkit never reads. The first head of these kinds is at fault, if no other is
--- before.
+-- Whether data with a fault at an offset may be a bundle that this toolkit does not read. `unread`
+-- has the offsets of the first heads of the kinds that it reads nowhere: no later one is reached.
 -- Another endpoint scheme, a long dtn name and many blocks exceed limits of this toolkit. RFC 9171
 -- permits items of indefinite length (section 4.1), but for the byte strings of data and of check
 -- values (sections 4.3.2 and 4.2.2). Its appendix B permits tag 55799 before a bundle, and tag 24

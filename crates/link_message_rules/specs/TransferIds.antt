@@ -19,8 +19,8 @@ abbrev pub if_another : SegmentHead → (open_id : ℕ) → Option MessageRule
 if_another segment open_id =
     if segment.id == open_id then None else Some (Interleaved segment.id open_id)
 
--- interleaved: a transfer does not begin while one of another ID is open (sections 5.2 and 5.2.2). The
--- receiver may have refused the open one, which only the other recording shows.
+-- interleaved: a transfer does not begin while one of another ID is open (sections 5.2 and 5.2.2).
+-- The receiver may have refused the open one, which only the other recording shows.
 unfoldable pub interleaved : JudgedHead → Option MessageRule
 interleaved head =
     option_and_then (λ segment. option_and_then (if_another segment) (abandoned_by head.turn))

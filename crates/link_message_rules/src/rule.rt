@@ -59,7 +59,8 @@ impl MessageRule {
     }
 }
 
-/// A rule that a transfer breaks (RFC 9174 sections 5.2, 5.2.2, 5.2.5.1 and 6.1, RFC 9171 section 4).
+/// A rule that a transfer breaks (RFC 9174 sections 5.2, 5.2.2, 5.2.5.1 and 6.1, RFC 9171 section
+/// 4).
 #[derive(Clone, Copy, Debug, Default, PartialEq, Eq)]
 pub enum TransferRule {
     /// The stream ends while the transfer is open, after this many bytes of its data.

@@ -5,7 +5,7 @@ ghost use Rattle.link_wire.specs.MessageBuffer.{message_of};
 ghost use Rattle.link_wire.specs.declared.message.Message.{Message};
 ghost use Rattle.link_message_rules.specs.Heads.{JudgedHead, viewed_head, messages_of, is_keepalive, disables_keepalive, is_of_transfer, parameters_of};
 ghost use Rattle.link_message_rules.specs.Remembered.{session_of, keepalives_of};
-ghost use Rattle.link_message_rules.specs.Session.{order, order_level, before_session, keepalive, type_after_sess_init, first_parameters, are_other};
+ghost use Rattle.link_message_rules.specs.Session.{order, order_level, changes_session, before_session, keepalive, type_after_sess_init, first_parameters, are_other};
 
 use crate::head::JudgedHeadView;
 use crate::rule::MessageRule;
@@ -66,11 +66,7 @@ fn are_other(first: &Option<Parameters>, second: &Option<Parameters>) -> bool
     ensures { result ≡ are_other first.now second.now }
 {
     match (first, second) {
-        (Some(first), Some(second)) => {
-            first.interval != second.interval
-                || first.segment_mru != second.segment_mru
-                || first.transfer_mru != second.transfer_mru
-        }
+        (Some(first), Some(second)) => first != second,
         _ => false,
     }
 }
@@ -94,6 +90,7 @@ fn parameters_of(message: &MessageBuffer) -> Option<Parameters>
 }
 
 /// The parameters of the first SESS_INIT, after one more message.
+#[tactic(auto, using(crate::proofs::Pushes::first_parameters_push))]
 #[inline(always)]
 pub(crate) fn parameters_after(
     parameters: Option<Parameters>,
@@ -106,6 +103,7 @@ pub(crate) fn parameters_after(
 }
 
 /// Whether a SESS_INIT came and a transfer or an answer since, after one more message.
+#[tactic(auto, using(crate::proofs::Since::session_of_push))]
 #[inline(always)]
 pub(crate) fn session_after(session: Since, message: &MessageBuffer) -> Since
     ensures { (before : List Message) → session ≡ session_of before
@@ -115,6 +113,7 @@ pub(crate) fn session_after(session: Since, message: &MessageBuffer) -> Since
 }
 
 /// Whether KEEPALIVEs are disabled and one was sent since, after one more message.
+#[tactic(auto, using(crate::proofs::Since::keepalives_of_push))]
 #[inline(always)]
 pub(crate) fn keepalives_after(keepalives: Since, message: &MessageBuffer) -> Since
     ensures { (before : List Message) → keepalives ≡ keepalives_of before
@@ -148,6 +147,7 @@ fn disables_keepalive(message: &MessageBuffer) -> bool
 }
 
 /// The rule of KEEPALIVEs.
+#[tactic(auto, using(crate::proofs::Since::keepalive_by, crate::proofs::Since::shown))]
 #[inline(always)]
 pub(crate) fn keepalive(keepalives: Since, message: &MessageBuffer) -> Option<MessageRule>
     ensures { (before : List JudgedHead) → keepalives ≡ keepalives_of (messages_of before)
@@ -159,7 +159,18 @@ pub(crate) fn keepalive(keepalives: Since, message: &MessageBuffer) -> Option<Me
     }
 }
 
-/// The level of a fault of the order, by the parameters of the first SESS_INIT and what came since.
+/// Whether a message changes the parameters of a session in which a transfer or an answer came.
+/// `parameters` are those of the first SESS_INIT.
+#[tactic(auto, using(crate::proofs::Changes::changes_by))]
+fn changes_session(parameters: &Option<Parameters>, session: Since, message: &MessageBuffer) -> bool
+    ensures { (earlier : List Message) → parameters.now ≡ first_parameters earlier
+        → session ≡ session_of earlier
+        → result ≡ changes_session earlier (message_of message.now) }
+{
+    matches!(session, Since::Both) && are_other(parameters, &parameters_of(message))
+}
+
+/// The level of a fault of the order.
 fn order_level(
     parameters: &Option<Parameters>,
     session: Since,
@@ -170,9 +181,10 @@ fn order_level(
         → session ≡ session_of earlier
         → result ≡ order_level earlier (message_of message.now) fault }
 {
-    let changes = session == Since::Both && are_other(parameters, &parameters_of(message));
     match fault {
-        OrderFault::SecondSessInit if !changes => Level::Should,
+        OrderFault::SecondSessInit if !changes_session(parameters, session, message) => {
+            Level::Should
+        }
         _ => Level::Must,
     }
 }

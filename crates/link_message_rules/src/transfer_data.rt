@@ -2,7 +2,7 @@
 
 ghost use Rattle.std.specs.Prelude.{◌≡◌, ℕ, List, Some, Err};
 ghost use Rattle.link_rules.specs.Heads.{unread_of};
-ghost use Rattle.link_message_rules.specs.TransferData.{is_offset, may_be_bundle, data_rule};
+ghost use Rattle.link_message_rules.specs.TransferData.{may_be_bundle, data_rule};
 
 use crate::rule::TransferRule;
 use link_bundle_types::BundleFault;

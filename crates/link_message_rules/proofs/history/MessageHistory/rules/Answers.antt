@@ -8,15 +8,15 @@ returns c before now =
     rw (
       sym c.node_id.ensures,
       sym c.item_flags.ensures,
-      sym c.order.ensures,
-      sym (c.before_session.ensures before now.initiated),
+      sym (c.order.ensures before now.parameters now.session),
+      sym (c.before_session.ensures before now.parameters),
       sym c.interleaved.ensures,
       sym c.segment_flags.ensures,
       sym (c.transfer_id.ensures before now.run),
       sym c.peer_segment.ensures,
       sym (c.peer_transfer.ensures before now.transfer),
       sym (c.ack_length.ensures before now.ack),
-      sym (c.rule.ensures before now.keepalives),
+      sym (c.keepalive.ensures before now.keepalives),
       sym c.term_flags.ensures,
     )
     (c.add_if_broken-12.ensures.items _ (c.add_if_broken-11.ensures.items _ (
