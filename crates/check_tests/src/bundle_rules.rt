@@ -1,5 +1,5 @@
 //! Tests of the rules of bundles, and of walks over heads.
 
 mod bundles;
-mod heads;
+pub(crate) mod heads;
 mod rows;

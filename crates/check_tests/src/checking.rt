@@ -1,6 +1,6 @@
 //! Tests that check worked inputs, at each pace of the devices and step by step.
 
-use crate::rows::{BETWEEN, BUNDLES, FAULTS, ONE_BUNDLE, Row, WHOLE};
+use crate::rows::{BETWEEN, BUNDLES, FAULTS, NOT_READ, ONE_BUNDLE, Row, WHOLE};
 use std::alloc::Global;
 use std::test::Fail;
 use toolkit_tests::running::{Expected, gives, gives_at_each_pace, gives_in_place};
@@ -63,5 +63,6 @@ fn row_in_pieces(alloc: Global, row: &Row) -> Result<(), Fail> {
 #[test]
 fn in_pieces(rt: HostRuntime) -> Result<(), Fail> {
     row_in_pieces(rt.alloc(), &BETWEEN)?;
+    row_in_pieces(rt.alloc(), &NOT_READ)?;
     row_in_pieces(rt.alloc(), &ONE_BUNDLE)
 }

@@ -3,4 +3,5 @@
 mod alone;
 mod judging;
 mod lengths;
+mod second;
 mod together;

@@ -4,7 +4,7 @@
 
 use link_tools::{CheckOptions, PeerLimits};
 use toolkit_tests::running::Tool;
-use toolkit_tests::stream::{NO_ITEMS, NODE, PARAMETERS, Part, SESSION};
+use toolkit_tests::stream::{CONTACT, NO_ITEMS, NODE, PARAMETERS, Part, SESSION};
 
 /// An input, and the result of `check` for it.
 #[derive(Clone, Copy)]
@@ -70,12 +70,21 @@ const WRONG_FRONT: &[u8] = b"\x9f\x89\x07\x08\x01\x82\x02\x82\x02";
 const WRONG_BACK: &[u8] =
     b"\x01\x82\x02\x82\x01\x01\x82\x01\x00\x82\x00\x00\x00\x42\x7b\x97\x85\x01\x01\x00\x00\x41x\xff";
 
-/// A bundle that breaks 14 rules, which is as many as one bundle can break.
+/// The bundle of `CLEAN_FRONT` and `CLEAN_BACK` up to its check value, without its first 9 bytes.
+const TO_CHECK: &[u8] = b"\x01\x82\x02\x82\x01\x01\x82\x01\x00\x82\x01\x00\x00";
+
+/// The bytes after those, up to the head of the payload.
+const TO_PAYLOAD: &[u8] = b"\x42\x1d\x01\x85\x01\x01\x00\x00";
+
+/// Tag 55799 (RFC 8949 section 3.4.6).
+const TAG: &[u8] = b"\xd9\xd9\xf7";
+
+/// A bundle that breaks 17 rules, which is as many as one bundle can break: 77 bytes.
 const EVERY_RULE: &[&[u8]] = &[
     b"\x9f\x8a\x18\x07\x19\x40\x0b\x00\x82\x01\x61n\x82\x01\x00\x82\x01\x00\x82\x00",
-    b"\x00\x00\x00\x01\x85\x06\x02\x00\x00\x41\x00\x85\x06\x03\x00\x00\x43\x82\x01\x00",
-    b"\x85\x0a\x04\x0a\x00\x43\x82\x00\x01\x85\x0a\x05\x00\x00\x40\x85\x01\x01\x00\x00",
-    b"\x41x\xff",
+    b"\x00\x00\x00\x00\x85\x06\x02\x00\x00\x41\x00\x85\x06\x03\x00\x00\x41\x9f",
+    b"\x85\x0a\x04\x0a\x00\x43\x82\x00\x01\x85\x0a\x05\x00\x00\x40\x85\x0c\x06\x00\x00",
+    b"\x4b\x81\x00\x02\x00\x82\x02\x82\x01\x01\x81\x80\x85\x01\x01\x00\x00\x40\xff",
 ];
 
 /// A SESS_TERM without flags (RFC 9174 section 6.1).
@@ -86,6 +95,13 @@ const WRONG_TERM: &[&[u8]] = &[b"\x05\x02\x00"];
 
 /// Another SESS_INIT.
 const INIT: &[&[u8]] = &[PARAMETERS, NODE, NO_ITEMS];
+
+/// A SESS_INIT with another interval.
+const OTHER_INIT: &[&[u8]] = &[
+    b"\x07\x00\x1e\x00\x00\x00\x00\x00\x01\x00\x00\x00\x00\x00\x00\x00\x10\x00\x00",
+    NODE,
+    NO_ITEMS,
+];
 
 /// The lines of a SESS_INIT, of a contact header and of a KEEPALIVE before it.
 pub const BEGINNING: Row = Row {
@@ -162,8 +178,119 @@ pub const BETWEEN: Row = Row {
     status: 1,
 };
 
+/// The same START of a bundle that breaks every rule. No step writes more lines.
+const MOST_LINES: Row = Row {
+    name: "the most lines of a step",
+    tool: Tool::Check(CheckOptions {
+        must: false,
+        peer: PeerLimits {
+            segment: Some(76),
+            transfer: Some(0),
+        },
+    }),
+    input: &[
+        Part::Bytes(SESSION),
+        Part::Segment(3, 5, &[]),
+        Part::Segment(2, 6, &[]),
+        Part::Bytes(WRONG_TERM),
+        Part::Bytes(&[
+            b"\x01\x0b\x00\x00\x00\x00\x00\x00\x00\x05\x00\x00\x00\x1f",
+            b"\x00\x00\x01\x00\x08\x00\x00\x00\x00\x00\x00\x00\x09",
+            b"\x00\x00\x01\x00\x08\x00\x00\x00\x00\x00\x00\x00\x09",
+            b"\x10\x00\x02\x00\x00\x00\x00\x00\x00\x00\x00\x00\x4d",
+        ]),
+        Part::Bytes(EVERY_RULE),
+    ],
+    output: &[
+        b"38 must bundle transfer=5 code=B1 byte=0\n",
+        b"82 must term-flags flags=02\n",
+        b"85 must item-flags item=2 flags=10\n",
+        b"85 must order fault=start-after-session-termination\n",
+        b"85 should interleaved id=5 open=6\n",
+        b"85 must segment-flags flags=0b\n",
+        b"85 must transfer-id id=5\n",
+        b"85 must peer-segment length=77 limit=76\n",
+        b"85 must peer-transfer length=77 limit=0\n",
+        b"85 must length-item transfer=5\n",
+        b"85 should length-of-one-segment transfer=5\n",
+        b"85 must long-head transfer=5 byte=2\n",
+        b"85 should bundle-flags transfer=5 flags=400b\n",
+        b"85 must primary-check transfer=5\n",
+        b"85 must anonymous transfer=5 flags=400b\n",
+        b"85 must record-reports transfer=5 flags=400b\n",
+        b"85 must block-reports transfer=5 block=4\n",
+        b"85 should block-flags transfer=5 block=4 flags=0a\n",
+        b"85 must dtn-name transfer=5 of=destination\n",
+        b"85 must fragment transfer=5 offset=0 length=0 total=0\n",
+        b"85 should whole-fragment transfer=5 total=0\n",
+        b"85 must age transfer=5 blocks=0\n",
+        b"85 must previous-node transfer=5 blocks=2\n",
+        b"85 must hop-count transfer=5 blocks=2 limit=0\n",
+        b"85 must confidential-primary transfer=5 block=6\n",
+        b"85 should hops transfer=5 limit=0 count=1\n",
+        b"85 must block-data transfer=5 block=2 byte=30\n",
+        b"85 should data-not-read transfer=5 block=3 byte=37\n",
+    ],
+    report: &[],
+    status: 1,
+};
+
+/// Transfers of data that is no bundle, or that may be one and is not read.
+pub const NOT_READ: Row = Row {
+    name: "data that is not read",
+    tool: ALL,
+    input: &[
+        Part::Bytes(SESSION),
+        // A payload, and a check value, in place of which is another item
+        Part::Segment(
+            3,
+            0,
+            &[CLEAN_FRONT, TO_CHECK, TO_PAYLOAD, b"\x5f\x41x\xff\xff"],
+        ),
+        Part::Segment(3, 1, &[CLEAN_FRONT, TO_CHECK, TO_PAYLOAD, b"\x9f"]),
+        Part::Segment(
+            3,
+            2,
+            &[CLEAN_FRONT, TO_CHECK, TO_PAYLOAD, b"\xd8\x18\x41x\xff"],
+        ),
+        Part::Segment(
+            3,
+            3,
+            &[CLEAN_FRONT, TO_CHECK, TO_PAYLOAD, b"\xd9\x00\x18\x41x\xff"],
+        ),
+        Part::Segment(3, 4, &[CLEAN_FRONT, TO_CHECK, b"\x5f"]),
+        Part::Segment(3, 5, &[CLEAN_FRONT, TO_CHECK, b"\x9f"]),
+        Part::Segment(3, 6, &[CLEAN_FRONT, TO_CHECK, b"\xd8\x18"]),
+        // Tag 55799 before a bundle, and before less than one. No bundle before it counts.
+        Part::Segment(3, 7, &[TAG, CLEAN_FRONT, CLEAN_BACK]),
+        Part::Segment(3, 8, &[b"\xbf"]),
+        Part::Segment(2, 9, &[b"\xd9\xd9"]),
+        Part::Segment(1, 9, &[b"\xf7\x9f"]),
+        Part::Segment(3, 10, &[TAG]),
+        Part::Segment(3, 11, &[TAG, b"\x98"]),
+        Part::Segment(3, 12, &[b"\x9f\x5f"]),
+    ],
+    output: &[
+        b"38 must bundle transfer=0 code=B5 byte=30\n",
+        b"95 should not-read transfer=1 code=B5 byte=30\n",
+        b"148 should not-read transfer=2 code=B5 byte=30\n",
+        b"205 must bundle transfer=3 code=B5 byte=30\n",
+        b"263 must bundle transfer=4 code=B5 byte=22\n",
+        b"308 should not-read transfer=5 code=B5 byte=22\n",
+        b"353 must bundle transfer=6 code=B5 byte=22\n",
+        b"399 should not-read transfer=7 code=B3 byte=0\n",
+        b"457 must bundle transfer=8 code=B3 byte=0\n",
+        b"480 should not-read transfer=9 code=B3 byte=0\n",
+        b"524 must bundle transfer=10 code=B3 byte=0\n",
+        b"549 must bundle transfer=11 code=B3 byte=0\n",
+        b"575 should not-read transfer=12 code=B5 byte=1\n",
+    ],
+    report: &[],
+    status: 1,
+};
+
 /// Recordings that are read to their end.
-pub static WHOLE: [Row; 10] = [
+pub static WHOLE: [Row; 14] = [
     Row {
         name: "order, kept 0",
         tool: ALL,
@@ -179,7 +306,9 @@ pub static WHOLE: [Row; 10] = [
     },
     BEGINNING,
     MOST_RULES,
+    MOST_LINES,
     BETWEEN,
+    NOT_READ,
     Row {
         name: "a wrong length hides no rule of bundles",
         tool: ALL,
@@ -263,6 +392,38 @@ pub static WHOLE: [Row; 10] = [
         report: &[],
         status: 0,
     },
+    Row {
+        name: "a SESS_INIT that changes the session",
+        tool: MUST,
+        input: &[
+            Part::Bytes(SESSION),
+            Part::Bytes(OTHER_INIT),
+            Part::Segment(3, 0, &[CLEAN_FRONT, CLEAN_BACK]),
+            Part::Bytes(OTHER_INIT),
+            Part::Bytes(INIT),
+        ],
+        output: &[b"125 must order fault=second-session-initiation\n"],
+        report: &[],
+        status: 1,
+    },
+    Row {
+        name: "a SESS_INIT amid a transfer",
+        tool: MUST,
+        input: &[
+            Part::Bytes(&[CONTACT]),
+            Part::Segment(2, 0, &[CLEAN_FRONT]),
+            Part::Bytes(INIT),
+            Part::Segment(0, 0, &[TO_CHECK]),
+            Part::Bytes(OTHER_INIT),
+            Part::Segment(1, 0, &[TO_PAYLOAD, b"\x41x\xff"]),
+        ],
+        output: &[
+            b"6 must order fault=segment-before-session-initiation\n",
+            b"100 must order fault=second-session-initiation\n",
+        ],
+        report: &[],
+        status: 1,
+    },
 ];
 
 /// A segment whose last byte is missing.
@@ -331,12 +492,15 @@ pub const ONE_BUNDLE: Row = Row {
         b"0 must block-reports bundle=0 block=4\n",
         b"0 should block-flags bundle=0 block=4 flags=0a\n",
         b"0 must dtn-name bundle=0 of=destination\n",
-        b"0 must fragment bundle=0 offset=0 length=1 total=1\n",
+        b"0 must fragment bundle=0 offset=0 length=0 total=0\n",
+        b"0 should whole-fragment bundle=0 total=0\n",
         b"0 must age bundle=0 blocks=0\n",
-        b"0 should previous-node bundle=0 blocks=2\n",
+        b"0 must previous-node bundle=0 blocks=2\n",
         b"0 must hop-count bundle=0 blocks=2 limit=0\n",
+        b"0 must confidential-primary bundle=0 block=6\n",
         b"0 should hops bundle=0 limit=0 count=1\n",
         b"0 must block-data bundle=0 block=2 byte=30\n",
+        b"0 should data-not-read bundle=0 block=3 byte=37\n",
     ],
     report: &[],
     status: 1,
@@ -363,7 +527,7 @@ pub const BAD_BUNDLE: Row = Row {
 };
 
 /// Bundles, one after another.
-pub static BUNDLES: [Row; 5] = [
+pub static BUNDLES: [Row; 6] = [
     ONE_BUNDLE,
     BAD_BUNDLE,
     Row {
@@ -381,6 +545,23 @@ pub static BUNDLES: [Row; 5] = [
             b"33 should bundle-flags bundle=1 flags=08\n",
             b"33 must age bundle=1 blocks=0\n",
         ],
+        report: &[],
+        status: 1,
+    },
+    // The first bundle has an age that is ciphertext, and the second one an age that is none.
+    Row {
+        name: "targets of the bundle before",
+        tool: BUNDLES_ALONE,
+        input: &[Part::Bytes(&[
+            CLEAN_FRONT,
+            TO_CHECK,
+            b"\x42\x1d\x01\x85\x07\x02\x00\x00\x40\x85\x0c\x09\x00\x00\x4b\x81\x02\x02\x00\x82\x02",
+            b"\x82\x01\x01\x81\x80\x85\x01\x01\x00\x00\x41x\xff",
+            CLEAN_FRONT,
+            TO_CHECK,
+            b"\x42\x1d\x01\x85\x07\x02\x00\x00\x40\x85\x01\x01\x00\x00\x41x\xff",
+        ])],
+        output: &[b"56 must block-data bundle=1 block=2 byte=31\n"],
         report: &[],
         status: 1,
     },

@@ -1,19 +1,26 @@
 //! The rules that bundles break, by the blocks that a scan finds in them.
 ghost use Rattle.std.specs.Prelude.{◌+◌, ◌-◌, ◌^◌, ◌<◌, ◌≤◌, length};
 
-use super::rows::{ROWS, Row};
-use link_block_data::{DataKind, DataScan, DataView};
+use super::rows::Row;
+use super::rows::blocks::BLOCKS;
+use super::rows::data::DATA;
+use super::rows::primary::PRIMARY;
+use super::rows::together::TOGETHER;
+use link_block_data::{DataFault, DataKind, DataScan, DataView};
 use link_block_report::data_kind;
 use link_bundle::{BlockView, BundleScan, CanonicalBlock, State};
 use link_bundle_rules::{BundleHistory, ReadBlockView};
 use link_cbor::Piecewise;
+use link_rules::HeadWalk;
 use std::process::Abort;
 
-/// The first block of a bundle that is scanned, and those after it.
-#[derive(Clone, Copy)]
-struct Taken {
-    history: BundleHistory,
-    flags: u64,
+/// The parts of a bundle, joined.
+fn joined(rt: &(impl Abort + AllocGlobal), parts: &[&[u8]]) -> Vec<u8> {
+    let mut bytes = Vec::new(rt.alloc());
+    for part in parts {
+        bytes.extend_from_slice(part).expect(rt, "memory");
+    }
+    bytes
 }
 
 /// The bytes of a block's data.
@@ -28,7 +35,7 @@ fn data_of<'a>(rt: &impl Abort, bytes: &'a [u8], block: &CanonicalBlock) -> &'a 
 }
 
 /// What the scanned data says, if data of this kind is read.
-fn found(kind: Option<DataKind>, scan: &DataScan) -> Option<Result<DataView<'_>, u64>> {
+fn found(kind: Option<DataKind>, scan: &DataScan) -> Option<Result<DataView<'_>, DataFault>> {
     match kind {
         Some(_) => Some(scan.view()),
         None => None,
@@ -48,58 +55,107 @@ fn take_scanned(
     });
 }
 
-/// Takes a canonical block of a bundle.
-fn take_block(rt: &impl Abort, bytes: &[u8], block: &CanonicalBlock, taken: &mut Taken) {
-    let kind = data_kind(taken.flags, block.block_type);
+/// Takes a canonical block of a bundle with these flags.
+fn take_block(
+    rt: &impl Abort,
+    bytes: &[u8],
+    flags: u64,
+    block: &CanonicalBlock,
+    history: &mut BundleHistory,
+) {
+    let kind = data_kind(flags, block.block_type);
     let mut scan = DataScan::new(kind.unwrap_or(DataKind::Record));
     scan.take(data_of(rt, bytes, block));
-    take_scanned(block, kind, &scan, &mut taken.history);
+    take_scanned(block, kind, &scan, history);
 }
 
-/// Takes the block that ends with the bytes scanned, if one does.
+/// Takes the block that ends with the bytes scanned, if one does. Returns the flags of the bundle.
 fn take_ended(
     rt: &impl Abort,
     bytes: &[u8],
+    flags: u64,
     scan: &BundleScan,
-    taken: Option<Taken>,
-) -> Option<Taken> {
-    match (scan.ended_block(), taken) {
-        (Some(BlockView::Primary(block)), _) => Some(Taken {
-            history: BundleHistory::begin(&block),
-            flags: block.flags,
-        }),
-        (Some(BlockView::Canonical(block)), Some(mut taken)) => {
-            take_block(rt, bytes, &block, &mut taken);
-            Some(taken)
+    history: &mut BundleHistory,
+) -> u64 {
+    match scan.ended_block() {
+        Some(BlockView::Primary(block)) => {
+            history.begin(&block);
+            block.flags
         }
-        (_, taken) => taken,
+        Some(BlockView::Canonical(block)) => {
+            take_block(rt, bytes, flags, &block, history);
+            flags
+        }
+        None => flags,
     }
+}
+
+/// Takes the blocks of a bundle, and returns the length of its payload.
+fn take_bundle(
+    rt: &impl Abort,
+    bytes: &[u8],
+    scan: &mut BundleScan,
+    history: &mut BundleHistory,
+) -> u64 {
+    scan.restart();
+    let mut flags = 0;
+    for byte in bytes {
+        assert!(rt; scan.going() && scan.count() < 100_000);
+        scan.step(*byte);
+        flags = take_ended(rt, bytes, flags, scan, history);
+    }
+    match scan.view() {
+        Ok(bundle) => bundle.payload,
+        Err(fault) => panic!(rt; "{fault:?} in {bytes:?}"),
+    }
+}
+
+/// The offset of the first head of a bundle that is longer than its number needs.
+fn first_long_head(bytes: &[u8]) -> Option<u64> {
+    let mut walk = HeadWalk::new();
+    walk.take(bytes);
+    walk.first_long()
 }
 
 /// Compares the rules that a bundle breaks with those that it has to break.
-fn expect(rt: &impl Abort, scan: &mut BundleScan, row: &Row) {
-    scan.restart();
-    let mut taken = None;
-    for byte in row.bytes {
-        assert!(rt; scan.going() && scan.count() < 100_000);
-        scan.step(*byte);
-        taken = take_ended(rt, row.bytes, scan, taken);
+fn expect(
+    rt: &(impl Abort + AllocGlobal),
+    scan: &mut BundleScan,
+    history: &mut BundleHistory,
+    row: &Row,
+) {
+    let (parts, wanted) = *row;
+    let bytes = joined(rt, parts);
+    let payload_length = take_bundle(rt, &bytes, scan, history);
+    let broken = history.rules(first_long_head(&bytes), payload_length);
+    assert_eq!(rt; broken.as_slice(), wanted, "{:?}", bytes.as_slice());
+}
+
+/// Compares the rules of each bundle. One history takes all bundles, one after another.
+fn expect_all(rt: &(impl Abort + AllocGlobal), rows: &[Row]) {
+    let mut scan = BundleScan::new();
+    let mut history = BundleHistory::new();
+    for row in rows {
+        expect(rt, &mut scan, &mut history, row);
     }
-    let payload_length = match scan.view() {
-        Ok(bundle) => bundle.payload,
-        Err(fault) => panic!(rt; "{fault:?} in {:?}", row.bytes),
-    };
-    let Some(taken) = taken else {
-        panic!(rt; "no block in {:?}", row.bytes);
-    };
-    let broken = taken.history.rules(row.long_head, payload_length);
-    assert_eq!(rt; broken.as_slice(), row.broken.as_slice(), "{:?}", row.bytes);
 }
 
 #[test]
-fn each_row_breaks_its_rule(rt: HostRuntime) {
-    let mut scan = BundleScan::new();
-    for row in &ROWS {
-        expect(&rt, &mut scan, row);
-    }
+fn judges_primary_blocks(rt: HostRuntime) {
+    expect_all(&rt, &PRIMARY);
+}
+
+#[test]
+fn judges_blocks(rt: HostRuntime) {
+    expect_all(&rt, &BLOCKS);
+}
+
+#[test]
+fn judges_data_of_blocks(rt: HostRuntime) {
+    expect_all(&rt, &DATA);
+}
+
+#[test]
+fn judges_rules_together(rt: HostRuntime) {
+    expect_all(&rt, &TOGETHER);
 }

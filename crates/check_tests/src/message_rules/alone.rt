@@ -2,9 +2,10 @@
 //!
 //! Each row has the messages of a recording that tests/rows has for `check`, and its rules.
 
-use super::judging::{BOTH, END, INIT, NO_LIMITS, NODE, NONE, Row, START, Sent};
+use super::judging::{
+    BOTH, EARLY, END, INIT, LATE, NO_LIMITS, NODE, NONE, Row, START, STRAY, Sent,
+};
 use link_message_rules::{Level, MessageRule as Rule, PeerLimits};
-use link_transfer::OrderFault;
 
 /// Node IDs.
 pub static NODE_IDS: [Row; 15] = [
@@ -201,39 +202,32 @@ pub static ORDER: [Row; 12] = [
     Row {
         name: "order, broken 0",
         limits: NO_LIMITS,
-        sent: &[Sent::Segment(BOTH, 0, NONE, 33), INIT],
-        broken: &[(
-            0,
-            Level::Must,
-            Rule::Order(OrderFault::SegmentBeforeSessInit),
-        )],
+        sent: &[Sent::Segment(BOTH, 0, NONE, 33)],
+        broken: &[(0, Level::Must, EARLY)],
     },
     Row {
         name: "order, broken 1",
         limits: NO_LIMITS,
-        sent: &[INIT, Sent::Segment(END, 0, NONE, 0)],
-        broken: &[(1, Level::Must, Rule::Order(OrderFault::NoSuchOpenTransfer))],
+        sent: &[Sent::Segment(BOTH, 0, NONE, 33), INIT],
+        broken: &[(0, Level::Must, EARLY)],
     },
     Row {
         name: "order, broken 2",
         limits: NO_LIMITS,
-        sent: &[INIT, Sent::Term(0x00), Sent::Segment(BOTH, 0, NONE, 33)],
-        broken: &[(2, Level::Must, Rule::Order(OrderFault::StartAfterSessTerm))],
+        sent: &[Sent::Segment(END, 0, NONE, 0)],
+        broken: &[(0, Level::Must, EARLY)],
     },
     Row {
         name: "order, broken 3",
         limits: NO_LIMITS,
-        sent: &[INIT, INIT],
-        broken: &[(1, Level::Should, Rule::Order(OrderFault::SecondSessInit))],
+        sent: &[INIT, Sent::Segment(END, 0, NONE, 0)],
+        broken: &[(1, Level::Must, STRAY)],
     },
     Row {
         name: "order, broken 4",
         limits: NO_LIMITS,
-        sent: &[INIT, INIT, INIT],
-        broken: &[
-            (1, Level::Should, Rule::Order(OrderFault::SecondSessInit)),
-            (2, Level::Should, Rule::Order(OrderFault::SecondSessInit)),
-        ],
+        sent: &[INIT, Sent::Term(0x00), Sent::Segment(BOTH, 0, NONE, 33)],
+        broken: &[(2, Level::Must, LATE)],
     },
     Row {
         name: "order, kept 0",

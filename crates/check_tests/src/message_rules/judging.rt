@@ -7,7 +7,7 @@ ghost use Rattle.link_wire.specs.MessageBuffer.{SegmentHasTotals};
 use link_message_rules::{
     JudgedHeadView, Level, MessageHistory, MessageRule, PeerLimits, contact_flags,
 };
-use link_transfer::{Event, Joiner};
+use link_transfer::{Event, Joiner, OrderFault};
 use link_wire::{Contact, Fields, Item, Items, MessageBuffer, NodeId};
 use std::process::Abort;
 
@@ -29,11 +29,63 @@ pub const NODE: &[u8] = b"ipn:1.0";
 /// The first message of most recordings.
 pub const INIT: Sent = Sent::Init(60, NODE, NONE);
 
+/// A SESS_INIT with another interval than most.
+pub const OTHER_INTERVAL: Sent = Sent::Other(30, SEGMENT_MRU, TRANSFER_MRU);
+
+/// A SESS_INIT with another segment MRU.
+pub const OTHER_SEGMENT: Sent = Sent::Other(60, 65_537, TRANSFER_MRU);
+
+/// A SESS_INIT with another transfer MRU.
+pub const OTHER_TRANSFER: Sent = Sent::Other(60, SEGMENT_MRU, 1_048_575);
+
+/// The MRUs of most SESS_INITs.
+const SEGMENT_MRU: u64 = 65_536;
+
+const TRANSFER_MRU: u64 = 1_048_576;
+
+/// A second SESS_INIT that changes the session.
+pub const CHANGED: MessageRule = MessageRule::Order {
+    fault: OrderFault::SecondSessInit,
+    level: Level::Must,
+};
+
+/// Any other second SESS_INIT.
+pub const REPEATED: MessageRule = MessageRule::Order {
+    fault: OrderFault::SecondSessInit,
+    level: Level::Should,
+};
+
+/// A segment before the first SESS_INIT.
+pub const EARLY: MessageRule = MessageRule::Order {
+    fault: OrderFault::SegmentBeforeSessInit,
+    level: Level::Must,
+};
+
+/// A segment of a transfer that is not open.
+pub const STRAY: MessageRule = MessageRule::Order {
+    fault: OrderFault::NoSuchOpenTransfer,
+    level: Level::Must,
+};
+
+/// A START of the open transfer.
+pub const RESTARTED: MessageRule = MessageRule::Order {
+    fault: OrderFault::StartRepeatsOpenId,
+    level: Level::Must,
+};
+
+/// A START after a SESS_TERM.
+pub const LATE: MessageRule = MessageRule::Order {
+    fault: OrderFault::StartAfterSessTerm,
+    level: Level::Must,
+};
+
 /// A message.
 #[derive(Clone, Copy, Debug)]
 pub enum Sent {
     /// A SESS_INIT: its interval, node ID and items.
     Init(u16, &'static [u8], &'static [ItemOf]),
+    /// A SESS_INIT: its interval, segment MRU and transfer MRU.
+    Other(u16, u64, u64),
     /// An XFER_SEGMENT: its flags, ID and items, and the length of its data.
     Segment(u8, u64, &'static [ItemOf], u64),
     /// An XFER_ACK: its flags, ID and length.
@@ -98,8 +150,13 @@ fn fields_of(sent: Sent) -> Fields {
     match sent {
         Sent::Init(keepalive, _, _) => Fields::SessInit {
             keepalive,
-            segment_mru: 65_536,
-            transfer_mru: 1_048_576,
+            segment_mru: SEGMENT_MRU,
+            transfer_mru: TRANSFER_MRU,
+        },
+        Sent::Other(keepalive, segment_mru, transfer_mru) => Fields::SessInit {
+            keepalive,
+            segment_mru,
+            transfer_mru,
         },
         Sent::Segment(flags, id, _, length) => Fields::Segment { flags, id, length },
         Sent::Ack(flags, id, length) => Fields::Ack { flags, id, length },
@@ -179,6 +236,13 @@ fn judges_flags(rt: HostRuntime) {
 #[test]
 fn judges_order(rt: HostRuntime) {
     for row in &super::alone::ORDER {
+        judge(&rt, row);
+    }
+}
+
+#[test]
+fn judges_second_sess_inits(rt: HostRuntime) {
+    for row in &super::second::SECOND {
         judge(&rt, row);
     }
 }

@@ -3,6 +3,7 @@
 //! Each row has a transfer of a recording that tests/rows has for `check`, and its rules.
 
 use super::judging::{BOTH, ItemOf, NONE, START, items_of};
+use crate::bundle_rules::heads::{Seen, unread_of};
 use link_bundle_types::BundleFault;
 use link_message_rules::{Level, Opening, TransferRule, data_rule};
 use link_wire::{Fields, MessageBuffer, NodeId};
@@ -116,42 +117,61 @@ fn has_the_levels_of_the_table(rt: HostRuntime) {
     }
 }
 
-/// A fault of data and its offset, the offset of the first head of indefinite length after that of
-/// the bundle, and whether the data may be a bundle.
-type DataRow = (BundleFault, u64, Option<u64>, bool);
+/// A fault of data and its offset, where the data has heads that are not read, and whether the data
+/// may be a bundle.
+type DataRow = (BundleFault, u64, Seen, bool);
 
-static DATA: [DataRow; 20] = [
-    (BundleFault::NotABundle, 0, None, false),
-    (BundleFault::Trailing, 33, None, false),
-    (BundleFault::BadHead, 2, None, false),
-    (BundleFault::NoPayloadLast, 32, Some(32), false),
-    (BundleFault::WrongKind, 30, None, false),
-    (BundleFault::WrongKind, 1, None, false),
-    (BundleFault::WrongKind, 30, Some(30), true),
-    (BundleFault::WrongKind, 1, Some(1), true),
-    (BundleFault::WrongKind, 2, Some(2), true),
-    (BundleFault::WrongKind, 30, Some(31), false),
-    (BundleFault::BadSpecificPart, 7, None, false),
-    (BundleFault::BadSpecificPart, 7, Some(7), true),
-    (BundleFault::BadSpecificPart, 7, Some(8), false),
-    (BundleFault::BadScheme, 6, None, true),
-    (BundleFault::BadScheme, 6, Some(9), true),
-    (BundleFault::EidTooLong, 7, None, true),
-    (BundleFault::TooManyBlocks, 451, None, true),
-    (BundleFault::CheckDiffers, 22, Some(22), false),
-    (BundleFault::BadCount, 1, Some(1), false),
-    (BundleFault::BadCheckType, 4, Some(4), false),
+static DATA: [DataRow; 35] = [
+    (BundleFault::NotABundle, 0, Seen::Nothing, false),
+    (BundleFault::NotABundle, 0, Seen::Tagged, true),
+    (BundleFault::Trailing, 33, Seen::Nothing, false),
+    (BundleFault::BadHead, 2, Seen::Nothing, false),
+    (BundleFault::NoPayloadLast, 32, Seen::Item(32), false),
+    // An item of indefinite length, at the fault and elsewhere
+    (BundleFault::WrongKind, 25, Seen::Nothing, false),
+    (BundleFault::WrongKind, 25, Seen::String(25), true),
+    (BundleFault::WrongKind, 25, Seen::Item(25), true),
+    (BundleFault::WrongKind, 25, Seen::Item(26), false),
+    (BundleFault::WrongKind, 25, Seen::String(24), false),
+    (BundleFault::WrongKind, 25, Seen::Encoded(25), false),
+    (BundleFault::WrongKind, 1, Seen::Item(1), true),
+    (BundleFault::BadSpecificPart, 7, Seen::Nothing, false),
+    (BundleFault::BadSpecificPart, 7, Seen::String(7), true),
+    (BundleFault::BadSpecificPart, 7, Seen::Item(7), true),
+    (BundleFault::BadSpecificPart, 7, Seen::Item(8), false),
+    (BundleFault::BadSpecificPart, 7, Seen::Encoded(7), false),
+    // The same in place of a block's data, and of a check value
+    (BundleFault::WrongDataKind, 30, Seen::Nothing, false),
+    (BundleFault::WrongDataKind, 30, Seen::String(30), false),
+    (BundleFault::WrongDataKind, 30, Seen::Item(30), true),
+    (BundleFault::WrongDataKind, 30, Seen::Item(31), false),
+    (BundleFault::WrongDataKind, 30, Seen::Encoded(30), true),
+    (BundleFault::WrongDataKind, 30, Seen::Encoded(22), false),
+    (BundleFault::WrongCheckKind, 22, Seen::Nothing, false),
+    (BundleFault::WrongCheckKind, 22, Seen::String(22), false),
+    (BundleFault::WrongCheckKind, 22, Seen::Item(22), true),
+    (BundleFault::WrongCheckKind, 22, Seen::Encoded(22), false),
+    // Limits, wherever they are
+    (BundleFault::BadScheme, 6, Seen::Nothing, true),
+    (BundleFault::BadScheme, 6, Seen::Item(9), true),
+    (BundleFault::EidTooLong, 7, Seen::Nothing, true),
+    (BundleFault::TooManyBlocks, 451, Seen::Nothing, true),
+    // Faults that no item of indefinite length explains
+    (BundleFault::CheckDiffers, 22, Seen::Item(22), false),
+    (BundleFault::BadCheckLength, 22, Seen::String(22), false),
+    (BundleFault::BadCount, 1, Seen::Item(1), false),
+    (BundleFault::BadCheckType, 4, Seen::Item(4), false),
 ];
 
 #[test]
 fn judges_the_data_of_transfers(rt: HostRuntime) {
-    for &(fault, byte, indefinite, may_be) in &DATA {
+    for &(fault, byte, seen, may_be) in &DATA {
         let wanted = if may_be {
             TransferRule::NotRead { fault, byte }
         } else {
             TransferRule::Bundle { fault, byte }
         };
-        let found = data_rule(fault, byte, indefinite);
-        assert_eq!(rt; found, wanted, "{fault:?} {indefinite:?}");
+        let found = data_rule(fault, byte, &unread_of(seen));
+        assert_eq!(rt; found, wanted, "{fault:?} {seen:?}");
     }
 }

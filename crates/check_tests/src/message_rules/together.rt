@@ -2,9 +2,10 @@
 //!
 //! Each row has the messages of a recording that tests/rows has for `check`, and its rules.
 
-use super::judging::{BOTH, END, INIT, NO_LIMITS, NODE, NONE, Row, START, Sent};
+use super::judging::{
+    BOTH, END, INIT, LATE, NO_LIMITS, NODE, NONE, REPEATED, RESTARTED, Row, START, STRAY, Sent,
+};
 use link_message_rules::{Level, MessageRule as Rule, PeerLimits};
-use link_transfer::OrderFault;
 
 /// Several rules that one message breaks.
 pub static SEVERAL: [Row; 5] = [
@@ -48,7 +49,7 @@ pub static SEVERAL: [Row; 5] = [
                     flags: 0x10,
                 },
             ),
-            (4, Level::Must, Rule::Order(OrderFault::StartAfterSessTerm)),
+            (4, Level::Must, LATE),
             (4, Level::Should, Rule::Interleaved { id: 5, open: 6 }),
             (4, Level::Must, Rule::SegmentFlags { flags: 0x0b }),
             (4, Level::Must, Rule::TransferId { id: 5 }),
@@ -83,7 +84,7 @@ pub static SEVERAL: [Row; 5] = [
             Sent::Segment(END, 0, NONE, 24),
         ],
         broken: &[
-            (2, Level::Must, Rule::Order(OrderFault::NoSuchOpenTransfer)),
+            (2, Level::Must, STRAY),
             (2, Level::Must, Rule::SegmentFlags { flags: 0x41 }),
             (
                 2,
@@ -139,7 +140,7 @@ pub static TRANSFERS: [Row; 5] = [
             Sent::Segment(BOTH, 0, NONE, 33),
         ],
         broken: &[
-            (2, Level::Must, Rule::Order(OrderFault::StartRepeatsOpenId)),
+            (2, Level::Must, RESTARTED),
             (2, Level::Must, Rule::TransferId { id: 0 }),
         ],
     },
@@ -163,7 +164,7 @@ pub static TRANSFERS: [Row; 5] = [
             Sent::Segment(BOTH, 2, NONE, 33),
         ],
         broken: &[
-            (2, Level::Must, Rule::Order(OrderFault::NoSuchOpenTransfer)),
+            (2, Level::Must, STRAY),
             (2, Level::Must, Rule::SegmentFlags { flags: 0x41 }),
             (3, Level::Should, Rule::Interleaved { id: 2, open: 0 }),
         ],
@@ -179,8 +180,8 @@ pub static TRANSFERS: [Row; 5] = [
         ],
         broken: &[
             (1, Level::Must, Rule::TermFlags { flags: 0x02 }),
-            (2, Level::Must, Rule::Order(OrderFault::StartAfterSessTerm)),
-            (3, Level::Must, Rule::Order(OrderFault::StartAfterSessTerm)),
+            (2, Level::Must, LATE),
+            (3, Level::Must, LATE),
             (3, Level::Must, Rule::TransferId { id: 7 }),
         ],
     },
@@ -230,7 +231,7 @@ pub static ONCE: [Row; 5] = [
                     limit: 8,
                 },
             ),
-            (2, Level::Must, Rule::Order(OrderFault::NoSuchOpenTransfer)),
+            (2, Level::Must, STRAY),
             (2, Level::Must, Rule::SegmentFlags { flags: 0x41 }),
         ],
     },
@@ -287,9 +288,9 @@ pub static ONCE: [Row; 5] = [
             Sent::Keepalive,
         ],
         broken: &[
-            (2, Level::Should, Rule::Order(OrderFault::SecondSessInit)),
+            (2, Level::Should, REPEATED),
             (3, Level::Should, Rule::Keepalive),
-            (5, Level::Should, Rule::Order(OrderFault::SecondSessInit)),
+            (5, Level::Should, REPEATED),
         ],
     },
 ];
@@ -372,12 +373,12 @@ pub static FAULTS: [Row; 6] = [
         name: "lines before a fault",
         limits: NO_LIMITS,
         sent: &[INIT, Sent::Keepalive, INIT],
-        broken: &[(2, Level::Should, Rule::Order(OrderFault::SecondSessInit))],
+        broken: &[(2, Level::Should, REPEATED)],
     },
     Row {
         name: "every level",
         limits: NO_LIMITS,
         sent: &[INIT, Sent::Segment(BOTH, 0, NONE, 33), INIT],
-        broken: &[(2, Level::Should, Rule::Order(OrderFault::SecondSessInit))],
+        broken: &[(2, Level::Should, REPEATED)],
     },
 ];

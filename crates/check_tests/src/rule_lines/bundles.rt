@@ -1,13 +1,13 @@
 //! The lines of the rules of bundles. They are those of tests/rows.
 
 use super::messages::{MAX, expect};
-use link_bundle_rules::{BundleRule as Rule, Endpoint};
+use link_bundle_rules::{BundleRule as Rule, Endpoint, Level};
 use link_rule_report::{BrokenRule, BundlePlace};
 
 /// A rule, and the line of a bundle that breaks it. The bundle is the first of an input.
 type Row = (Rule, &'static str);
 
-static ROWS: [Row; 24] = [
+static ROWS: [Row; 28] = [
     (
         Rule::LongHead { byte: 2 },
         "0 must long-head bundle=0 byte=2\n",
@@ -24,7 +24,16 @@ static ROWS: [Row; 24] = [
         Rule::BundleFlags { flags: MAX },
         "0 should bundle-flags bundle=0 flags=ffffffffffffffff\n",
     ),
-    (Rule::PrimaryCheck, "0 must primary-check bundle=0\n"),
+    (
+        Rule::PrimaryCheck { level: Level::Must },
+        "0 must primary-check bundle=0\n",
+    ),
+    (
+        Rule::PrimaryCheck {
+            level: Level::Should,
+        },
+        "0 should primary-check bundle=0\n",
+    ),
     (
         Rule::Anonymous { flags: 0 },
         "0 must anonymous bundle=0 flags=00\n",
@@ -81,10 +90,27 @@ static ROWS: [Row; 24] = [
         },
         "0 must fragment bundle=0 offset=2 length=1 total=3\n",
     ),
-    (Rule::Age { blocks: 0 }, "0 must age bundle=0 blocks=0\n"),
+    (
+        Rule::WholeFragment { total: 300 },
+        "0 should whole-fragment bundle=0 total=300\n",
+    ),
+    (
+        Rule::Age {
+            blocks: 0,
+            level: Level::Must,
+        },
+        "0 must age bundle=0 blocks=0\n",
+    ),
+    (
+        Rule::Age {
+            blocks: 0,
+            level: Level::Should,
+        },
+        "0 should age bundle=0 blocks=0\n",
+    ),
     (
         Rule::PreviousNode { blocks: 2 },
-        "0 should previous-node bundle=0 blocks=2\n",
+        "0 must previous-node bundle=0 blocks=2\n",
     ),
     (
         Rule::HopCount {
@@ -111,6 +137,10 @@ static ROWS: [Row; 24] = [
     (
         Rule::BlockData { block: 3, byte: 38 },
         "0 must block-data bundle=0 block=3 byte=38\n",
+    ),
+    (
+        Rule::DataNotRead { block: 1, byte: 45 },
+        "0 should data-not-read bundle=0 block=1 byte=45\n",
     ),
     (
         Rule::Record { byte: 32 },

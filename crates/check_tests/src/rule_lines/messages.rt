@@ -1,6 +1,6 @@
 //! The lines of the rules of messages. They are those of tests/rows.
 
-use link_message_rules::MessageRule as Rule;
+use link_message_rules::{Level, MessageRule as Rule};
 use link_rule_report::{BrokenRule, RuleText};
 use link_transfer::OrderFault;
 use link_wire::{TEXT_MAX, Text};
@@ -123,37 +123,50 @@ fn has_lines_of_messages(rt: HostRuntime) {
     }
 }
 
-static FAULTS: [(u64, OrderFault, &str); 5] = [
+/// The offset of a message, a fault of the order with its level, and the line.
+static FAULTS: [(u64, OrderFault, Level, &str); 6] = [
     (
         38,
         OrderFault::SecondSessInit,
+        Level::Should,
         "38 should order fault=second-session-initiation\n",
+    ),
+    (
+        93,
+        OrderFault::SecondSessInit,
+        Level::Must,
+        "93 must order fault=second-session-initiation\n",
     ),
     (
         6,
         OrderFault::SegmentBeforeSessInit,
+        Level::Must,
         "6 must order fault=segment-before-session-initiation\n",
     ),
     (
         38,
         OrderFault::NoSuchOpenTransfer,
+        Level::Must,
         "38 must order fault=no-such-open-transfer\n",
     ),
     (
         69,
         OrderFault::StartRepeatsOpenId,
+        Level::Must,
         "69 must order fault=start-repeats-the-open-transfer\n",
     ),
     (
         41,
         OrderFault::StartAfterSessTerm,
+        Level::Must,
         "41 must order fault=start-after-session-termination\n",
     ),
 ];
 
 #[test]
 fn has_lines_of_faults_of_the_order(rt: HostRuntime) {
-    for &(offset, fault, want) in &FAULTS {
-        expect(&rt, offset, BrokenRule::Message(Rule::Order(fault)), want);
+    for &(offset, fault, level, want) in &FAULTS {
+        let rule = Rule::Order { fault, level };
+        expect(&rt, offset, BrokenRule::Message(rule), want);
     }
 }
