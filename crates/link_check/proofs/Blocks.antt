@@ -1,5 +1,5 @@
 -- The whole blocks of a bundle, and what a reader keeps of them, when more bytes follow.
-use Rattle.std.proofs.Common.{◌≡◌, ℕ, suc, ◌+◌, ◌<◌, ◌≤◌, ◌⊎◌, Bool, true, false, List, [], ◌∷◌, ◌++◌, length, Option, Some, None, fold, All, refl, ap, sym, ◌∙◌, ⊎_elim, append-nil, length-append, arith}
+use Rattle.std.proofs.Common.{◌≡◌, ℕ, ◌+◌, ◌<◌, ◌⊎◌, Bool, true, false, List, [], ◌∷◌, ◌++◌, length, Option, Some, None, fold, All, refl, ap, sym, ◌∙◌, ⊎_elim, append-nil, length-append, arith}
 use Rattle.std.proofs.lemmas.Grind.{fold-append}
 use Rattle.link_cbor.specs.declared.check.CheckKind.{CheckKind}
 use Rattle.link_bundle_types.specs.declared.info.BundleInfo.{BundleInfo}
@@ -126,14 +126,17 @@ module _ (content more : List ℕ) where
         ap (λ (bundle : ReadBundle). length bundle.blocks) was.same in
         let added = adds (omega (arith, few_blocks now, one_more, was.few, here)) in
         record {
-          same = rw (was.same, ← flags) at added;
+          same = added
+              ∙ ap (λ (bundle : ReadBundle). with_block bundle block
+              (found_in (fold flags_after 0 (blocks_in now)) now block)) was.same
+              ∙ ap (λ (flags : ℕ). with_block bundle block (found_in flags now block)) (sym flags);
           flags = flags;
           few = omega (
             arith,
             was.few,
             one_more,
             length-append bundle.blocks
-            (block_facts block (found_in bundle.primary.flags now block) ∷ []),
+                (block_facts block (found_in bundle.primary.flags now block) ∷ []),
           );
         }
 

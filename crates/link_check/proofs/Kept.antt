@@ -5,7 +5,6 @@ use Rattle.link_wire.specs.{Codes.is_start, Device.Output}
 use Rattle.link_wire.specs.declared.IoFault.{IoFault}
 use Rattle.link_wire.specs.declared.message.Message.TheVariants as message
 use Rattle.link_wire.specs.declared.message.SegmentHead.{SegmentHead}
-use Rattle.link_run.specs.Run.{◌then◌}
 use Rattle.link_transfer.specs.declared.joiner.Turn.TheVariants.{Continue}
 use Rattle.link_run.specs.{Writers.on_output, declared.writers.Writers.Writers}
 use Rattle.link_run.proofs.Runs.{then_none}

@@ -55,7 +55,6 @@ impl BundleReader {
     ghost use Rattle.link_rule_report.specs.declared.rule.BrokenRule.TheVariants.{Bundle};
 
     /// Makes a reader for the first bundle.
-    #[tactic(auto, using(crate::proofs::Blocks::no_history))]
     pub(crate) fn new() -> BundleReader
         ensures reads { IsReadingBundle result [] }
         ensures size { data_size result ≡ 0 }
@@ -72,7 +71,6 @@ impl BundleReader {
     }
 
     /// Begins another bundle.
-    #[tactic(auto, using(crate::proofs::Blocks::no_history))]
     pub(crate) fn restart(&mut self)
         ensures reads { IsReadingBundle self.new [] }
         ensures size { data_size self.new ≡ 0 }
@@ -166,7 +164,10 @@ impl BundleReader {
         ensures { (content : List ℕ) (info : BundleInfo) → IsReadingBundle self.now content
             → result ≡ true → bundle_rules content info ≡ [] }
     {
-        !self.begun || self.history.keeps_rules(self.heads.first_long())
+        if !self.begun {
+            return true;
+        }
+        self.history.keeps_rules(self.heads.first_long())
     }
 
     /// The rules that the bundle breaks, if it is good, whole and has a payload of this length.

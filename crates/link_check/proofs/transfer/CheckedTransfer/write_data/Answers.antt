@@ -1,4 +1,4 @@
-use Rattle.std.proofs.Common.{◌≡◌, [], ◌∷◌, map, Ok, Err, refl, sym, ◌∙◌, arith}
+use Rattle.std.proofs.Common.{◌≡◌, [], ◌∷◌, map, Ok, Err, refl, sym, ◌∙◌}
 use Rattle.link_bundle_types.specs.BundleView.{viewed_info}
 use Rattle.link_bundle_blocks.specs.Bundle.{verdict}
 use Rattle.link_bundle.proofs.Pieces.{verdict_judged}
