@@ -300,11 +300,18 @@ static ILL_FORMED: [&[u8]; 27] = [
     b"\xde", b"\xfc", b"\xfd", b"\xfe", b"\x1f", b"\x3f", b"\xdf",
 ];
 
+/// Checks whether a head is of indefinite length (RFC 8949 section 3.2). The break is not.
+fn expect_length(rt: &impl Abort, bytes: &[u8], head: Head) {
+    let is_indefinite = matches!(bytes, [0x5f | 0x7f | 0x9f | 0xbf]);
+    assert_eq!(rt; head.is_indefinite(), is_indefinite, "{bytes:?}");
+}
+
 #[test]
 fn reads_single_heads(rt: HostRuntime) {
     for &(bytes, major, value) in &HEADS {
         let head = Head { major, value };
         compare(&rt, bytes, bytes.len(), HeadStep::Done(head));
+        expect_length(&rt, bytes, head);
     }
 }
 

@@ -241,7 +241,7 @@ pub const NOT_READ: Row = Row {
     tool: ALL,
     input: &[
         Part::Bytes(SESSION),
-        // A payload, and a check value, in place of which is another item
+        // Other items in place of a payload, and of a check value
         Part::Segment(
             3,
             0,

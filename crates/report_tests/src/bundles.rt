@@ -267,7 +267,7 @@ fn endpoints_of_packed_bundles(rt: HostRuntime) {
 }
 
 /// Each fault of a bundle, its code and its text.
-static CODES: [(BundleFault, &str, &str); 17] = [
+static CODES: [(BundleFault, &str, &str); 19] = [
     (BundleFault::Cut, "B1", "input ends inside a bundle"),
     (BundleFault::Trailing, "B2", "bytes after the bundle"),
     (BundleFault::NotABundle, "B3", "not a bundle"),

@@ -136,6 +136,7 @@ pub(crate) static GOOD: [Row; 23] = [
                     argument: 1,
                 },
             },
+            &[1],
             EidView::Ipn(1, 1),
         ),
     },
@@ -155,6 +156,7 @@ pub(crate) static GOOD: [Row; 23] = [
                     argument: 2,
                 },
             },
+            &[0, 2],
             EidView::DtnNone,
         ),
     },
@@ -174,6 +176,7 @@ pub(crate) static GOOD: [Row; 23] = [
                     argument: 0,
                 },
             },
+            &[2, 3, 0],
             EidView::Dtn(b"//a"),
         ),
     },
@@ -193,6 +196,7 @@ pub(crate) static GOOD: [Row; 23] = [
                     argument: u64::MAX,
                 },
             },
+            &[],
             EidView::DtnNone,
         ),
     },
@@ -212,6 +216,7 @@ pub(crate) static GOOD: [Row; 23] = [
                     argument: 1,
                 },
             },
+            &[1],
             EidView::Ipn(2, 1),
         ),
     },
@@ -312,8 +317,8 @@ pub(crate) static GOOD: [Row; 23] = [
     },
 ];
 
-/// Malformed data, and the offset at which it is malformed.
-pub(crate) static MALFORMED: [(DataKind, &[u8], u64); 87] = [
+/// Malformed data, and the offset at which it is malformed. No limit of this toolkit is the reason.
+pub(crate) static MALFORMED: [(DataKind, &[u8], usize); 92] = [
     // no data
     (DataKind::PreviousNode, b"", 0),
     (DataKind::BundleAge, b"", 0),
@@ -324,9 +329,7 @@ pub(crate) static MALFORMED: [(DataKind, &[u8], u64); 87] = [
     (DataKind::PreviousNode, b"\x81\x01", 0),
     (DataKind::PreviousNode, b"\x83\x02\x82\x01\x01\x00", 0),
     (DataKind::PreviousNode, b"\x02", 0),
-    // schemes 0 and 3, and a negative one
-    (DataKind::PreviousNode, b"\x82\x00\x00", 1),
-    (DataKind::PreviousNode, b"\x82\x03\x00", 1),
+    // a negative scheme
     (DataKind::PreviousNode, b"\x82\x20\x00", 1),
     // a specific part that the scheme does not have
     (DataKind::PreviousNode, b"\x82\x01\x01", 2),
@@ -339,6 +342,8 @@ pub(crate) static MALFORMED: [(DataKind, &[u8], u64); 87] = [
     (DataKind::PreviousNode, b"\x82\x02\x82\x20\x01", 3),
     (DataKind::PreviousNode, b"\x82\x02\x82\x01\x20", 4),
     (DataKind::PreviousNode, b"\x82\x02\x83\x01\x01\xf4", 5),
+    // a longest name that the data cuts
+    (DataKind::PreviousNode, b"\x82\x01\x79\x04\x00\x61", 6),
     // a name that the data cuts, and an endpoint ID that it cuts
     (DataKind::PreviousNode, b"\x82\x01\x62\x61", 4),
     (DataKind::PreviousNode, b"\x82\x01\x62", 3),
@@ -348,6 +353,15 @@ pub(crate) static MALFORMED: [(DataKind, &[u8], u64); 87] = [
     (DataKind::BundleAge, b"\xf4", 0),
     (DataKind::BundleAge, b"\x81\x00", 0),
     (DataKind::BundleAge, b"\xf9\x00\x00", 0),
+    // the break, and heads of information 31 and 30 that are ill-formed
+    (DataKind::BundleAge, b"\xff", 0),
+    (DataKind::BundleAge, b"\x1f", 0),
+    (DataKind::BundleAge, b"\xdf", 0),
+    (DataKind::BundleAge, b"\x5e", 0),
+    (DataKind::Record, b"\x82\xff", 1),
+    // heads of indefinite length after an item
+    (DataKind::BundleAge, b"\x05\x9f", 1),
+    (DataKind::HopCount, b"\x82\x05\x05\x5f", 3),
     // a hop limit and count in other arrays, and numbers of other kinds
     (DataKind::HopCount, b"\x81\x00", 0),
     (DataKind::HopCount, b"\x83\x00\x00\x00", 0),
@@ -364,7 +378,6 @@ pub(crate) static MALFORMED: [(DataKind, &[u8], u64); 87] = [
     (DataKind::Security, b"\x80\xf4", 1),
     (DataKind::Security, b"\x80\x00\x20", 2),
     (DataKind::Security, b"\x80\x00\x00\x00", 3),
-    (DataKind::Security, b"\x80\x00\x00\x82\x04", 4),
     // targets that the data cuts
     (
         DataKind::Security,
@@ -436,7 +449,7 @@ pub(crate) static MALFORMED: [(DataKind, &[u8], u64); 87] = [
     ),
     (
         DataKind::Record,
-        b"\x82\x01\x84\x84\x81\xf4\x81\xf4\x81\xf4\x81\xf4\x00\x82\x05",
+        b"\x82\x01\x84\x84\x81\xf4\x81\xf4\x81\xf4\x81\xf4\x00\x82\x20",
         14,
     ),
     (
@@ -481,4 +494,65 @@ pub(crate) static MALFORMED: [(DataKind, &[u8], u64); 87] = [
         b"\x82\x01\x86\x84\x81\xf4\x81\xf4\x81\xf4\x81\xf4\x00\x82\x01\x00\x82\x00\x00\x00\x00\x00",
         21,
     ),
+];
+
+/// Data that exceeds a limit of this toolkit, and the offset of the item that does.
+pub(crate) static NOT_READ: [(DataKind, &[u8], usize); 29] = [
+    // an array of indefinite length, and other items of indefinite length where one is due
+    (DataKind::HopCount, b"\x9f\x18\x20\x01\xff", 0),
+    (DataKind::PreviousNode, b"\x9f\x02\x82\x01\x00\xff", 0),
+    (DataKind::PreviousNode, b"\x82\x02\x9f\x01\x00\xff", 2),
+    (DataKind::Record, b"\x9f\x02\x00\xff", 0),
+    (DataKind::Record, b"\xbf", 0),
+    (DataKind::Record, b"\x82\x01\x9f\x84", 2),
+    (DataKind::Record, b"\x82\x01\x84\x9f\x81\xf4", 3),
+    (DataKind::Record, b"\x82\x01\x84\x84\x9f\xf4\xff", 4),
+    (DataKind::Security, b"\x9f\x01\xff", 0),
+    // the same where a number is due
+    (DataKind::BundleAge, b"\x5f\x41\x05\xff", 0),
+    (DataKind::BundleAge, b"\xbf", 0),
+    (DataKind::HopCount, b"\x82\x05\x7f", 2),
+    (DataKind::PreviousNode, b"\x82\x9f", 1),
+    (DataKind::PreviousNode, b"\x82\x02\x82\x01\x5f", 4),
+    (DataKind::Record, b"\x82\x9f", 1),
+    (
+        DataKind::Record,
+        b"\x82\x01\x84\x84\x81\xf4\x81\xf4\x81\xf4\x81\xf4\x00\x82\x18\xff",
+        14,
+    ),
+    (DataKind::Security, b"\x81\x5f", 1),
+    (DataKind::Security, b"\x80\xbf", 1),
+    // the same where a Boolean, and where a name is due
+    (DataKind::Record, b"\x82\x01\x84\x84\x81\x9f", 5),
+    (
+        DataKind::PreviousNode,
+        b"\x82\x01\x7f\x63\x2f\x2f\x6e\x61\x2f\xff",
+        2,
+    ),
+    (DataKind::PreviousNode, b"\x82\x01\x5f\x41\x61\xff", 2),
+    // the schemes 0, 3, 65536 and the greatest number
+    (DataKind::PreviousNode, b"\x82\x00\x00", 1),
+    (DataKind::PreviousNode, b"\x82\x03\x00", 1),
+    (DataKind::PreviousNode, b"\x82\x03", 1),
+    (DataKind::PreviousNode, b"\x82\x1a\x00\x01\x00\x00\x00", 1),
+    (
+        DataKind::PreviousNode,
+        b"\x82\x1b\xff\xff\xff\xff\xff\xff\xff\xff",
+        1,
+    ),
+    // a scheme in a record and in a security block, and a name of 1,025 bytes
+    (
+        DataKind::Record,
+        b"\x82\x01\x84\x84\x81\xf4\x81\xf4\x81\xf4\x81\xf4\x00\x82\x05",
+        14,
+    ),
+    (DataKind::Security, b"\x80\x00\x00\x82\x04", 4),
+    (DataKind::PreviousNode, b"\x82\x01\x79\x04\x01", 2),
+];
+
+/// Targets of a security block: as many as are kept.
+pub(crate) static TARGETS: [u64; 64] = [
+    32, 33, 34, 35, 36, 37, 38, 39, 40, 41, 42, 43, 44, 45, 46, 47, 48, 49, 50, 51, 52, 53, 54, 55,
+    56, 57, 58, 59, 60, 61, 62, 63, 64, 65, 66, 67, 68, 69, 70, 71, 72, 73, 74, 75, 76, 77, 78, 79,
+    80, 81, 82, 83, 84, 85, 86, 87, 88, 89, 90, 91, 92, 93, 94, 95,
 ];

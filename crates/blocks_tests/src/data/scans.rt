@@ -4,8 +4,8 @@
 ghost use Rattle.std.specs.Prelude.{◌+◌, ◌-◌, ◌^◌, ◌<◌, ◌≤◌, length};
 ghost use Rattle.link_block_data.specs.Scan.{scan_size};
 
-use super::rows::{GOOD, MALFORMED, Row};
-use link_block_data::{DataKind, DataScan, DataView};
+use super::rows::{GOOD, MALFORMED, NOT_READ, Row, TARGETS};
+use link_block_data::{DataFault, DataKind, DataScan, DataView, Integer, SecurityBlock};
 use link_bundle_types::EidView;
 use std::process::Abort;
 use std::test::Fail;
@@ -32,7 +32,12 @@ fn by_bytes(scan: &mut DataScan, kind: DataKind, bytes: &[u8])
 }
 
 /// Checks what the scanned data says.
-fn says(rt: &impl Abort, scan: &DataScan, bytes: &[u8], expected: &Result<DataView<'_>, u64>) {
+fn says(
+    rt: &impl Abort,
+    scan: &DataScan,
+    bytes: &[u8],
+    expected: &Result<DataView<'_>, DataFault>,
+) {
     assert_eq!(rt; scan.view(), *expected, "{bytes:?}");
 }
 
@@ -42,7 +47,7 @@ fn expect(
     scan: &mut DataScan,
     kind: DataKind,
     bytes: &[u8],
-    expected: &Result<DataView<'_>, u64>,
+    expected: &Result<DataView<'_>, DataFault>,
 ) {
     assert!(rt; bytes.len() < 100_000);
     by_bytes(scan, kind, bytes);
@@ -53,15 +58,20 @@ fn expect(
     }
 }
 
-/// Checks that the bytes are malformed as data of this kind, at this offset.
-fn expect_malformed(
-    rt: &impl Abort,
-    scan: &mut DataScan,
-    kind: DataKind,
-    bytes: &[u8],
-    offset: usize,
-) {
-    expect(rt, scan, kind, bytes, &Err(offset as u64));
+/// The fault of data that is malformed at this offset.
+fn malformed(offset: usize) -> DataFault {
+    DataFault {
+        offset: offset as u64,
+        is_limit: false,
+    }
+}
+
+/// The fault of data with an item at this offset that exceeds a limit of this toolkit.
+fn not_read(offset: usize) -> DataFault {
+    DataFault {
+        offset: offset as u64,
+        is_limit: true,
+    }
 }
 
 /// The first bytes, up to an index, and then others.
@@ -76,7 +86,7 @@ fn replaced(rt: &(impl Abort + AllocGlobal), bytes: &[u8], at: usize, others: &[
 fn expect_cut(rt: &impl Abort, scan: &mut DataScan, row: &Row) {
     for end in 0..row.end {
         let front = row.bytes.get(..end).expect(rt, "an item within its bytes");
-        expect_malformed(rt, scan, row.kind, front, end);
+        expect(rt, scan, row.kind, front, &Err(malformed(end)));
     }
 }
 
@@ -91,7 +101,7 @@ fn expect_followed(rt: &(impl Abort + AllocGlobal), scan: &mut DataScan, row: &R
     if row.may_follow {
         expect(rt, scan, row.kind, &longer, &Ok(row.data));
     } else {
-        expect_malformed(rt, scan, row.kind, &longer, row.end);
+        expect(rt, scan, row.kind, &longer, &Err(malformed(row.end)));
     }
 }
 
@@ -102,9 +112,9 @@ fn expect_longer(rt: &(impl Abort + AllocGlobal), scan: &mut DataScan, row: &Row
     }
 }
 
-/// Heads that are due nowhere: ill-formed heads, byte strings, a tag, a map, heads of indefinite
-/// length, a break, and a simple value that is no Boolean.
-static DUE_NOWHERE: [&[u8]; 12] = [
+/// Heads that are due nowhere: ill-formed heads, byte strings, a tag, a map, a break, and a simple
+/// value that is no Boolean.
+static DUE_NOWHERE: [&[u8]; 9] = [
     b"\x1c",
     b"\x3f",
     b"\xf8\x1f",
@@ -112,25 +122,25 @@ static DUE_NOWHERE: [&[u8]; 12] = [
     b"\x5b\x00\x00\x00\x00\x00\x00\x00\x01",
     b"\xc1",
     b"\xa2",
-    b"\x5f",
-    b"\x7f",
-    b"\x9f",
     b"\xff",
     b"\xf8\xf5",
 ];
+
+/// Heads of indefinite length, which RFC 9171 permits and this toolkit does not read.
+static INDEFINITE: [&[u8]; 4] = [b"\x5f", b"\x7f", b"\x9f", b"\xbf"];
 
 /// A head that is replaced by one that is due nowhere is at fault, whatever follows it.
 fn expect_wrong_head(
     rt: &(impl Abort + AllocGlobal),
     scan: &mut DataScan,
     row: &Row,
-    at: usize,
     wrong: &[u8],
+    fault: DataFault,
 ) {
-    let changed = replaced(rt, row.bytes, at, wrong);
-    expect_malformed(rt, scan, row.kind, &changed, at);
+    let changed = replaced(rt, row.bytes, fault.offset as usize, wrong);
+    expect(rt, scan, row.kind, &changed, &Err(fault));
     let longer = replaced(rt, &changed, changed.len(), b"\x01\x82\x00");
-    expect_malformed(rt, scan, row.kind, &longer, at);
+    expect(rt, scan, row.kind, &longer, &Err(fault));
 }
 
 /// Heads whose last bytes are missing.
@@ -145,13 +155,17 @@ fn expect_cut_head(
     cut: &[u8],
 ) {
     let changed = replaced(rt, row.bytes, at, cut);
-    expect_malformed(rt, scan, row.kind, &changed, changed.len());
+    let fault = malformed(changed.len());
+    expect(rt, scan, row.kind, &changed, &Err(fault));
 }
 
-/// Replaces this head by each of `DUE_NOWHERE` and of `CUT_HEADS`.
+/// Replaces this head by each of `DUE_NOWHERE`, of `INDEFINITE` and of `CUT_HEADS`.
 fn expect_changed(rt: &(impl Abort + AllocGlobal), scan: &mut DataScan, row: &Row, at: usize) {
     for &wrong in &DUE_NOWHERE {
-        expect_wrong_head(rt, scan, row, at, wrong);
+        expect_wrong_head(rt, scan, row, wrong, malformed(at));
+    }
+    for &wrong in &INDEFINITE {
+        expect_wrong_head(rt, scan, row, wrong, not_read(at));
     }
     for &cut in &CUT_HEADS {
         expect_cut_head(rt, scan, row, at, cut);
@@ -181,8 +195,55 @@ fn good_data_and_data_changed_at_each_head(rt: HostRuntime) {
 fn malformed_data(rt: HostRuntime) {
     let mut scan = DataScan::new(DataKind::BundleAge);
     for &(kind, bytes, offset) in &MALFORMED {
-        expect(&rt, &mut scan, kind, bytes, &Err(offset));
+        expect(&rt, &mut scan, kind, bytes, &Err(malformed(offset)));
     }
+}
+
+#[test]
+fn data_that_is_not_read(rt: HostRuntime) {
+    let mut scan = DataScan::new(DataKind::BundleAge);
+    for &(kind, bytes, offset) in &NOT_READ {
+        expect(&rt, &mut scan, kind, bytes, &Err(not_read(offset)));
+    }
+}
+
+/// A security block with this many targets, from 32 on.
+fn with_targets(rt: &(impl Abort + AllocGlobal), count: u8) -> Vec<u8> {
+    let mut bytes = [0x98, count].to_vec(rt.alloc()).expect(rt, "memory");
+    for number in 0..count {
+        let target = number.saturating_add(32);
+        bytes
+            .extend_from_slice(&[0x18, target])
+            .expect(rt, "memory");
+    }
+    bytes
+        .extend_from_slice(b"\x01\x00\x82\x02\x82\x01\x01")
+        .expect(rt, "memory");
+    bytes
+}
+
+/// Checks what a security block with this many targets says. The first of them are kept.
+fn expect_targets(rt: &(impl Abort + AllocGlobal), count: u8, kept: &[u64]) {
+    let bytes = with_targets(rt, count);
+    let block = SecurityBlock {
+        targets: count as u64,
+        targets_primary: false,
+        context: Integer {
+            negative: false,
+            argument: 1,
+        },
+    };
+    let mut scan = DataScan::new(DataKind::Security);
+    let view = DataView::Security(block, kept, EidView::Ipn(1, 1));
+    expect(rt, &mut scan, DataKind::Security, &bytes, &Ok(view));
+}
+
+#[test]
+fn the_first_64_targets_are_kept(rt: HostRuntime) {
+    expect_targets(&rt, 63, &TARGETS[..63]);
+    expect_targets(&rt, 64, &TARGETS);
+    expect_targets(&rt, 65, &TARGETS);
+    expect_targets(&rt, 200, &TARGETS);
 }
 
 /// The endpoint ID of a dtn name with this many bytes, which are `a`. Two bytes have its length.
@@ -196,10 +257,10 @@ fn with_name(rt: &(impl Abort + AllocGlobal), length: [u8; 2], size: usize) -> V
     bytes
 }
 
-/// Checks that a dtn name is malformed at this offset.
-fn expect_malformed_name(rt: &impl Abort, bytes: &[u8], offset: u64) {
+/// Checks that a dtn name has this fault.
+fn expect_bad_name(rt: &impl Abort, bytes: &[u8], fault: DataFault) {
     let mut scan = DataScan::new(DataKind::PreviousNode);
-    expect(rt, &mut scan, DataKind::PreviousNode, bytes, &Err(offset));
+    expect(rt, &mut scan, DataKind::PreviousNode, bytes, &Err(fault));
 }
 
 /// Checks that bytes with a dtn name are good.
@@ -210,14 +271,14 @@ fn expect_name(rt: &impl Abort, bytes: &[u8]) {
     expect(rt, &mut scan, DataKind::PreviousNode, bytes, &Ok(node));
 }
 
-/// A name of 1,024 bytes is kept, and a longer one is refused at its head.
+/// A name of 1,024 bytes is kept, and a longer one is not read.
 #[test]
 fn longest_names(rt: HostRuntime) {
     let longest = with_name(&rt, [4, 0], 1024);
     assert_eq!(rt; longest.len(), 1029);
     expect_name(&rt, &longest);
-    expect_malformed_name(&rt, &with_name(&rt, [4, 0], 1023), 1028);
-    expect_malformed_name(&rt, &with_name(&rt, [4, 1], 1025), 2);
+    expect_bad_name(&rt, &with_name(&rt, [4, 0], 1023), malformed(1028));
+    expect_bad_name(&rt, &with_name(&rt, [4, 1], 1025), not_read(2));
 }
 
 #[test]
