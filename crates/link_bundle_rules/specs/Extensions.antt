@@ -115,7 +115,7 @@ if_malformed_record security read =
     then record_rule read.data
     else None
 
--- record: an administrative record is well formed (sections 6.1 and 6.1.1). The record of a fragment
--- is not read.
+-- record: an administrative record is well formed (sections 6.1 and 6.1.1). The record of a
+-- fragment is not read.
 unfoldable pub administrative_record : ReadBundle → Option BundleRule
 administrative_record bundle = find_map (if_malformed_record bundle.security) bundle.blocks

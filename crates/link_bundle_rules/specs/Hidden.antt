@@ -15,7 +15,7 @@ may_hide number block =
     && (not (has_known_targets block)
     || list_any (λ target. target == number) block.targets.items)
 
--- Whether the data of the block with this number may be ciphertext. A block confidentiality block is
--- never a target of another one (RFC 9172 section 3.8), so no rule asks it of one.
+-- Whether the data of the block with this number may be ciphertext. A block confidentiality block
+-- is never a target of another one (RFC 9172 section 3.8), so no rule asks it of one.
 unfoldable pub is_hidden : List SecurityFacts → (number : ℕ) → Bool
 is_hidden security number = list_any (may_hide number) security

@@ -1,10 +1,12 @@
 -- Relations: bundles that are known to keep all rules, by cheap tests. The promises need only that
 -- such a bundle breaks no rule.
-use Rattle.std.specs.Prelude.{ℕ, Bool, true, false, not, ◌&&◌, ◌||◌, ◌==◌, nat_lt, nat_le, is_none}
+use Rattle.std.specs.Prelude.{Bool, true, false, not, ◌&&◌, ◌||◌, ◌==◌, nat_lt, nat_le, is_none}
+use Rattle.std.specs.List.{list_all}
 use Rattle.link_rules.specs.Flags.{has_other_flags}
 use Rattle.link_bundle_rules.specs.Flags.{bundle_flags_defined, record_flag, is_set, requests_reports, if_reporting, if_other_block_flags}
 use Rattle.link_bundle_rules.specs.ReadBundle as block
 use Rattle.link_bundle_rules.specs.ReadBundle.{ReadBundle, count_of_type}
+use Rattle.link_bundle_rules.specs.Security.{confidential_primary}
 use Rattle.link_bundle_rules.specs.declared.block.{BlockFacts.BlockFacts, DataFacts.DataFacts}
 use Rattle.link_bundle_rules.specs.declared.block.DataFacts.TheVariants.{Nothing, HopCount}
 use Rattle.link_bundle_rules.specs.declared.primary.PrimaryFacts.{PrimaryFacts}
@@ -33,3 +35,10 @@ has_plain_counts bundle =
     nat_le (count_of_type block.previous_node bundle.blocks) 1
     && (nat_le (count_of_type block.hop_count bundle.blocks) 1
     && ((ages == 1) || ((ages == 0) && not bundle.primary.has_zero_time)))
+
+-- whether no rule but that of long heads can be broken
+abbrev pub is_plain : ReadBundle → Bool
+is_plain bundle =
+    is_plain_primary bundle.primary
+    && (list_all is_plain_block bundle.blocks
+    && (has_plain_counts bundle && is_none (confidential_primary bundle)))

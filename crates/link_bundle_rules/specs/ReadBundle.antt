@@ -11,7 +11,7 @@ use Rattle.link_block_data.specs.declared.values.DataFault.{DataFault}
 use Rattle.link_bundle_rules.specs.Names.{bad_name}
 use Rattle.link_bundle_rules.specs.declared.block.BlockFacts.{BlockFacts}
 use Rattle.link_bundle_rules.specs.declared.block.DataFacts.{DataFacts}
-use Rattle.link_bundle_rules.specs.declared.block.DataFacts.TheVariants as data
+use Rattle.link_bundle_rules.specs.declared.block.DataFacts.TheVariants as facts
 use Rattle.link_bundle_rules.specs.declared.primary.PrimaryFacts.{PrimaryFacts}
 use Rattle.link_bundle_rules.specs.declared.security.SecurityFacts.{SecurityFacts}
 
@@ -81,22 +81,22 @@ primary_facts primary check = record {
 abbrev pub fault_facts : (data_start : ℕ) → DataFault → DataFacts
 fault_facts data_start fault =
     if fault.is_limit
-    then data.NotRead (data_start + fault.offset)
-    else data.Malformed (data_start + fault.offset)
+    then facts.NotRead (data_start + fault.offset)
+    else facts.Malformed (data_start + fault.offset)
 
--- What the rules need of the data of a block, if data of its type is read. The payload is read if it
--- is an administrative record and the bundle is no fragment.
+-- What the rules need of the data of a block, if data of its type is read. The payload is read if
+-- it is an administrative record and the bundle is no fragment.
 abbrev pub data_facts : (data_start : ℕ) → Option (Result BlockData DataFault) → DataFacts
-data_facts data_start (Some (Ok (HopCount limit count))) = data.HopCount limit count
+data_facts data_start (Some (Ok (HopCount limit count))) = facts.HopCount limit count
 data_facts data_start (Some (Err fault)) = fault_facts data_start fault
-data_facts data_start _ = data.Nothing
+data_facts data_start _ = facts.Nothing
 
 abbrev pub block_facts : CanonicalBlock → Option (Result BlockData DataFault) → BlockFacts
 block_facts block found = record {
   number = block.number;
   block_type = block.block_type;
   flags = block.flags;
-  data = data_facts block.data_start found;
+  «data» = data_facts block.data_start found;
 }
 
 -- ---- a security block
@@ -104,8 +104,8 @@ block_facts block found = record {
 abbrev pub is_security : (type : ℕ) → Bool
 is_security type = (type == block_integrity) || (type == block_confidentiality)
 
--- The targets of a security block (RFC 9172 section 3.6), of which the first 64 are kept. Those of a
--- malformed one are not known.
+-- The targets of a security block (RFC 9172 section 3.6). The first 64 are kept. Those of a
+-- malformed block are not known.
 abbrev pub security_facts : (number type : ℕ) → Option (Result BlockData DataFault) → SecurityFacts
 security_facts number type (Some (Ok (Security block targets source))) = record {
   number = number;
@@ -132,7 +132,7 @@ if_security block found =
 
 -- ---- a bundle, block by block
 
--- a bundle of which the primary block alone has come
+-- a bundle after its primary block
 abbrev pub begun : Primary → Option CheckKind → ReadBundle
 begun primary check = record {
   primary = primary_facts primary check;

@@ -8,8 +8,8 @@ use Rattle.link_bundle_rules.specs.declared.rule.BundleRule.{BundleRule}
 use Rattle.link_bundle_rules.specs.declared.rule.BundleRule.TheVariants.{PrimaryCheck, ConfidentialPrimary}
 use Rattle.link_bundle_rules.specs.declared.security.SecurityFacts.{SecurityFacts}
 
--- Whether a block integrity block may have the primary block as a target. The targets of one that is
--- malformed or hidden are not known.
+-- Whether a block integrity block may have the primary block as a target. The targets of one that
+-- is malformed or hidden are not known.
 abbrev pub may_protect_primary : List SecurityFacts → SecurityFacts → Bool
 may_protect_primary security block =
     (block.block_type == block_integrity)

@@ -1,6 +1,7 @@
 //! What the rules need of a canonical block.
 
-ghost use Rattle.std.specs.Prelude.{◌≡◌, ◌^◌, ◌<◌, IfSome, option_map};
+ghost use Rattle.std.specs.Prelude.{◌≡◌, ◌+◌, ◌^◌, ◌<◌, IfSome, option_map};
+ghost use Rattle.std.specs.List.{find};
 ghost use Rattle.link_block_data.specs.DataView.{viewed_result};
 ghost use Rattle.link_bundle_rules.specs.ReadBundle.{block_facts, data_facts, fault_facts, malformed_at, is_of_type};
 
@@ -103,6 +104,13 @@ pub(crate) fn is_of_type(block_type: u64, block: &BlockFacts) -> bool
     ensures { result ≡ is_of_type block_type block.now }
 {
     block.block_type == block_type
+}
+
+/// The first block of a type.
+pub(crate) fn first_of_type(block_type: u64, blocks: &[BlockFacts]) -> Option<&BlockFacts>
+    ensures { option_map (λ block. block.now) result ≡ find (is_of_type block_type) blocks.now }
+{
+    blocks.iter().find(|block| is_of_type(block_type, block))
 }
 
 /// The numbers of blocks of the types that may occur once.

@@ -28,10 +28,10 @@ pub(crate) fn has_bad_limit(hops: &Option<Hops>) -> bool
 
 impl Hops {
     /// What the data of a block says, if it is that of a hop count block.
-    fn of(data: DataFacts) -> Option<Hops>
-        ensures { result ≡ hops_in data }
+    fn of(found: DataFacts) -> Option<Hops>
+        ensures { result ≡ hops_in found }
     {
-        match data {
+        match found {
             DataFacts::HopCount(limit, count) => Some(Hops { limit, count }),
             _ => None,
         }
@@ -109,8 +109,7 @@ pub(crate) fn if_malformed_record(
 {
     match block.data {
         DataFacts::Malformed(byte)
-            if is_of_type(PAYLOAD, block) && !is_hidden(security, block.number) =>
-        {
+            if is_of_type(PAYLOAD, block) && !is_hidden(security, block.number) => {
             Some(BundleRule::Record { byte })
         }
         _ => None,

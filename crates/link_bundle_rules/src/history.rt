@@ -1,5 +1,8 @@
 //! The blocks of a bundle so far, as far as the rules for it need them.
 
+ghost use Rattle.std.specs.Prelude.{◌≤◌};
+ghost use Rattle.arrayvec.specs.ArrayVec.{array_vec_len};
+
 use crate::block::{BlockFacts, ReadBlockView};
 use crate::primary::{NO_PRIMARY, PrimaryFacts};
 use crate::security::{SecurityFacts, is_security};
@@ -17,12 +20,12 @@ pub struct BundleHistory {
 }
 
 impl BundleHistory {
-    ghost use Rattle.std.specs.Prelude.{◌≡◌, ◌^◌, ◌<◌, IfSome, None, option_map};
+    ghost use Rattle.std.specs.Prelude.{◌≡◌, ◌^◌, ◌<◌, [], ◌∷◌, ◌++◌, IfSome, None, option_map};
     ghost use Rattle.arrayvec.specs.ArrayVec.{array_vec_len};
     ghost use Rattle.link_block_data.specs.DataView.{viewed_result};
     ghost use Rattle.link_bundle_blocks.specs.Blocks.{viewed_primary};
     ghost use Rattle.link_bundle_rules.specs.History.{bundle_of};
-    ghost use Rattle.link_bundle_rules.specs.ReadBundle.{begun, with_block, malformed_at};
+    ghost use Rattle.link_bundle_rules.specs.ReadBundle.{begun, security_facts, with_block, malformed_at};
 
     /// A history for one bundle after another. [`BundleHistory::begin`] begins each.
     pub fn new() -> BundleHistory {
@@ -34,6 +37,7 @@ impl BundleHistory {
     }
 
     /// Begins the history of a bundle whose primary block is whole.
+    #[inline(always)]
     pub fn begin(&mut self, primary: &PrimaryBlock<'_>)
         ensures { bundle_of self.new None 0
             ≡ begun (viewed_primary primary.now) primary.now.check }
@@ -46,6 +50,7 @@ impl BundleHistory {
     /// Takes the next canonical block.
     ///
     /// A bundle has at most 64 such blocks, and an offset in a bundle has 64 bits.
+    #[inline(always)]
     pub fn take(&mut self, read: &ReadBlockView<'_>)
         ensures { array_vec_len self.old.blocks < 64
             → IfSome (malformed_at read.now.block.now (option_map viewed_result read.now.found))
@@ -58,7 +63,21 @@ impl BundleHistory {
         }
         self.blocks.push(BlockFacts::of(read));
         if is_security(read.block.block_type) {
-            self.security.push(SecurityFacts::of(read));
+            self.take_security(read);
         }
+    }
+
+    /// Takes the next security block.
+    #[cold]
+    #[inline(never)]
+    fn take_security(&mut self, read: &ReadBlockView<'_>)
+        requires room { array_vec_len self.old.security < 64 }
+        requires few { array_vec_len self.old.security < array_vec_len self.old.blocks }
+        ensures { bundle_of self.new None 0 ≡ record (bundle_of self.old None 0) {
+          security = self.old.security.items ++ security_facts read.now.block.now.number
+              read.now.block.now.block_type (option_map viewed_result read.now.found) ∷ [];
+        } }
+    {
+        self.security.push(SecurityFacts::of(read));
     }
 }

@@ -4,17 +4,19 @@ ghost use Rattle.std.specs.Prelude.{◌≡◌};
 ghost use Rattle.link_bundle_rules.specs.Kept.{is_plain_data, is_plain_block, is_plain_primary};
 
 use crate::block::{BlockFacts, Counts, DataFacts};
-use crate::flags::{BUNDLE_FLAGS, RECORD, if_other_block_flags, if_reporting, is_set, requests_reports};
+use crate::flags::{
+    BUNDLE_FLAGS, RECORD, if_other_block_flags, if_reporting, is_set, requests_reports,
+};
 use crate::history::BundleHistory;
 use crate::primary::PrimaryFacts;
 use link_rules::has_other_flags;
 
 /// Whether no rule of the data of blocks can be broken by this data.
 #[inline(always)]
-fn is_plain_data(data: DataFacts) -> bool
-    ensures { result ≡ is_plain_data data }
+fn is_plain_data(found: DataFacts) -> bool
+    ensures { result ≡ is_plain_data found }
 {
-    match data {
+    match found {
         DataFacts::Nothing => true,
         DataFacts::HopCount(limit, count) => limit > 0 && limit < 256 && count <= limit,
         DataFacts::Malformed(_) | DataFacts::NotRead(_) => false,
@@ -45,27 +47,47 @@ fn is_plain_primary(primary: &PrimaryFacts) -> bool
 }
 
 impl BundleHistory {
-    ghost use Rattle.std.specs.Prelude.{◌≡◌, ℕ, true, [], None};
+    ghost use Rattle.std.specs.Prelude.{◌≡◌, ℕ, true, [], Option, None};
+    ghost use Rattle.std.specs.List.{list_all};
     ghost use Rattle.link_bundle_rules.specs.BundleRules.{broken_bundle_rules};
     ghost use Rattle.link_bundle_rules.specs.History.{bundle_of};
-    ghost use Rattle.link_bundle_rules.specs.Kept.{has_plain_counts};
+    ghost use Rattle.link_bundle_rules.specs.Kept.{is_plain_block, has_plain_counts, is_plain};
 
     /// Whether the bundle is known to break no rule, if it is good and all its blocks came.
     ///
-    /// This takes less time than its rules. It is never known of a fragment, nor of a bundle without
-    /// a source or without a check of its primary block.
+    /// This takes less time than its rules. It is never known of a fragment, nor of a bundle
+    /// without a source or without a check of its primary block.
     ///
     /// `first_long_head` is as for [`BundleHistory::rules`].
-    #[tactic(auto, unfolding(crate::specs::BundleRules::broken_bundle_rules))]
+    #[tactic(auto, using(crate::proofs::Plain::none_broken))]
+    #[inline(always)]
     pub fn keeps_rules(&self, first_long_head: Option<u64>) -> bool
         ensures { (payload_length : ℕ) → result ≡ true
             → broken_bundle_rules (bundle_of self.now first_long_head payload_length) ≡ [] }
     {
-        first_long_head.is_none()
-            && is_plain_primary(&self.primary)
-            && self.blocks.as_slice().iter().all(|block| is_plain_block(block))
+        first_long_head.is_none() && self.is_plain()
+    }
+
+    /// Whether no rule but that of long heads can be broken.
+    #[inline(always)]
+    fn is_plain(&self) -> bool
+        ensures { (byte : Option ℕ) (size : ℕ) → result ≡ is_plain (bundle_of self.now byte size) }
+    {
+        is_plain_primary(&self.primary)
+            && self.has_plain_blocks()
             && self.has_plain_counts()
             && self.confidential_primary().is_none()
+    }
+
+    /// Whether no rule of single blocks is broken.
+    #[inline(always)]
+    fn has_plain_blocks(&self) -> bool
+        ensures { result ≡ list_all is_plain_block self.now.blocks.items }
+    {
+        self.blocks
+            .as_slice()
+            .iter()
+            .all(|block| is_plain_block(block))
     }
 
     /// Whether no rule of the numbers of blocks is broken.

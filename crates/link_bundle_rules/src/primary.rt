@@ -45,7 +45,7 @@ fn is_none_eid(eid: &EidView<'_>) -> bool
 }
 
 impl PrimaryFacts {
-    ghost use Rattle.std.specs.Prelude.{◌≡◌};
+    ghost use Rattle.std.specs.Prelude.{◌≡◌, if◌then◌else◌};
     ghost use Rattle.link_bundle_blocks.specs.Blocks.{viewed_primary};
     ghost use Rattle.link_bundle_rules.specs.Flags.{forbids_reports};
     ghost use Rattle.link_bundle_rules.specs.Fragments.{is_later};

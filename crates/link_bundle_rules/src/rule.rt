@@ -48,11 +48,11 @@ pub enum BundleRule {
     ConfidentialPrimary { block: u64 },
     /// The hop count is greater than the hop limit (section 4.4.3).
     Hops { limit: u64, count: u64 },
-    /// The data of a previous node, bundle age or hop count block is malformed (sections 4.4.1, 4.4.2
-    /// and 4.4.3).
+    /// The data of a previous node, bundle age or hop count block is malformed (sections 4.4.1,
+    /// 4.4.2 and 4.4.3).
     BlockData { block: u64, byte: u64 },
-    /// The data of such a block, or an administrative record, exceeds a limit of this toolkit, and RFC
-    /// 9171 may permit it (section 4.1).
+    /// The data of such a block, or an administrative record, exceeds a limit of this toolkit, and
+    /// RFC 9171 may permit it (section 4.1).
     DataNotRead { block: u64, byte: u64 },
     /// An administrative record is malformed (sections 6.1 and 6.1.1).
     Record { byte: u64 },

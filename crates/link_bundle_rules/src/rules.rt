@@ -1,11 +1,10 @@
 //! The rules that a good bundle breaks, by what a history keeps of it.
 
-ghost use Rattle.std.specs.Prelude.{◌≡◌};
+ghost use Rattle.std.specs.Prelude.{◌≡◌, ◌+◌, nat_lt, Option};
 ghost use Rattle.std.specs.Fn.{FnReturnsAt};
-ghost use Rattle.link_bundle_rules.specs.Flags.{block_flags_defined};
 ghost use Rattle.link_bundle_rules.specs.ReadBundle.{find_map};
 
-use crate::block::{BlockFacts, Counts, DataFacts, HOP_COUNT, is_of_type};
+use crate::block::{Counts, HOP_COUNT, first_of_type};
 use crate::extensions::{
     Hops, has_bad_limit, hops_of, if_malformed_extension, if_malformed_record, if_unread,
 };
@@ -44,12 +43,22 @@ fn first_found<T, U, F: Fn(&T) -> Option<U>>(elements: &[T], find: F) -> Option<
     None
 }
 
+/// Whether a payload of `size` bytes, which begins at an offset, ends after the total length.
+fn ends_after(total: u64, offset: u64, size: u64) -> bool
+    ensures { result ≡ nat_lt total (offset + size) }
+{
+    match offset.checked_add(size) {
+        Some(end) => total < end,
+        None => true,
+    }
+}
+
 impl BundleHistory {
-    ghost use Rattle.std.specs.Prelude.{◌≡◌, ℕ, true, [], Option};
+    ghost use Rattle.std.specs.Prelude.{◌≡◌, ℕ, Option, None};
     ghost use Rattle.link_bundle_rules.specs.BundleRules.{long_head, dtn_name, broken_bundle_rules};
     ghost use Rattle.link_bundle_rules.specs.Extensions.{age, previous_node, first_hops, hop_count, hops, block_data, data_not_read, administrative_record};
     ghost use Rattle.link_bundle_rules.specs.Flags.{bundle_flags, anonymous, record_reports, block_reports, block_flags};
-    ghost use Rattle.link_bundle_rules.specs.Fragments.{has_hidden_payload, fragment, whole_fragment};
+    ghost use Rattle.link_bundle_rules.specs.Fragments.{has_hidden_payload, if_no_part, fragment, if_all, whole_fragment};
     ghost use Rattle.link_bundle_rules.specs.Security.{primary_check, confidential_primary};
     ghost use Rattle.link_bundle_rules.specs.History.{bundle_of};
 
@@ -171,8 +180,7 @@ impl BundleHistory {
 
     /// Whether the payload may be ciphertext.
     fn has_hidden_payload(&self) -> bool
-        ensures { (byte : Option ℕ) (size : ℕ)
-            → result ≡ has_hidden_payload (bundle_of self.now byte size) }
+        ensures { result ≡ has_hidden_payload (bundle_of self.now None 0) }
     {
         is_hidden(self.security.as_slice(), PAYLOAD_NUMBER)
     }
@@ -182,14 +190,19 @@ impl BundleHistory {
     fn fragment(&self, size: u64) -> Option<BundleRule>
         ensures { (byte : Option ℕ) → result ≡ fragment (bundle_of self.now byte size) }
     {
-        let (offset, total) = self.primary.fragment?;
-        let is_beyond = match offset.checked_add(size) {
-            Some(end) => total < end,
-            None => true,
-        };
+        let part = self.primary.fragment?;
+        self.if_no_part(part, size)
+    }
+
+    /// The rule that a fragment breaks if it must not be one, or if its payload is no part of the
+    /// original one.
+    fn if_no_part(&self, part: (u64, u64), size: u64) -> Option<BundleRule>
+        ensures { result ≡ if_no_part (bundle_of self.now None size) part }
+    {
+        let (offset, total) = part;
         let is_wrong = is_set(NO_FRAGMENTS, self.primary.flags)
             || size == 0
-            || (!self.has_hidden_payload() && is_beyond);
+            || (!self.has_hidden_payload() && ends_after(total, offset, size));
         is_wrong.then_some(BundleRule::Fragment {
             offset,
             size,
@@ -202,7 +215,15 @@ impl BundleHistory {
     fn whole_fragment(&self, size: u64) -> Option<BundleRule>
         ensures { (byte : Option ℕ) → result ≡ whole_fragment (bundle_of self.now byte size) }
     {
-        let (offset, total) = self.primary.fragment?;
+        let part = self.primary.fragment?;
+        self.if_all(part, size)
+    }
+
+    /// The rule that a fragment breaks if its payload is all of the original one.
+    fn if_all(&self, part: (u64, u64), size: u64) -> Option<BundleRule>
+        ensures { result ≡ if_all (bundle_of self.now None size) part }
+    {
+        let (offset, total) = part;
         let is_whole = offset == 0 && size == total && !self.has_hidden_payload();
         is_whole.then_some(BundleRule::WholeFragment { total })
     }
@@ -240,11 +261,7 @@ impl BundleHistory {
         ensures { (byte : Option ℕ) (size : ℕ)
             → result ≡ first_hops (bundle_of self.now byte size) }
     {
-        let first = self
-            .blocks
-            .as_slice()
-            .iter()
-            .find(|block| is_of_type(HOP_COUNT, block))?;
+        let first = first_of_type(HOP_COUNT, self.blocks.as_slice())?;
         hops_of(self.security.as_slice(), first)
     }
 
@@ -267,7 +284,10 @@ impl BundleHistory {
         ensures { (byte : Option ℕ) (size : ℕ)
             → result ≡ confidential_primary (bundle_of self.now byte size) }
     {
-        first_found(self.security.as_slice(), |block| block.if_confidential_primary())
+        first_found(
+            self.security.as_slice(),
+            |block| block.if_confidential_primary(),
+        )
     }
 
     /// The rule of the first hop count.
@@ -285,7 +305,10 @@ impl BundleHistory {
             → result ≡ block_data (bundle_of self.now byte size) }
     {
         let security = self.security.as_slice();
-        first_found(self.blocks.as_slice(), |block| if_malformed_extension(security, block))
+        first_found(
+            self.blocks.as_slice(),
+            |block| if_malformed_extension(security, block),
+        )
     }
 
     /// The rule of data that this toolkit does not read.
@@ -305,6 +328,9 @@ impl BundleHistory {
             → result ≡ administrative_record (bundle_of self.now byte size) }
     {
         let security = self.security.as_slice();
-        first_found(self.blocks.as_slice(), |block| if_malformed_record(security, block))
+        first_found(
+            self.blocks.as_slice(),
+            |block| if_malformed_record(security, block),
+        )
     }
 }

@@ -1,7 +1,7 @@
-//! What the rules need of a security block, and the rules of security blocks (RFC 9171 section 4.3.1,
-//! RFC 9172 sections 3.7 and 3.8).
+//! What the rules need of a security block, and the rules of security blocks (RFC 9171 section
+//! 4.3.1, RFC 9172 sections 3.7 and 3.8).
 
-ghost use Rattle.std.specs.Prelude.{◌≡◌, option_map, take};
+ghost use Rattle.std.specs.Prelude.{◌≡◌, ◌==◌, option_map, take};
 ghost use Rattle.std.specs.List.{list_any};
 ghost use Rattle.link_block_data.specs.DataView.{viewed_result};
 ghost use Rattle.link_bundle_rules.specs.Hidden.{has_known_targets, may_hide, is_hidden};
@@ -80,20 +80,29 @@ impl SecurityFacts {
         !self.is_malformed && self.count <= TARGETS_KEPT as u64
     }
 
+    /// Whether the block with this number is among its targets.
+    fn has_target(&self, number: u64) -> bool
+        ensures { result ≡ list_any (λ target. target == number) self.now.targets.items }
+    {
+        let targets = self.targets.as_slice();
+        targets.iter().any(|&target| target == number)
+    }
+
     /// Whether the block with this number is, or may be, one that it encrypts.
     fn may_hide(&self, number: u64) -> bool
         ensures { result ≡ may_hide number self.now }
     {
-        let is_target = self.targets.as_slice().iter().any(|&target| target == number);
-        self.block_type == BLOCK_CONFIDENTIALITY && (!self.has_known_targets() || is_target)
+        self.block_type == BLOCK_CONFIDENTIALITY
+            && (!self.has_known_targets() || self.has_target(number))
     }
 
     /// Whether it is a block integrity block that may have the primary block as a target.
     fn may_protect_primary(&self, security: &[SecurityFacts]) -> bool
         ensures { result ≡ may_protect_primary security.now self.now }
     {
-        let may_target =
-            self.targets_primary || self.is_malformed || is_hidden(security, self.number);
+        let may_target = self.targets_primary
+            || self.is_malformed
+            || is_hidden(security, self.number);
         self.block_type == BLOCK_INTEGRITY && may_target
     }
 
@@ -118,5 +127,7 @@ pub(crate) fn is_hidden(security: &[SecurityFacts], number: u64) -> bool
 pub(crate) fn is_protected(security: &[SecurityFacts]) -> bool
     ensures { result ≡ list_any (may_protect_primary security.now) security.now }
 {
-    security.iter().any(|block| block.may_protect_primary(security))
+    security
+        .iter()
+        .any(|block| block.may_protect_primary(security))
 }

@@ -1,0 +1,39 @@
+use Rattle.std.proofs.Common.{[], sym}
+use Rattle.link_bundle_rules.specs.BundleRules.{broken_bundle_rules}
+use Rattle.link_bundle_rules.proofs.history.BundleHistory.rules.Goals as goal
+
+pub returns : goal.returns
+unfolding broken_bundle_rules
+returns c =
+    let byte = c.args.first_long_head in
+    let size = c.args.payload_length in
+    rw (
+      sym (c.long_head.ensures size),
+      sym (c.bundle_flags.ensures byte size),
+      sym (c.primary_check.ensures byte size),
+      sym (c.anonymous.ensures byte size),
+      sym (c.record_reports.ensures byte size),
+      sym (c.block_reports.ensures byte size),
+      sym (c.block_flags.ensures byte size),
+      sym (c.dtn_name.ensures byte size),
+      sym (c.fragment.ensures byte),
+      sym (c.whole_fragment.ensures byte),
+      sym (c.age.ensures byte size),
+      sym (c.previous_node.ensures byte size),
+      sym (c.hop_count.ensures byte size),
+      sym (c.confidential_primary.ensures byte size),
+      sym (c.hops.ensures byte size),
+      sym (c.block_data.ensures byte size),
+      sym (c.data_not_read.ensures byte size),
+      sym (c.administrative_record.ensures byte size),
+    )
+    (c.add_if_broken-18.ensures.items _ (c.add_if_broken-17.ensures.items _ (
+    c.add_if_broken-16.ensures.items _ (c.add_if_broken-15.ensures.items _ (
+    c.add_if_broken-14.ensures.items _ (c.add_if_broken-13.ensures.items _ (
+    c.add_if_broken-12.ensures.items _ (c.add_if_broken-11.ensures.items _ (
+    c.add_if_broken-10.ensures.items _ (c.add_if_broken-9.ensures.items _ (
+    c.add_if_broken-8.ensures.items _ (c.add_if_broken-7.ensures.items _ (
+    c.add_if_broken-6.ensures.items _ (c.add_if_broken-5.ensures.items _ (
+    c.add_if_broken-4.ensures.items _ (c.add_if_broken-3.ensures.items _ (
+    c.add_if_broken-2.ensures.items _ (
+    c.add_if_broken.ensures.items [] (record { items = c.new-broken.ensures }))))))))))))))))))).items
