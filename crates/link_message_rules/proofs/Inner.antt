@@ -53,15 +53,12 @@ module _ (id size : ℕ) (before : List JudgedHead) where
       → Remembers new (before ++ inner_head id size ∷ [])
   inner_taken old new transfer now session at was adds since is =
       let head = inner_head id size in
-      let earlier = messages_of before in
-      let pushed = messages_of-push before head in
       rw is (record {
-        parameters = rw pushed (at.parameters ∙ sym (same_parameters earlier head.message refl));
-        session = rw pushed
-            (since ∙ session_of_second earlier head.message old.session at.session refl refl);
-        keepalives = rw pushed (at.keepalives ∙ sym (same_keepalives earlier head.message refl refl));
-        run = rw pushed (at.run ∙ ap ends_of (sym (same_run earlier head.message refl)));
-        ack = rw pushed (at.ack ∙ sym (same_ack earlier head.message refl));
+        parameters = same_parameters before head old.parameters at.parameters refl;
+        session = since ∙ session_of_second before head old.session at.session refl refl;
+        keepalives = same_keepalives before head old.keepalives at.keepalives refl refl;
+        run = same_run before head old.run at.run refl;
+        ack = same_ack before head old.ack at.ack refl;
         transfer = rw (segments_of-push before head)
             (begun transfer (segments_of before) (sym was ∙ at.transfer) now adds);
       })
