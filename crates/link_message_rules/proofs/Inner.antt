@@ -1,18 +1,17 @@
 -- An inner segment: without limits of the peer it breaks no rule, and adds its length.
-use Rattle.std.proofs.Common.{◌≡◌, ℕ, false, true, List, [], ◌∷◌, ◌++◌, Some, None, refl, sym, ap, ◌∙◌}
+use Rattle.std.proofs.Common.{◌≡◌, ℕ, false, true, List, [], ◌∷◌, ◌++◌, Some, None, refl, sym, ◌∙◌}
 use Rattle.link_wire.specs.declared.message.SegmentHead.{SegmentHead}
 use Rattle.link_transfer.specs.declared.joiner.Turn.TheVariants.{Continue}
 use Rattle.link_message_rules.specs.Flags.{item_flags, segment_flags}
-use Rattle.link_message_rules.specs.{Heads.{JudgedHead, messages_of}, Kept.inner_head}
+use Rattle.link_message_rules.specs.{Heads.{JudgedHead}, Kept.inner_head}
 use Rattle.link_message_rules.specs.Lengths.{peer_segment, peer_transfer, segments_of}
 use Rattle.link_message_rules.specs.MessageRules.{broken_rules}
-use Rattle.link_message_rules.specs.Remembered.{Remembers, next_since, ends_of, so_far_of}
+use Rattle.link_message_rules.specs.Remembered.{Remembers, next_since, so_far_of}
 use Rattle.link_message_rules.specs.TransferIds.{interleaved, transfer_id}
 use Rattle.link_message_rules.specs.declared.history.MessageHistory.{MessageHistory}
 use Rattle.link_message_rules.specs.declared.lengths.TransferSoFar.{TransferSoFar}
 use Rattle.link_message_rules.specs.declared.{limits.PeerLimits.PeerLimits, session.Since.Since}
 use Rattle.link_message_rules.proofs.{Joined.segments_of-push, Kept.segment_kept, Since.session_of_second}
-use Rattle.link_message_rules.proofs.Pushes.{messages_of-push}
 use Rattle.link_message_rules.proofs.Unchanged.{same_parameters, same_keepalives, same_run, same_ack}
 
 abbrev pub inner : (id size : ℕ) → SegmentHead

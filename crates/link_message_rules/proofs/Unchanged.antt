@@ -1,5 +1,5 @@
 -- What a head does not change of a history.
-use Rattle.std.proofs.Common.{◌≡◌, false, List, [], ◌∷◌, ◌++◌, Option, None, refl, sym, ap, ◌∙◌}
+use Rattle.std.proofs.Common.{◌≡◌, false, List, [], ◌∷◌, ◌++◌, Option, None, refl, sym, ◌∙◌}
 use Rattle.link_message_rules.specs.Heads.{JudgedHead, messages_of, segment_of, start_id, is_keepalive, disables_keepalive, is_of_transfer, parameters_of}
 use Rattle.link_message_rules.specs.Lengths.{ack_of, last_ack, segments_of}
 use Rattle.link_message_rules.specs.{Session.first_parameters, TransferIds.last_run}
