@@ -1,18 +1,17 @@
 -- An inner segment: without limits of the peer it breaks no rule, and adds its length.
-use Rattle.std.proofs.Common.{◌≡◌, ℕ, false, true, List, [], ◌∷◌, ◌++◌, Some, None, refl, sym, ap, ◌∙◌}
+use Rattle.std.proofs.Common.{◌≡◌, ℕ, false, true, List, [], ◌∷◌, ◌++◌, Some, None, refl, sym, ◌∙◌}
 use Rattle.link_wire.specs.declared.message.SegmentHead.{SegmentHead}
 use Rattle.link_transfer.specs.declared.joiner.Turn.TheVariants.{Continue}
 use Rattle.link_message_rules.specs.Flags.{item_flags, segment_flags}
-use Rattle.link_message_rules.specs.{Heads.{JudgedHead, messages_of}, Kept.inner_head}
+use Rattle.link_message_rules.specs.{Heads.{JudgedHead}, Kept.inner_head}
 use Rattle.link_message_rules.specs.Lengths.{peer_segment, peer_transfer, segments_of}
 use Rattle.link_message_rules.specs.MessageRules.{broken_rules}
-use Rattle.link_message_rules.specs.Remembered.{Remembers, next_since, ends_of, so_far_of}
+use Rattle.link_message_rules.specs.Remembered.{Remembers, next_since, so_far_of}
 use Rattle.link_message_rules.specs.TransferIds.{interleaved, transfer_id}
 use Rattle.link_message_rules.specs.declared.history.MessageHistory.{MessageHistory}
 use Rattle.link_message_rules.specs.declared.lengths.TransferSoFar.{TransferSoFar}
 use Rattle.link_message_rules.specs.declared.{limits.PeerLimits.PeerLimits, session.Since.Since}
 use Rattle.link_message_rules.proofs.{Joined.segments_of-push, Kept.segment_kept, Since.session_of_second}
-use Rattle.link_message_rules.proofs.Pushes.{messages_of-push}
 use Rattle.link_message_rules.proofs.Unchanged.{same_parameters, same_keepalives, same_run, same_ack}
 
 abbrev pub inner : (id size : ℕ) → SegmentHead
@@ -53,15 +52,12 @@ module _ (id size : ℕ) (before : List JudgedHead) where
       → Remembers new (before ++ inner_head id size ∷ [])
   inner_taken old new transfer now session at was adds since is =
       let head = inner_head id size in
-      let earlier = messages_of before in
-      let pushed = messages_of-push before head in
       rw is (record {
-        parameters = rw pushed (at.parameters ∙ sym (same_parameters earlier head.message refl));
-        session = rw pushed
-            (since ∙ session_of_second earlier head.message old.session at.session refl refl);
-        keepalives = rw pushed (at.keepalives ∙ sym (same_keepalives earlier head.message refl refl));
-        run = rw pushed (at.run ∙ ap ends_of (sym (same_run earlier head.message refl)));
-        ack = rw pushed (at.ack ∙ sym (same_ack earlier head.message refl));
+        parameters = same_parameters before head old.parameters at.parameters refl;
+        session = since ∙ session_of_second before head old.session at.session refl refl;
+        keepalives = same_keepalives before head old.keepalives at.keepalives refl refl;
+        run = same_run before head old.run at.run refl;
+        ack = same_ack before head old.ack at.ack refl;
         transfer = rw (segments_of-push before head)
             (begun transfer (segments_of before) (sym was ∙ at.transfer) now adds);
       })

@@ -9,6 +9,7 @@ use Rattle.link_message_rules.specs.declared.session.Since.{Since}
 use Rattle.link_message_rules.specs.declared.session.Since.TheVariants.{Neither, First, Both}
 use Rattle.link_message_rules.specs.declared.rule.MessageRule.{MessageRule}
 use Rattle.link_message_rules.specs.declared.rule.MessageRule.TheVariants as rule
+use Rattle.link_message_rules.proofs.Pushes.{messages_of-push}
 
 -- what holds once one of the first kind came
 abbrev since_first : (has_second : Bool) → Since
@@ -64,12 +65,20 @@ pub session_of_push : (before : List Message) (message : Message)
     ≡ next_since (session_of before) (is_sess_init message) (is_of_transfer message)
 session_of_push before message = since_of_push is_sess_init is_of_transfer before message
 
--- after a message of a transfer
-pub session_of_second : (before : List Message) (message : Message) (session : Since)
-    → session ≡ session_of before → parameters_of message ≡ None → is_of_transfer message ≡ true
-    → next_since session false true ≡ session_of (before ++ message ∷ [])
-session_of_second before message session at none is =
-    rw (session_of_push before message, none, is, at) refl
+-- after one of the second kind
+module _ (before : List JudgedHead) (head : JudgedHead) where
+  pub session_of_second : (session : Since) → session ≡ session_of (messages_of before)
+      → parameters_of head.message ≡ None → is_of_transfer head.message ≡ true
+      → next_since session false true ≡ session_of (messages_of (before ++ head ∷ []))
+  session_of_second session at none is =
+      rw (messages_of-push before head, session_of_push _ head.message, none, is, at) refl
+
+  pub keepalives_of_second : (keepalives : Since)
+      → keepalives ≡ keepalives_of (messages_of before)
+      → disables_keepalive head.message ≡ false → is_keepalive head.message ≡ true
+      → next_since keepalives false true ≡ keepalives_of (messages_of (before ++ head ∷ []))
+  keepalives_of_second keepalives at disables is =
+      rw (messages_of-push before head, keepalives_of_push _ head.message, disables, is, at) refl
 
 -- the rule of KEEPALIVEs, by what holds before the message
 abbrev pub rule_in : Since → (sends : Bool) → Option MessageRule

@@ -4,7 +4,8 @@ use Rattle.std.specs.Prelude.{ℕ, Bool, true, false, ◌||◌, ◌==◌, List, 
 use Rattle.link_bundle_types.specs.declared.fault.BundleFault.{BundleFault}
 use Rattle.link_bundle_types.specs.declared.fault.BundleFault.TheVariants.{NotABundle, WrongKind, WrongDataKind, WrongCheckKind, BadScheme, BadSpecificPart, EidTooLong, TooManyBlocks}
 use Rattle.link_bundle_types.specs.declared.info.BundleInfo.{BundleInfo}
-use Rattle.link_rules.specs.{Heads.unread_of, declared.unread.Unread.Unread}
+use Rattle.link_rules.specs.Heads.{unread_of}
+use Rattle.link_rules.specs.declared.unread.Unread.{Unread}
 use Rattle.link_message_rules.specs.declared.rule.TransferRule.{TransferRule}
 use Rattle.link_message_rules.specs.declared.rule.TransferRule.TheVariants.{Bundle, NotRead}
 

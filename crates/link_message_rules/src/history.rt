@@ -202,11 +202,14 @@ impl MessageHistory {
                 self.ack = ack_after(self.ack, message);
                 self.session = self.session.after_second();
             }
-            _ => {
+            Fields::Refuse { .. } => self.session = self.session.after_second(),
+            Fields::Keepalive => self.keepalives = self.keepalives.after_second(),
+            Fields::SessInit { .. } => {
                 self.parameters = parameters_after(self.parameters, message);
                 self.session = session_after(self.session, message);
                 self.keepalives = keepalives_after(self.keepalives, message);
             }
+            Fields::SessTerm { .. } | Fields::MsgReject { .. } => {}
         }
     }
 }
