@@ -749,7 +749,7 @@ struct tcpclkit_check_options {
   uint64_t size;              /* sizeof (struct tcpclkit_check_options), for later versions */
   uint64_t must;              /* 1: the rules of level `must` alone */
   uint64_t has_peer_segment;  /* 1: no segment may have more data than `peer_segment` */
-  uint64_t peer_segment;      /* at least 1, if it is set */
+  uint64_t peer_segment;
   uint64_t has_peer_transfer; /* 1: no transfer may have more data than `peer_transfer` */
   uint64_t peer_transfer;
   uint64_t bundles;           /* 1: the bytes are bundles, one after another, and no recording */
@@ -904,8 +904,8 @@ static inline uint32_t tcpclkit_blocks(const uint8_t *bytes, size_t length,
  *
  * The exit status is 3 after a fault, whose line is the report. Otherwise it is 1 if the output has
  * a line, and else 0. The statuses are those of tcpclkit_list; also TCPCLKIT_RANGE if `must`,
- * `has_peer_segment`, `has_peer_transfer` or `bundles` is above 1, if `peer_segment` is set and 0,
- * if `bundles` is 1 beside a limit of the peer, or `size` is of no such struct.
+ * `has_peer_segment`, `has_peer_transfer` or `bundles` is above 1, if `bundles` is 1 beside a limit
+ * of the peer, or `size` is of no such struct.
  *
  * Proved of tcpclkit_raw_check: as for tcpclkit_raw_unpack, of `check_tool` of the options and the
  * bytes, or of `bundle_check_tool` of `must` and the bytes if `bundles` is 1.

@@ -350,16 +350,15 @@ static void rooms(int tool) {
 
 /* Options of `check` that are out of their ranges, or go with no other, leave all as it was. */
 static void unwritten_rules(void) {
-  struct tcpclkit_check_options usual, limit, nothing, segment, transfer;
+  struct tcpclkit_check_options usual, limit, segment, transfer;
   struct tcpclkit_check_options above[4], unmade[3];
   struct lent it;
   uint8_t *to = it.output, *report = it.report;
   size_t at;
   CHECK(tcpclkit_check_defaults(NULL) == TCPCLKIT_NULL);
   tcpclkit_check_defaults(&usual);
-  limit = nothing = segment = transfer = usual;
+  limit = segment = transfer = usual;
   limit.has_peer_segment = limit.peer_segment = 1;
-  nothing.has_peer_segment = 1;
   segment.bundles = segment.has_peer_segment = segment.peer_segment = 1;
   transfer.bundles = transfer.has_peer_transfer = 1;
   above[0] = above[2] = above[3] = usual;
@@ -376,8 +375,6 @@ static void unwritten_rules(void) {
   for (at = 0; at < 3; at++)
     LEAVES(tcpclkit_check(recording, sizeof recording, &unmade[at], to, 9, report, 9, &it.run),
            TCPCLKIT_RANGE, it);
-  LEAVES(tcpclkit_check(recording, sizeof recording, &nothing, to, 9, report, 9, &it.run),
-         TCPCLKIT_RANGE, it);
   LEAVES(tcpclkit_check(bundle, 9, &segment, to, 9, report, 9, &it.run), TCPCLKIT_RANGE, it);
   LEAVES(tcpclkit_check(bundle, 9, &transfer, to, 9, report, 9, &it.run), TCPCLKIT_RANGE, it);
   LEAVES(tcpclkit_check(recording, 9, NULL, to, 9, report, 9, &it.run), TCPCLKIT_NULL, it);

@@ -723,8 +723,7 @@ def check(content, must=False, peer_segment=None, peer_transfer=None, bundles=Fa
     With `must`, only the rules of level `must` have a line, and count. `peer_segment` and
     `peer_transfer` are the longest data of a segment and the longest transfer that the peer
     receives. A limit that is None is not judged. With `bundles`, the bytes are bundles, one after
-    another, and no recording; a limit of the peer is then a ValueError, as a `peer_segment` of 0
-    always is.
+    another, and no recording; a limit of the peer is then a ValueError.
     """
     limits = [it for limit in (peer_segment, peer_transfer)
               for it in (limit is not None, _number(limit or 0))]

@@ -343,7 +343,8 @@ class Tools(unittest.TestCase):
         self.assertEqual(run, (lines, b"", 1))
         for options in ({"peer_segment": 1}, {"peer_transfer": 0}):
             self.assertRaises(ValueError, tcpclkit.check, SEVERAL, bundles=True, **options)
-        self.assertRaises(ValueError, tcpclkit.check, content, peer_segment=0)
+        run = tcpclkit.check(content, peer_segment=0)
+        self.assertIn(b"38 must peer-segment length=34 limit=0\n", run.output)
 
     def test_ranges(self):
         for options in [

@@ -246,8 +246,7 @@ pub fn blocks(bytes: &[u8], options: &BlocksOptions) -> Result<Run, ToolError> {
 ///
 /// # Errors
 ///
-/// `bundles` is set beside a limit of the peer, or `peer_segment` is 0. This tool asks for no
-/// memory.
+/// `bundles` is set beside a limit of the peer. This tool asks for no memory.
 pub fn check(bytes: &[u8], options: &CheckOptions) -> Result<Run, ToolError> {
     let lent: [u64; 6] = [
         options.must.into(),

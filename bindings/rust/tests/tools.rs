@@ -117,11 +117,7 @@ fn check_of_bundles_has_no_peer() {
         peer_transfer: Some(0),
         ..options
     };
-    let nothing = CheckOptions {
-        peer_segment: Some(0),
-        ..CheckOptions::default()
-    };
-    for refused in [segment, transfer, nothing] {
+    for refused in [segment, transfer] {
         assert_eq!(check(b"", &refused), Err(ToolError::Range));
     }
 }

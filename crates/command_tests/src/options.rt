@@ -150,7 +150,6 @@ static WRONG_WORDS: [&[&str]; 52] = [
     &["blocks", "--payload"],
     &["blocks", "a", "b"],
     &["unpack", "--bundles"],
-    &["check", "--peer-segment", "0"],
     &["check", "--peer-segment", "18446744073709551616"],
     &["check", "--peer-segment"],
     &["check", "--peer-segment", "1", "--peer-segment", "1"],
@@ -354,9 +353,10 @@ fn judged(must: bool, segment: Option<u64>, transfer: Option<u64>) -> Options {
 }
 
 /// Lines of `check`, whether each asks for `must` alone, and the limits that it gives.
-static OF_CHECK: [(&[&str], bool, Option<u64>, Option<u64>); 8] = [
+static OF_CHECK: [(&[&str], bool, Option<u64>, Option<u64>); 9] = [
     (&["check"], false, None, None),
     (&["check", "--must", "f"], true, None, None),
+    (&["check", "--peer-segment", "0"], false, Some(0), None),
     (&["check", "--peer-segment", "1"], false, Some(1), None),
     (&["check", "--peer-transfer", "0"], false, None, Some(0)),
     (

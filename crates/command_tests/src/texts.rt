@@ -57,7 +57,7 @@ static HELP_TEXTS: [(&[&str], &[&str]); 7] = [
             "Usage: tcpclkit check [OPTIONS] [FILE]",
             "--must",
             "--peer-segment <N>",
-            "1 to 18446744073709551615 bytes [default: not judged]",
+            "0 to 18446744073709551615 bytes [default: not judged]",
             "--peer-transfer <N>",
             "0 to 18446744073709551615 bytes [default: not judged]",
             "--bundles",
@@ -143,7 +143,7 @@ fn texts_of_the_command_help(rt: HostRuntime) -> Result<(), Fail> {
 static TEXTS_OF_WRONG_WORDS: [(&[&str], &str, &str); 5] = [
     (&[], "requires a subcommand", "Usage: tcpclkit <COMMAND>"),
     (
-        &["check", "--peer-segment", "0"],
+        &["pack", "--node", "x", "--peer-segment", "0"],
         "'--peer-segment <N>': 0 is not in 1..18446744073709551615",
         "For more information",
     ),

@@ -68,7 +68,7 @@ blocks_words = tool (codes "blocks") (
 unfoldable pub check_words : Shape
 check_words = tool (codes "check") (
     flag (codes "must")
-    ∷ number (codes "peer-segment") one_or_more
+    ∷ number (codes "peer-segment") any_u64
     ∷ number (codes "peer-transfer") any_u64
     ∷ flag (codes "bundles")
     ∷ file

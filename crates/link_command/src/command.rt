@@ -254,7 +254,7 @@ fn check_command<'a>(alloc: Global) -> Result<Command<'a>, AllocError>
 fn with_judged<'a>(alloc: Global, tool: Command<'a>) -> Result<Command<'a>, AllocError>
     ensures { IfOk result (AddsRules (
         flag (codes "must")
-        ∷ number (codes "peer-segment") one_or_more
+        ∷ number (codes "peer-segment") any_u64
         ∷ number (codes "peer-transfer") any_u64
         ∷ []) tool.entry) }
 {
@@ -263,8 +263,8 @@ fn with_judged<'a>(alloc: Global, tool: Command<'a>) -> Result<Command<'a>, Allo
     let segment = number(
         alloc,
         "peer-segment",
-        one_or_more(),
-        "The longest segment that the peer takes, 1 to 18446744073709551615 bytes [default: not judged]",
+        any_u64(),
+        "The longest segment that the peer takes, 0 to 18446744073709551615 bytes [default: not judged]",
     );
     let two = one.arg(segment)?;
     let transfer = number(

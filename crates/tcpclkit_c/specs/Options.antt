@@ -106,14 +106,13 @@ check_numbers words =
       bundles = get_or words 5 0;
     }
 
--- A limit of segments is at least 1. With `bundles`, no limit of the peer is set.
+-- With `bundles`, no limit of the peer is set.
 abbrev pub check_numbers_fit : CheckNumbers → Bool
 check_numbers_fit numbers =
     nat_le numbers.must 1 && (nat_le numbers.has_peer_segment 1
     && (nat_le numbers.has_peer_transfer 1 && (nat_le numbers.bundles 1
-    && ((numbers.has_peer_segment == 0 || nat_le 1 numbers.peer_segment)
     && (numbers.bundles == 0
-    || (numbers.has_peer_segment == 0 && numbers.has_peer_transfer == 0))))))
+    || (numbers.has_peer_segment == 0 && numbers.has_peer_transfer == 0)))))
 
 -- the words are in their ranges
 abbrev pub check_in_range : List ℕ → Bool

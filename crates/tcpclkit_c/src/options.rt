@@ -222,7 +222,6 @@ fn check_numbers_fit(numbers: &CheckNumbers) -> bool
         && numbers.has_peer_segment <= 1
         && numbers.has_peer_transfer <= 1
         && numbers.bundles <= 1
-        && (numbers.has_peer_segment == 0 || numbers.peer_segment >= 1)
         && (numbers.bundles == 0 || numbers.has_peer_segment == 0 && numbers.has_peer_transfer == 0)
 }
 
