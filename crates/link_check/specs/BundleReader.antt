@@ -3,8 +3,10 @@ use Rattle.std.specs.Prelude.{◌≡◌, ◌≤◌, ℕ, suc, Bool, true, false,
 use Rattle.link_bundle_blocks.specs.Bundle.{blocks_in}
 use Rattle.link_blocks.specs.BlockLines.{flags_after}
 use Rattle.link_blocks.specs.DataReader.{IsReading, read_size}
-use Rattle.link_rules.specs.{HeadWalk.HasWalked, Prefix.Begins}
-use Rattle.link_bundle_rules.specs.{History.bundle_of, ReadBundle.ReadBundle}
+use Rattle.link_rules.specs.HeadWalk.{HasWalked}
+use Rattle.link_rules.specs.Prefix.{Begins}
+use Rattle.link_bundle_rules.specs.History.{bundle_of}
+use Rattle.link_bundle_rules.specs.ReadBundle.{ReadBundle}
 use Rattle.link_bundle_rules.specs.declared.history.BundleHistory.{BundleHistory}
 use Rattle.link_check.specs.BundleRules.{read_bundle}
 use Rattle.link_check.specs.declared.bundle.BundleReader.{BundleReader}
