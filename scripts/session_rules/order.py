@@ -1,0 +1,53 @@
+"""In which order the messages of both sides are taken.
+
+The order of each recording is kept. An answer is taken after what it answers, so everything that a
+side has seen was taken before. Other messages are taken from the side with fewer segments that have
+no answer, so what is kept does not grow with the recordings.
+
+An answer whose message does not come is taken after all: if the other side has no more messages, or
+waits for this side too, or has AHEAD segments without an answer.
+"""
+
+from .facts import ACK, REFUSE, REJECT, REPLY, TERM
+
+AHEAD = 4096
+
+
+def is_answer(message):
+    """Returns whether a message answers one of the other side."""
+    return message.kind in (ACK, REFUSE, REJECT) or message.kind == TERM and message.flags & REPLY
+
+
+def waits(side):
+    """Returns whether the next message of a side answers one that is not taken so far."""
+    message, other = side.next, side.other
+    if not is_answer(message) or other.next is None or other.unanswered >= AHEAD:
+        return False
+    if message.kind == ACK:
+        return message.ident not in side.waiting and not takes_ack(other, message.ident)
+    if message.kind == REFUSE:
+        ident = message.ident
+        return not (ident in side.waiting or ident in other.sent or ident in other.over or ident in other.strays)
+    if message.kind == REJECT:
+        return message.header not in other.types
+    return not other.terms
+
+
+def takes_ack(sender, ident):
+    """Returns whether an XFER_ACK of a transfer can be taken: whether a segment has no answer."""
+    transfer = sender.sent.get(ident)
+    if transfer is None:
+        return ident in sender.strays
+    return bool(transfer.unanswered() > 0 or transfer.refused or transfer.extra or not transfer.is_judged)
+
+
+def turn(a, b):
+    """Returns the side whose message is taken next, or None."""
+    sides = [side for side in (a, b) if side.next is not None]
+    ready = [side for side in sides if not waits(side)]
+    if not ready:
+        return max(sides, key=lambda side: side.waited, default=None)
+    for side in ready:
+        if is_answer(side.next):
+            return side
+    return min(ready, key=lambda side: side.unanswered)
