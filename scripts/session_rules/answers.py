@@ -4,7 +4,7 @@ from itertools import islice
 
 from .facts import ACK, END, REFUSE, START
 from .sending import claim_left, drop, is_critical, note_refused
-from .sides import KEPT, MUST, SHOULD
+from .sides import KEPT, MUST, SHOULD, can_take
 
 # Flags that are defined (RFC 9174 section 5.2.2), and reasons of XFER_REFUSE (section 5.2.4)
 DEFINED = START | END
@@ -19,19 +19,12 @@ def take_ack(side, message, came):
     """Takes an XFER_ACK. `came` is when its first and its last byte were captured, or None."""
     sender = side.other
     transfer = sender.sent.get(message.ident)
-    if message.ident in side.waiting or not can_take(sender, transfer, message):
+    if message.ident in side.waiting or not can_take(sender, message):
         side.waiting.setdefault(message.ident, []).append((message, came))
     elif transfer is None:
         stray_taken(side, message)
     elif transfer.is_judged:
         judge_ack(side, transfer, message, came)
-
-
-def can_take(sender, transfer, message):
-    """Returns whether an XFER_ACK has a segment to answer."""
-    if transfer is None:
-        return message.ident in sender.strays
-    return transfer.unanswered() > 0 or transfer.refused or transfer.extra or not transfer.is_judged
 
 
 def stray_taken(side, message):
@@ -43,6 +36,7 @@ def stray_taken(side, message):
 
 def judge_ack(side, transfer, message, came):
     """Judges an XFER_ACK of a transfer."""
+    side.ack_lengths.pop(message.offset, None)
     if not side.inits:
         side.other.is_unready = True
     if transfer.refused is not None:
@@ -50,17 +44,16 @@ def judge_ack(side, transfer, message, came):
     if transfer.answered == 0:
         accepted(side, transfer, message)
     transfer.answered += 1
-    if transfer.unanswered() <= 0:
-        if transfer.extra > 0:
-            side.claim(message.offset, SHOULD, "taken-out-of-order", f"id={transfer.ident}")
-            transfer.is_judged = False
+    if transfer.unanswered() <= 0 and transfer.extra > 0:
+        side.claim(message.offset, SHOULD, "taken-out-of-order", f"id={transfer.ident}")
+        transfer.is_judged = False
         return None
     due = transfer.pending[0]
     if transfer.strange or not is_answer_to(message, due):
         return strange(side, transfer, message)
     transfer.pending.popleft()
+    transfer.last = due
     side.other.unanswered -= 1
-    side.ack_lengths.pop(message.offset, None)
     see(side, due.offset)
     early(side, transfer, message, due, came)
     return settle(side, transfer, message)
@@ -108,8 +101,8 @@ def accepted(side, transfer, message):
 def acknowledged_after(side, transfer, message):
     """Judges an XFER_ACK of a transfer that this side has refused."""
     is_sure = transfer.goes_on is not None and message.length > transfer.goes_on
-    words = f"id={transfer.ident} refused-at={transfer.refused.offset}"
-    side.claim(message.offset, MUST if is_sure else SHOULD, "refused-acknowledged", words)
+    level = MUST if is_sure else SHOULD
+    side.claim(message.offset, level, "refused-acknowledged", f"id={transfer.ident}")
 
 
 def early(side, transfer, message, segment, came):
@@ -153,14 +146,13 @@ def compare(side, transfer, is_complete):
     """
     segments, acks, after = list(transfer.pending), list(transfer.strange), None
     totals = [it.total for it in segments]
-    for message in acks:
-        side.ack_lengths.pop(message.offset, None)
     while is_complete and segments and acks and is_answer_to(acks[-1], segments[-1]):
         after = acks.pop()
         segments.pop()
-    if len(acks) > len(segments):
+    if len(acks) > len(segments) or not is_complete and repeats(acks, transfer):
         words = f"id={transfer.ident} segments={transfer.count}"
-        side.claim(acks[len(segments)].offset, MUST, "ack-beyond", words, transfer.is_open)
+        surplus = acks[0] if repeats(acks, transfer) else acks[len(segments)]
+        side.claim(surplus.offset, MUST, "ack-beyond", words, transfer.is_open)
     elif is_complete and len(acks) < len(segments):
         claim_missing(side, transfer, segments[0], after.offset, MUST)
     elif acks and skips(acks[0], segments):
@@ -168,6 +160,13 @@ def compare(side, transfer, is_complete):
     else:
         for number, message in enumerate(acks):
             differ(side, transfer, message, segments[number], totals[number:])
+
+
+def repeats(acks, transfer):
+    """Returns whether the first XFER_ACK is that of the segment before, and the others are due."""
+    if not acks or transfer.last is None or not is_answer_to(acks[0], transfer.last):
+        return False
+    return all(map(is_answer_to, acks[1:], transfer.pending))
 
 
 def skips(message, segments):
@@ -227,7 +226,7 @@ def judge_refuse(side, transfer, message, came):
     if transfer.overtaken is not None:
         claim_order(side, transfer)
     if transfer.left is not None and side.has_seen(transfer.left):
-        claim_left(side.other, transfer, MUST)
+        claim_left(side.other, transfer, MUST, is_sure=True)
     if not transfer.is_open:
         note_refused(side.other, transfer)
         drop(side.other, transfer)

@@ -1,6 +1,6 @@
 """What is judged when both recordings were read: beginnings and endings, and what is missing."""
 
-from .answers import claim_missing, claim_order, compare
+from .answers import acknowledged_after, claim_missing, claim_order, compare
 from .facts import ACK, CRITICAL, INIT, REFUSE, REJECT, REPLY, TERM
 from .sending import claim_left
 from .sides import MUST, SHOULD
@@ -146,8 +146,9 @@ def terms(side):
         side.claim(replies[0].offset, SHOULD if has_other else MUST, "reply-alone", if_known=not has_other)
     if replies and asked and not any(repeats(replies[0], term) for term in asked):
         reply_differs(side, replies[0], asked[0])
-    if asked and not side.terms and side.is_whole() and side.has_seen(asked[0]):
-        side.claim(side.listing.end, MUST, "term-unanswered", f"peer-at={asked[0].offset}")
+    if asked and not side.terms and side.is_whole():
+        level = MUST if side.has_seen(asked[0]) else SHOULD
+        side.claim(side.listing.end, level, "term-unanswered", f"peer-at={asked[0].offset}")
 
 
 def repeats(reply, term):
@@ -167,8 +168,7 @@ def unanswered(side):
     """Judges the transfers of the other side that have no answer, or not all, or were left."""
     for transfer in side.other.sent.values():
         if transfer.left is not None and transfer.refused is None:
-            level = MUST if side.is_known(transfer.left.offset) else SHOULD
-            claim_left(side.other, transfer, level)
+            claim_left(side.other, transfer, MUST if transfer.unanswered() <= 0 else SHOULD)
         if transfer.is_judged and transfer.refused is None:
             missing(side, transfer)
 
@@ -192,24 +192,26 @@ def missing(side, transfer):
 
 def judge_waiting(side):
     """Judges the answers of a side that belong to no segment of the other one."""
-    for ident, answers in side.waiting.items():
-        for message, _ in answers:
-            judge_other(side, ident, message)
+    for ident, waiting in side.waiting.items():
+        transfer = side.other.sent.get(ident)
+        for message, _ in waiting:
+            side.ack_lengths.pop(message.offset, None)
+            if transfer is None:
+                judge_other(side, ident, message)
+            elif message.kind == ACK and transfer.refused is not None:
+                acknowledged_after(side, transfer, message)
+            elif message.kind == ACK and transfer.is_judged:
+                transfer.strange.append(message)
 
 
 def judge_other(side, ident, message):
     """Judges an answer that belongs to no segment."""
     other, is_ack = side.other, message.kind == ACK
-    transfer = other.sent.get(ident)
-    if is_ack and transfer is not None:
-        if transfer.is_judged and not transfer.refused:
-            words = f"id={ident} segments={transfer.count}"
-            side.claim(message.offset, MUST, "ack-beyond", words, if_known=True)
-    elif is_ack and ident in other.refused:
+    if is_ack and ident in other.refused:
         side.claim(message.offset, SHOULD, "refused-acknowledged", f"id={ident}")
     elif is_ack and ident in other.over:
         side.claim(message.offset, MUST, "ack-beyond", f"id={ident}", if_known=True)
-    elif not (ident in other.over or transfer or ident in other.strays or other.over.is_full):
+    elif not (ident in other.over or ident in other.strays or other.over.is_full):
         rule = "ack-unknown" if is_ack else "refuse-unknown"
         side.claim(message.offset, MUST, rule, f"id={ident}", if_known=True)
         if other.is_known(message.offset):

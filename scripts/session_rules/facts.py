@@ -157,13 +157,26 @@ class Listing:
 
     def close(self):
         """Takes how the run ended."""
-        text, status = self.process.stderr.read().strip(), self.process.wait()
+        text, status = ended(self.process)
         if status == FAULT:
             _, _, offset, text = text.split(None, 3)
             self.fault = Fault(int(offset.rstrip(":")), text)
         elif status != 0:
             raise failure(self.path, status, text)
         self.end = self.fault.offset if self.fault else os.path.getsize(self.path)
+
+    def stop(self):
+        """Ends the run, even if some messages were not read."""
+        if not self.process.stderr.closed:
+            self.process.kill()
+            ended(self.process)
+
+
+def ended(process):
+    """Waits for a run. Returns what it wrote on standard error, and its status."""
+    with process:
+        text = process.stderr.read().strip()
+    return text, process.returncode
 
 
 def failure(path, status, text):
@@ -196,7 +209,7 @@ class Check:
         for line in self.process.stdout:
             offset, level, rule, *words = line.rstrip("\n").split(" ", 3)
             yield Broken(int(offset), level, rule, " ".join(words))
-        text, status = self.process.stderr.read().strip(), self.process.wait()
+        text, status = ended(self.process)
         if status not in (0, 1, FAULT):
             raise failure(self.path, status, text)
         self.fault = text.replace("tcpclkit: ", "", 1)
@@ -214,6 +227,10 @@ class Times:
     def __init__(self, path):
         self.file = open(path, encoding="ascii")
         self.offset, self.time = 0, None
+
+    def close(self):
+        """Closes the file."""
+        self.file.close()
 
     def at(self, offset) -> Optional[int]:
         """Returns when the bytes before an offset had come, in nanoseconds, or None."""

@@ -49,6 +49,8 @@ def judged(tcpclkit, recordings, times=None, closed=""):
     if not are_begun:
         notes += [f"{side.path}: without its beginning, the rules of two sides are not judged"
                   for side in sides if not is_begun(side)]
+    for side in sides:
+        side.close()
     return Verdict([(side.name, found(side, are_begun)) for side in sides], notes, has_fault)
 
 
@@ -76,11 +78,9 @@ def take_line(side, line, are_begun):
     line = Line(*line)
     if are_begun and line.rule == "ack-length":
         side.ack_lengths[line.offset] = line
-    elif are_begun and line.rule == "unfinished":
+    elif line.rule == "unfinished":
         side.unfinished = line
-    elif are_begun and line.rule == "interleaved":
-        side.interleaved = line
-    else:
+    elif line.rule != "interleaved":
         side.lines.append(line)
     if line.rule == "length-differs":
         side.differing[line.offset] = line.words.partition(" ")[2]
@@ -174,11 +174,8 @@ def found(side, are_begun):
     """Returns the lines of a side, in the order of their offsets."""
     lines = [*side.lines, *side.ack_lengths.values()]
     lines += [line for line in side.doubts if side.other.is_known(line.offset)]
-    if side.unfinished is not None and is_unfinished(side):
+    if are_begun and side.unfinished is not None and is_unfinished(side):
         lines.append(side.unfinished)
-    fault, cut = side.listing.fault, side.interleaved
-    if cut is not None and fault is not None and cut.offset == fault.offset:
-        lines.append(cut)  # The segment is cut, so `list` has no line for it.
     return sorted(lines, key=lambda line: line.offset)
 
 

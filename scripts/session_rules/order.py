@@ -9,6 +9,7 @@ waits for this side too, or has AHEAD segments without an answer.
 """
 
 from .facts import ACK, REFUSE, REJECT, REPLY, TERM
+from .sides import can_take
 
 AHEAD = 4096
 
@@ -24,21 +25,13 @@ def waits(side):
     if not is_answer(message) or other.next is None or other.unanswered >= AHEAD:
         return False
     if message.kind == ACK:
-        return message.ident not in side.waiting and not takes_ack(other, message.ident)
+        return message.ident not in side.waiting and not can_take(other, message)
     if message.kind == REFUSE:
         ident = message.ident
         return not (ident in side.waiting or ident in other.sent or ident in other.over or ident in other.strays)
     if message.kind == REJECT:
         return message.header not in other.types
     return not other.terms
-
-
-def takes_ack(sender, ident):
-    """Returns whether an XFER_ACK of a transfer can be taken: whether a segment has no answer."""
-    transfer = sender.sent.get(ident)
-    if transfer is None:
-        return ident in sender.strays
-    return bool(transfer.unanswered() > 0 or transfer.refused or transfer.extra or not transfer.is_judged)
 
 
 def turn(a, b):

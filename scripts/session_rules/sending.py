@@ -54,14 +54,13 @@ def begin(side, message):
 def replace(side, transfer):
     """Forgets a transfer that has no answer, since another one with its ID begins."""
     side.unanswered -= len(transfer.pending)
-    if transfer.left is not None:
-        claim_left(side, transfer, SHOULD)
 
 
-def claim_left(side, transfer, level):
-    """Keeps the line of a transfer that was left without END."""
+def claim_left(side, transfer, level, is_sure=False):
+    """Keeps the line of a transfer that was left without END. Unless it is sure that there was no
+    refusal before, the other recording has to show that."""
     words = f"id={transfer.left.ident} open={transfer.ident}"
-    side.claim(transfer.left.offset, level, "interleaved", words)
+    side.claim(transfer.left.offset, level, "interleaved", words, if_known=not is_sure)
 
 
 def leave(side, transfer, message):
@@ -96,7 +95,7 @@ def add(side, transfer, message, came):
     if message.flags & END:
         side.opened, transfer.is_open = None, False
         retried(side, transfer)
-        if transfer.refused is not None:
+        if transfer.refused is not None and transfer.goes_on is None:
             drop(side, transfer)
 
 

@@ -68,7 +68,7 @@ class Segment(NamedTuple):
 class Transfer:
     """A transfer that is open, or has segments without an answer.
 
-    pending    its segments that have no answer
+    pending    its segments that have no answer; `last` is the last one that has
     total      the length of its data so far; `count` is how many segments it has
     items      its extension items
     saw        up to where its sender had seen the other side when it began
@@ -86,7 +86,7 @@ class Transfer:
     __slots__ = (
         "ident", "offset", "pending", "total", "count", "items", "saw", "is_open", "is_odd", "extra",
         "is_judged", "is_late", "strange", "answered", "refused", "left", "goes_on", "overtaken", "pieces", "listed",
-        "refused_came",
+        "refused_came", "last",
     )
 
     def __init__(self, message, saw):
@@ -96,6 +96,7 @@ class Transfer:
         self.is_judged, self.is_late = True, False
         self.strange, self.answered = [], 0
         self.refused = self.refused_came = self.left = self.goes_on = self.overtaken = None
+        self.last = None
         self.pieces, self.listed = [], (message.offset + 10, message.end - message.length - 8)
 
     def unanswered(self):
@@ -126,7 +127,7 @@ class Side:
         self.name, self.listing, self.is_closed = name, listing, is_closed
         self.path, self.messages = listing.path, iter(listing.messages)
         self.other, self.clock, self.is_unready = None, None, False
-        self.unfinished = self.interleaved = None
+        self.unfinished = None
         self.seen = self.answered = -1
         self.sent, self.unanswered, self.opened = OrderedDict(), 0, None
         self.over, self.refused, self.strays = Ranges(), Ranges(), {}
@@ -143,6 +144,13 @@ class Side:
         self.next, self.waited = next(self.messages, None), 0
         return message
 
+    def close(self):
+        """Closes the files that were opened."""
+        if self.file is not None:
+            self.file.close()
+        if self.clock is not None:
+            self.clock.times.close()
+
     def claim(self, offset, level, rule, words="", if_known=False):
         """Keeps a line. `if_known`: it holds only if nothing of the other side is missing that this
         side could have seen when it sent the message at the offset."""
@@ -153,10 +161,25 @@ class Side:
         return message is not None and self.seen >= message.offset
 
     def is_whole(self):
-        """Returns whether the recording has all that this side sent."""
-        return self.listing.fault is None and bool(self.terms or self.is_closed)
+        """Returns whether the recording has all that this side sent. If a transfer is open at the
+        end, a SESS_TERM before does not show it."""
+        is_ended = self.is_closed or self.terms and self.opened is None
+        return self.listing.fault is None and bool(is_ended)
 
     def is_known(self, offset):
         """Returns whether the recording has all that the other side could have seen when it sent
         the message at an offset of its own recording."""
         return self.is_whole() or self.seen >= offset
+
+
+def can_take(sender, ack):
+    """Returns whether an XFER_ACK can be taken: whether a segment has no answer, and the transfer
+    has the acknowledged length so far, or gets no more."""
+    transfer = sender.sent.get(ack.ident)
+    if transfer is None:
+        return ack.ident in sender.strays
+    if transfer.is_open and ack.length > transfer.total and transfer.is_judged:
+        return False
+    is_compared = bool(transfer.strange) and not transfer.is_open
+    is_free = transfer.refused is not None or transfer.extra > 0 or not transfer.is_judged
+    return is_compared or is_free or transfer.unanswered() > 0

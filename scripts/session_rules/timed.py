@@ -1,6 +1,6 @@
 """The rules that need to know when bytes were captured (RFC 9174 section 5.1.1)."""
 
-from .facts import KEEPALIVE, TERM, Listing, Times
+from .facts import TERM, Listing, Times
 from .sides import KEPT, MUST, SHOULD, SLACK, Came
 
 
@@ -26,12 +26,20 @@ def start(sides):
     inits = [side.listing.init for side in sides]
     if None in inits or 0 in (init.numbers[0] for init in inits):
         return
-    begun = [Times(side.clock.path).at(side.listing.init.end) for side in sides]
+    begun = [came_at(side.clock.path, side.listing.init.end) for side in sides]
     if None in begun:
         return
     for side in sides:
         side.clock.interval = min(init.numbers[0] for init in inits) * 10**9
         side.clock.begun = max(begun)
+
+
+def came_at(path, offset):
+    """Returns when the bytes before an offset had come, or None."""
+    times = Times(path)
+    time = times.at(offset)
+    times.close()
+    return time
 
 
 def spelled(time):
@@ -60,17 +68,25 @@ def silent(side, message, since, until):
 
 def idle(side, tcpclkit):
     """Judges what a side sent while the other one was silent for more than twice the interval."""
-    silences, late = list(side.other.clock.silences), 2 * side.clock.interval + SLACK
-    if not silences:
-        return
-    clock = Clock(side.clock.path)
-    for message in Listing(tcpclkit, side.path).messages:
+    silences = list(side.other.clock.silences)
+    if silences:
+        listing, clock = Listing(tcpclkit, side.path), Clock(side.clock.path)
+        went_on(side, listing.messages, clock, silences)
+        listing.stop()
+        clock.times.close()
+
+
+def went_on(side, messages, clock, silences):
+    """Judges the first message in each silence that comes when it has lasted too long."""
+    interval = side.clock.interval
+    for message in messages:
         came = clock.came(message)
         while came and silences and came.first >= silences[0][1]:
             silences.pop(0)
         if message.kind == TERM or not silences or not came:
             return
-        if came.first > silences[0][0] + late:
-            words = f"seconds={spelled(came.first - silences[0][0])} interval={side.clock.interval // 10**9}"
+        lasted = came.first - silences[0][0]
+        if lasted > 2 * interval + SLACK:
+            words = f"seconds={spelled(lasted)} interval={interval // 10**9}"
             side.claim(message.offset, SHOULD, "idle", words)
             silences.pop(0)
