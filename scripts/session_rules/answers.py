@@ -1,5 +1,6 @@
 """The rules of XFER_ACK and XFER_REFUSE, which the receiver of transfers breaks."""
 
+from collections import deque
 from itertools import islice
 
 from .facts import ACK, END, REFUSE, START
@@ -15,15 +16,36 @@ EXTENSION_FAILURE, SESSION_TERMINATING = 0x05, 0x06
 EXCHANGED = 10**7
 
 
-def take_ack(side, message, came):
-    """Takes an XFER_ACK. `came` is when its first and its last byte were captured, or None."""
-    sender = side.other
-    transfer = sender.sent.get(message.ident)
-    if message.ident in side.waiting or not can_take(sender, message):
-        side.waiting.setdefault(message.ident, []).append((message, came))
+def take_answer(side, message, came):
+    """Takes an XFER_ACK or an XFER_REFUSE, or lets it wait for what it answers. `came` is when its
+    first and its last byte were captured, or None."""
+    if message.ident in side.waiting or not can_take(side.other, message):
+        side.waiting.setdefault(message.ident, deque()).append((message, came))
+    else:
+        judge(side, message, came)
+
+
+def take_waiting(side, ident):
+    """Takes the answers to a transfer that came before its segments were taken."""
+    waiting = side.waiting[ident]
+    while waiting and can_take(side.other, waiting[0][0]):
+        judge(side, *waiting.popleft())
+    if not waiting:
+        del side.waiting[ident]
+
+
+def judge(side, message, came):
+    """Judges an XFER_ACK or an XFER_REFUSE."""
+    transfer = side.other.sent.get(message.ident)
+    if message.kind == REFUSE and transfer is None:
+        side.accepted.pop(message.ident, None)
     elif transfer is None:
         stray_taken(side, message)
-    elif transfer.is_judged:
+    elif not transfer.is_judged:
+        return
+    elif message.kind == REFUSE:
+        judge_refuse(side, transfer, message, came)
+    else:
         judge_ack(side, transfer, message, came)
 
 
@@ -120,6 +142,7 @@ def strange(side, transfer, message):
     """Keeps an XFER_ACK that is not the one that is due, or that follows such a one. Compares them
     once the last segment of the transfer is acknowledged."""
     transfer.strange.append(message)
+    side.other.unanswered -= 1
     last = transfer.pending[-1]
     is_complete = is_answer_to(message, last)
     is_last = message.flags & END and transfer.unanswered() <= 0
@@ -132,7 +155,7 @@ def strange(side, transfer, message):
 
 def forget_pending(side, transfer):
     """Takes the segments of a transfer for answered."""
-    side.other.unanswered -= len(transfer.pending)
+    side.other.unanswered -= transfer.unanswered()
     transfer.pending.clear()
     transfer.strange = []
 
@@ -145,7 +168,7 @@ def compare(side, transfer, is_complete):
     answers are missing, or there are too many.
     """
     segments, acks, after = list(transfer.pending), list(transfer.strange), None
-    totals = [it.total for it in segments]
+    sums = {it.total for it in segments}
     while is_complete and segments and acks and is_answer_to(acks[-1], segments[-1]):
         after = acks.pop()
         segments.pop()
@@ -159,7 +182,7 @@ def compare(side, transfer, is_complete):
         claim_missing(side, transfer, segments[0], acks[0].offset, MUST)
     else:
         for number, message in enumerate(acks):
-            differ(side, transfer, message, segments[number], totals[number:])
+            differ(side, transfer, message, segments[number], sums)
 
 
 def repeats(acks, transfer):
@@ -174,10 +197,10 @@ def skips(message, segments):
     return message.flags != segments[0].flags and any(is_answer_to(message, it) for it in segments)
 
 
-def differ(side, transfer, message, segment, totals):
-    """Judges an XFER_ACK that answers a segment. `totals` has the sums from this segment on.
+def differ(side, transfer, message, segment, sums):
+    """Judges an XFER_ACK that answers a segment. `sums` has the sums up to it and to later ones.
 
-    Its length may be any of them: "received so far" (RFC 9174 section 5.2.3) may be said of later
+    Its length may be a later sum: "received so far" (RFC 9174 section 5.2.3) may be said of later
     segments too, if they had come when the answer was sent.
     """
     if message.flags != segment.flags:
@@ -187,7 +210,7 @@ def differ(side, transfer, message, segment, totals):
     if message.length > transfer.total:
         words = f"id={transfer.ident} length={message.length} sent={transfer.total}"
         side.claim(message.offset, MUST, "ack-beyond", words, transfer.is_open)
-    elif message.length not in totals:
+    elif message.length < segment.total or message.length not in sums:
         words = f"id={transfer.ident} length={message.length} sum={segment.total}"
         side.claim(message.offset, MUST, "ack-sum", words)
 
@@ -201,21 +224,9 @@ def claim_missing(side, transfer, segment, offset, level):
 # ---- refusals
 
 
-def take_refuse(side, message, came):
-    """Takes an XFER_REFUSE. `came` is when its first and its last byte were captured, or None."""
-    sender = side.other
-    transfer = sender.sent.get(message.ident)
-    if transfer is not None and message.ident not in side.waiting:
-        judge_refuse(side, transfer, message, came)
-    elif message.ident in sender.over or message.ident in sender.strays:
-        side.accepted.pop(message.ident, None)
-    else:
-        side.waiting.setdefault(message.ident, []).append((message, came))
-
-
 def judge_refuse(side, transfer, message, came):
     """Judges an XFER_REFUSE of a transfer. Only the first one counts."""
-    if transfer.refused is not None or not transfer.is_judged:
+    if transfer.refused is not None:
         return
     see(side, transfer.offset)
     refuse_reason(side, transfer, message)

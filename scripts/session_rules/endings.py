@@ -8,6 +8,9 @@ from .sides import MUST, SHOULD
 # The flag of a contact header (RFC 9174 section 4.2)
 CAN_TLS = 0x01
 
+# The version that is read (section 4.2)
+VERSION = 4
+
 # Where the first message begins, and the type bytes of records of TLS (RFC 8446 section 5.1)
 FIRST, HANDSHAKE, RECORDS = 6, 0x16, range(0x14, 0x18)
 
@@ -43,10 +46,13 @@ def tls(side, is_agreed):
 
 
 def version(side, number):
-    """Judges the first message after a contact header of another version. A SESS_TERM with a reason
-    that says nothing of the header may have been sent before that came."""
+    """Judges the first message after a contact header of another version.
+
+    A SESS_TERM with a reason that says nothing of the header may have been sent before that came. A
+    lower version may be refused for other reasons too.
+    """
     first = side.first
-    if first.kind != TERM or first.reason == CONTACT_FAILURE:
+    if first.kind != TERM or first.reason == CONTACT_FAILURE and number > VERSION:
         side.claim(first.offset, MUST, "version", f"type={first.kind:02x} version={number}")
 
 

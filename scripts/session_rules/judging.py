@@ -120,25 +120,12 @@ def take(side, are_begun):
     side.types.setdefault(kind, message.offset)
     if kind == SEGMENT:
         sending.take_segment(side, message, came)
-        if side.other.waiting:
-            take_waiting(side.other, message.ident)
-    elif kind == ACK:
-        answers.take_ack(side, message, came)
-    elif kind == REFUSE:
-        answers.take_refuse(side, message, came)
+        if message.ident in side.other.waiting:
+            answers.take_waiting(side.other, message.ident)
+    elif kind in (ACK, REFUSE):
+        answers.take_answer(side, message, came)
     else:
         take_other(side, message)
-
-
-def take_waiting(side, ident):
-    """Takes the answers to a transfer that came before its segments were taken."""
-    waiting = side.waiting.pop(ident, ())
-    for number, (message, came) in enumerate(waiting):
-        take_answer = answers.take_ack if message.kind == ACK else answers.take_refuse
-        take_answer(side, message, came)
-        if ident in side.waiting:
-            side.waiting[ident] += waiting[number + 1:]
-            return
 
 
 def take_other(side, message):

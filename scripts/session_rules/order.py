@@ -24,11 +24,8 @@ def waits(side):
     message, other = side.next, side.other
     if not is_answer(message) or other.next is None or other.unanswered >= AHEAD:
         return False
-    if message.kind == ACK:
+    if message.kind in (ACK, REFUSE):
         return message.ident not in side.waiting and not can_take(other, message)
-    if message.kind == REFUSE:
-        ident = message.ident
-        return not (ident in side.waiting or ident in other.sent or ident in other.over or ident in other.strays)
     if message.kind == REJECT:
         return message.header not in other.types
     return not other.terms

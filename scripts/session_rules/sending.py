@@ -53,7 +53,7 @@ def begin(side, message):
 
 def replace(side, transfer):
     """Forgets a transfer that has no answer, since another one with its ID begins."""
-    side.unanswered -= len(transfer.pending)
+    side.unanswered -= transfer.unanswered()
 
 
 def claim_left(side, transfer, level, is_sure=False):

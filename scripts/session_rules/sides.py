@@ -4,6 +4,8 @@ from bisect import bisect_right
 from collections import OrderedDict, deque
 from typing import NamedTuple, Optional
 
+from .facts import REFUSE
+
 MUST, SHOULD = "must", "should"
 
 # How many ranges of transfer IDs are kept of a side.
@@ -172,14 +174,18 @@ class Side:
         return self.is_whole() or self.seen >= offset
 
 
-def can_take(sender, ack):
-    """Returns whether an XFER_ACK can be taken: whether a segment has no answer, and the transfer
-    has the acknowledged length so far, or gets no more."""
-    transfer = sender.sent.get(ack.ident)
+def can_take(sender, answer):
+    """Returns whether an XFER_ACK or an XFER_REFUSE can be taken: whether what it answers was.
+
+    For an XFER_ACK, a segment has no answer, and the transfer has the acknowledged length so far,
+    or gets no more.
+    """
+    transfer = sender.sent.get(answer.ident)
     if transfer is None:
-        return ack.ident in sender.strays
-    if transfer.is_open and ack.length > transfer.total and transfer.is_judged:
+        return answer.ident in sender.strays or answer.kind == REFUSE and answer.ident in sender.over
+    if answer.kind == REFUSE or not transfer.is_judged:
+        return True
+    if transfer.is_open and answer.length > transfer.total:
         return False
     is_compared = bool(transfer.strange) and not transfer.is_open
-    is_free = transfer.refused is not None or transfer.extra > 0 or not transfer.is_judged
-    return is_compared or is_free or transfer.unanswered() > 0
+    return is_compared or transfer.refused is not None or transfer.extra > 0 or transfer.unanswered() > 0

@@ -143,6 +143,8 @@ BROKEN = {
     "a handshake of TLS": bare([CAN_TLS, HANDSHAKE], [CAN_TLS, HANDSHAKE], status=3),
     "another version, and contact-failure": bare([b"dtn!\x05\x00"], [HEADER, make.sess_term(0, 4)],
                                                  "b 6 must version type=05 version=5", status=3),
+    "a lower version, and contact-failure": bare([b"dtn!\x03\x00"], [HEADER, make.sess_term(0, 4)], status=3),
+    "a lower version, and a SESS_INIT": bare([b"dtn!\x03\x00"], [HEADER, B], "b 6 must version type=07 version=3", status=3),
     "another version, and busy": bare([b"dtn!\x05\x00"], [HEADER, make.sess_term(0, 3)], status=3),
     "no contact header, and contact-failure": bare([b"HTTP/1.1 "], [HEADER, make.sess_term(0, 4)],
                                                    "b 6 must after-bad-contact type=05", status=3),
