@@ -225,7 +225,7 @@ class Times:
     """When the bytes of a recording were captured. Offsets have to be asked for in rising order."""
 
     def __init__(self, path):
-        self.file = open(path, encoding="ascii")
+        self.file = open(path, encoding="ascii", errors="replace")
         self.offset, self.time = 0, None
 
     def close(self):
@@ -238,5 +238,8 @@ class Times:
             words = self.file.readline().split()
             if not words:
                 return None
-            self.offset, self.time = int(words[0]), nanoseconds(words[1])
+            try:
+                self.offset, self.time = int(words[0]), nanoseconds(words[1])
+            except (ValueError, IndexError):
+                raise Failure(f"{self.file.name}: not a file of times") from None
         return self.time

@@ -40,12 +40,20 @@ class Ranges:
 
     def add(self, ident):
         """Adds an ID."""
-        at = bisect_right(self.begins, ident)
-        if at > 0 and ident <= self.ends[at - 1]:
-            self.ends[at - 1] = max(self.ends[at - 1], ident + 1)
-        elif len(self.begins) < RANGES:
-            self.begins.insert(at, ident)
-            self.ends.insert(at, ident + 1)
+        if ident in self:
+            return
+        at, begins, ends = bisect_right(self.begins, ident), self.begins, self.ends
+        is_end, is_begin = at > 0 and ends[at - 1] == ident, at < len(begins) and begins[at] == ident + 1
+        if is_end and is_begin:
+            ends[at - 1] = ends.pop(at)
+            begins.pop(at)
+        elif is_end:
+            ends[at - 1] = ident + 1
+        elif is_begin:
+            begins[at] = ident
+        elif len(begins) < RANGES:
+            begins.insert(at, ident)
+            ends.insert(at, ident + 1)
         else:
             self.is_full = True
 
@@ -118,11 +126,17 @@ class Side:
     over       the IDs of its other transfers, and `refused` those among them that were refused
     strays     the IDs of its segments that are out of order and part of no transfer
     waiting    its answers to transfers that the other side has not begun so far, by ID
-    terms      its SESS_TERM, each with what it had seen before
+    terms      its SESS_TERM
+    inits      its first two SESS_INIT; `first` is its first message, `first_segment` where its first
+               segment is, and `first_use` its first segment, XFER_ACK or XFER_REFUSE
     types      the type bytes of its messages, each with its first offset
-    rejects    its MSG_REJECT, each type byte and reason with its first offset
+    rejects    the type bytes that it rejected, each with its first offset
+    unknown    the type bytes of its answers to nothing, each with its first offset
     accepted   by ID, the other side's transfers of a wrong length that it acknowledged to their END
     retries    its transfers that were refused, by the digest of their data
+    differing  by offset, the words of its transfers of a wrong length
+    lines      the lines of this side, and `doubts` those that hold if the other recording has all
+               that this side could have seen. `ack_lengths` has those of this rule by offset
     """
 
     def __init__(self, name, listing, is_closed):

@@ -143,6 +143,8 @@ def statuses():
             yield f"check-session {given}", (4, "", f"{name}: nothing: cannot open the input\n"), got
         got = run(at, "check-session", "--times", "a", "nothing", *words)
         yield "check-session: no times", (4, "", f"{name}: nothing: No such file or directory\n"), got
+        got = run(at, "check-session", "--times", "a", "b", *words)
+        yield "check-session: other files than times", (4, "", f"{name}: a: not a file of times\n"), got
         for given in (["a"], ["--closed", "c", "a", "b"], ["--times", "a", "a", "b"], ["-", "b"]):
             yield f"check-session {given}", 2, run(at, "check-session", *given)[0]
         prepared(at, RULES["ack-flags"][0])
