@@ -7,7 +7,8 @@ import sys
 
 from .common import HEAD, PROGRAM, TOP, empty_room, read, run, write
 
-SCRIPTS = ["split", "pair", "resync", "capture", "json", "faults"]
+SCRIPTS = ["split", "pair", "resync", "capture", "json", "faults", "check-session"]
+MODULES = [f"session_rules/{name}" for name in sorted(os.listdir(f"{TOP}/scripts/session_rules"))]
 
 
 def help_texts():
@@ -28,7 +29,7 @@ def help_texts():
 
 def older_python():
     """The scripts are written in python 3.8."""
-    for name in SCRIPTS:
+    for name in [*SCRIPTS, *MODULES]:
         tree = ast.parse(read(f"{TOP}/scripts/{name}"), feature_version=(3, 8))
         yield f"{name}: python 3.8", ast.Module, type(tree)
 
@@ -62,6 +63,7 @@ def missing_programs():
     with empty_room() as at:
         os.symlink(sys.executable, f"{at}/python3")
         cases = [("split", ["A", "made"]), ("pair", ["A", "A"]), ("capture", ["made", "A"])]
+        cases.append(("check-session", ["A", "A"]))
         for name, words in cases:
             text = f"tcpclkit-{name}: tcpclkit is not found; --tcpclkit PATH says where it is\n"
             yield f"{name}: no program", (4, "", text), run(at, name, *words, path=at)

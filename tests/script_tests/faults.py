@@ -9,8 +9,9 @@ FAULTS = f"{TOP}/examples/faults"
 
 
 def contents_of(folder):
-    """Returns the files of a folder."""
-    return {name: read(f"{folder}/{name}") for name in os.listdir(folder)}
+    """Returns the files below a folder, by their paths."""
+    paths = [f"{at}/{name}" for at, _, names in os.walk(folder) for name in names]
+    return {os.path.relpath(path, folder): read(path) for path in paths}
 
 
 def writes_all_files():

@@ -1,0 +1,11 @@
+"""The rules of both sides of a session, which tcpclkit-check-session judges.
+
+  facts    what the program says of a recording: messages, and the rules that one side breaks
+  sides    what is kept of each side
+  order    in which order the messages of both sides are taken
+  sending  the rules of segments
+  answers  the rules of XFER_ACK and XFER_REFUSE
+  endings  what is judged when both recordings were read
+  timed    the rules that need times
+  judging  the whole: the lines of both sides
+"""
