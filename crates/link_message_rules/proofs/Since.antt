@@ -65,8 +65,22 @@ pub session_of_push : (before : List Message) (message : Message)
     ≡ next_since (session_of before) (is_sess_init message) (is_of_transfer message)
 session_of_push before message = since_of_push is_sess_init is_of_transfer before message
 
--- after one of the second kind
 module _ (before : List JudgedHead) (head : JudgedHead) where
+  -- after one of the first kind
+  pub session_of_first : (session : Since) → session ≡ session_of (messages_of before)
+      → is_sess_init head.message ≡ true → is_of_transfer head.message ≡ false
+      → next_since session true false ≡ session_of (messages_of (before ++ head ∷ []))
+  session_of_first session at is other =
+      rw (messages_of-push before head, session_of_push _ head.message, is, other, at) refl
+
+  pub keepalives_of_first : (keepalives : Since)
+      → keepalives ≡ keepalives_of (messages_of before)
+      → disables_keepalive head.message ≡ true → is_keepalive head.message ≡ false
+      → next_since keepalives true false ≡ keepalives_of (messages_of (before ++ head ∷ []))
+  keepalives_of_first keepalives at is other =
+      rw (messages_of-push before head, keepalives_of_push _ head.message, is, other, at) refl
+
+  -- after one of the second kind
   pub session_of_second : (session : Since) → session ≡ session_of (messages_of before)
       → parameters_of head.message ≡ None → is_of_transfer head.message ≡ true
       → next_since session false true ≡ session_of (messages_of (before ++ head ∷ []))

@@ -8,10 +8,7 @@ use crate::lengths::{
 use crate::limits::PeerLimits;
 use crate::node::node_id;
 use crate::rule::MessageRule;
-use crate::session::{
-    Parameters, Since, before_session, keepalive, keepalives_after, order, parameters_after,
-    session_after,
-};
+use crate::session::{Parameters, Since, before_session, keepalive, order, parameters_after};
 use crate::transfer_ids::{IdRun, interleaved, run_after, transfer_id};
 use arrayvec::ArrayVec;
 use link_rules::add_if_broken;
@@ -204,10 +201,12 @@ impl MessageHistory {
             }
             Fields::Refuse { .. } => self.session = self.session.after_second(),
             Fields::Keepalive => self.keepalives = self.keepalives.after_second(),
-            Fields::SessInit { .. } => {
+            Fields::SessInit { keepalive, .. } => {
                 self.parameters = parameters_after(self.parameters, message);
-                self.session = session_after(self.session, message);
-                self.keepalives = keepalives_after(self.keepalives, message);
+                self.session = self.session.after_first();
+                if keepalive == 0 {
+                    self.keepalives = self.keepalives.after_first();
+                }
             }
             Fields::SessTerm { .. } | Fields::MsgReject { .. } => {}
         }

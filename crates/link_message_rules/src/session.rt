@@ -3,7 +3,7 @@
 ghost use Rattle.std.specs.Prelude.{◌≡◌, List, [], ◌∷◌, ◌++◌};
 ghost use Rattle.link_wire.specs.MessageBuffer.{message_of};
 ghost use Rattle.link_wire.specs.declared.message.Message.{Message};
-ghost use Rattle.link_message_rules.specs.Heads.{JudgedHead, viewed_head, messages_of, is_keepalive, disables_keepalive, is_of_transfer, parameters_of};
+ghost use Rattle.link_message_rules.specs.Heads.{JudgedHead, viewed_head, messages_of, is_keepalive, parameters_of};
 ghost use Rattle.link_message_rules.specs.Remembered.{session_of, keepalives_of};
 ghost use Rattle.link_message_rules.specs.Session.{order, order_level, changes_session, before_session, keepalive, type_after_sess_init, first_parameters, are_other};
 
@@ -28,15 +28,13 @@ impl Since {
     ghost use Rattle.std.specs.Prelude.{◌≡◌, true, false};
     ghost use Rattle.link_message_rules.specs.Remembered.{next_since};
 
-    /// What holds after one more message, which may be of the first or of the second kind.
-    #[inline(always)]
-    fn after(self, is_first: bool, is_second: bool) -> Since
-        ensures { result ≡ next_since self is_first is_second }
+    /// What holds after a message of the first kind.
+    pub(crate) fn after_first(self) -> Since
+        ensures { result ≡ next_since self true false }
     {
         match self {
-            Since::Neither if is_first => Since::First,
-            Since::First if is_second => Since::Both,
-            _ => self,
+            Since::Neither => Since::First,
+            Since::First | Since::Both => self,
         }
     }
 
@@ -102,48 +100,11 @@ pub(crate) fn parameters_after(
     parameters.or(parameters_of(message))
 }
 
-/// Whether a SESS_INIT came and a transfer or an answer since, after one more message.
-#[tactic(auto, using(crate::proofs::Since::session_of_push))]
-#[inline(always)]
-pub(crate) fn session_after(session: Since, message: &MessageBuffer) -> Since
-    ensures { (before : List Message) → session ≡ session_of before
-        → result ≡ session_of (before ++ message_of message.now ∷ []) }
-{
-    session.after(parameters_of(message).is_some(), is_of_transfer(message))
-}
-
-/// Whether KEEPALIVEs are disabled and one was sent since, after one more message.
-#[tactic(auto, using(crate::proofs::Since::keepalives_of_push))]
-#[inline(always)]
-pub(crate) fn keepalives_after(keepalives: Since, message: &MessageBuffer) -> Since
-    ensures { (before : List Message) → keepalives ≡ keepalives_of before
-        → result ≡ keepalives_of (before ++ message_of message.now ∷ []) }
-{
-    keepalives.after(disables_keepalive(message), is_keepalive(message))
-}
-
-/// Whether a message is part of a transfer, or answers one.
-fn is_of_transfer(message: &MessageBuffer) -> bool
-    ensures { result ≡ is_of_transfer (message_of message.now) }
-{
-    matches!(
-        message.fields,
-        Fields::Segment { .. } | Fields::Ack { .. } | Fields::Refuse { .. }
-    )
-}
-
 /// Whether a message is a KEEPALIVE.
 fn is_keepalive(message: &MessageBuffer) -> bool
     ensures { result ≡ is_keepalive (message_of message.now) }
 {
     matches!(message.fields, Fields::Keepalive)
-}
-
-/// Whether a message is a SESS_INIT whose interval is 0 (RFC 9174 section 4.7).
-fn disables_keepalive(message: &MessageBuffer) -> bool
-    ensures { result ≡ disables_keepalive (message_of message.now) }
-{
-    matches!(message.fields, Fields::SessInit { keepalive: 0, .. })
 }
 
 /// The rule of KEEPALIVEs.
