@@ -269,6 +269,26 @@ pub const NOT_READ: Row = Row {
         Part::Segment(3, 10, &[TAG]),
         Part::Segment(3, 11, &[TAG, b"\x98"]),
         Part::Segment(3, 12, &[b"\x9f\x5f"]),
+        // More check values, and the data of another block than the payload block
+        Part::Segment(3, 13, &[CLEAN_FRONT, TO_CHECK, b"\xd9\x00\x18"]),
+        Part::Segment(
+            3,
+            14,
+            &[
+                CLEAN_FRONT,
+                TO_CHECK,
+                b"\x42\x1d\x01\x85\x07\x02\x00\x00\x5f",
+            ],
+        ),
+        Part::Segment(
+            3,
+            15,
+            &[
+                CLEAN_FRONT,
+                TO_CHECK,
+                b"\x42\x1d\x01\x86\x07\x02\x00\x01\x41\x05\x5f",
+            ],
+        ),
     ],
     output: &[
         b"38 must bundle transfer=0 code=B5 byte=30\n",
@@ -284,6 +304,9 @@ pub const NOT_READ: Row = Row {
         b"524 must bundle transfer=10 code=B3 byte=0\n",
         b"549 must bundle transfer=11 code=B3 byte=0\n",
         b"575 should not-read transfer=12 code=B5 byte=1\n",
+        b"599 must bundle transfer=13 code=B5 byte=22\n",
+        b"646 must bundle transfer=14 code=B5 byte=30\n",
+        b"699 must bundle transfer=15 code=B5 byte=32\n",
     ],
     report: &[],
     status: 1,
