@@ -1,5 +1,5 @@
 -- Bundles that are known to keep all rules, by cheap tests, break none.
-use Rattle.std.proofs.Common.{◌≡◌, Bool, true, false, cond, List, [], ◌∷◌, Option, Some, None, refl, arith}
+use Rattle.std.proofs.Common.{◌≡◌, ◌≤◌, Bool, true, false, cond, List, [], ◌∷◌, Option, Some, None, refl, arith}
 use Rattle.std.specs.{Prelude.is_none, List.{find, list_all}, Option.option_and_then}
 use Rattle.std.proofs.lemmas.{Bool.and_parts, Bool.Decides.nat_tests}
 use Rattle.link_bundle_rules.specs.BundleRules.{long_head, dtn_name, broken_bundle_rules}
@@ -8,7 +8,7 @@ use Rattle.link_bundle_rules.specs.Flags.{bundle_flags, anonymous, record_report
 use Rattle.link_bundle_rules.specs.Fragments.{fragment, whole_fragment}
 use Rattle.link_bundle_rules.specs.Kept.{is_plain_block, is_plain_primary, has_plain_counts, is_plain}
 use Rattle.link_bundle_rules.specs.ReadBundle as block
-use Rattle.link_bundle_rules.specs.ReadBundle.{ReadBundle, is_of_type, find_map}
+use Rattle.link_bundle_rules.specs.ReadBundle.{ReadBundle, count_of_type, is_of_type, find_map}
 use Rattle.link_bundle_rules.specs.Security.{primary_check, confidential_primary}
 use Rattle.link_bundle_rules.specs.declared.block.BlockFacts.{BlockFacts}
 use Rattle.link_bundle_rules.specs.declared.{extensions.Hops.Hops, rule.BundleRule.BundleRule}
@@ -71,16 +71,16 @@ first_keeps security test (read ∷ more) all =
       | false ↦ first_keeps security test more both.1
     ]
 
-record KeepsBlocks (bundle : ReadBundle) : Type 0 where
-  reports : block_reports bundle ≡ None
-  flags : block_flags bundle ≡ None
-  limit : has_bad_limit (first_hops bundle) ≡ false
-  hops : hops bundle ≡ None
-  malformed : block_data bundle ≡ None
-  unread : data_not_read bundle ≡ None
-  records : administrative_record bundle ≡ None
+pub record KeepsBlocks (bundle : ReadBundle) : Type 0 where
+  pub reports : block_reports bundle ≡ None
+  pub flags : block_flags bundle ≡ None
+  pub limit : has_bad_limit (first_hops bundle) ≡ false
+  pub hops : hops bundle ≡ None
+  pub malformed : block_data bundle ≡ None
+  pub unread : data_not_read bundle ≡ None
+  pub records : administrative_record bundle ≡ None
 
-blocks_keep : (bundle : ReadBundle) → list_all is_plain_block bundle.blocks ≡ true
+pub blocks_keep : (bundle : ReadBundle) → list_all is_plain_block bundle.blocks ≡ true
     → KeepsBlocks bundle
 unfolding block_reports block_flags first_hops hops block_data data_not_read administrative_record
 blocks_keep bundle all =
@@ -104,6 +104,12 @@ blocks_keep bundle all =
     }
 
 -- ---- the numbers of blocks
+
+-- one hop count block at most, whose limit is right
+pub one_hop_count : (bundle : ReadBundle) → count_of_type block.hop_count bundle.blocks ≤ 1
+    → has_bad_limit (first_hops bundle) ≡ false → hop_count bundle ≡ None
+unfolding hop_count
+one_hop_count bundle few limit = grind (arith, nat_tests)
 
 record KeepsCounts (bundle : ReadBundle) : Type 0 where
   ages : age bundle ≡ None
