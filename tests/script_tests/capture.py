@@ -436,7 +436,12 @@ def many_sessions():
     packets += [*opening(other), Segment(other, "a", 0, text), Segment(other, "b", 0, b"HTTP")]
     with empty_room() as at:
         write(f"{at}/many.pcap", pcap([it.frame(number) for number, it in enumerate(packets)]))
-        status, shown, errors = run(at, "capture", "made", "many.pcap")
+        counting = f'#!/bin/sh\necho "$1" >> {at}/runs\nexec {PROGRAM} "$@"\n'
+        write(f"{at}/counting", counting.encode(), 0o755)
+        words = ["--tcpclkit", "counting", "made", "many.pcap"]
+        status, shown, errors = run(at, "capture", *words)
+        runs = sorted(read(f"{at}/runs").split())
+        yield "capture of 300 sessions: runs of tcpclkit", [b"blocks", b"list", b"list"], runs
         yield "capture of 300 sessions", (1, "", 1800), (status, errors, shown.count("\n"))
         differing = []
         for number, link in enumerate(dict.fromkeys(it.link for it in packets[:-5])):
