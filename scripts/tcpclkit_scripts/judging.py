@@ -10,7 +10,7 @@ from collections import deque
 from threading import Thread
 from typing import NamedTuple, Optional
 
-from .messages import CONTACT_HEADER, EMPTY_SESS_INIT, END, START, XFER_SEGMENT, segment_head
+from .messages import CONTACT_HEADER, EMPTY_SESS_INIT, END, START, segment_head
 from .running import Failure
 
 # A line of a primary block, or of the end of a transfer (docs/FORMATS.md, "Lines of blocks")
@@ -40,7 +40,7 @@ class Judged(NamedTuple):
 
 
 def judged(judgement, primary):
-    """Returns what is said, by the judgement and by the match of the primary block, if there is one."""
+    """Returns what is said, by the judgement and the match of the primary block, or None for that."""
     if primary is None:
         return Judged(judgement)
     fields = {name: (value or b"").decode() for name, value in primary.groupdict().items()}

@@ -33,7 +33,9 @@ CONTACT_HEADER = b"dtn!\x04\x00"
 EMPTY_SESS_INIT = struct.pack(">BHQQHI", SESS_INIT, 0, 0, 0, 0, 0)
 
 U8, U16, U32, U64 = (struct.Struct(f">{form}") for form in "BHIQ")
-ACK_FIELDS, REFUSE_FIELDS, TERM_FIELDS = (struct.Struct(f">x{form}") for form in ("BQQ", "BQ", "BB"))
+
+# The fields of an XFER_ACK, an XFER_REFUSE and a SESS_TERM (sections 5.2.3, 5.2.4, 6.1)
+ACK_FIELDS, REFUSE_FIELDS, TERM_FIELDS = map(struct.Struct, (">xBQQ", ">xBQ", ">xBB"))
 
 
 class Cut(Exception):
@@ -134,8 +136,9 @@ def prelude_of(data, first):
 
 
 def spelled(content):
-    """Returns escaped text (docs/FORMATS.md, "Escaped text")."""
-    return "".join(chr(it) if 0x21 <= it <= 0x7E and it != 0x5C else f"\\x{it:02x}" for it in content)
+    """Returns escaped text (docs/FORMATS.md)."""
+    is_plain = (0x21 <= it <= 0x7E and it != 0x5C for it in content)
+    return "".join(chr(it) if plain else f"\\x{it:02x}" for it, plain in zip(content, is_plain))
 
 
 def segment_head(flags, ident, length):
@@ -145,7 +148,7 @@ def segment_head(flags, ident, length):
 
 
 def goes_on(messages, first):
-    """Returns whether messages follow one another from an offset to the end, at least one of them."""
+    """Returns whether messages follow one another from an offset to the end, at least one."""
     at = first
     try:
         while at < messages.size:

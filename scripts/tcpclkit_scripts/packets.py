@@ -23,8 +23,8 @@ FIELDS = ["tcp.stream", "tcp.srcport", "tcp.dstport", "ip.src", "ip.dst", "ipv6.
 FIELDS += ["tcp.flags", "tcp.seq", "tcp.ack", "tcp.len", "frame.time_epoch", "tcp.payload"]
 SETTINGS = ["tcp.desegment_tcp_streams", "tcp.relative_sequence_numbers", "tcp.check_checksum"]
 SETTINGS += ["tcp.analyze_sequence_numbers"]
-WORDS = ["-n", "-l", "-Y", "tcp.len && !icmp && !icmpv6", "-d", "tcp.port==0-65535,data", "-T", "fields"]
-WORDS += ["-E", "occurrence=l"]
+WORDS = ["-n", "-l", "-Y", "tcp.len && !icmp && !icmpv6", "-d", "tcp.port==0-65535,data"]
+WORDS += ["-T", "fields", "-E", "occurrence=l"]
 WORDS += [word for field in FIELDS for word in ("-e", field)]
 WORDS += [word for setting in SETTINGS for word in ("-o", f"{setting}:FALSE")]
 NO_SETTINGS = {"WIRESHARK_CONFIG_DIR": "/nonexistent"}

@@ -24,9 +24,9 @@ class Reader:
     """Reads a recording, and hands what matters to `taker`: its calls are named as the messages.
 
     `offset` is where `rest` begins, the bytes of a message that is not whole. If this is a segment
-    whose head is whole, `segment` has its fields, and `missing` is how much of its data has not come:
-    `rest` is then its head, and `came` is how much has come. After a `fault`, nothing is read.
-    Without the contact header, the first bytes are at another offset than 0.
+    whose head is whole, `segment` has its fields, and `rest` is its head: `came` is how much of its
+    data has come, and `missing` is how much has not. After a `fault`, nothing is read. Without the
+    contact header, the first bytes are at another offset than 0.
     """
 
     def __init__(self, taker, offset=0):
@@ -90,7 +90,7 @@ class Reader:
         return end
 
     def xfer_segment(self, messages, at, time):
-        """Reads the XFER_SEGMENT at an offset. Returns the offset after it, or its own if it is cut."""
+        """Reads an XFER_SEGMENT. Returns the offset after it, or its own if its data is cut."""
         begin, end = messages.data_of_segment(at)
         flags, ident = messages.data[at + 1], messages.number(U64, at + 2)
         offset, after = self.offset + at, self.offset + end
@@ -103,5 +103,5 @@ class Reader:
         return end
 
     def is_cut(self):
-        """Returns whether the bytes so far end inside a message, or before the contact header ends."""
+        """Returns whether the bytes so far end inside a message, or inside the contact header."""
         return not self.fault and (self.rest != b"" or self.segment is not None)

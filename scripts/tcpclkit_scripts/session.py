@@ -38,9 +38,10 @@ class Program:
         return [word[7:] for line in lines for word in line.split() if word.startswith("reason=")]
 
     def fault(self, reader):
-        """Returns what is wrong with the message, or the contact header, at which a reader ended."""
+        """Returns what is wrong where a reader ended: with a message, or the contact header."""
         header = b"" if reader.offset == 0 else CONTACT_HEADER
-        return self.listed(header + reader.rest)[1].partition(": byte ")[2].partition(": ")[2].strip()
+        _, fault = self.listed(header + reader.rest)
+        return fault.partition(": byte ")[2].partition(": ")[2].strip()
 
 
 class Shared:
@@ -204,7 +205,8 @@ class Talk:
         words.append(f"last={spelled_time(self.connection.over)}")
         for name, recorder in recorders:
             words.append(f"{name}-end={self.connection.ending(self.sides[name])}")
-            words += [] if recorder.term is None else [f"{name}-term={self.shared.terms[recorder.term]}"]
+            if recorder.term is not None:
+                words.append(f"{name}-term={self.shared.terms[recorder.term]}")
         lines = [" ".join(words)]
         for name, recorder in recorders:
             lines += [f"recording {self.number} {name}.{it.line()}" for it in recorder.found]

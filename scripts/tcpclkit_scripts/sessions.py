@@ -10,9 +10,9 @@ from .streams import HEAD, Connection, Memory
 class Sessions:
     """The TCP connections of a capture by their numbers.
 
-    `talks` has those of TCPCL, and `waiting` those of which that is not known yet. `others` has the
-    numbers of all others, and `late` counts those of them that began before the capture. `fresh` has
-    the sessions whose recordings have something that is not written.
+    `talks` has those of TCPCL, and `waiting` those that may be. `others` has the numbers of all
+    others, and `late` counts those of them that began before the capture. `fresh` has the sessions
+    whose recordings have something that is not written.
     """
 
     def __init__(self, ports, shared):

@@ -1,4 +1,4 @@
-"""TCP connections: the bytes that each side sent, in order and once, and what is missing of them."""
+"""TCP connections: the bytes that each side sent, in order and once, and what is missing."""
 
 import heapq
 from typing import NamedTuple, Optional

@@ -397,7 +397,9 @@ def formats():
         yield "capture of standard input", (1, LINES, strays("-in")), got
         write(f"{at}/6.pcap", pcap([over_ipv6(it) for it in frames]))
         yield "capture of IPv6", (1, LINES, strays("6")), run(at, made, "6", "6.pcap")
-        streams = STREAMS.replace("192.0.2.1", "[2001:db8::1]").replace("192.0.2.2", "[2001:db8::2]")
+        streams = STREAMS
+        for byte in "12":
+            streams = streams.replace(f"192.0.2.{byte}", f"[2001:db8::{byte}]")
         yield "capture of IPv6: streams", streams, read(f"{at}/6/streams").decode()
         errors = [refusal(it) for it in frames[3:5]]
         numbers = [*range(3), 2, 2, *range(3, len(frames))]
@@ -532,7 +534,7 @@ def no_tshark():
 
 
 def installed():
-    """The script finds its package and the program where ./install puts them, and leaves nothing."""
+    """The script finds its package and the program where ./install puts them."""
     with empty_room() as at:
         install(at, "capture")
         shutil.copy(PROGRAM, f"{at}/bin/tcpclkit")

@@ -129,8 +129,10 @@ def shown_of(sent, parts, answers):
 
 
 def lines_of(missing):
-    """Returns what is shown without some packets, in the order of the texts. The times of a transfer
-    that is cut are left out."""
+    """Returns what is shown without some packets, in the order of the texts.
+
+    The times of a transfer that is cut are left out.
+    """
     parts, lines = {side: parts_of(side, missing) for side in "ab"}, []
     for sent, (_, at, later) in zip(SENT, SHOWN):
         shown = shown_of(sent, parts[sent.side], parts["b" if sent.side == "a" else "a"])
@@ -154,7 +156,8 @@ def recordings_of(missing):
     lines = []
     for side in "ab":
         parts = parts_of(side, missing)
-        ends = [end for number, (of, _, end) in PACKETS.items() if of == side and number not in missing]
+        kept = [it for number, it in PACKETS.items() if number not in missing]
+        ends = [end for of, _, end in kept if of == side]
         for number, part in enumerate(parts[1:], 1):
             before = max([0, *(it for it in ends if it < part.begin)])
             gap = f"{before}+{part.begin - before}"
@@ -166,7 +169,7 @@ def without(frames, missing, port=49152):
     """Returns the example without some packets, with another port of side a: frames by number."""
     kept = {it: frame for it, frame in enumerate(frames) if it + 1 not in missing}
     ports = struct.pack(">H", 49152), struct.pack(">H", port)
-    return {it: frame[:34] + frame[34:38].replace(*ports) + frame[38:] for it, frame in kept.items()}
+    return {it: of[:34] + of[34:38].replace(*ports) + of[38:] for it, of in kept.items()}
 
 
 def run_without(at, frames, missing):
@@ -235,10 +238,12 @@ def recordings_after_gaps():
         text = "stream 0 a: gap at 147; 0000-a.1.tcpcl goes on at 184"
         yield "capture: a gap: what is reported", True, noted(text) in errors
         name, (_, _, errors) = run_without(at, frames, (14, 18))
-        text = "stream 0 a: 2 gaps, the first at 147; 0000-a.1.tcpcl to 0000-a.2.tcpcl go on after them"
+        text = "stream 0 a: 2 gaps, the first at 147; "
+        text += "0000-a.1.tcpcl to 0000-a.2.tcpcl go on after them"
         yield "capture: two gaps: what is reported", True, noted(text) in errors
         name, (_, _, errors) = run_without(at, frames, (27, 29, 30, 31))
-        yield "capture: the last data: what is reported", True, noted("stream 0 a: gap at 411") in errors
+        is_noted = noted("stream 0 a: gap at 411") in errors
+        yield "capture: the last data: what is reported", True, is_noted
 
 
 # The first packet that is captured, by how many bytes of each side are missing then
@@ -266,7 +271,7 @@ def late_sessions():
 
 
 def ports():
-    """A session that began before the capture is known by its port, of which there may be several."""
+    """A session that began before the capture is known by its port. There may be several."""
     frames = [it.replace(b"\x11\xcc", b"\x17\x70") for it in frames_of(read(SESSION))[9:]]
     both = pcap(frames + [it.replace(b"\x17\x70", b"\x17\x71") for it in frames])
     with empty_room() as at:

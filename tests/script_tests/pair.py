@@ -333,7 +333,8 @@ def pair_faults():
         notes = noted("cut-a: byte 125: truncated", f"{left} cut-a: 4, the first at byte 74")
         yield "pair: A is cut", (3, f"{first}{ACKED}\n", notes), run(at, "pair", "cut-a", "B")
         notes = noted("cut-b: byte 56: truncated")
-        yield "pair: B is cut", (3, f"{first}{UNANSWERED}\n{rest}", notes), run(at, "pair", "A", "cut-b")
+        wanted = 3, f"{first}{UNANSWERED}\n{rest}", notes
+        yield "pair: B is cut", wanted, run(at, "pair", "A", "cut-b")
         notes = noted("late: byte 0: not a contact header", f"{left} late: 6, the first at byte 38")
         yield "pair: A has no beginning", (3, "", notes), run(at, "pair", "late", "B")
         notes = noted("nothing: cannot open the input")

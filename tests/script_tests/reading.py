@@ -1,13 +1,12 @@
 """Tests of how scripts/capture reads messages: as `tcpclkit list` does, in pieces of any length."""
 
 import glob
-import os
 import random
 import sys
 
 import make
 
-from .common import END, PROGRAM, SEED, START, TOP, empty_room, example, read, run, write
+from .common import END, PROGRAM, SEED, START, TOP, empty_room, read, run, write
 
 sys.path.insert(0, f"{TOP}/scripts")
 
