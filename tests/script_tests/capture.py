@@ -9,13 +9,14 @@ import glob
 import gzip
 import os
 import random
+import re
 import shutil
 import struct
 import sys
 from typing import NamedTuple
 
 import make
-from capture import ACK, BEGIN, FIN, MICROSECONDS, SYN, End, frame
+from capture import ACK, BEGIN, FIN, MICROSECONDS, RST, SYN, End, frame
 
 from .common import (
     ACKED,
@@ -28,6 +29,7 @@ from .common import (
     SEED,
     START,
     TOP,
+    UNANSWERED,
     empty_room,
     example,
     install,
@@ -429,6 +431,48 @@ def cut_transfers():
         yield "capture: a cut transfer", (3, line, notes), run(at, "capture", "made", "cut.pcap")
 
 
+def identities():
+    """The bundle is named wherever the primary block was read, which has 22 bytes with its array."""
+    link = Link((49152, 1), (4556, 2))
+    sent, lines = HEAD, ""
+    for ident, length, words in [(0, 21, "abandoned"), (1, 22, f"abandoned {WHOSE}")]:
+        line = f"stream 0 a transfer {ident} offset={len(sent)} length={length} unanswered {words}"
+        lines += f"{line} sent={seconds(3)}\n"
+        sent += make.xfer_segment(START, ident, make.BUNDLE[:length])
+    head = make.xfer_segment(START | END, 2, make.BUNDLE)[: -len(make.BUNDLE)]
+    line = f"stream 0 a transfer 2 offset={len(sent)} length=22 unanswered cut {WHOSE}"
+    lines += f"{line} sent={seconds(3)}\n"
+    sent += head + make.BUNDLE[:22]
+    packets = [*opening(link), Segment(link, "a", 0, sent), Segment(link, "b", 0, HEAD)]
+    with empty_room() as at:
+        write(f"{at}/cut.pcap", pcap([it.frame(number) for number, it in enumerate(packets)]))
+        status, shown, _ = run(at, "capture", "made", "cut.pcap")
+        yield "capture: identities", (3, lines), (status, shown)
+
+
+def resets():
+    """An RST ends both sides, unless its number is wrong, or data follows it."""
+    link, data = Link((49152, 1), (4556, 2)), make.xfer_segment(START | END, 0, make.BUNDLE)
+    before = [*opening(link), Segment(link, "a", 0, HEAD + data), Segment(link, "b", 0, HEAD)]
+    rest = Segment(link, "b", len(HEAD), make.KEEPALIVE)
+    cases = [
+        ("of b", [Segment(link, "b", len(HEAD), flags=RST)], LOST, "peer-rst rst"),
+        ("of a", [Segment(link, "a", len(HEAD + data), flags=RST)], LOST, "rst peer-rst"),
+        ("of b, too early", [Segment(link, "b", 3, flags=RST)], UNANSWERED, "open open"),
+        ("of b, too late", [Segment(link, "b", 99, flags=RST)], UNANSWERED, "open open"),
+        ("of b, and data", [Segment(link, "b", len(HEAD), flags=RST), rest], UNANSWERED, "open open"),
+    ]
+    with empty_room() as at:
+        for name, after, said, ends in cases:
+            frames = [it.frame(number) for number, it in enumerate(before + after)]
+            write(f"{at}/{name}.pcap", pcap(frames))
+            status, shown, _ = run(at, "capture", name, f"{name}.pcap")
+            wanted = int(said == LOST), said
+            yield f"capture: an RST {name}", wanted, (status, shown.split()[7])
+            found = re.findall("[ab]-end=(\\S+)", read(f"{at}/{name}/streams").decode())
+            yield f"capture: an RST {name}: ends", ends, " ".join(found)
+
+
 def many_sessions():
     """300 sessions at the same time, and connections that are none of TCPCL."""
     draw = random.Random(SEED)
@@ -554,6 +598,8 @@ PARTS = [
     one_side,
     formats,
     cut_transfers,
+    identities,
+    resets,
     many_sessions,
     far_ahead,
     no_sessions,
