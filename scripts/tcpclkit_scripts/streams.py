@@ -216,8 +216,11 @@ class Connection:
         return self.sides[1] if side is self.sides[0] else self.sides[0]
 
     def ending(self, side):
-        """Returns how a side ended: by its FIN or RST, by the RST of the other, or not."""
-        if side.fin is not None:
+        """Returns how a side ended: by its FIN or RST, by the RST of the other, or not.
+
+        A FIN before the end of the data is not its own.
+        """
+        if side.fin is not None and side.fin >= side.count:
             return "fin"
         if side.rst is not None:
             return "rst"

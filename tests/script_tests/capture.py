@@ -451,7 +451,7 @@ def identities():
 
 
 def resets():
-    """An RST ends both sides, unless its number is wrong, or data follows it."""
+    """An RST ends both sides, and a FIN one, unless its number is wrong, or data follows it."""
     link, data = Link((49152, 1), (4556, 2)), make.xfer_segment(START | END, 0, make.BUNDLE)
     before = [*opening(link), Segment(link, "a", 0, HEAD + data), Segment(link, "b", 0, HEAD)]
     rest = Segment(link, "b", len(HEAD), make.KEEPALIVE)
@@ -460,6 +460,8 @@ def resets():
         ("of a", [Segment(link, "a", len(HEAD + data), flags=RST)], LOST, "rst peer-rst"),
         ("of b, too early", [Segment(link, "b", 3, flags=RST)], UNANSWERED, "open open"),
         ("of b, too late", [Segment(link, "b", 99, flags=RST)], UNANSWERED, "open open"),
+        ("of b, a FIN", [Segment(link, "b", len(HEAD), flags=FIN | ACK)], LOST, "open fin"),
+        ("of b, a FIN too early", [Segment(link, "b", 3, flags=FIN | ACK)], UNANSWERED, "open open"),
         ("of b, and data", [Segment(link, "b", len(HEAD), flags=RST), rest], UNANSWERED, "open open"),
     ]
     with empty_room() as at:
@@ -468,9 +470,9 @@ def resets():
             write(f"{at}/{name}.pcap", pcap(frames))
             status, shown, _ = run(at, "capture", name, f"{name}.pcap")
             wanted = int(said == LOST), said
-            yield f"capture: an RST {name}", wanted, (status, shown.split()[7])
+            yield f"capture: an end {name}", wanted, (status, shown.split()[7])
             found = re.findall("[ab]-end=(\\S+)", read(f"{at}/{name}/streams").decode())
-            yield f"capture: an RST {name}: ends", ends, " ".join(found)
+            yield f"capture: an end {name}: ends", ends, " ".join(found)
 
 
 def many_sessions():
