@@ -2,11 +2,12 @@
 
 _tcpclkit() {
   local word=${COMP_WORDS[COMP_CWORD]} before=${COMP_WORDS[COMP_CWORD - 1]} given option
-  local words='' values='' flags='-h --help'
+  local words='' values='' flags='-h --help' tools='list unpack blocks check pack'
   COMPREPLY=()
-  if ((COMP_CWORD == 1)); then
-    words='list unpack blocks check pack'
-    [[ $word != -* ]] || words="$flags -V --version"
+  if ((COMP_CWORD == 1)) || [[ $COMP_CWORD == 2 && $before == help ]]; then
+    words=$tools
+    ((COMP_CWORD == 2)) || words+=' help'
+    [[ $word != -* || $COMP_CWORD == 2 ]] || words="$flags -V --version"
     mapfile -t COMPREPLY < <(compgen -W "$words" -- "$word")
     return
   fi

@@ -13,6 +13,14 @@ function __tcpclkit_begins
     test (count (commandline -opc)) -eq 1
 end
 
+# Whether help was asked for, and whether no tool is named after that yet.
+function __tcpclkit_helps
+    test "$(commandline -opc)[2]" = help
+end
+function __tcpclkit_asks_for_help
+    __tcpclkit_helps; and test (count (commandline -opc)) -eq 2
+end
+
 complete -c tcpclkit -f
 complete -c tcpclkit -s h -l help -d 'Print help'
 complete -c tcpclkit -n __tcpclkit_begins -s V -l version -d 'Print version'
@@ -22,7 +30,10 @@ complete -c tcpclkit -n __tcpclkit_begins -a blocks -d 'Writes a line for each b
 complete -c tcpclkit -n __tcpclkit_begins -a check -d 'Writes a line for each of 37 rules of the RFCs that the sender of a recording breaks'
 complete -c tcpclkit -n __tcpclkit_begins -a pack -d 'Writes bundles as the stream of a sender'
 
-complete -c tcpclkit -n 'not __tcpclkit_begins' -F
+complete -c tcpclkit -n __tcpclkit_begins -a help -d 'Print this message or the help of the given subcommand'
+complete -c tcpclkit -n __tcpclkit_asks_for_help -a 'list unpack blocks check pack'
+
+complete -c tcpclkit -n 'not __tcpclkit_begins; and not __tcpclkit_helps' -F
 
 complete -c tcpclkit -n '__tcpclkit_takes unpack transfer VALUE' -x -l transfer -d 'The ID of the transfers whose data is written'
 complete -c tcpclkit -n '__tcpclkit_takes unpack payload' -l payload -d 'Write the payload of each bundle alone'

@@ -8,7 +8,7 @@ import struct
 from dataclasses import dataclass
 
 # Flags of TCP (RFC 9293 section 3.1)
-FIN, SYN, PSH, ACK = 0x01, 0x02, 0x08, 0x10
+FIN, SYN, RST, PSH, ACK = 0x01, 0x02, 0x04, 0x08, 0x10
 
 # Protocol numbers of IPv4
 TCP, UDP = 6, 17
@@ -53,23 +53,28 @@ def frame(sender, receiver, flags, data, number):
     return ipv4(sender, receiver, TCP, tcp, 16, number)
 
 
-def ends():
-    """The two ends: `a`, which connects or sends datagrams, and `b`."""
-    a = End(bytes.fromhex("020000000001"), bytes([192, 0, 2, 1]), 49152, 1000)
-    b = End(bytes.fromhex("020000000002"), bytes([192, 0, 2, 2]), 4556, 2000)
-    return a, b
+def ends(a=1, b=2, port=49152):
+    """The two ends: `a`, which connects from this port or sends datagrams, and `b`. An address ends with the number."""
+    mac = bytes.fromhex("0200000000")
+    first = End(mac + bytes([a]), bytes([192, 0, 2, a]), port, 1000)
+    return first, End(mac + bytes([b]), bytes([192, 0, 2, b]), 4556, 2000)
 
 
-def frames(turns):
-    """The frames of a connection: three to open it, those of the turns, and three to close it.
+# How a connection is opened, and how it is closed: by both sides, or by an RST of one
+OPENING = [("a", SYN, b"", 1), ("b", SYN | ACK, b"", 1), ("a", ACK, b"", 1)]
+CLOSING = [("a", FIN | ACK, b"", 1), ("b", FIN | ACK, b"", 1), ("a", ACK, b"", 1)]
+RESET = [("b", RST | ACK, b"", 1)]
 
-    A turn is (side, data, times): `a`, which connects, or `b`, and how many times the packet is seen.
+
+def frames(turns, between=None, closing=CLOSING):
+    """The frames of a connection: three to open it, those of the turns, and those to close it.
+
+    A turn is (side, data, times): `a`, which connects, or `b`, and how many times the packet is seen. The connection is
+    between these two ends, or those of `ends()`.
     """
-    a, b = ends()
-    opening = [("a", SYN, b"", 1), ("b", SYN | ACK, b"", 1), ("a", ACK, b"", 1)]
-    closing = [("a", FIN | ACK, b"", 1), ("b", FIN | ACK, b"", 1), ("a", ACK, b"", 1)]
+    a, b = between or ends()
     made = []
-    for side, flags, data, times in opening + [(side, PSH | ACK, data, times) for side, data, times in turns] + closing:
+    for side, flags, data, times in OPENING + [(side, PSH | ACK, data, times) for side, data, times in turns] + closing:
         sender, receiver = (a, b) if side == "a" else (b, a)
         for _ in range(times):
             made.append(frame(sender, receiver, flags, data, len(made) + 1))
@@ -84,11 +89,16 @@ def datagrams(contents):
     return [ipv4(a, b, UDP, it, 6, number) for number, it in enumerate(udp, 1)]
 
 
-def pcap(packets):
-    """The file: the header of pcap, for Ethernet and with times in microseconds, and each frame with its own."""
-    out = struct.pack("<IHHiIII", 0xA1B2C3D4, 2, 4, 0, 0, 65535, 1)
+def pcap(packets, begins=None):
+    """The file: the header of pcap, for Ethernet and with times in microseconds, and each frame with its own.
+
+    `begins` has for some packets, by number from 0 on, how many seconds after BEGIN they come. Each other one comes 10
+    milliseconds after the one before it.
+    """
+    out, time = struct.pack("<IHHiIII", 0xA1B2C3D4, 2, 4, 0, 0, 65535, 1), -MICROSECONDS
     for number, it in enumerate(packets):
-        out += struct.pack("<IIII", BEGIN, number * MICROSECONDS, len(it), len(it)) + it
+        time = (begins or {}).get(number, 0) * 10**6 or time + MICROSECONDS
+        out += struct.pack("<IIII", BEGIN + time // 10**6, time % 10**6, len(it), len(it)) + it
     return out
 
 

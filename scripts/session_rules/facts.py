@@ -6,7 +6,7 @@ from collections import deque
 from itertools import chain
 from typing import NamedTuple, Optional, Sequence
 
-FAULT = 3
+from tcpclkit_scripts.running import FAULT, Failure
 
 # The type bytes of messages (RFC 9174 section 4.5)
 SEGMENT, ACK, REFUSE, KEEPALIVE, TERM, REJECT, INIT = range(1, 8)
@@ -16,10 +16,6 @@ END, START, REPLY, CRITICAL = 0x01, 0x02, 0x01, 0x01
 
 # Among so many messages the first SESS_INIT is looked for.
 EARLY = 4096
-
-
-class Failure(Exception):
-    """A recording could not be read."""
 
 
 class Item(NamedTuple):

@@ -4,7 +4,7 @@ from typing import NamedTuple
 
 from . import answers, endings, order, sending, timed
 from .facts import ACK, INIT, KEEPALIVE, REFUSE, REJECT, REPLY, SEGMENT, TERM, Check, Listing
-from .sides import KEPT, SHOULD, Line, Side
+from .sides import KEPT, MUST, SHOULD, Line, Side
 
 
 class Verdict(NamedTuple):
@@ -14,6 +14,11 @@ class Verdict(NamedTuple):
     lines: list
     notes: list
     has_fault: bool
+
+    def shown(self, is_must=False):
+        """Returns the lines as they are written, of level must alone if `is_must`."""
+        return [f"{name} {line.offset} {line.level} {line.rule} {line.words}".rstrip()
+                for name, lines in self.lines for line in lines if line.level == MUST or not is_must]
 
 
 def is_begun(side):

@@ -5,16 +5,18 @@ When which bytes had come is worked out in another way than the script does it: 
 packet has is marked, and the marks are counted.
 """
 
+import glob
 import gzip
 import os
 import random
+import re
 import shutil
 import struct
 import sys
 from typing import NamedTuple
 
 import make
-from capture import ACK, BEGIN, FIN, MICROSECONDS, SYN, End, frame
+from capture import ACK, BEGIN, FIN, MICROSECONDS, RST, SYN, End, frame
 
 from .common import (
     ACKED,
@@ -27,33 +29,57 @@ from .common import (
     SEED,
     START,
     TOP,
+    UNANSWERED,
     empty_room,
     example,
+    install,
     read,
     run,
     write,
 )
 
 SESSION = f"{TOP}/examples/session.pcap"
-GOOD = "source=ipn:1.1 time=0 sequence=0 destination=ipn:2.1"
-BAD = "bad=B13 byte=33"
+WHOSE = "source=ipn:1.1 time=0 sequence=0 destination=ipn:2.1"
+GOOD, BAD = f"good {WHOSE}", f"bad=B13 byte=33 {WHOSE}"
 EARLY = "refused before the end"
 NUMBERS = 1 << 32
 
-# What is shown of examples/session.pcap. The times are those of the packets in examples/make.py.
-ANSWERED = "sent=1767225600.{}0000 answered=+0.{}0000"
+# What is shown of examples/session.pcap, without its times. Those are the times of the packets in
+# examples/make.py: when the last byte of the transfer was sent, and how much later the answer, in
+# hundredths of a second.
 FRAGMENT = "source=ipn:2.1 time=820540800000 sequence=0 destination=ipn:1.1 fragment=7/12"
+MADE = "created=1767225600.000000 expires=1767229200.000000"
 SHOWN = [
-    f"a transfer 0 offset=38 length=34 acknowledged {GOOD} {ANSWERED.format('09', '02')}",
-    f"a transfer 1 offset=125 length=37 acknowledged {BAD} {ANSWERED.format(13, '01')}",
-    f"a transfer 2 offset=184 length=17 {REFUSED} abandoned {ANSWERED.format(15, '01')}",
-    "a transfer 3 offset=223 length=34 refused reason=05/extension-failure bad-length-item "
-    + ANSWERED.format(17, "01"),
-    "a transfer 4 offset=305 length=34 refused reason=04/not-acceptable length-differs "
-    f"announced=35 {ANSWERED.format(19, '01')}",
-    f"b transfer 0 offset=123 length=48 acknowledged {FRAGMENT} {ANSWERED.format(22, '01')}",
+    (f"a transfer 0 offset=38 length=34 acknowledged {GOOD}", 9, 2),
+    (f"a transfer 1 offset=125 length=37 acknowledged {BAD}", 13, 1),
+    (f"a transfer 2 offset=184 length=17 {REFUSED} abandoned", 15, 1),
+    (
+        "a transfer 3 offset=223 length=34 refused reason=05/extension-failure bad-length-item "
+        + WHOSE,
+        17,
+        1,
+    ),
+    (
+        "a transfer 4 offset=305 length=34 refused reason=04/not-acceptable length-differs "
+        f"announced=35 {WHOSE}",
+        19,
+        1,
+    ),
+    (f"b transfer 0 offset=123 length=48 acknowledged good {FRAGMENT} {MADE}", 22, 1),
 ]
-LINES = "".join(f"stream 0 {line}\n" for line in SHOWN)
+LINES = "".join(
+    f"stream 0 {line} sent=1767225600.{sent:02}0000 answered=+0.{later:02}0000\n"
+    for line, sent, later in SHOWN
+)
+ENDS = "a-end=fin a-term=01/idle-timeout b-end=fin b-term=01/idle-timeout"
+STREAMS = (
+    "stream 0 a=192.0.2.1:49152 b=192.0.2.2:4556 a-node=ipn:1.0 b-node=ipn:2.0 "
+    f"first=1767225600.000000 last=1767225600.300000 {ENDS}\n"
+)
+
+
+OPEN = "open at the end of the capture: stream 0"
+NONE = "no TCPCL connection; if a session began before the capture, --port N names its port"
 
 
 def noted(*notes):
@@ -306,97 +332,38 @@ def example_session():
         text = "6 {0}.030000\n38 {0}.050000\n90 {0}.070000\n125 {0}.090000\n147 {0}.120000\n"
         times = read(f"{at}/made/0000-a.times").decode()
         yield "capture: its times", text.format(BEGIN), times[: len(text.format(BEGIN))]
-        streams = "stream 0 a=192.0.2.1:49152 b=192.0.2.2:4556\n"
-        yield "capture: its streams", streams, read(f"{at}/made/streams").decode()
+        yield "capture: its streams", STREAMS, read(f"{at}/made/streams").decode()
 
 
 def merged_sessions():
-    """Two sessions on two ports: packets repeated, out of order and in pieces, and a gap."""
+    """Two sessions on two ports: packets repeated, out of order and in pieces."""
     draw = random.Random(SEED)
     links = [Link((49152, NUMBERS - 100), (4556, NUMBERS - 1)), Link((4556, 5), (6000, 1 << 31))]
     talks = {link: Talk(draw, 300) for link in links}
-    lost = talks[links[1]].rows["b"][200][1] + 5
     packets = merged(draw, *[talk.segments(link) for link, talk in talks.items()])
-    kept = [it for it in packets if not it.has(links[1], "b", lost)]
     with empty_room() as at:
-        write(f"{at}/both.pcap", pcap([it.frame(number) for number, it in enumerate(kept)]))
+        write(f"{at}/both.pcap", pcap([it.frame(number) for number, it in enumerate(packets)]))
         status, shown, errors = run(at, "capture", "made", "both.pcap")
-        yield "capture: two sessions", 3, status
+        yield "capture: two sessions", 1, status
         lines, notes = "", ""
-        for number, link in enumerate(dict.fromkeys(it.link for it in kept)):
+        for number, link in enumerate(dict.fromkeys(it.link for it in packets)):
             talk, path = talks[link], f"made/{number:04}"
-            came = {side: came_of(kept, link, side, len(talk.sent[side])) for side in "ab"}
+            came = {side: came_of(packets, link, side, len(talk.sent[side])) for side in "ab"}
             for side, other in ("ab", "ba"):
-                name, (count, _) = f"capture: session {links.index(link)} {side}", came[side][-1]
-                is_whole = (link, side) != (links[1], "b")
-                yield f"{name} is whole", is_whole, count == len(talk.sent[side])
-                yield name, talk.sent[side][:count], read(f"{at}/{path}-{side}.tcpcl")
+                name = f"capture: session {links.index(link)} {side}"
+                yield name, talk.sent[side], read(f"{at}/{path}-{side}.tcpcl")
                 times = "".join(f"{end} {seconds(it)}\n" for end, it in came[side])
                 yield f"{name}: times", times, read(f"{at}/{path}-{side}.times").decode()
-                place = f"stream {number} {side}"
-                lines += talk.lines(side, place, came[side], came[other])
-                notes += "" if is_whole else noted(f"{place}: gap at {count}")
+                lines += talk.lines(side, f"stream {number} {side}", came[side], came[other])
             for one, other in ("ab", "ba"):
                 names = f"{path}-{one}.tcpcl", f"{path}-{other}.tcpcl"
                 notes += run(at, "pair", *names)[2].replace("-pair:", "-capture:")
-        yield "capture: two sessions: lines", lines, shown
+        wanted, got = lines.splitlines(), shown.splitlines()
+        yield "capture: two sessions: lines", sorted(wanted), sorted(got)
+        lost = [line for line in wanted if f" {LOST} " in line]
+        yield "capture: two sessions: the lost ones come last", lost, got[-len(lost) :]
         notes = [*dict.fromkeys(notes.splitlines())]
         yield "capture: two sessions: notes", notes, errors.splitlines()
-
-
-# What is taken out of the example, by the numbers of its packets from 0 on; what is noted before
-# the notes of `pair`; and how many bytes of a and b come then.
-GAPS = {
-    "data of a": ([13], ["a: gap at 147"], 147, 199),
-    "the last data of a": ([26], ["a: gap at 411"], 411, 199),
-    "the last packets": ([26, 28, 29, 30], ["a: gap at 411"], 411, 199),
-    "the contact header of a": ([3], ["a: gap at 0"], 0, 199),
-    "both contact headers": ([3, 4], ["a: gap at 0", "b: gap at 0"], 0, 0),
-    "the SYN of b": ([1], [], 414, 199),
-    "the opening": ([0, 1, 2], [], 414, 199),
-}
-
-
-def gaps():
-    """Packets of the example are missing."""
-    frames = dict(enumerate(frames_of(read(SESSION))))
-    with empty_room() as at:
-        for number, (what, (missing, texts, *counts)) in enumerate(GAPS.items()):
-            kept = {it: frame for it, frame in frames.items() if it not in missing}
-            write(f"{at}/{number}.pcap", pcap(kept.values(), kept.keys()))
-            status, shown, errors = run(at, "capture", f"made{number}", f"{number}.pcap")
-            name, notes = f"capture without {what}", noted(*[f"stream 0 {it}" for it in texts])
-            yield name, (3 if texts else 1, notes), (status, errors[: len(notes)])
-            for side, count in zip("ab", counts):
-                recording = read(f"{at}/made{number}/0000-{side}.tcpcl")
-                yield f"{name}: {side}", example(f"session-{side}")[:count], recording
-            if counts == [414, 199]:
-                yield f"{name}: lines", (LINES, strays(f"made{number}")), (shown, errors)
-
-
-def late_sessions():
-    """The capture begins in the middle of a session."""
-    frames = frames_of(read(SESSION))[9:]
-    with empty_room() as at:
-        write(f"{at}/late.pcap", pcap(frames))
-        text = "begins in the middle of a session: tcpclkit-resync {} finds the first message"
-        paths = [f"made/0000-{side}.tcpcl" for side in "ab"]
-        notes = [f"stream 0 {it}: {text.format(path)}" for it, path in zip("ab", paths)]
-        got = run(at, "capture", "made", "late.pcap")
-        yield "capture from packet 10 on", (3, "", noted(*notes)), got
-        yield "capture from packet 10 on: a", example("session-a")[90:], read(f"{at}/{paths[0]}")
-        yield "capture from packet 10 on: b", example("session-b")[56:], read(f"{at}/{paths[1]}")
-        yield "capture from packet 10 on: resync", (0, "0\n", ""), run(at, "resync", paths[0])
-        other = [it.replace(b"\x11\xcc", b"\x17\x70") for it in frames]
-        write(f"{at}/other.pcap", pcap(other))
-        texts = ["no TCPCL connection", "connections that began before the capture: 1; "]
-        got = run(at, "capture", "other", "other.pcap")
-        wanted = noted(texts[0], f"{texts[1]}--port says which port is of TCPCL")
-        yield "capture from packet 10 on, another port", (3, "", wanted), got
-        got = run(at, "capture", "--port", "6000", "other", "other.pcap")
-        notes = noted(*[it.replace("made/", "other/") for it in notes])
-        yield "capture --port", (3, "", notes), got
-        yield "capture --port: a", read(f"{at}/{paths[0]}"), read(f"{at}/other/0000-a.tcpcl")
 
 
 def one_side():
@@ -408,13 +375,13 @@ def one_side():
         write(f"{at}/a.pcap", pcap([it for it in frames if it[34:36] == b"\xc0\x00"]))
         a, b = "made/0000-a.tcpcl", "made/0000-b.tcpcl"
         left = f"{a}: answers to no transfer of {b}: 2, the first at byte 375"
-        notes = noted("stream 0 b: gap at 0", f"{b}: byte 0: truncated", left)
+        notes = noted("stream 0 b: gap at 0", left, OPEN)
         status, shown, errors = run(at, "capture", "made", "a.pcap")
-        yield "capture of one side", (3, 5, notes), (status, shown.count(" lost "), errors)
+        yield "capture of one side", (3, 5, notes), (status, shown.count(" unanswered "), errors)
         yield "capture of one side: a", example("session-a"), read(f"{at}/made/0000-a.tcpcl")
         yield "capture of one side: b", b"", read(f"{at}/made/0000-b.tcpcl")
         write(f"{at}/silent.pcap", pcap([it.frame(number) for number, it in enumerate(silent)]))
-        notes = noted("stream 0 b: nothing was captured", "silent/0000-b.tcpcl: byte 0: truncated")
+        notes = noted("stream 0 b: nothing was captured", OPEN)
         yield "capture: b is silent", (3, "", notes), run(at, "capture", "silent", "silent.pcap")
 
 
@@ -432,7 +399,9 @@ def formats():
         yield "capture of standard input", (1, LINES, strays("-in")), got
         write(f"{at}/6.pcap", pcap([over_ipv6(it) for it in frames]))
         yield "capture of IPv6", (1, LINES, strays("6")), run(at, made, "6", "6.pcap")
-        streams = "stream 0 a=[2001:db8::1]:49152 b=[2001:db8::2]:4556\n"
+        streams = STREAMS
+        for byte in "12":
+            streams = streams.replace(f"192.0.2.{byte}", f"[2001:db8::{byte}]")
         yield "capture of IPv6: streams", streams, read(f"{at}/6/streams").decode()
         errors = [refusal(it) for it in frames[3:5]]
         numbers = [*range(3), 2, 2, *range(3, len(frames))]
@@ -442,9 +411,9 @@ def formats():
         write(f"{at}/same.pcap", pcap(other))
         yield "capture of one port", (1, LINES, strays("s")), run(at, made, "s", "same.pcap")
         write(f"{at}/snap.pcap", pcap(frames, kept=80))
-        notes = noted("stream 0 a: gap at 32", "stream 0 b: gap at 32")
-        status, shown, errors = run(at, made, "snap", "snap.pcap")
-        yield "capture of 80 bytes", (3, "", notes), (status, shown, errors[: len(notes)])
+        status, _, errors = run(at, made, "snap", "snap.pcap")
+        noted_gaps = [f"stream 0 {it} gaps, the first at 32" in errors for it in ("a: 7", "b: 2")]
+        yield "capture of 80 bytes", (3, [True, True]), (status, noted_gaps)
         for side in "ab":
             wanted = example(f"session-{side}")[:32]
             yield f"capture of 80 bytes: {side}", wanted, read(f"{at}/snap/0000-{side}.tcpcl")
@@ -455,11 +424,55 @@ def cut_transfers():
     link = Link((49152, 1), (4556, 2))
     sent = HEAD + make.xfer_segment(START, 7, make.BUNDLE[:9]) + b"\x01"
     packets = [*opening(link), Segment(link, "a", 0, sent), Segment(link, "b", 0, HEAD)]
-    line = f"stream 0 a transfer 7 offset=38 length=9 lost cut sent={seconds(3)}\n"
+    line = f"stream 0 a transfer 7 offset=38 length=9 unanswered cut sent={seconds(3)}\n"
     with empty_room() as at:
         write(f"{at}/cut.pcap", pcap([it.frame(number) for number, it in enumerate(packets)]))
-        notes = noted(f"made/0000-a.tcpcl: byte {len(sent) - 1}: truncated")
+        notes = noted(f"made/0000-a.tcpcl: byte {len(sent) - 1}: truncated", OPEN)
         yield "capture: a cut transfer", (3, line, notes), run(at, "capture", "made", "cut.pcap")
+
+
+def identities():
+    """The bundle is named wherever the primary block was read, which has 22 bytes with its array."""
+    link = Link((49152, 1), (4556, 2))
+    sent, lines = HEAD, ""
+    for ident, length, words in [(0, 21, "abandoned"), (1, 22, f"abandoned {WHOSE}")]:
+        line = f"stream 0 a transfer {ident} offset={len(sent)} length={length} unanswered {words}"
+        lines += f"{line} sent={seconds(3)}\n"
+        sent += make.xfer_segment(START, ident, make.BUNDLE[:length])
+    head = make.xfer_segment(START | END, 2, make.BUNDLE)[: -len(make.BUNDLE)]
+    line = f"stream 0 a transfer 2 offset={len(sent)} length=22 unanswered cut {WHOSE}"
+    lines += f"{line} sent={seconds(3)}\n"
+    sent += head + make.BUNDLE[:22]
+    packets = [*opening(link), Segment(link, "a", 0, sent), Segment(link, "b", 0, HEAD)]
+    with empty_room() as at:
+        write(f"{at}/cut.pcap", pcap([it.frame(number) for number, it in enumerate(packets)]))
+        status, shown, _ = run(at, "capture", "made", "cut.pcap")
+        yield "capture: identities", (3, lines), (status, shown)
+
+
+def resets():
+    """An RST ends both sides, and a FIN one, unless its number is wrong, or data follows it."""
+    link, data = Link((49152, 1), (4556, 2)), make.xfer_segment(START | END, 0, make.BUNDLE)
+    before = [*opening(link), Segment(link, "a", 0, HEAD + data), Segment(link, "b", 0, HEAD)]
+    rest = Segment(link, "b", len(HEAD), make.KEEPALIVE)
+    cases = [
+        ("of b", [Segment(link, "b", len(HEAD), flags=RST)], LOST, "peer-rst rst"),
+        ("of a", [Segment(link, "a", len(HEAD + data), flags=RST)], LOST, "rst peer-rst"),
+        ("of b, too early", [Segment(link, "b", 3, flags=RST)], UNANSWERED, "open open"),
+        ("of b, too late", [Segment(link, "b", 99, flags=RST)], UNANSWERED, "open open"),
+        ("of b, a FIN", [Segment(link, "b", len(HEAD), flags=FIN | ACK)], LOST, "open fin"),
+        ("of b, a FIN too early", [Segment(link, "b", 3, flags=FIN | ACK)], UNANSWERED, "open open"),
+        ("of b, and data", [Segment(link, "b", len(HEAD), flags=RST), rest], UNANSWERED, "open open"),
+    ]
+    with empty_room() as at:
+        for name, after, said, ends in cases:
+            frames = [it.frame(number) for number, it in enumerate(before + after)]
+            write(f"{at}/{name}.pcap", pcap(frames))
+            status, shown, _ = run(at, "capture", name, f"{name}.pcap")
+            wanted = int(said == LOST), said
+            yield f"capture: an end {name}", wanted, (status, shown.split()[7])
+            found = re.findall("[ab]-end=(\\S+)", read(f"{at}/{name}/streams").decode())
+            yield f"capture: an end {name}: ends", ends, " ".join(found)
 
 
 def many_sessions():
@@ -471,7 +484,12 @@ def many_sessions():
     packets += [*opening(other), Segment(other, "a", 0, text), Segment(other, "b", 0, b"HTTP")]
     with empty_room() as at:
         write(f"{at}/many.pcap", pcap([it.frame(number) for number, it in enumerate(packets)]))
-        status, shown, errors = run(at, "capture", "made", "many.pcap")
+        counting = f'#!/bin/sh\necho "$1" >> {at}/runs\nexec {PROGRAM} "$@"\n'
+        write(f"{at}/counting", counting.encode(), 0o755)
+        words = ["--tcpclkit", "counting", "made", "many.pcap"]
+        status, shown, errors = run(at, "capture", *words)
+        runs = sorted(read(f"{at}/runs").split())
+        yield "capture of 300 sessions: runs of tcpclkit", [b"blocks", b"list", b"list"], runs
         yield "capture of 300 sessions", (1, "", 1800), (status, errors, shown.count("\n"))
         differing = []
         for number, link in enumerate(dict.fromkeys(it.link for it in packets[:-5])):
@@ -496,7 +514,8 @@ def far_ahead():
         words = [sys.executable, "-c", PEAK, f"{TOP}/scripts/capture", "made", "far.pcap"]
         status, shown, errors = run(at, *words)
         *notes, peak = errors.splitlines(True)
-        gap = noted(f"stream 0 a: gap at {len(HEAD)}")
+        text = f"stream 0 a: 10240 gaps, the first at {len(HEAD)}"
+        gap = noted(f"{text}; no message is found in {10240 * len(data)} bytes", OPEN)
         yield "capture: packets far ahead", (3, "", gap), (status, shown, "".join(notes))
         yield "capture: packets far ahead: less than 64 MiB", True, int(peak) < 64 * 1024
         yield "capture: packets far ahead: a", HEAD, read(f"{at}/made/0000-a.tcpcl")
@@ -511,7 +530,7 @@ def no_sessions():
         for name, kept in cases:
             write(f"{at}/{name}", pcap([it.frame(number) for number, it in enumerate(kept)]))
             got = run(at, "capture", f"made of {name}", name)
-            yield f"capture of {name}", (3, "", noted("no TCPCL connection")), got
+            yield f"capture of {name}", (3, "", noted(NONE)), got
             yield f"capture of {name}: no files", [], os.listdir(f"{at}/made of {name}")
         write(f"{at}/cut", read(SESSION)[:30])
         status, shown, errors = run(at, "capture", "made of cut", "cut")
@@ -561,20 +580,16 @@ def no_tshark():
 
 
 def installed():
-    """The script finds tcpclkit-pair and the program in its folder, and leaves nothing there."""
+    """The script finds its package and the program where ./install puts them."""
     with empty_room() as at:
-        os.mkdir(f"{at}/bin")
-        for name in ("capture", "pair"):
-            shutil.copy(f"{TOP}/scripts/{name}", f"{at}/bin/tcpclkit-{name}")
+        install(at, "capture")
         shutil.copy(PROGRAM, f"{at}/bin/tcpclkit")
+        before = sorted(glob.glob(f"{at}/**", recursive=True))
         words, path = (f"{at}/bin/tcpclkit-capture", "made", SESSION), os.environ["PATH"]
         got = run(at, *words, path=path)
         yield "capture: installed", (1, LINES, strays("made")), got
-        names = ["tcpclkit", "tcpclkit-capture", "tcpclkit-pair"]
-        yield "capture: installed: the folder", names, sorted(os.listdir(f"{at}/bin"))
-        os.unlink(f"{at}/bin/tcpclkit-pair")
-        text = "tcpclkit-pair is not found; it has to be in the folder of this script"
-        yield "capture: no tcpclkit-pair", (4, "", noted(text)), run(at, *words, path=path)
+        shutil.rmtree(f"{at}/made")
+        yield "capture: installed: files", before, sorted(glob.glob(f"{at}/**", recursive=True))
 
 
 PARTS = [
@@ -582,11 +597,11 @@ PARTS = [
     installed,
     example_session,
     merged_sessions,
-    gaps,
-    late_sessions,
     one_side,
     formats,
     cut_transfers,
+    identities,
+    resets,
     many_sessions,
     far_ahead,
     no_sessions,

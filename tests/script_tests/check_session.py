@@ -1,12 +1,11 @@
 """Tests of scripts/check-session. The pairs and their lines are those of tests/rows."""
 
 import os
-import shutil
 import sys
 
 import make
 
-from .common import PEAK, PROGRAM, TOP, empty_room, read, run, write
+from .common import PEAK, PROGRAM, TOP, empty_room, install, read, run, write
 
 sys.path[:0] = [f"{TOP}/tests", f"{TOP}/scripts"]
 
@@ -151,10 +150,9 @@ def statuses():
         with open("/dev/full", "wb") as full:
             got = run(at, "check-session", "a", "b", stdout=full)
         yield "check-session: a full device", (4, None, f"{name}: No space left on device\n"), got
-        os.makedirs(f"{at}/alone/bin")
-        script = shutil.copy(f"{TOP}/scripts/check-session", f"{at}/alone/bin/{name}")
-        text = f"{name}: session_rules is not found; ./install puts it into PREFIX/share/tcpclkit\n"
-        yield "check-session: no modules", (4, "", text), run(at, script, "a", "b")
+        install(f"{at}/prefix", "check-session")
+        wanted = 1, text_of(RULES["ack-flags"][0].shown()), ""
+        yield "check-session: installed", wanted, run(at, f"{at}/prefix/bin/{name}", "a", "b")
 
 
 def resynced():

@@ -4,6 +4,7 @@ import bisect
 import glob
 import os
 import random
+import shutil
 import subprocess
 import tempfile
 from typing import NamedTuple
@@ -53,6 +54,7 @@ TRANSFERS = {
 
 # What a line says of the answer.
 ACKED, LOST, COMPLETED = "acknowledged", "lost", "refused reason=01/completed"
+UNANSWERED = "unanswered"
 REFUSED = "refused reason=02/no-resources"
 
 
@@ -118,7 +120,7 @@ def answered(draw, said, ident, lengths):
     if said == ACKED:
         return len(lengths), acks
     if said == LOST:
-        return len(lengths), acks[: draw.randrange(len(lengths))]
+        return len(lengths), []
     before = draw.randrange(len(lengths))
     sent = draw.randrange(before + 1, len(lengths) + 1)
     refusal = make.xfer_refuse(1 if said == COMPLETED else 2, ident)
@@ -151,6 +153,7 @@ def session(count):
         for reply in replies:
             b.add(reply)
         b.add(make.xfer_segment(BOTH, 0, b"other"))
+    b.add(make.sess_term(0, 0))
     return a, b, transfers
 
 
@@ -202,6 +205,17 @@ finally:
     with open("/proc/self/status") as it:
         print(next(line.split()[1] for line in it if line.startswith("VmHWM:")), file=sys.stderr)
 """
+
+
+def install(at, *names):
+    """Puts scripts and their packages into a folder, as ./install does."""
+    os.makedirs(f"{at}/bin", exist_ok=True)
+    for name in names:
+        shutil.copy(f"{TOP}/scripts/{name}", f"{at}/bin/tcpclkit-{name}")
+    for package in ("tcpclkit_scripts", "session_rules"):
+        os.makedirs(f"{at}/share/tcpclkit/python/{package}", exist_ok=True)
+        for path in glob.glob(f"{TOP}/scripts/{package}/*.py"):
+            shutil.copy(path, f"{at}/share/tcpclkit/python/{package}")
 
 
 def write(path, content, mode=0o644):

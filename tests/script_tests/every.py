@@ -1,14 +1,14 @@
 """Tests that each script passes: its help text, its python, and how it finds the program."""
 
 import ast
+import glob
 import os
 import shutil
 import sys
 
-from .common import HEAD, PROGRAM, TOP, empty_room, read, run, write
+from .common import HEAD, PROGRAM, TOP, empty_room, install, read, run, write
 
 SCRIPTS = ["split", "pair", "resync", "capture", "json", "faults", "check-session"]
-MODULES = [f"session_rules/{name}" for name in sorted(os.listdir(f"{TOP}/scripts/session_rules"))]
 
 
 def help_texts():
@@ -29,7 +29,8 @@ def help_texts():
 
 def older_python():
     """The scripts are written in python 3.8."""
-    for name in [*SCRIPTS, *MODULES]:
+    modules = [os.path.relpath(it, f"{TOP}/scripts") for it in glob.glob(f"{TOP}/scripts/*/*.py")]
+    for name in SCRIPTS + modules:
         tree = ast.parse(read(f"{TOP}/scripts/{name}"), feature_version=(3, 8))
         yield f"{name}: python 3.8", ast.Module, type(tree)
 
@@ -37,13 +38,13 @@ def older_python():
 def found_programs():
     """The program is the one that is named, or is in the folder of the script, or on the PATH."""
     with empty_room() as at:
-        os.mkdir(f"{at}/bin")
+        install(at, "split", "pair")
         os.mkdir(f"{at}/path")
         write(f"{at}/path/tcpclkit", b"#!/bin/sh\nexit 9\n", 0o755)
         write(f"{at}/A", HEAD)
         paths = f"{at}/path:{os.environ['PATH']}"
         for name, words, failed in [("split", ["A", "made"], 9), ("pair", ["A", "A"], 4)]:
-            script = shutil.copy(f"{TOP}/scripts/{name}", f"{at}/bin/tcpclkit-{name}")
+            script = f"{at}/bin/tcpclkit-{name}"
             beside = f"{at}/bin/tcpclkit"
             for place, status, options in [
                 ("on the PATH", failed, []),

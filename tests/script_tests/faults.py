@@ -3,7 +3,7 @@
 import os
 import shutil
 
-from .common import TOP, empty_room, read, run, write
+from .common import TOP, empty_room, install, read, run, write
 
 FAULTS = f"{TOP}/examples/faults"
 
@@ -31,7 +31,7 @@ def refused_folders():
         write(f"{at}/full/other", b"other")
         write(f"{at}/file", b"file")
         for folder, why in [
-            ("full", "full is not empty"),
+            ("full", "full: the folder is not empty"),
             ("file", "file: File exists"),
             ("none/made", "none/made: No such file or directory"),
         ]:
@@ -44,9 +44,9 @@ def refused_folders():
 def installed():
     """The installed script finds its files, through a link too. Without them it writes nothing."""
     with empty_room() as at:
-        for name in ("bin", "share/tcpclkit", "links"):
-            os.makedirs(f"{at}/prefix/{name}")
-        script = shutil.copy(f"{TOP}/scripts/faults", f"{at}/prefix/bin/tcpclkit-faults")
+        install(f"{at}/prefix", "faults")
+        os.mkdir(f"{at}/prefix/links")
+        script = f"{at}/prefix/bin/tcpclkit-faults"
         link = f"{at}/prefix/links/tcpclkit-faults"
         os.symlink("../bin/tcpclkit-faults", link)
         text = "the files are not found; ./install puts them into PREFIX/share/tcpclkit/faults"

@@ -100,6 +100,7 @@ def each_line():
 # What is in the place of these words of a form
 PLACES = {
     **dict.fromkeys(["OFF", "ID", "N", "NUMBER"], r"\d+"),
+    "SIDE": "[ab]",
     "H": "(?:[0-9a-f]{2})+",
     "LEVEL": "(?:must|should)",
     "K": "(?:none|crc16|crc32c)",
@@ -140,13 +141,22 @@ def each_rule():
     """json.lines has a line of each rule of docs/FORMATS.md, with each of its words."""
     heads = ["| Rule | Level | RFC 9174 |", "| Rule | Level | RFC |", "| Rule | Level | RFC 9171 |"]
     rules = [it for head in heads for it in rows_of("FORMATS.md", f"{head} Broken if | WORDS |")]
-    yield "json: rules of docs/FORMATS.md", 35, len(rules)
-    lines = [line.split(" ") for line, _ in PAIRS if " must " in line or " should " in line]
+    yield "json: rules of docs/FORMATS.md", 37, len(rules)
+    lines = [line.split(" ") for line, _ in PAIRS if re.match(r"\d+ (must|should) ", line)]
     for name, *_, words in rules:
         shown = {word.partition("=")[0] for it in lines if it[2] == name.strip("`") for word in it[3:]}
         wanted = set(re.findall(r"([a-z]+)=", words))
         found = any(it[2] == name.strip("`") for it in lines), shown - {"transfer", "bundle"}
         yield f"json: a line of the rule {name}", (True, wanted), found
+
+
+def each_word_of_two_sides():
+    """json.lines has each word of the rules of two sides of docs/FORMATS.md."""
+    rows = rows_of("FORMATS.md", "| Rule | RFC 9174 | Level | S breaks it if | WORDS |")
+    wanted = {word for *_, words in rows for word in re.findall(r"([a-z-]+)=", words)}
+    lines = [line for line, _ in PAIRS if re.match(r"[ab] \d+ (must|should) ", line)]
+    shown = {word.partition("=")[0] for line in lines for word in line.split(" ")[4:]}
+    yield "json: words of two sides", (True, []), (len(wanted) > 20, sorted(wanted - shown))
 
 
 def faults():
@@ -299,7 +309,7 @@ def examples_checked():
     status, got, errors = objects(lines.encode())
     back = joined(rule_line_of(it) for it in got).decode()
     yield "json: the lines of check", (0, lines, ""), (status, back, errors)
-    yield "json: the rules in them", 35, len({it["rule"] for it in got})
+    yield "json: the rules in them", 37, len({it["rule"] for it in got})
 
 
 # ---- what is wrong with a line
@@ -385,6 +395,7 @@ PARTS = [
     each_line,
     each_form,
     each_rule,
+    each_word_of_two_sides,
     faults,
     messages_of_failures,
     escapes,

@@ -15,6 +15,7 @@ from .common import (
     Sent,
     TOP,
     TRANSFERS,
+    UNANSWERED,
     empty_room,
     example,
     run,
@@ -29,8 +30,9 @@ REFUSED_TOO, EXTENSION = "refused reason=04/not-acceptable", "refused reason=05/
 
 # For each example one with answers, what a line says of each, and how many answers belong to no
 # transfer, with the first offset. The last is what is reported of its own order, if anything is.
+# Only session-a and session-b have a SESS_TERM, and so does every-message.
 PAIRS = {
-    "every-block": ("prelude-and-transfer", [LOST] * 3, None),
+    "every-block": ("prelude-and-transfer", [UNANSWERED] * 3, None),
     "every-message": ("every-message", [ACKED], (1, 154)),
     "late-transfers": ("every-message", [ACKED, *[LOST] * 29], (1, 154)),
     "order-faults": (
@@ -42,7 +44,7 @@ PAIRS = {
     "prelude-and-transfer": ("session-b", [ACKED], (4, 74)),
     "session-a": ("session-b", [ACKED, ACKED, REFUSED, EXTENSION, REFUSED_TOO], None),
     "session-b": ("session-a", [ACKED], (1, 393)),
-    "status-reports": ("prelude-and-transfer", [LOST] * 4, None),
+    "status-reports": ("prelude-and-transfer", [UNANSWERED] * 4, None),
     "transfers": ("session-b", [ACKED, ACKED, REFUSED, EXTENSION], (1, 112)),
 }
 
@@ -62,11 +64,11 @@ OTHERS = [
     make.msg_reject(2, 1),
     make.KEEPALIVE,
     make.xfer_segment(BOTH, 0, b"12345"),
-    make.sess_term(0, 0),
 ]
 
-# The flags, the ID and the length of each segment of A; the answers of B; what the lines say; the
-# status; and what is reported.
+# The flags, the ID and the length of each segment of A; the answers of B; what the lines say if B
+# ends with a SESS_TERM; the status then; and what is reported. `LOST` is `unanswered` if B has no
+# SESS_TERM, and then it is no loss.
 CASES = {
     "one of each": (
         [(BOTH, 0, 5), (BOTH, 1, 6), (BOTH, 2, 7)],
@@ -103,20 +105,40 @@ CASES = {
         [REFUSED],
         1,
     ),
-    "a part is acknowledged": ([(START, 0, 5), (END, 0, 6)], [ack(START, 0, 5)], [LOST], 1),
+    "a part is acknowledged": ([(START, 0, 5), (END, 0, 6)], [ack(START, 0, 5)], [UNANSWERED], 0),
     "all is acknowledged without END": (
         [(START, 0, 5), (END, 0, 0)],
         [ack(START, 0, 5)],
-        [LOST],
-        1,
+        [UNANSWERED],
+        0,
+    ),
+    "each acknowledgement has START": (
+        [(START, 0, 5), (0, 0, 6), (END, 0, 7)],
+        [ack(START, 0, 5), ack(START, 0, 11), ack(BOTH, 0, 18)],
+        [ACKED],
+        0,
+    ),
+    "START and END are in one acknowledgement of two segments": (
+        [(START, 0, 5), (END, 0, 6)],
+        [ack(START, 0, 5), ack(BOTH, 0, 11)],
+        [ACKED],
+        0,
+    ),
+    "another length with END, and then the length": (
+        [(START, 0, 5), (END, 0, 6)],
+        [ack(END, 0, 5), ack(END, 0, 11)],
+        [ACKED],
+        0,
+        "B: acknowledgements of another length: 1, the first at byte 38: 5 bytes of transfer 0, "
+        "which has 11",
     ),
     "another length with END": (
         [(BOTH, 0, 5), (BOTH, 1, 5)],
         [ack(BOTH, 0, 4), ack(BOTH, 1, 6)],
         [LOST, LOST],
         1,
-        "B: byte 38: acknowledges 4 bytes of transfer 0, which has 5",
-        "B: byte 56: acknowledges 6 bytes of transfer 1, which has 5",
+        "B: acknowledgements of another length: 2, the first at byte 38: 4 bytes of transfer 0, "
+        "which has 5",
     ),
     "answers in another order": (
         [(BOTH, 0, 5), (BOTH, 1, 6)],
@@ -200,9 +222,8 @@ CASES = {
     "the last of A is not over": (
         [(START, 0, 5)],
         [ack(START, 0, 5), ack(END, 0, 9)],
-        [LOST],
-        1,
-        "B: byte 56: acknowledges 9 bytes of transfer 0, which has 5",
+        [ACKED],
+        0,
     ),
     "A goes on with a transfer that is not open": (
         [(0, 7, 5), (START, 0, 5), (END, 8, 5), (END, 0, 6)],
@@ -249,11 +270,16 @@ def pair_cases():
         for name, (segments, answers, said, status, *notes) in CASES.items():
             a, b, transfers = sides(segments, answers)
             write(f"{at}/A", a)
-            write(f"{at}/B", b)
-            lines = ""
-            for (ident, offset, length), text in zip(transfers, said):
-                lines += f"transfer {ident} offset={offset} length={length} {text}\n"
-            yield f"pair: {name}", (status, lines, noted(*notes)), run(at, "pair", "A", "B")
+            for end, rest in [("with its end", make.sess_term(0, 0)), ("without its end", b"")]:
+                write(f"{at}/B", b + rest)
+                lines = ""
+                for (ident, offset, length), text in zip(transfers, said):
+                    text = UNANSWERED if text == LOST and not rest else text
+                    lines += f"transfer {ident} offset={offset} length={length} {text}\n"
+                is_refused = any(it.startswith("refused") and it != COMPLETED for it in said)
+                wanted = 0 if status == 1 and not rest and not is_refused else status
+                got = run(at, "pair", "A", "B")
+                yield f"pair: {name}, {end}", (wanted, lines, noted(*notes)), got
 
 
 def pair_examples():
@@ -266,7 +292,7 @@ def pair_examples():
         if left:
             text = f"{b}.tcpcl: answers to no transfer of {a}.tcpcl"
             notes.append(f"{text}: {left[0]}, the first at byte {left[1]}")
-        status = 3 if faults else int(set(said) != {ACKED})
+        status = 3 if faults else int(not {ACKED, UNANSWERED}.issuperset(said))
         got = run(f"{TOP}/examples", "pair", f"{a}.tcpcl", f"{b}.tcpcl")
         yield f"pair {a} {b}", (status, "".join(lines), noted(*notes)), got
 
@@ -293,7 +319,7 @@ def pair_faults():
     first = "transfer 0 offset=38 length=34 "
     others = ["1 offset=125 length=37", "2 offset=184 length=17"]
     others += ["3 offset=223 length=34", "4 offset=305 length=34"]
-    lost = "".join(f"transfer {other} {LOST}\n" for other in others)
+    rest = "".join(f"transfer {other} {UNANSWERED}\n" for other in others)
     left = "B: answers to no transfer of"
     with empty_room() as at:
         for name, content in [
@@ -307,7 +333,8 @@ def pair_faults():
         notes = noted("cut-a: byte 125: truncated", f"{left} cut-a: 4, the first at byte 74")
         yield "pair: A is cut", (3, f"{first}{ACKED}\n", notes), run(at, "pair", "cut-a", "B")
         notes = noted("cut-b: byte 56: truncated")
-        yield "pair: B is cut", (3, f"{first}{LOST}\n{lost}", notes), run(at, "pair", "A", "cut-b")
+        wanted = 3, f"{first}{UNANSWERED}\n{rest}", notes
+        yield "pair: B is cut", wanted, run(at, "pair", "A", "cut-b")
         notes = noted("late: byte 0: not a contact header", f"{left} late: 6, the first at byte 38")
         yield "pair: A has no beginning", (3, "", notes), run(at, "pair", "late", "B")
         notes = noted("nothing: cannot open the input")

@@ -27,11 +27,15 @@ from .common import (
 # The examples with a transfer that is not good.
 NOT_GOOD = {"every-block", "session-a", "transfers"}
 
-# The examples with a fault of the order: how many transfers are over before the first, and the
-# lines that the transfers have in the report of `unpack --keep-going`.
+# The examples with a fault of the order: how many transfers are over before the first, the lines
+# that the transfers have in the report of `unpack --keep-going`, and what the first fault is.
 FAULTY = {
-    "late-transfers": (13, [*range(1, 14), *range(15, 48, 2)]),
-    "order-faults": (0, [3, 4, 7, 9]),
+    "late-transfers": (
+        13,
+        [*range(1, 14), *range(15, 48, 2)],
+        "byte 769: start after session termination",
+    ),
+    "order-faults": (0, [3, 4, 7, 9], "byte 6: segment before session initiation"),
 }
 
 
@@ -57,9 +61,11 @@ def split_examples():
     yield "split: the examples", EXAMPLES, sorted(TRANSFERS)
     with empty_room() as at:
         for name in EXAMPLES:
-            got = run(at, "split", f"{TOP}/examples/{name}.tcpcl", name)
+            path = f"{TOP}/examples/{name}.tcpcl"
+            got = run(at, "split", path, name)
             status = 3 if name in FAULTY else int(name in NOT_GOOD)
-            yield f"split {name}", (status, "", ""), got
+            errors = f"tcpclkit-split: {path}: {FAULTY[name][2]}\n" if name in FAULTY else ""
+            yield f"split {name}", (status, "", errors), got
             *files, report = made_files(f"{at}/{name}")
             datas = [data for _, data in TRANSFERS[name]]
             datas = datas[:FAULTY[name][0]] if name in FAULTY else datas
@@ -82,7 +88,7 @@ def split_examples_to_the_end():
             yield f"split --keep-going {name}", (status, "", ""), run(at, "split", *words)
             *files, _ = made_files(f"{at}/{name}")
             datas = [data for _, data in TRANSFERS[name]]
-            _, numbers = FAULTY.get(name, (None, None))
+            numbers = FAULTY[name][1] if name in FAULTY else None
             yield f"split --keep-going {name}: files", list(files_of(datas, numbers)), files
 
 
@@ -120,7 +126,8 @@ def split_many():
     lines.append(f"tcpclkit: byte {len(a.content) + len(opened)}: unknown message type 16\n")
     with empty_room() as at:
         write(f"{at}/-a", a.content + opened + NO_MESSAGE)
-        yield "split 10,000 transfers", (3, "", ""), run(at, "split", "--", "-a", "-made")
+        text = lines[-1].replace("tcpclkit: ", "tcpclkit-split: -a: ")
+        yield "split 10,000 transfers", (3, "", text), run(at, "split", "--", "-a", "-made")
         files, output, report = made_files(f"{at}/-made")
         wanted, joined = files_of(datas)
         yield "split 10,000 transfers: report", True, report == "".join(lines)
@@ -162,7 +169,29 @@ def split_failures():
             yield f"split: the {name} is short: files", {}, made_files(f"{at}/{name}")[0]
         write(f"{at}/killed", b"#!/bin/sh\nkill -9 $$\n", 0o755)
         got = run(at, "split", "--tcpclkit", "killed", "a", "of-killed")
-        yield "split: the program is killed", (137, "", ""), got
+        text = "tcpclkit-split: a: SIGKILL ended tcpclkit\n"
+        yield "split: the program is killed", (137, "", text), got
+        yield "split: the program is killed: no folder", False, os.path.exists(f"{at}/of-killed")
+
+
+def split_unread():
+    """What was not read leaves no folder, and what was read in part leaves one."""
+    with empty_room() as at:
+        write(f"{at}/a", example("transfers"))
+        text = "tcpclkit-split: nothing: cannot open the input\n"
+        yield "split: no such recording", (4, "", text), run(at, "split", "nothing", "made")
+        text = "tcpclkit-split: .: read failed\n"
+        yield "split: a folder", (4, "", text), run(at, "split", ".", "made")
+        with open(f"{at}/a", "ab") as stdin:
+            got = run(at, "split", "-", "made", stdin=stdin)
+        text = "tcpclkit-split: standard input: read failed\n"
+        yield "split: standard input that cannot be read", (4, "", text), got
+        yield "split: no folder is left", ["a"], os.listdir(at)
+        write(f"{at}/cut", example("transfers")[:150])
+        text = "tcpclkit-split: cut: byte 126: truncated\n"
+        yield "split: a recording that is cut", (3, "", text), run(at, "split", "cut", "made")
+        files = ["1.bundle", "output", "report"]
+        yield "split: a recording that is cut: files", files, sorted(os.listdir(f"{at}/made"))
 
 
 PARTS = [
@@ -172,4 +201,5 @@ PARTS = [
     split_many_late,
     split_large,
     split_failures,
+    split_unread,
 ]

@@ -1,0 +1,22 @@
+# Completions of the scripts of tcpclkit for fish.
+
+for script in capture split pair resync json faults check-session
+    complete -c tcpclkit-$script -s h -l help -d 'write this text, and do nothing else'
+end
+
+complete -c tcpclkit-capture -x -l port -d 'the port of TCPCL'
+complete -c tcpclkit-capture -r -l tcpclkit -d 'the program that reads the recordings'
+
+complete -c tcpclkit-split -n 'not __fish_contains_opt keep-going' -l keep-going -d 'go on after a fault of the order of messages'
+complete -c tcpclkit-split -r -l tcpclkit -d 'the program that reads the recordings'
+
+complete -c tcpclkit-pair -r -l tcpclkit -d 'the program that reads the recordings'
+
+complete -c tcpclkit-resync -r -s o -l output -d 'write a recording to this file'
+complete -c tcpclkit-resync -n 'not __fish_contains_opt start' -l start -d 'begin only with an XFER_SEGMENT that has START'
+complete -c tcpclkit-resync -x -l longest -d 'the greatest length that a segment may have'
+
+complete -c tcpclkit-check-session -r -l times -d 'when the bytes of both sides were captured'
+complete -c tcpclkit-check-session -x -l closed -a 'a b ab' -d 'these sides closed the connection'
+complete -c tcpclkit-check-session -n 'not __fish_contains_opt must' -l must -d 'write lines of level `must` alone'
+complete -c tcpclkit-check-session -r -l tcpclkit -d 'the program that reads the recordings'

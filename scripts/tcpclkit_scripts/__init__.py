@@ -1,0 +1,1 @@
+"""What the scripts of tcpclkit share. It is no program, and its names may change."""
