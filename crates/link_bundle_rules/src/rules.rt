@@ -14,7 +14,6 @@ use crate::flags::{
 };
 use crate::history::BundleHistory;
 use crate::rule::BundleRule;
-use crate::security::{is_hidden, is_protected};
 use arrayvec::ArrayVec;
 use link_rules::{Level, add_if_broken, has_other_flags};
 
@@ -59,8 +58,9 @@ impl BundleHistory {
     ghost use Rattle.link_bundle_rules.specs.Extensions.{age, previous_node, first_hops, hop_count, hops, block_data, data_not_read, administrative_record};
     ghost use Rattle.link_bundle_rules.specs.Flags.{bundle_flags, anonymous, record_reports, block_reports, block_flags};
     ghost use Rattle.link_bundle_rules.specs.Fragments.{has_hidden_payload, if_no_part, fragment, if_all, whole_fragment};
-    ghost use Rattle.link_bundle_rules.specs.Security.{primary_check, confidential_primary};
-    ghost use Rattle.std.specs.List.{list_all};
+    ghost use Rattle.link_bundle_rules.specs.Security.{may_protect_primary, primary_check, confidential_primary};
+    ghost use Rattle.std.specs.List.{list_all, list_any};
+    ghost use Rattle.link_bundle_rules.specs.Hidden.{may_hide, is_hidden};
     ghost use Rattle.link_bundle_rules.specs.History.{bundle_of};
     ghost use Rattle.link_bundle_rules.specs.Kept.{is_plain_block, counts_of};
 
@@ -122,7 +122,7 @@ impl BundleHistory {
         ensures { (byte : Option ℕ) (size : ℕ)
             → result ≡ primary_check (bundle_of self.now byte size) }
     {
-        if self.primary.has_check || is_protected(self.security.as_slice()) {
+        if self.primary.has_check || self.is_protected() {
             return None;
         }
         Some(BundleRule::PrimaryCheck {
@@ -190,11 +190,35 @@ impl BundleHistory {
         Some(BundleRule::DtnName { of })
     }
 
+    /// Whether the data of the block with this number may be ciphertext.
+    pub(crate) fn is_hidden(&self, number: u64) -> bool
+        ensures { result ≡ is_hidden (bundle_of self.now None 0) number }
+    {
+        (self.primary.is_later() && number != PAYLOAD_NUMBER) || self.has_hider(number)
+    }
+
+    /// Whether a block confidentiality block is, or may be, one that encrypts this block.
+    fn has_hider(&self, number: u64) -> bool
+        ensures { result ≡ list_any (may_hide number) self.now.security.items }
+    {
+        let security = self.security.as_slice();
+        security.iter().any(|block| block.may_hide(number))
+    }
+
+    /// Whether a block integrity block may have the primary block as a target.
+    fn is_protected(&self) -> bool
+        ensures { result ≡ list_any (may_protect_primary (bundle_of self.now None 0))
+            self.now.security.items }
+    {
+        let security = self.security.as_slice();
+        security.iter().any(|block| block.may_protect_primary(self))
+    }
+
     /// Whether the payload may be ciphertext.
     fn has_hidden_payload(&self) -> bool
         ensures { result ≡ has_hidden_payload (bundle_of self.now None 0) }
     {
-        is_hidden(self.security.as_slice(), PAYLOAD_NUMBER)
+        self.is_hidden(PAYLOAD_NUMBER)
     }
 
     /// The rule of fragments. `size` is the number of bytes of the payload.
@@ -277,7 +301,7 @@ impl BundleHistory {
             → result ≡ first_hops (bundle_of self.now byte size) }
     {
         let first = first_of_type(HOP_COUNT, self.blocks.as_slice())?;
-        hops_of(self.security.as_slice(), first)
+        hops_of(self, first)
     }
 
     /// The rule of hop count blocks.
@@ -333,10 +357,9 @@ impl BundleHistory {
         if plain {
             return None;
         }
-        let security = self.security.as_slice();
         first_found(
             self.blocks.as_slice(),
-            |block| if_malformed_extension(security, block),
+            |block| if_malformed_extension(self, block),
         )
     }
 
@@ -350,8 +373,7 @@ impl BundleHistory {
         if plain {
             return None;
         }
-        let security = self.security.as_slice();
-        first_found(self.blocks.as_slice(), |block| if_unread(security, block))
+        first_found(self.blocks.as_slice(), |block| if_unread(self, block))
     }
 
     /// The rule of administrative records.
@@ -364,10 +386,9 @@ impl BundleHistory {
         if plain {
             return None;
         }
-        let security = self.security.as_slice();
         first_found(
             self.blocks.as_slice(),
-            |block| if_malformed_record(security, block),
+            |block| if_malformed_record(self, block),
         )
     }
 }
