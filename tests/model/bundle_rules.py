@@ -65,10 +65,12 @@ def hides_all(it):
 def is_hidden(it, block):
     """Whether the data of a block may be ciphertext, by the block confidentiality blocks.
 
-    Such a block itself is never ciphertext (RFC 9172 section 3.8).
+    Such a block itself is never ciphertext (RFC 9172 section 3.8). It need not be copied into a
+    later fragment, unless the payload is among its targets (RFC 9171 section 5.8).
     """
     is_target = any(block.number in each for _, each in targets(it, CONFIDENTIALITY))
-    return block.kind != CONFIDENTIALITY and (is_target or hides_all(it))
+    may_be_target = not has_all_blocks(it) and block is not it.blocks[-1]
+    return block.kind != CONFIDENTIALITY and (is_target or may_be_target or hides_all(it))
 
 
 def is_payload_hidden(it):

@@ -384,7 +384,8 @@ BUNDLES = {
             # Fragments at the beginning of the data and behind it
             (bundle(kind=0, flags=0x01, fragment=(0, 3)), "must primary-check:"),
             (bundle(kind=0, flags=0x01, fragment=(1, 3)), "should primary-check:"),
-            (bundle(INTEGRITY, kind=0, flags=0x01, fragment=(LAST - 1, LAST)), "should primary-check:"),
+            (bundle(block(192, 2, security([0], 1, (1, 1))), kind=0, flags=0x01, fragment=(LAST - 1, LAST)),
+             "should primary-check:"),
         ],
         [
             bundle(kind=2),
@@ -395,6 +396,7 @@ BUNDLES = {
             bundle(HIDDEN_2, INTEGRITY, kind=0),
             bundle(INTEGRITY, HIDDEN_65, kind=0),
             bundle(INTEGRITY, HIDDEN_CUT, kind=0),
+            bundle(INTEGRITY, kind=0, flags=0x01, fragment=(LAST - 1, LAST)),
             bundle(kind=1, flags=0x01, fragment=(1, 3)),
         ],
     ),
@@ -518,8 +520,13 @@ BUNDLES = {
             (bundle(HOPS, block(10, 3, b""), hiding(9, 3)), "must hop-count: blocks=2 limit=30"),
             (bundle(block(10, 2, hop_count(0, 0)), HIDDEN), "must hop-count: blocks=1 limit=0"),
             (bundle(block(10, 2, hop_count(0, 0)), HIDDEN_64), "must hop-count: blocks=1 limit=0"),
+            # A later fragment may lack the block that encrypts the first one. The first fragment has it.
+            (bundle(HOPS, block(10, 3, b""), flags=0x01, fragment=(1, 3)), "must hop-count: blocks=2"),
+            (bundle(block(10, 2, hop_count(0, 0)), flags=0x01, fragment=(0, 3)),
+             "must hop-count: blocks=1 limit=0"),
         ],
         [
+            bundle(block(10, 2, hop_count(0, 0)), flags=0x01, fragment=(1, 3)),
             bundle(block(10, 2, hop_count(1, 1))), bundle(block(10, 2, hop_count(255, 0))),
             bundle(block(10, 2, hop_count(0, 0)), HIDDEN_2), bundle(HIDDEN_2, block(10, 2, hop_count(0, 0))),
             bundle(block(10, 2, hop_count(0, 0)), HIDDEN_65), bundle(block(10, 2, hop_count(0, 0)), HIDDEN_CUT),
@@ -537,8 +544,11 @@ BUNDLES = {
             (bundle(block(10, 2, hop_count(5, 6))), "should hops: limit=5 count=6"),
             (bundle(block(10, 2, hop_count(5, 6)), HIDDEN), "should hops: limit=5 count=6"),
             (bundle(HIDDEN_64, block(10, 2, hop_count(5, 6))), "should hops: limit=5 count=6"),
+            (bundle(block(10, 2, hop_count(5, 6)), flags=0x01, fragment=(0, 3)), "should hops: limit=5 count=6"),
         ],
         [
+            bundle(block(10, 2, hop_count(5, 6)), flags=0x01, fragment=(1, 3)),
+            bundle(block(10, 2, hop_count(5, 6)), HIDDEN, flags=0x01, fragment=(1, 3)),
             bundle(block(10, 2, hop_count(5, 5))), bundle(block(10, 2, hop_count(5, 6)), HIDDEN_2),
             bundle(HIDDEN_65, block(10, 2, hop_count(5, 6))), bundle(HIDDEN_CUT, block(10, 2, hop_count(5, 6))),
         ],
@@ -573,6 +583,7 @@ BUNDLES = {
             bundle(NODE, block(7, 3, b"\x05"), block(10, 4, hop_count(9, 0))),
             bundle(block(11, 2, b"")),
             # What may be ciphertext
+            bundle(block(7, 2, b""), flags=0x01, fragment=(1, 3)),
             bundle(block(7, 2, b""), HIDDEN_2), bundle(HIDDEN_2, block(7, 2, b"")),
             bundle(block(7, 2, b""), HIDDEN_65), bundle(block(7, 2, b""), HIDDEN_CUT),
             bundle(block(7, 2, b""), block(6, 3, b""), block(10, 4, b"\xff"), hiding(9, 4, 300, 2, 3)),
@@ -623,6 +634,7 @@ BUNDLES = {
             bundle(block(7, 2, b"\xbf"), HIDDEN_2), bundle(HIDDEN_2, block(7, 2, b"\xbf")),
             bundle(block(7, 2, b"\xbf"), HIDDEN_65), bundle(block(7, 2, b"\xbf"), HIDDEN_CUT),
             bundle(HIDDEN, flags=0x02, payload=OPEN_RECORD),
+            bundle(block(7, 2, b"\xbf"), flags=0x01, fragment=(1, 3)),
             # Security blocks and payloads that are no record, or a part of one
             bundle(block(11, 2, b"\x9f")), bundle(payload=OPEN_RECORD),
             bundle(flags=0x03, fragment=(0, 9), payload=OPEN_RECORD),

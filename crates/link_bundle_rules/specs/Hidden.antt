@@ -15,10 +15,10 @@ may_hide number block =
     && (not (has_known_targets block)
     || list_any (λ target. target == number) block.targets.items)
 
--- Whether the data of the block with this number may be ciphertext. A block confidentiality block is
--- never a target of another one (RFC 9172 section 3.8), so no rule asks it of one. One that does not
--- have the payload as a target need not be copied into later fragments (RFC 9172 section 3.8, RFC
--- 9171 section 5.8). So there any block may be its target, but for the payload, which has number 1.
+-- Whether the data of the block with this number may be ciphertext. A block confidentiality block
+-- is never a target of another one (RFC 9172 section 3.8), so no rule asks it of one. One that does
+-- not have the payload as a target need not be copied into later fragments (RFC 9171 section 5.8).
+-- So in a later fragment any block may be its target, except the payload, which has number 1.
 abbrev pub is_hidden : ReadBundle → (number : ℕ) → Bool
 is_hidden bundle number =
     (is_later bundle.primary.fragment && not (number == 1))
