@@ -1,5 +1,5 @@
 -- Bundles that are known to keep all rules, by cheap tests, break none.
-use Rattle.std.proofs.Common.{◌≡◌, Bool, true, false, cond, List, [], ◌∷◌, Option, Some, None, refl, arith}
+use Rattle.std.proofs.Common.{◌≡◌, ◌≤◌, Bool, true, false, cond, List, [], ◌∷◌, Option, Some, None, refl, arith}
 use Rattle.std.specs.{Prelude.is_none, List.{find, list_all}, Option.option_and_then}
 use Rattle.std.proofs.lemmas.{Bool.and_parts, Bool.Decides.nat_tests}
 use Rattle.link_bundle_rules.specs.BundleRules.{long_head, dtn_name, broken_bundle_rules}
@@ -8,11 +8,10 @@ use Rattle.link_bundle_rules.specs.Flags.{bundle_flags, anonymous, record_report
 use Rattle.link_bundle_rules.specs.Fragments.{fragment, whole_fragment}
 use Rattle.link_bundle_rules.specs.Kept.{is_plain_block, is_plain_primary, has_plain_counts, is_plain}
 use Rattle.link_bundle_rules.specs.ReadBundle as block
-use Rattle.link_bundle_rules.specs.ReadBundle.{ReadBundle, is_of_type, find_map}
+use Rattle.link_bundle_rules.specs.ReadBundle.{ReadBundle, count_of_type, is_of_type, find_map}
 use Rattle.link_bundle_rules.specs.Security.{primary_check, confidential_primary}
 use Rattle.link_bundle_rules.specs.declared.block.BlockFacts.{BlockFacts}
 use Rattle.link_bundle_rules.specs.declared.{extensions.Hops.Hops, rule.BundleRule.BundleRule}
-use Rattle.link_bundle_rules.specs.declared.security.SecurityFacts.{SecurityFacts}
 
 -- ---- the primary block
 
@@ -52,41 +51,40 @@ record KeepsHops (said : Option Hops) : Type 0 where
   limit : has_bad_limit said ≡ false
   count : option_and_then if_exceeded said ≡ None
 
-hops_keep : (security : List SecurityFacts) (read : BlockFacts) → is_plain_block read ≡ true
-    → KeepsHops (hops_of security read)
-hops_keep security read plain = record {
+hops_keep : (bundle : ReadBundle) (read : BlockFacts) → is_plain_block read ≡ true
+    → KeepsHops (hops_of bundle read)
+hops_keep bundle read plain = record {
   limit = grind (arith, nat_tests);
   count = grind (arith, nat_tests);
 }
 
-first_keeps : (security : List SecurityFacts) (test : BlockFacts → Bool) (blocks : List BlockFacts)
+first_keeps : (bundle : ReadBundle) (test : BlockFacts → Bool) (blocks : List BlockFacts)
     → list_all is_plain_block blocks ≡ true
-    → KeepsHops (option_and_then (hops_of security) (find test blocks))
-first_keeps security test [] all = record { limit = refl; count = refl }
-first_keeps security test (read ∷ more) all =
+    → KeepsHops (option_and_then (hops_of bundle) (find test blocks))
+first_keeps bundle test [] all = record { limit = refl; count = refl }
+first_keeps bundle test (read ∷ more) all =
     let both = and_parts (is_plain_block read) (list_all is_plain_block more) all in
     let first = find test more in
-    elim (test read) as (λ here. KeepsHops (option_and_then (hops_of security) (cond here (Some read) first))) [
-      | true ↦ hops_keep security read both.0
-      | false ↦ first_keeps security test more both.1
+    elim (test read) as (λ here. KeepsHops (option_and_then (hops_of bundle) (cond here (Some read) first))) [
+      | true ↦ hops_keep bundle read both.0
+      | false ↦ first_keeps bundle test more both.1
     ]
 
-record KeepsBlocks (bundle : ReadBundle) : Type 0 where
-  reports : block_reports bundle ≡ None
-  flags : block_flags bundle ≡ None
-  limit : has_bad_limit (first_hops bundle) ≡ false
-  hops : hops bundle ≡ None
-  malformed : block_data bundle ≡ None
-  unread : data_not_read bundle ≡ None
-  records : administrative_record bundle ≡ None
+pub record KeepsBlocks (bundle : ReadBundle) : Type 0 where
+  pub reports : block_reports bundle ≡ None
+  pub flags : block_flags bundle ≡ None
+  pub limit : has_bad_limit (first_hops bundle) ≡ false
+  pub hops : hops bundle ≡ None
+  pub malformed : block_data bundle ≡ None
+  pub unread : data_not_read bundle ≡ None
+  pub records : administrative_record bundle ≡ None
 
-blocks_keep : (bundle : ReadBundle) → list_all is_plain_block bundle.blocks ≡ true
+pub blocks_keep : (bundle : ReadBundle) → list_all is_plain_block bundle.blocks ≡ true
     → KeepsBlocks bundle
 unfolding block_reports block_flags first_hops hops block_data data_not_read administrative_record
 blocks_keep bundle all =
-    let security = bundle.security in
     let blocks = bundle.blocks in
-    let first = first_keeps security (is_of_type block.hop_count) blocks all in
+    let first = first_keeps bundle (is_of_type block.hop_count) blocks all in
     let requested : find_map if_reporting blocks ≡ None =
     none_found if_reporting (λ read plain. grind (arith, nat_tests)) blocks all in
     record {
@@ -95,15 +93,21 @@ blocks_keep bundle all =
           none_found if_other_block_flags (λ read plain. grind (arith, nat_tests)) blocks all;
       limit = first.limit;
       hops = first.count;
-      malformed = none_found (if_malformed_extension security)
+      malformed = none_found (if_malformed_extension bundle)
           (λ read plain. grind (arith, nat_tests)) blocks all;
       unread =
-          none_found (if_unread security) (λ read plain. grind (arith, nat_tests)) blocks all;
-      records = none_found (if_malformed_record security)
+          none_found (if_unread bundle) (λ read plain. grind (arith, nat_tests)) blocks all;
+      records = none_found (if_malformed_record bundle)
           (λ read plain. grind (arith, nat_tests)) blocks all;
     }
 
 -- ---- the numbers of blocks
+
+-- one hop count block at most, whose limit is right
+pub one_hop_count : (bundle : ReadBundle) → count_of_type block.hop_count bundle.blocks ≤ 1
+    → has_bad_limit (first_hops bundle) ≡ false → hop_count bundle ≡ None
+unfolding hop_count
+one_hop_count bundle few limit = grind (arith, nat_tests)
 
 record KeepsCounts (bundle : ReadBundle) : Type 0 where
   ages : age bundle ≡ None

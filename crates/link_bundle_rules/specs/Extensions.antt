@@ -1,5 +1,5 @@
 -- Rules of extension blocks and of administrative records (RFC 9171 sections 4.4 and 6.1).
-use Rattle.std.specs.Prelude.{ℕ, Bool, false, not, ◌&&◌, ◌||◌, ◌==◌, nat_lt, List, Option, Some, None, option_map, if◌then◌else◌}
+use Rattle.std.specs.Prelude.{ℕ, Bool, false, not, ◌&&◌, ◌||◌, ◌==◌, nat_lt, Option, Some, None, option_map, if◌then◌else◌}
 use Rattle.std.specs.{List.find, Option.option_and_then}
 use Rattle.link_rules.specs.declared.level.Level.TheVariants.{Must}
 use Rattle.link_bundle_rules.specs.Fragments.{level_in}
@@ -11,7 +11,6 @@ use Rattle.link_bundle_rules.specs.declared.block.DataFacts.{DataFacts}
 use Rattle.link_bundle_rules.specs.declared.block.DataFacts.TheVariants.{HopCount, Malformed, NotRead}
 use Rattle.link_bundle_rules.specs.declared.{extensions.Hops.Hops, rule.BundleRule.BundleRule}
 use Rattle.link_bundle_rules.specs.declared.rule.BundleRule.TheVariants as rule
-use Rattle.link_bundle_rules.specs.declared.security.SecurityFacts.{SecurityFacts}
 
 -- age: a bundle has at most one bundle age block, and has one if its creation time is 0 (section
 -- 4.4.2)
@@ -35,13 +34,13 @@ abbrev pub hops_in : DataFacts → Option Hops
 hops_in (HopCount limit count) = Some (record { limit = limit; count = count })
 hops_in _ = None
 
-abbrev pub hops_of : List SecurityFacts → BlockFacts → Option Hops
-hops_of security read = if is_hidden security read.number then None else hops_in read.data
+abbrev pub hops_of : ReadBundle → BlockFacts → Option Hops
+hops_of bundle read = if is_hidden bundle read.number then None else hops_in read.data
 
 -- what the first hop count block says, unless its data is malformed or may be ciphertext
 unfoldable pub first_hops : ReadBundle → Option Hops
 first_hops bundle =
-    option_and_then (hops_of bundle.security) (find (is_of_type block.hop_count) bundle.blocks)
+    option_and_then (hops_of bundle) (find (is_of_type block.hop_count) bundle.blocks)
 
 -- a hop limit is from 1 to 255
 abbrev pub has_bad_limit : Option Hops → Bool
@@ -77,25 +76,25 @@ abbrev pub malformed_rule : (number : ℕ) → DataFacts → Option BundleRule
 malformed_rule number (Malformed byte) = Some (rule.BlockData number byte)
 malformed_rule number _ = None
 
-abbrev pub if_malformed_extension : List SecurityFacts → BlockFacts → Option BundleRule
-if_malformed_extension security read =
-    if is_extension read && not (is_hidden security read.number)
+abbrev pub if_malformed_extension : ReadBundle → BlockFacts → Option BundleRule
+if_malformed_extension bundle read =
+    if is_extension read && not (is_hidden bundle read.number)
     then malformed_rule read.number read.data
     else None
 
 -- block-data: the data of previous node, bundle age and hop count blocks is well formed (sections
 -- 4.4.1, 4.4.2 and 4.4.3). The first block whose data is not counts.
 unfoldable pub block_data : ReadBundle → Option BundleRule
-block_data bundle = find_map (if_malformed_extension bundle.security) bundle.blocks
+block_data bundle = find_map (if_malformed_extension bundle) bundle.blocks
 
 abbrev pub unread_rule : (number : ℕ) → DataFacts → Option BundleRule
 unread_rule number (NotRead byte) = Some (rule.DataNotRead number byte)
 unread_rule number _ = None
 
-abbrev pub if_unread : List SecurityFacts → BlockFacts → Option BundleRule
-if_unread security read =
+abbrev pub if_unread : ReadBundle → BlockFacts → Option BundleRule
+if_unread bundle read =
     if (is_extension read || is_of_type block.payload read)
-    && not (is_hidden security read.number)
+    && not (is_hidden bundle read.number)
     then unread_rule read.number read.data
     else None
 
@@ -103,19 +102,19 @@ if_unread security read =
 -- administrative records. RFC 9171 permits data that exceeds its limits (section 4.1). The first
 -- block with such data counts.
 unfoldable pub data_not_read : ReadBundle → Option BundleRule
-data_not_read bundle = find_map (if_unread bundle.security) bundle.blocks
+data_not_read bundle = find_map (if_unread bundle) bundle.blocks
 
 abbrev pub record_rule : DataFacts → Option BundleRule
 record_rule (Malformed byte) = Some (rule.Record byte)
 record_rule _ = None
 
-abbrev pub if_malformed_record : List SecurityFacts → BlockFacts → Option BundleRule
-if_malformed_record security read =
-    if is_of_type block.payload read && not (is_hidden security read.number)
+abbrev pub if_malformed_record : ReadBundle → BlockFacts → Option BundleRule
+if_malformed_record bundle read =
+    if is_of_type block.payload read && not (is_hidden bundle read.number)
     then record_rule read.data
     else None
 
 -- record: an administrative record is well formed (sections 6.1 and 6.1.1). The record of a
 -- fragment is not read.
 unfoldable pub administrative_record : ReadBundle → Option BundleRule
-administrative_record bundle = find_map (if_malformed_record bundle.security) bundle.blocks
+administrative_record bundle = find_map (if_malformed_record bundle) bundle.blocks

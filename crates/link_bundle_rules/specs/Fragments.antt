@@ -1,16 +1,12 @@
 -- Rules of fragments (RFC 9171 sections 3.1, 4.3.1, 5.8 and 5.9).
-use Rattle.std.specs.Prelude.{ℕ, ◌+◌, Bool, false, not, ◌&&◌, ◌||◌, ◌==◌, nat_lt, Option, Some, None, if◌then◌else◌}
+use Rattle.std.specs.Prelude.{ℕ, ◌+◌, Bool, not, ◌&&◌, ◌||◌, ◌==◌, nat_lt, Option, Some, None, if◌then◌else◌}
 use Rattle.std.specs.Option.{option_and_then}
 use Rattle.link_rules.specs.declared.level.{Level.Level, Level.TheVariants.{Must, Should}}
 use Rattle.link_bundle_rules.specs.Flags.{no_fragments, is_set}
 use Rattle.link_bundle_rules.specs.Hidden.{is_hidden}
-use Rattle.link_bundle_rules.specs.ReadBundle.{ReadBundle}
+use Rattle.link_bundle_rules.specs.ReadBundle.{ReadBundle, is_later}
 use Rattle.link_bundle_rules.specs.declared.rule.BundleRule.{BundleRule}
 use Rattle.link_bundle_rules.specs.declared.rule.BundleRule.TheVariants.{Fragment, WholeFragment}
-
-abbrev pub is_later : Option (ℕ × ℕ) → Bool
-is_later None = false
-is_later (Some (offset, total)) = nat_lt 0 offset
 
 -- The level of a rule that asks for a block or a check. The node that fragments a bundle copies the
 -- blocks into the first fragment, and into the others only if a flag asks for it (section 5.8).
@@ -20,7 +16,7 @@ level_in bundle = if is_later bundle.primary.fragment then Should else Must
 -- whether the payload may be ciphertext, and so have another length than its plaintext; its block
 -- has number 1 (section 4.1)
 abbrev pub has_hidden_payload : ReadBundle → Bool
-has_hidden_payload bundle = is_hidden bundle.security 1
+has_hidden_payload bundle = is_hidden bundle 1
 
 abbrev pub if_no_part : ReadBundle → (part : ℕ × ℕ) → Option BundleRule
 if_no_part bundle (offset, total) =

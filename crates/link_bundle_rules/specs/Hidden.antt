@@ -1,7 +1,7 @@
 -- Data that may be ciphertext (RFC 9172 section 3.8).
-use Rattle.std.specs.Prelude.{ℕ, Bool, not, ◌&&◌, ◌||◌, ◌==◌, nat_lt, List}
+use Rattle.std.specs.Prelude.{ℕ, Bool, not, ◌&&◌, ◌||◌, ◌==◌, nat_lt}
 use Rattle.std.specs.List.{list_any}
-use Rattle.link_bundle_rules.specs.ReadBundle.{block_confidentiality}
+use Rattle.link_bundle_rules.specs.ReadBundle.{ReadBundle, block_confidentiality, is_later}
 use Rattle.link_bundle_rules.specs.declared.security.SecurityFacts.{SecurityFacts}
 
 -- whether the targets of a security block are all known
@@ -15,7 +15,11 @@ may_hide number block =
     && (not (has_known_targets block)
     || list_any (λ target. target == number) block.targets.items)
 
--- Whether the data of the block with this number may be ciphertext. A block confidentiality block
--- is never a target of another one (RFC 9172 section 3.8), so no rule asks it of one.
-unfoldable pub is_hidden : List SecurityFacts → (number : ℕ) → Bool
-is_hidden security number = list_any (may_hide number) security
+-- Whether the data of the block with this number may be ciphertext. A block confidentiality block is
+-- never a target of another one (RFC 9172 section 3.8), so no rule asks it of one. One that does not
+-- have the payload as a target need not be copied into later fragments (RFC 9172 section 3.8, RFC
+-- 9171 section 5.8). So there any block may be its target, but for the payload, which has number 1.
+abbrev pub is_hidden : ReadBundle → (number : ℕ) → Bool
+is_hidden bundle number =
+    (is_later bundle.primary.fragment && not (number == 1))
+    || list_any (may_hide number) bundle.security

@@ -1,13 +1,13 @@
 -- Relations: bundles that are known to keep all rules, by cheap tests. The promises need only that
 -- such a bundle breaks no rule.
-use Rattle.std.specs.Prelude.{Bool, true, false, not, ◌&&◌, ◌||◌, ◌==◌, nat_lt, nat_le, is_none}
+use Rattle.std.specs.Prelude.{Bool, true, false, not, ◌&&◌, ◌||◌, ◌==◌, nat_lt, nat_le, is_none, List}
 use Rattle.std.specs.List.{list_all}
 use Rattle.link_rules.specs.Flags.{has_other_flags}
 use Rattle.link_bundle_rules.specs.Flags.{bundle_flags_defined, record_flag, is_set, requests_reports, if_reporting, if_other_block_flags}
 use Rattle.link_bundle_rules.specs.ReadBundle as block
 use Rattle.link_bundle_rules.specs.ReadBundle.{ReadBundle, count_of_type}
 use Rattle.link_bundle_rules.specs.Security.{confidential_primary}
-use Rattle.link_bundle_rules.specs.declared.block.{BlockFacts.BlockFacts, DataFacts.DataFacts}
+use Rattle.link_bundle_rules.specs.declared.block.{BlockFacts.BlockFacts, Counts.Counts, DataFacts.DataFacts}
 use Rattle.link_bundle_rules.specs.declared.block.DataFacts.TheVariants.{Nothing, HopCount}
 use Rattle.link_bundle_rules.specs.declared.primary.PrimaryFacts.{PrimaryFacts}
 
@@ -28,6 +28,13 @@ is_plain_primary primary =
     && (is_none primary.fragment
     && (not (has_other_flags bundle_flags_defined primary.flags)
     && not (is_set record_flag primary.flags && requests_reports primary.flags)))))
+
+abbrev pub counts_of : List BlockFacts → Counts
+counts_of blocks = record {
+  previous_nodes = count_of_type block.previous_node blocks;
+  ages = count_of_type block.bundle_age blocks;
+  hop_counts = count_of_type block.hop_count blocks;
+}
 
 abbrev pub has_plain_counts : ReadBundle → Bool
 has_plain_counts bundle =

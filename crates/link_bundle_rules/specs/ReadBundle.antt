@@ -1,5 +1,5 @@
 -- What the rules need of a good bundle (RFC 9171 section 4).
-use Rattle.std.specs.Prelude.{ℕ, ◌+◌, ◌||◌, ◌==◌, Bool, true, false, List, [], ◌∷◌, ◌++◌, take, count_by, is_some, Option, Some, None, Result, Ok, Err, if◌then◌else◌}
+use Rattle.std.specs.Prelude.{ℕ, ◌+◌, ◌||◌, ◌==◌, Bool, true, false, List, [], ◌∷◌, ◌++◌, take, count_by, is_some, Option, Some, None, Result, Ok, Err, if◌then◌else◌, nat_lt}
 use Rattle.std.specs.Option.{option_or}
 use Rattle.link_cbor.specs.declared.check.CheckKind.{CheckKind}
 use Rattle.link_bundle_types.specs.declared.eid.Eid.{Eid}
@@ -73,6 +73,11 @@ primary_facts primary check = record {
   bad_name = bad_name primary;
   fragment = primary.fragment;
 }
+
+-- whether a bundle is a fragment with an offset above 0 (section 4.3.1)
+abbrev pub is_later : Option (ℕ × ℕ) → Bool
+is_later None = false
+is_later (Some (offset, total)) = nat_lt 0 offset
 
 -- ---- a canonical block
 

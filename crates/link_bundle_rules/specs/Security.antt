@@ -1,5 +1,5 @@
 -- Rules of security blocks (RFC 9171 section 4.3.1, RFC 9172 sections 3.7 and 3.8).
-use Rattle.std.specs.Prelude.{Bool, ◌&&◌, ◌||◌, ◌==◌, List, Option, Some, None, if◌then◌else◌}
+use Rattle.std.specs.Prelude.{Bool, ◌&&◌, ◌||◌, ◌==◌, Option, Some, None, if◌then◌else◌}
 use Rattle.std.specs.List.{list_any}
 use Rattle.link_bundle_rules.specs.Fragments.{level_in}
 use Rattle.link_bundle_rules.specs.Hidden.{is_hidden}
@@ -10,16 +10,16 @@ use Rattle.link_bundle_rules.specs.declared.security.SecurityFacts.{SecurityFact
 
 -- Whether a block integrity block may have the primary block as a target. The targets of one that
 -- is malformed or hidden are not known.
-abbrev pub may_protect_primary : List SecurityFacts → SecurityFacts → Bool
-may_protect_primary security block =
+abbrev pub may_protect_primary : ReadBundle → SecurityFacts → Bool
+may_protect_primary bundle block =
     (block.block_type == block_integrity)
-    && (block.targets_primary || (block.is_malformed || is_hidden security block.number))
+    && (block.targets_primary || (block.is_malformed || is_hidden bundle block.number))
 
 -- primary-check: the primary block has a check, or a block integrity block has it as a target (RFC
 -- 9171 section 4.3.1)
 unfoldable pub primary_check : ReadBundle → Option BundleRule
 primary_check bundle =
-    if bundle.primary.has_check || list_any (may_protect_primary bundle.security) bundle.security
+    if bundle.primary.has_check || list_any (may_protect_primary bundle) bundle.security
     then None
     else Some (PrimaryCheck (level_in bundle))
 

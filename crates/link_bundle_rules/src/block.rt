@@ -123,15 +123,11 @@ pub(crate) struct Counts {
 
 impl Counts {
     ghost use Rattle.std.specs.Prelude.{◌≡◌};
-    ghost use Rattle.link_bundle_rules.specs.ReadBundle as block;
-    ghost use Rattle.link_bundle_rules.specs.ReadBundle.{count_of_type};
+    ghost use Rattle.link_bundle_rules.specs.Kept.{counts_of};
 
     /// The numbers of blocks among these.
     pub(crate) fn of(blocks: &[BlockFacts]) -> Counts
-        ensures previous_nodes { result.previous_nodes
-            ≡ count_of_type block.previous_node blocks.now }
-        ensures ages { result.ages ≡ count_of_type block.bundle_age blocks.now }
-        ensures hop_counts { result.hop_counts ≡ count_of_type block.hop_count blocks.now }
+        ensures { result ≡ counts_of blocks.now }
     {
         let mut counts = Counts {
             previous_nodes: 0,

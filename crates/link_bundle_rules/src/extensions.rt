@@ -1,13 +1,14 @@
 //! Rules of extension blocks and of administrative records (RFC 9171 sections 4.4 and 6.1).
 
-ghost use Rattle.std.specs.Prelude.{◌≡◌};
+ghost use Rattle.std.specs.Prelude.{◌≡◌, None};
+ghost use Rattle.link_bundle_rules.specs.History.{bundle_of};
 ghost use Rattle.link_bundle_rules.specs.Extensions.{hops_in, hops_of, has_bad_limit, if_exceeded, is_extension, if_malformed_extension, if_unread, if_malformed_record};
 
 use crate::block::{
     BUNDLE_AGE, BlockFacts, DataFacts, HOP_COUNT, PAYLOAD, PREVIOUS_NODE, is_of_type,
 };
+use crate::history::BundleHistory;
 use crate::rule::BundleRule;
-use crate::security::{SecurityFacts, is_hidden};
 
 /// A hop limit and a hop count (RFC 9171 section 4.4.3).
 #[derive(Clone, Copy, Debug, PartialEq, Eq)]
@@ -47,10 +48,10 @@ impl Hops {
 }
 
 /// What a hop count block says, unless its data is malformed or may be ciphertext.
-pub(crate) fn hops_of(security: &[SecurityFacts], block: &BlockFacts) -> Option<Hops>
-    ensures { result ≡ hops_of security.now block.now }
+pub(crate) fn hops_of(history: &BundleHistory, block: &BlockFacts) -> Option<Hops>
+    ensures { result ≡ hops_of (bundle_of history.now None 0) block.now }
 {
-    if is_hidden(security, block.number) {
+    if history.is_hidden(block.number) {
         return None;
     }
     Hops::of(block.data)
@@ -67,13 +68,13 @@ fn is_extension(block: &BlockFacts) -> bool
 
 /// The rule that an extension block breaks by malformed data, if that cannot be ciphertext.
 pub(crate) fn if_malformed_extension(
-    security: &[SecurityFacts],
+    history: &BundleHistory,
     block: &BlockFacts,
 ) -> Option<BundleRule>
-    ensures { result ≡ if_malformed_extension security.now block.now }
+    ensures { result ≡ if_malformed_extension (bundle_of history.now None 0) block.now }
 {
     match block.data {
-        DataFacts::Malformed(byte) if is_extension(block) && !is_hidden(security, block.number) => {
+        DataFacts::Malformed(byte) if is_extension(block) && !history.is_hidden(block.number) => {
             Some(BundleRule::BlockData {
                 block: block.number,
                 byte,
@@ -85,12 +86,12 @@ pub(crate) fn if_malformed_extension(
 
 /// The rule that a block breaks by data that this toolkit does not read, if that cannot be
 /// ciphertext.
-pub(crate) fn if_unread(security: &[SecurityFacts], block: &BlockFacts) -> Option<BundleRule>
-    ensures { result ≡ if_unread security.now block.now }
+pub(crate) fn if_unread(history: &BundleHistory, block: &BlockFacts) -> Option<BundleRule>
+    ensures { result ≡ if_unread (bundle_of history.now None 0) block.now }
 {
     let is_judged = is_extension(block) || is_of_type(PAYLOAD, block);
     match block.data {
-        DataFacts::NotRead(byte) if is_judged && !is_hidden(security, block.number) => {
+        DataFacts::NotRead(byte) if is_judged && !history.is_hidden(block.number) => {
             Some(BundleRule::DataNotRead {
                 block: block.number,
                 byte,
@@ -101,15 +102,12 @@ pub(crate) fn if_unread(security: &[SecurityFacts], block: &BlockFacts) -> Optio
 }
 
 /// The rule that the payload block breaks by a malformed record, if that cannot be ciphertext.
-pub(crate) fn if_malformed_record(
-    security: &[SecurityFacts],
-    block: &BlockFacts,
-) -> Option<BundleRule>
-    ensures { result ≡ if_malformed_record security.now block.now }
+pub(crate) fn if_malformed_record(history: &BundleHistory, block: &BlockFacts) -> Option<BundleRule>
+    ensures { result ≡ if_malformed_record (bundle_of history.now None 0) block.now }
 {
     match block.data {
         DataFacts::Malformed(byte)
-            if is_of_type(PAYLOAD, block) && !is_hidden(security, block.number) => {
+            if is_of_type(PAYLOAD, block) && !history.is_hidden(block.number) => {
             Some(BundleRule::Record { byte })
         }
         _ => None,

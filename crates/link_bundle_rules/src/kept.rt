@@ -81,7 +81,7 @@ impl BundleHistory {
 
     /// Whether no rule of single blocks is broken.
     #[inline(always)]
-    fn has_plain_blocks(&self) -> bool
+    pub(crate) fn has_plain_blocks(&self) -> bool
         ensures { result ≡ list_all is_plain_block self.now.blocks.items }
     {
         self.blocks

@@ -48,8 +48,7 @@ impl PrimaryFacts {
     ghost use Rattle.std.specs.Prelude.{◌≡◌, if◌then◌else◌};
     ghost use Rattle.link_bundle_blocks.specs.Blocks.{viewed_primary};
     ghost use Rattle.link_bundle_rules.specs.Flags.{forbids_reports};
-    ghost use Rattle.link_bundle_rules.specs.Fragments.{is_later};
-    ghost use Rattle.link_bundle_rules.specs.ReadBundle.{primary_facts};
+    ghost use Rattle.link_bundle_rules.specs.ReadBundle.{is_later, primary_facts};
     ghost use Rattle.link_rules.specs.declared.level.Level.TheVariants.{Must, Should};
 
     /// What the rules need of this primary block.
@@ -73,13 +72,24 @@ impl PrimaryFacts {
         is_set(RECORD, self.flags) || self.is_anonymous
     }
 
+    /// Whether the bundle is a fragment with an offset above 0.
+    pub(crate) fn is_later(&self) -> bool
+        ensures { result ≡ is_later self.now.fragment }
+    {
+        match self.fragment {
+            Some((offset, _)) => offset > 0,
+            None => false,
+        }
+    }
+
     /// The level of a rule that asks for a block or a check.
     pub(crate) fn level(&self) -> Level
         ensures { result ≡ (if is_later self.now.fragment then Should else Must) }
     {
-        match self.fragment {
-            Some((offset, _)) if offset > 0 => Level::Should,
-            _ => Level::Must,
+        if self.is_later() {
+            Level::Should
+        } else {
+            Level::Must
         }
     }
 }

@@ -14,7 +14,6 @@ use crate::flags::{
 };
 use crate::history::BundleHistory;
 use crate::rule::BundleRule;
-use crate::security::{is_hidden, is_protected};
 use arrayvec::ArrayVec;
 use link_rules::{Level, add_if_broken, has_other_flags};
 
@@ -59,8 +58,11 @@ impl BundleHistory {
     ghost use Rattle.link_bundle_rules.specs.Extensions.{age, previous_node, first_hops, hop_count, hops, block_data, data_not_read, administrative_record};
     ghost use Rattle.link_bundle_rules.specs.Flags.{bundle_flags, anonymous, record_reports, block_reports, block_flags};
     ghost use Rattle.link_bundle_rules.specs.Fragments.{has_hidden_payload, if_no_part, fragment, if_all, whole_fragment};
-    ghost use Rattle.link_bundle_rules.specs.Security.{primary_check, confidential_primary};
+    ghost use Rattle.link_bundle_rules.specs.Security.{may_protect_primary, primary_check, confidential_primary};
+    ghost use Rattle.std.specs.List.{list_all, list_any};
+    ghost use Rattle.link_bundle_rules.specs.Hidden.{may_hide, is_hidden};
     ghost use Rattle.link_bundle_rules.specs.History.{bundle_of};
+    ghost use Rattle.link_bundle_rules.specs.Kept.{is_plain_block, counts_of};
 
     /// The rules that the bundle breaks, in order, if it is good and all its blocks came.
     ///
@@ -71,25 +73,27 @@ impl BundleHistory {
         ensures { result.items
             ≡ broken_bundle_rules (bundle_of self.now first_long_head payload_length) }
     {
+        let plain = self.has_plain_blocks();
+        let counts = Counts::of(self.blocks.as_slice());
         let mut broken = BrokenBundleRules::new();
         add_if_broken(&mut broken, self.long_head(first_long_head));
         add_if_broken(&mut broken, self.bundle_flags());
         add_if_broken(&mut broken, self.primary_check());
         add_if_broken(&mut broken, self.anonymous());
         add_if_broken(&mut broken, self.record_reports());
-        add_if_broken(&mut broken, self.block_reports());
-        add_if_broken(&mut broken, self.block_flags());
+        add_if_broken(&mut broken, self.block_reports(plain));
+        add_if_broken(&mut broken, self.block_flags(plain));
         add_if_broken(&mut broken, self.dtn_name());
         add_if_broken(&mut broken, self.fragment(payload_length));
         add_if_broken(&mut broken, self.whole_fragment(payload_length));
-        add_if_broken(&mut broken, self.age());
-        add_if_broken(&mut broken, self.previous_node());
-        add_if_broken(&mut broken, self.hop_count());
+        add_if_broken(&mut broken, self.age(counts));
+        add_if_broken(&mut broken, self.previous_node(counts));
+        add_if_broken(&mut broken, self.hop_count(plain, counts));
         add_if_broken(&mut broken, self.confidential_primary());
-        add_if_broken(&mut broken, self.hops());
-        add_if_broken(&mut broken, self.block_data());
-        add_if_broken(&mut broken, self.data_not_read());
-        add_if_broken(&mut broken, self.administrative_record());
+        add_if_broken(&mut broken, self.hops(plain));
+        add_if_broken(&mut broken, self.block_data(plain));
+        add_if_broken(&mut broken, self.data_not_read(plain));
+        add_if_broken(&mut broken, self.administrative_record(plain));
         broken
     }
 
@@ -118,7 +122,7 @@ impl BundleHistory {
         ensures { (byte : Option ℕ) (size : ℕ)
             → result ≡ primary_check (bundle_of self.now byte size) }
     {
-        if self.primary.has_check || is_protected(self.security.as_slice()) {
+        if self.primary.has_check || self.is_protected() {
             return None;
         }
         Some(BundleRule::PrimaryCheck {
@@ -150,10 +154,14 @@ impl BundleHistory {
 
     /// The rule of blocks that request a status report.
     #[tactic(auto, unfolding(crate::specs::Flags::block_reports))]
-    fn block_reports(&self) -> Option<BundleRule>
+    fn block_reports(&self, plain: bool) -> Option<BundleRule>
         ensures { (byte : Option ℕ) (size : ℕ)
+            → plain ≡ list_all is_plain_block self.now.blocks.items
             → result ≡ block_reports (bundle_of self.now byte size) }
     {
+        if plain {
+            return None;
+        }
         if !self.primary.forbids_reports() {
             return None;
         }
@@ -162,10 +170,14 @@ impl BundleHistory {
 
     /// The rule of the flags of blocks.
     #[tactic(auto, unfolding(crate::specs::Flags::block_flags))]
-    fn block_flags(&self) -> Option<BundleRule>
+    fn block_flags(&self, plain: bool) -> Option<BundleRule>
         ensures { (byte : Option ℕ) (size : ℕ)
+            → plain ≡ list_all is_plain_block self.now.blocks.items
             → result ≡ block_flags (bundle_of self.now byte size) }
     {
+        if plain {
+            return None;
+        }
         first_found(self.blocks.as_slice(), |block| if_other_block_flags(block))
     }
 
@@ -178,11 +190,35 @@ impl BundleHistory {
         Some(BundleRule::DtnName { of })
     }
 
+    /// Whether the data of the block with this number may be ciphertext.
+    pub(crate) fn is_hidden(&self, number: u64) -> bool
+        ensures { result ≡ is_hidden (bundle_of self.now None 0) number }
+    {
+        (self.primary.is_later() && number != PAYLOAD_NUMBER) || self.has_hider(number)
+    }
+
+    /// Whether a block confidentiality block is, or may be, one that encrypts this block.
+    fn has_hider(&self, number: u64) -> bool
+        ensures { result ≡ list_any (may_hide number) self.now.security.items }
+    {
+        let security = self.security.as_slice();
+        security.iter().any(|block| block.may_hide(number))
+    }
+
+    /// Whether a block integrity block may have the primary block as a target.
+    fn is_protected(&self) -> bool
+        ensures { result ≡ list_any (may_protect_primary (bundle_of self.now None 0))
+            self.now.security.items }
+    {
+        let security = self.security.as_slice();
+        security.iter().any(|block| block.may_protect_primary(self))
+    }
+
     /// Whether the payload may be ciphertext.
     fn has_hidden_payload(&self) -> bool
         ensures { result ≡ has_hidden_payload (bundle_of self.now None 0) }
     {
-        is_hidden(self.security.as_slice(), PAYLOAD_NUMBER)
+        self.is_hidden(PAYLOAD_NUMBER)
     }
 
     /// The rule of fragments. `size` is the number of bytes of the payload.
@@ -230,10 +266,12 @@ impl BundleHistory {
 
     /// The rule of bundle age blocks.
     #[tactic(auto, unfolding(crate::specs::Extensions::age))]
-    fn age(&self) -> Option<BundleRule>
-        ensures { (byte : Option ℕ) (size : ℕ) → result ≡ age (bundle_of self.now byte size) }
+    fn age(&self, counts: Counts) -> Option<BundleRule>
+        ensures { (byte : Option ℕ) (size : ℕ)
+            → counts ≡ counts_of self.now.blocks.items
+            → result ≡ age (bundle_of self.now byte size) }
     {
-        let blocks = Counts::of(self.blocks.as_slice()).ages;
+        let blocks = counts.ages;
         if blocks > 1 {
             let level = Level::Must;
             return Some(BundleRule::Age { blocks, level });
@@ -247,11 +285,12 @@ impl BundleHistory {
 
     /// The rule of previous node blocks.
     #[tactic(auto, unfolding(crate::specs::Extensions::previous_node))]
-    fn previous_node(&self) -> Option<BundleRule>
+    fn previous_node(&self, counts: Counts) -> Option<BundleRule>
         ensures { (byte : Option ℕ) (size : ℕ)
+            → counts ≡ counts_of self.now.blocks.items
             → result ≡ previous_node (bundle_of self.now byte size) }
     {
-        let blocks = Counts::of(self.blocks.as_slice()).previous_nodes;
+        let blocks = counts.previous_nodes;
         (blocks > 1).then_some(BundleRule::PreviousNode { blocks })
     }
 
@@ -262,16 +301,21 @@ impl BundleHistory {
             → result ≡ first_hops (bundle_of self.now byte size) }
     {
         let first = first_of_type(HOP_COUNT, self.blocks.as_slice())?;
-        hops_of(self.security.as_slice(), first)
+        hops_of(self, first)
     }
 
     /// The rule of hop count blocks.
     #[tactic(auto, unfolding(crate::specs::Extensions::hop_count))]
-    fn hop_count(&self) -> Option<BundleRule>
+    fn hop_count(&self, plain: bool, counts: Counts) -> Option<BundleRule>
         ensures { (byte : Option ℕ) (size : ℕ)
+            → plain ≡ list_all is_plain_block self.now.blocks.items
+            → counts ≡ counts_of self.now.blocks.items
             → result ≡ hop_count (bundle_of self.now byte size) }
     {
-        let blocks = Counts::of(self.blocks.as_slice()).hop_counts;
+        let blocks = counts.hop_counts;
+        if plain && blocks <= 1 {
+            return None;
+        }
         let first = self.first_hops();
         let is_wrong = blocks > 1 || has_bad_limit(&first);
         let limit = first.map(|hops| hops.limit);
@@ -292,45 +336,59 @@ impl BundleHistory {
 
     /// The rule of the first hop count.
     #[tactic(auto, unfolding(crate::specs::Extensions::hops))]
-    fn hops(&self) -> Option<BundleRule>
-        ensures { (byte : Option ℕ) (size : ℕ) → result ≡ hops (bundle_of self.now byte size) }
+    fn hops(&self, plain: bool) -> Option<BundleRule>
+        ensures { (byte : Option ℕ) (size : ℕ)
+            → plain ≡ list_all is_plain_block self.now.blocks.items
+            → result ≡ hops (bundle_of self.now byte size) }
     {
+        if plain {
+            return None;
+        }
         self.first_hops()?.if_exceeded()
     }
 
     /// The rule of the data of extension blocks.
     #[tactic(auto, unfolding(crate::specs::Extensions::block_data))]
-    fn block_data(&self) -> Option<BundleRule>
+    fn block_data(&self, plain: bool) -> Option<BundleRule>
         ensures { (byte : Option ℕ) (size : ℕ)
+            → plain ≡ list_all is_plain_block self.now.blocks.items
             → result ≡ block_data (bundle_of self.now byte size) }
     {
-        let security = self.security.as_slice();
+        if plain {
+            return None;
+        }
         first_found(
             self.blocks.as_slice(),
-            |block| if_malformed_extension(security, block),
+            |block| if_malformed_extension(self, block),
         )
     }
 
     /// The rule of data that this toolkit does not read.
     #[tactic(auto, unfolding(crate::specs::Extensions::data_not_read))]
-    fn data_not_read(&self) -> Option<BundleRule>
+    fn data_not_read(&self, plain: bool) -> Option<BundleRule>
         ensures { (byte : Option ℕ) (size : ℕ)
+            → plain ≡ list_all is_plain_block self.now.blocks.items
             → result ≡ data_not_read (bundle_of self.now byte size) }
     {
-        let security = self.security.as_slice();
-        first_found(self.blocks.as_slice(), |block| if_unread(security, block))
+        if plain {
+            return None;
+        }
+        first_found(self.blocks.as_slice(), |block| if_unread(self, block))
     }
 
     /// The rule of administrative records.
     #[tactic(auto, unfolding(crate::specs::Extensions::administrative_record))]
-    fn administrative_record(&self) -> Option<BundleRule>
+    fn administrative_record(&self, plain: bool) -> Option<BundleRule>
         ensures { (byte : Option ℕ) (size : ℕ)
+            → plain ≡ list_all is_plain_block self.now.blocks.items
             → result ≡ administrative_record (bundle_of self.now byte size) }
     {
-        let security = self.security.as_slice();
+        if plain {
+            return None;
+        }
         first_found(
             self.blocks.as_slice(),
-            |block| if_malformed_record(security, block),
+            |block| if_malformed_record(self, block),
         )
     }
 }

@@ -1,14 +1,16 @@
 //! What the rules need of a security block, and the rules of security blocks (RFC 9171 section
 //! 4.3.1, RFC 9172 sections 3.7 and 3.8).
 
-ghost use Rattle.std.specs.Prelude.{◌≡◌, ◌==◌, option_map, take};
+ghost use Rattle.std.specs.Prelude.{◌≡◌, ◌==◌, option_map, take, None};
 ghost use Rattle.std.specs.List.{list_any};
 ghost use Rattle.link_block_data.specs.DataView.{viewed_result};
-ghost use Rattle.link_bundle_rules.specs.Hidden.{has_known_targets, may_hide, is_hidden};
+ghost use Rattle.link_bundle_rules.specs.Hidden.{has_known_targets, may_hide};
+ghost use Rattle.link_bundle_rules.specs.History.{bundle_of};
 ghost use Rattle.link_bundle_rules.specs.ReadBundle.{is_security, security_facts};
 ghost use Rattle.link_bundle_rules.specs.Security.{may_protect_primary, if_confidential_primary};
 
 use crate::block::{BLOCK_CONFIDENTIALITY, BLOCK_INTEGRITY, ReadBlockView};
+use crate::history::BundleHistory;
 use crate::rule::BundleRule;
 use arrayvec::ArrayVec;
 use link_block_data::{DataView, TARGETS_KEPT};
@@ -89,7 +91,7 @@ impl SecurityFacts {
     }
 
     /// Whether the block with this number is, or may be, one that it encrypts.
-    fn may_hide(&self, number: u64) -> bool
+    pub(crate) fn may_hide(&self, number: u64) -> bool
         ensures { result ≡ may_hide number self.now }
     {
         self.block_type == BLOCK_CONFIDENTIALITY
@@ -97,12 +99,12 @@ impl SecurityFacts {
     }
 
     /// Whether it is a block integrity block that may have the primary block as a target.
-    fn may_protect_primary(&self, security: &[SecurityFacts]) -> bool
-        ensures { result ≡ may_protect_primary security.now self.now }
+    pub(crate) fn may_protect_primary(&self, history: &BundleHistory) -> bool
+        ensures { result ≡ may_protect_primary (bundle_of history.now None 0) self.now }
     {
         let may_target = self.targets_primary
             || self.is_malformed
-            || is_hidden(security, self.number);
+            || history.is_hidden(self.number);
         self.block_type == BLOCK_INTEGRITY && may_target
     }
 
@@ -113,21 +115,4 @@ impl SecurityFacts {
         let is_wrong = self.block_type == BLOCK_CONFIDENTIALITY && self.targets_primary;
         is_wrong.then_some(BundleRule::ConfidentialPrimary { block: self.number })
     }
-}
-
-/// Whether the data of the block with this number may be ciphertext.
-#[tactic(auto, unfolding(crate::specs::Hidden::is_hidden))]
-pub(crate) fn is_hidden(security: &[SecurityFacts], number: u64) -> bool
-    ensures { result ≡ is_hidden security.now number }
-{
-    security.iter().any(|block| block.may_hide(number))
-}
-
-/// Whether a block integrity block may have the primary block as a target.
-pub(crate) fn is_protected(security: &[SecurityFacts]) -> bool
-    ensures { result ≡ list_any (may_protect_primary security.now) security.now }
-{
-    security
-        .iter()
-        .any(|block| block.may_protect_primary(security))
 }

@@ -1,14 +1,15 @@
 -- What `unpack` reports of a recording in which `check --must` finds no rule broken.
 use Rattle.std.specs.List.{All, flat_map}
-use Rattle.std.proofs.Common.{◌≡◌, ℕ, true, false, List, [], ◌∷◌, ◌++◌, map, filter_map, option_map, Option, Some, None, if◌then◌else◌, refl, ap, sym, ◌∙◌, subst, arith}
+use Rattle.std.proofs.Common.{◌≡◌, ℕ, true, false, List, [], ◌∷◌, ◌++◌, map, drop, filter_map, option_map, Option, Some, None, if◌then◌else◌, refl, ap, sym, ◌∙◌, subst, arith}
 use Rattle.std.proofs.lemmas.{Bool.and_parts, Grind.{flat_map-append, fold-append}}
 use Rattle.std.proofs.lemmas.List.Elements.{All-nil, All-append, All-head, All-tail}
 use Rattle.link_wire.specs.{Message.data_length, Stream.{Entry, End, Reading, reading_of, heads_of}}
 use Rattle.link_wire.specs.declared.message.{Contact.Contact, Message.Message}
 use Rattle.link_transfer.specs.{Event.event_of, Order.{refusal, with_taken}}
 use Rattle.link_transfer.specs.declared.fault.OrderFault.{OrderFault}
-use Rattle.link_message_rules.specs.{Heads.JudgedHead, MessageRules.{broken_rules, level_of}}
-use Rattle.link_message_rules.specs.{Session.order, declared.limits.PeerLimits.PeerLimits}
+use Rattle.link_message_rules.specs.{Flags.item_flags, Heads.{JudgedHead, messages_of}, NodeIds.node_id}
+use Rattle.link_message_rules.specs.MessageRules.{broken_rules, judged_rules, level_of}
+use Rattle.link_message_rules.specs.{Session.{order, order_level}, declared.limits.PeerLimits.PeerLimits}
 use Rattle.link_message_rules.specs.declared.rule.MessageRule.{MessageRule}
 use Rattle.link_message_rules.specs.declared.rule.MessageRule.TheVariants as message_rule
 use Rattle.link_report.specs.declared.fault.Fault.TheVariants.{Order}
@@ -110,19 +111,25 @@ module _ (offset : ℕ) where
   later_rules (Some first) others none = (and_parts _ _ none).1
 
   -- the fault of a head, whose rule comes before others
-  order_rule : (fault : Option OrderFault) (others : List (Option MessageRule))
+  order_rule : (earlier : List Message) (message : Message) (fault : Option OrderFault)
+      (others : List (Option MessageRule))
       → none_counts true (lines_for (filter_map (λ judged. judged)
-      (option_map message_rule.Order fault ∷ others))) ≡ true
+      (option_map (λ fault. message_rule.Order fault (order_level earlier message fault)) fault
+      ∷ others))) ≡ true
       → All IsSecondInit (fault_at offset fault)
   unfolding none_counts rule_level level_of
-  order_rule fault others none = grind arith
+  order_rule earlier message fault others none = grind arith
 
 module _ (peer : PeerLimits) where
   head_allowed : (heads : List JudgedHead) (offset : ℕ) (head : JudgedHead)
       → none_counts true (lines_for offset (broken_rules peer heads head)) ≡ true
       → All IsSecondInit (fault_at offset head.fault)
   unfolding broken_rules order
-  head_allowed heads offset head none = search (later_rules, order_rule)
+  head_allowed heads offset head none =
+      let judged = judged_rules peer heads head in
+      order_rule offset (messages_of heads) head.message head.fault (drop 3 judged)
+      (later_rules offset (item_flags head.message) (drop 2 judged)
+      (later_rules offset (node_id head.message) (drop 1 judged) none))
 
   event_allowed : (heads : List JudgedHead) (latest : Option Begun) (event : WalkEvent)
       → none_counts true (broken_with peer heads latest event) ≡ true

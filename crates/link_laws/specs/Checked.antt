@@ -3,6 +3,7 @@ use Rattle.std.specs.{Prelude.{◌≡◌, ℕ, true, List, [], Option, Some, Non
 use Rattle.link_wire.specs.Stream.{reading_of, heads_of}
 use Rattle.link_transfer.specs.declared.fault.OrderFault.{OrderFault}
 use Rattle.link_transfer.specs.declared.fault.OrderFault.TheVariants.{SecondSessInit}
+use Rattle.link_rules.specs.Heads.{unread_of}
 use Rattle.link_message_rules.specs.TransferData.{may_be_bundle}
 use Rattle.link_report.specs.declared.{fault.Fault.TheVariants.Order, judgement.Judgement.Judgement}
 use Rattle.link_report.specs.declared.judgement.Judgement.TheVariants.{Abandoned, BadLengthItem, LengthDiffers, Bad, Good}
@@ -18,7 +19,7 @@ abbrev pub MayBeJudged : (content : List ℕ) → Judgement → Type 0
 MayBeJudged content Abandoned = Unit {0}
 MayBeJudged content BadLengthItem = ⊥
 MayBeJudged content (LengthDiffers announced) = ⊥
-MayBeJudged content (Bad fault offset) = may_be_bundle content fault offset ≡ true
+MayBeJudged content (Bad fault offset) = may_be_bundle (unread_of content) fault offset ≡ true
 MayBeJudged content (Good info) = Unit {0}
 
 abbrev pub IsAllowed : Transfer → Type 0

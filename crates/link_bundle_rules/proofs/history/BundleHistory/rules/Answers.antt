@@ -7,25 +7,27 @@ unfolding broken_bundle_rules
 returns c =
     let byte = c.args.first_long_head in
     let size = c.args.payload_length in
+    let plain = c.has_plain_blocks-plain.ensures in
+    let counts = rw c.as_slice.ensures.value at c.of-counts.ensures in
     rw (
       sym (c.long_head.ensures size),
       sym (c.bundle_flags.ensures byte size),
       sym (c.primary_check.ensures byte size),
       sym (c.anonymous.ensures byte size),
       sym (c.record_reports.ensures byte size),
-      sym (c.block_reports.ensures byte size),
-      sym (c.block_flags.ensures byte size),
+      sym (c.block_reports.ensures byte size plain),
+      sym (c.block_flags.ensures byte size plain),
       sym (c.dtn_name.ensures byte size),
       sym (c.fragment.ensures byte),
       sym (c.whole_fragment.ensures byte),
-      sym (c.age.ensures byte size),
-      sym (c.previous_node.ensures byte size),
-      sym (c.hop_count.ensures byte size),
+      sym (c.age.ensures byte size counts),
+      sym (c.previous_node.ensures byte size counts),
+      sym (c.hop_count.ensures byte size plain counts),
       sym (c.confidential_primary.ensures byte size),
-      sym (c.hops.ensures byte size),
-      sym (c.block_data.ensures byte size),
-      sym (c.data_not_read.ensures byte size),
-      sym (c.administrative_record.ensures byte size),
+      sym (c.hops.ensures byte size plain),
+      sym (c.block_data.ensures byte size plain),
+      sym (c.data_not_read.ensures byte size plain),
+      sym (c.administrative_record.ensures byte size plain),
     )
     (c.add_if_broken-18.ensures.items _ (c.add_if_broken-17.ensures.items _ (
     c.add_if_broken-16.ensures.items _ (c.add_if_broken-15.ensures.items _ (
