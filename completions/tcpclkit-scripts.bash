@@ -5,7 +5,7 @@ _tcpclkit_script() {
   local words='' numbers='' paths='' sides='' flags='-h --help' again=''
   COMPREPLY=()
   case ${COMP_WORDS[0]##*/} in
-    tcpclkit-capture) numbers='--port' paths='--tcpclkit' again='--port' ;;
+    tcpclkit-capture) numbers='--port' paths='--tcpclkit' flags+=' --check' again='--port' ;;
     tcpclkit-split) paths='--tcpclkit' flags+=' --keep-going' ;;
     tcpclkit-pair) paths='--tcpclkit' ;;
     tcpclkit-resync) numbers='--longest' paths='-o --output' flags+=' --start' ;;

@@ -4,6 +4,7 @@ for script in capture split pair resync json faults check-session
     complete -c tcpclkit-$script -s h -l help -d 'write this text, and do nothing else'
 end
 
+complete -c tcpclkit-capture -n 'not __fish_contains_opt check' -l check -d 'write the rules that each side breaks'
 complete -c tcpclkit-capture -x -l port -d 'the port of TCPCL'
 complete -c tcpclkit-capture -r -l tcpclkit -d 'the program that reads the recordings'
 

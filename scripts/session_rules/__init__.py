@@ -7,5 +7,6 @@
   answers  the rules of XFER_ACK and XFER_REFUSE
   endings  what is judged when both recordings were read
   timed    the rules that need times
+  captured the rules that need a capture of the connection
   judging  the whole: the lines of both sides
 """

@@ -1,5 +1,6 @@
 """What is judged when both recordings were read: beginnings and endings, and what is missing."""
 
+from . import captured
 from .answers import acknowledged_after, claim_missing, claim_order, compare
 from .facts import ACK, CRITICAL, INIT, REFUSE, REJECT, REPLY, TERM
 from .sending import claim_left
@@ -191,6 +192,9 @@ def missing(side, transfer):
         claim_missing(side, transfer, segment, end, SHOULD)
     elif transfer.overtaken is not None:
         claim_order(side, transfer)
+    elif captured.is_left(side, transfer, segment):
+        words = f"id={transfer.ident} peer-at={segment.offset}"
+        side.claim(end, SHOULD, "unanswered-at-close", words)
 
 
 # ---- answers to nothing

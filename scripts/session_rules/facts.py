@@ -190,12 +190,12 @@ class Broken(NamedTuple):
 
 
 class Check:
-    """A run of `check` with the limits of the peer, each None or above 0."""
+    """A run of `check` with the limits of the peer, each a number or None."""
 
     def __init__(self, tcpclkit, path, peer_segment, peer_transfer):
         self.path, self.fault = path, ""
         limits = [("--peer-segment", peer_segment), ("--peer-transfer", peer_transfer)]
-        options = [word for name, it in limits if it for word in (name, str(it))]
+        options = [word for name, it in limits if it is not None for word in (name, str(it))]
         pipes = {"stdout": subprocess.PIPE, "stderr": subprocess.PIPE}
         words = [tcpclkit, "check", *options, "--", path]
         self.process = subprocess.Popen(words, encoding="utf-8", errors="replace", **pipes)

@@ -2,7 +2,7 @@
 
 from typing import NamedTuple
 
-from . import answers, endings, order, sending, timed
+from . import answers, captured, endings, order, sending, timed
 from .facts import ACK, INIT, KEEPALIVE, REFUSE, REJECT, REPLY, SEGMENT, TERM, Check, Listing
 from .sides import KEPT, MUST, SHOULD, Line, Side
 
@@ -32,11 +32,12 @@ def is_begun(side):
     return side.listing.contact is not None and not is_made
 
 
-def judged(tcpclkit, recordings, times=None, closed=""):
+def judged(tcpclkit, recordings, times=None, closed="", connection=()):
     """Returns the verdict on the recordings of sides a and b.
 
     `times` are two files of `tcpclkit-capture`. `closed` has the names of the sides that closed the
-    connection after the last byte of their recordings.
+    connection after the last byte of their recordings. `connection` has what a capture shows of
+    each side, if they are of one.
     """
     names = "ab"
     sides = [Side(name, Listing(tcpclkit, it), name in closed) for name, it in zip(names, recordings)]
@@ -45,6 +46,8 @@ def judged(tcpclkit, recordings, times=None, closed=""):
     notes, has_fault = alone(tcpclkit, sides, are_begun)
     for side, path in zip(sides, times or ()):
         side.clock = timed.Clock(path)
+    for side, it in zip(sides, connection):
+        side.captured = it
     if times and are_begun:
         timed.start(sides)
     both(sides, are_begun)
@@ -104,6 +107,7 @@ def both(sides, are_begun):
         side = order.turn(a, b)
     for side in sides:
         endings.judge_contact(side)
+        captured.judge(side)
     for judge in (endings.judge_waiting, endings.judge_session) if are_begun else ():
         for side in sides:
             judge(side)

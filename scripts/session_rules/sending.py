@@ -80,7 +80,6 @@ def drop(side, transfer):
 
 def add(side, transfer, message, came):
     """Adds a segment to its transfer."""
-    limits(side, transfer, message)
     transfer.count += 1
     if transfer.refused is not None:
         refused_goes_on(side, transfer, message, came)
@@ -90,25 +89,13 @@ def add(side, transfer, message, came):
     if transfer.is_odd:
         transfer.extra += 1
     elif transfer.refused is None:
-        transfer.pending.append(Segment(message.offset, message.flags, transfer.total, came and came.last))
+        transfer.pending.append(Segment(message.offset, message.flags, transfer.total, came and came.last, message.end))
         side.unanswered += 1
     if message.flags & END:
         side.opened, transfer.is_open = None, False
         retried(side, transfer)
         if transfer.refused is not None and transfer.goes_on is None:
             drop(side, transfer)
-
-
-def limits(side, transfer, message):
-    """Judges the limits of 0, which `check` does not take."""
-    init = side.other.listing.init
-    if init is None or message.length == 0:
-        return
-    _, segment, whole = init.numbers
-    if segment == 0:
-        side.claim(message.offset, MUST, "peer-segment", f"length={message.length} limit=0")
-    if whole == 0 and transfer.total == 0:
-        side.claim(message.offset, MUST, "peer-transfer", f"length={message.length} limit=0")
 
 
 def refused_goes_on(side, transfer, message, came):

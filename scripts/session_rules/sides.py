@@ -66,13 +66,14 @@ class Came(NamedTuple):
 
 
 class Segment(NamedTuple):
-    """A segment that waits for its answer: its offset and flags, and the length of its transfer up
-    to it. `came` is when its last byte was captured, or None."""
+    """A segment that waits for its answer: its offset, its end and flags, and the length of its
+    transfer up to it. `came` is when its last byte was captured, or None."""
 
     offset: int
     flags: int
     total: int
     came: Optional[int]
+    end: int
 
 
 class Transfer:
@@ -135,6 +136,7 @@ class Side:
     accepted   by ID, the other side's transfers of a wrong length that it acknowledged to their END
     retries    its transfers that were refused, by the digest of their data
     differing  by offset, the words of its transfers of a wrong length
+    captured   what a capture shows of the connection, or None
     lines      the lines of this side, and `doubts` those that hold if the other recording has all
                that this side could have seen. `ack_lengths` has those of this rule by offset
     """
@@ -142,7 +144,7 @@ class Side:
     def __init__(self, name, listing, is_closed):
         self.name, self.listing, self.is_closed = name, listing, is_closed
         self.path, self.messages = listing.path, iter(listing.messages)
-        self.other, self.clock, self.is_unready = None, None, False
+        self.other, self.clock, self.captured, self.is_unready = None, None, None, False
         self.unfinished = None
         self.seen = self.answered = -1
         self.sent, self.unanswered, self.opened = OrderedDict(), 0, None
@@ -178,8 +180,8 @@ class Side:
 
     def is_whole(self):
         """Returns whether the recording has all that this side sent. If a transfer is open at the
-        end, a SESS_TERM before does not show it."""
-        is_ended = self.is_closed or self.terms and self.opened is None
+        end, a SESS_TERM before does not show it. Of a capture, only the end of the connection does."""
+        is_ended = self.is_closed or self.captured is None and self.terms and self.opened is None
         return self.listing.fault is None and bool(is_ended)
 
     def is_known(self, offset):

@@ -28,6 +28,11 @@ class Piece(NamedTuple):
     gap: Optional[int] = None
 
 
+def least(before, count):
+    """Returns the lesser of two numbers. There may be none before."""
+    return count if before is None else min(before, count)
+
+
 class Memory:
     """How much memory packets may still take that come before their turn."""
 
@@ -41,7 +46,9 @@ class Side:
     `end` is its address and port. `first` is the sequence number of its first byte, once it is
     known. `count` is the offset after the bytes that have come, and `head` has the first four.
     `sent` is how many bytes were sent, as far as the capture shows. `fin` and `rst` are the offsets
-    of its FIN and of its RST.
+    of its FIN and of its RST. An RST `aborts` if it has an acknowledgement: one that answers a
+    packet of no known connection has none. `seen_first` and `seen_last` are how many bytes of
+    the other side had come when this one sent its first byte, and its FIN.
 
     `held` has by offset the data that comes after a gap, and its time. `ahead` is a heap of these
     offsets, and `taken` is the memory for all of it. `pieces` has what has come and is not handed
@@ -51,7 +58,8 @@ class Side:
     def __init__(self, end, memory):
         self.end, self.first, self.count, self.sent, self.head = end, None, 0, 0, b""
         self.has_syn = self.connects = False
-        self.fin = self.rst = None
+        self.fin = self.rst = self.seen_first = self.seen_last = None
+        self.aborts = False
         self.memory, self.taken, self.held, self.ahead = memory, 0, {}, []
         self.pieces = []
 
@@ -78,6 +86,17 @@ class Side:
         """Takes an RST. It counts if it can be the next segment, and no data follows."""
         if self.first is not None and self.count <= self.offset(packet.sequence) <= self.sent + 1:
             self.rst = self.offset(packet.sequence)
+            self.aborts = bool(packet.flags & ACK)
+
+    def see(self, packet, count):
+        """Notes how many bytes of the other side had come when this one sent a packet. If the packet
+        came again, the least number counts."""
+        if self.first is None or packet.flags & SYN:
+            return
+        if packet.length > 0 and self.offset(packet.sequence) == 0:
+            self.seen_first = least(self.seen_first, count)
+        if packet.flags & FIN:
+            self.seen_last = least(self.seen_last, count)
 
     def take(self, packet):
         """Takes the data of a packet. Returns whether there are new pieces by it."""
@@ -196,6 +215,8 @@ class Connection:
             sender.open(packet)
         if packet.flags & ACK:
             receiver.acknowledge(packet.acknowledged, sender.has_syn)
+            if receiver.first is not None:
+                sender.see(packet, receiver.offset(packet.acknowledged))
         return sender.take(packet) if packet.length > 0 or packet.flags & FIN else False
 
     def began_before(self):
