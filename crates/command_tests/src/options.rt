@@ -121,7 +121,7 @@ fn all_of_pack() -> Result<PackOptions, Fail> {
 }
 
 /// Lines with a wrong word.
-static WRONG_WORDS: [&[&str]; 52] = [
+static WRONG_WORDS: [&[&str]; 51] = [
     &[],
     &["lists"],
     &["help", "lists"],

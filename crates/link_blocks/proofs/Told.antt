@@ -22,7 +22,7 @@ use Rattle.link_unpack.proofs.Transfers.{judging_same}
 use Rattle.link_blocks.specs.Lister.{IsAtLatest, KnowsShown, end_due}
 use Rattle.link_blocks.specs.Showing.{transfer_lines, lines_of, order_line_of, unpacking_by, blocks_telling}
 use Rattle.link_blocks.specs.{TransferBlocks.IsShowing, declared.lister.BlockLister.BlockLister}
-use Rattle.link_blocks.specs.declared.options.BlockOptions.{BlockOptions}
+use Rattle.link_options.specs.declared.blocks.BlockOptions.{BlockOptions}
 use Rattle.link_blocks.specs.declared.transfer.TransferBlocks.{TransferBlocks}
 use Rattle.link_blocks.proofs.Ended.{lines_of-more, ended_lines, head_lines}
 

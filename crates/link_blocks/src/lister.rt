@@ -9,11 +9,11 @@ ghost use Rattle.link_block_report.specs.Blocks.{end_text};
 ghost use Rattle.link_unpack.specs.Unpacking.{good_due, is_selected};
 ghost use Rattle.link_blocks.specs.Lister.{IsAtLatest, KnowsShown, end_due};
 ghost use Rattle.link_blocks.specs.Showing.{blocks_telling, blocks_tool};
-ghost use Rattle.link_blocks.specs.declared.options.BlockOptions.{BlockOptions};
+ghost use Rattle.link_options.specs.declared.blocks.BlockOptions.{BlockOptions};
 
-use crate::options::BlockOptions;
 use crate::transfer::TransferBlocks;
 use link_block_report::EndText;
+use link_options::BlockOptions;
 use link_report::JudgementView;
 use link_run::{Run, RunEnd, Writers};
 use link_unpack::{TransferJudge, is_bundle, tell_order};

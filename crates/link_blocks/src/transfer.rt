@@ -4,8 +4,8 @@ ghost use Rattle.std.specs.Prelude.{◌≡◌, ◌+◌, ◌^◌, ◌≤◌, ◌<
 ghost use Rattle.link_blocks.specs.DataReader.{read_size};
 
 use crate::data::DataReader;
-use crate::options::BlockOptions;
 use crate::piece::show_piece;
+use link_options::BlockOptions;
 use link_run::Writers;
 use link_unpack::TransferJudge;
 use link_wire::{INPUT_LIMIT, IoFault, MessageBuffer, OutDevice};

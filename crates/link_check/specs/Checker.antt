@@ -9,7 +9,8 @@ use Rattle.link_message_rules.specs.Remembered.{Remembers}
 use Rattle.link_rule_report.specs.declared.line.RuleText.{RuleText}
 use Rattle.link_check.specs.BundleReader.{IsReadingBundle}
 use Rattle.link_check.specs.Checking.{Begun, Kept, none_kept, checking, rules_at, closed_rules}
-use Rattle.link_check.specs.declared.{checker.Checker.Checker, options.CheckOptions.CheckOptions}
+use Rattle.link_check.specs.declared.checker.Checker.{Checker}
+use Rattle.link_options.specs.declared.check.CheckOptions.{CheckOptions}
 use Rattle.link_check.specs.declared.transfer.CheckedTransfer.{CheckedTransfer}
 
 abbrev pub transfer_of : Begun → Transfer

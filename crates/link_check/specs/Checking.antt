@@ -21,7 +21,7 @@ use Rattle.link_rule_report.specs.declared.rule.BrokenRule.TheVariants.{Message,
 use Rattle.link_rule_report.specs.declared.rule.BundlePlace.TheVariants as place
 use Rattle.link_check.specs.BundleRules.{bundle_rules}
 use Rattle.link_check.specs.Lines.{lines_of, none_counts, at_offset}
-use Rattle.link_check.specs.declared.options.CheckOptions.{CheckOptions}
+use Rattle.link_options.specs.declared.check.CheckOptions.{CheckOptions}
 
 -- ---- a transfer
 

@@ -13,12 +13,12 @@ ghost use Rattle.link_check.specs.Checker.{IsAtLatest, KnowsChecked, closed_due}
 ghost use Rattle.link_check.specs.Checking.{Begun, check_telling, check_tool, head_rules, judged, optional};
 ghost use Rattle.link_check.specs.Lines.{at_offset};
 ghost use Rattle.link_check.specs.Writing.{WritesRules};
-ghost use Rattle.link_check.specs.declared.options.CheckOptions.{CheckOptions};
+ghost use Rattle.link_options.specs.declared.check.CheckOptions.{CheckOptions};
 
 use crate::lines::write_rules;
-use crate::options::CheckOptions;
 use crate::transfer::CheckedTransfer;
 use link_message_rules::{JudgedHeadView, MessageHistory, contact_flags};
+use link_options::CheckOptions;
 use link_run::{Run, RunEnd, Writers};
 use link_walk::{Consumer, EventView, HeadView, Manner, WalkRun, walk_run};
 use link_wire::{Contact, InDevice, IoFault, OutDevice};

@@ -17,10 +17,8 @@ mod bundle;
 mod bundles;
 mod checker;
 mod lines;
-mod options;
 mod transfer;
 
 pub use bundles::{BundleCheckRun, BundleChecker, bundle_check, bundle_check_run};
 pub use checker::{CheckRun, Checker, check, check_run};
-pub use link_message_rules::PeerLimits;
-pub use options::CheckOptions;
+pub use link_options::{CheckOptions, PeerLimits};

@@ -1,6 +1,6 @@
 //! The result of reading a command line.
 
-use link_tools::Options;
+use link_options::Options;
 
 /// A tool with its options, and the input that it reads.
 #[derive(Debug, Drop, PartialEq, Eq)]

@@ -12,8 +12,7 @@ use crate::invocation::Invocation;
 use crate::usage::UsageFault;
 use clap::error::ErrorKind;
 use clap::{ArgMatches, Error};
-use link_tools::{BlockOptions, CheckOptions, Options, PackOptions, PeerLimits, Wanted};
-use link_wire::NodeId;
+use link_options::{BlockOptions, CheckOptions, NodeId, Options, PackOptions, PeerLimits, Wanted};
 use std::alloc::{AllocError, Global};
 
 /// Reads the words of a command line; the first word is the program's own name.

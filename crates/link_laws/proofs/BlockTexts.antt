@@ -1,6 +1,7 @@
 -- The texts of `blocks` that some bytes determine are prefixes of its texts for longer inputs.
 use Rattle.std.proofs.Common.{ℕ, Bool, true, false, List, [], ◌∷◌, ◌++◌, length, if◌then◌else◌, refl, ap, ◌∙◌, append-nil}
 use Rattle.std.proofs.lemmas.Grind.{flat_map-append}
+use Rattle.link_options.specs.declared.blocks.BlockOptions.{BlockOptions}
 use Rattle.link_run.specs.Writers.{on_output}
 use Rattle.link_walk.specs.Walk.{WalkEvent, ContactHeader, MessageHead, Data, Whole, LeftOpen, open_after_event, has_open}
 use Rattle.link_walk.proofs.Heads.{has_open-append}
@@ -10,7 +11,6 @@ use Rattle.link_unpack.proofs.{Effects.comes_does, Events.told_push}
 use Rattle.link_blocks.specs.BlockLines.{block_lines}
 use Rattle.link_blocks.specs.{Bundles.{bundle_blocks_telling, bundle_blocks_tool}, Lister.end_due}
 use Rattle.link_blocks.specs.Showing.{transfer_lines, lines_of, order_line_of, unpacking_by, blocks_telling, blocks_tool}
-use Rattle.link_blocks.specs.declared.options.BlockOptions.{BlockOptions}
 use Rattle.link_blocks.proofs.BundleTexts.{between_lines, on_said, whole_said}
 use Rattle.link_blocks.proofs.Ended.{lines_of-more, ended_lines, continued_lines, head_lines}
 use Rattle.link_blocks.proofs.Lines.{lines_grow}

@@ -2,14 +2,15 @@
 use Rattle.std.proofs.Common.{◌≡◌, Bool, true, false, not, ◌&&◌, List, [], ◌∷◌, ◌++◌, Option, refl, sym, arith}
 use Rattle.std.proofs.Math.Bool.{and-true, and_assoc}
 use Rattle.std.proofs.lemmas.{Grind.flat_map-append, List.Folds.list_all-append}
+use Rattle.link_options.specs.declared.limits.PeerLimits.{PeerLimits}
+use Rattle.link_options.specs.declared.check.CheckOptions.{CheckOptions}
 use Rattle.link_run.specs.Writers.{on_output}
 use Rattle.link_run.proofs.Runs.{texts_as}
 use Rattle.link_walk.specs.{Saying.{kept_after, said_from}, Walk.{WalkEvent}}
-use Rattle.link_message_rules.specs.{Heads.JudgedHead, declared.limits.PeerLimits.PeerLimits}
+use Rattle.link_message_rules.specs.Heads.{JudgedHead}
 use Rattle.link_rule_report.specs.declared.line.RuleText.{RuleText}
 use Rattle.link_check.specs.Checking.{Begun, Kept, broken_by, heads_with, latest_with, checking}
 use Rattle.link_check.specs.Lines.{counts, lines_of, none_counts}
-use Rattle.link_check.specs.declared.options.CheckOptions.{CheckOptions}
 use Rattle.link_laws.proofs.Fronts.{IsFront, front_after, front_none}
 
 -- ---- lines of rules that follow one another

@@ -2,6 +2,7 @@
 use Rattle.std.specs.Prelude.{◌==◌}
 use Rattle.std.proofs.Common.{◌≡◌, ℕ, zero, suc, ◌+◌, ◌*◌, ◌<◌, ◌≤◌, Bool, true, false, ◌&&◌, List, [], ◌∷◌, ◌++◌, length, take, Option, Some, None, refl, ap, append-nil, append_assoc, arith}
 use Rattle.std.proofs.lemmas.{Bool.{eq-eqb, cases_lt}, List.take_all}
+use Rattle.link_options.specs.declared.pack.PackOptions.{PackOptions}
 use Rattle.link_wire.specs.Stream.{Entry}
 use Rattle.link_transfer.specs.{Chunks.chunk_count, Cutting.{due, due_of}}
 use Rattle.link_transfer.specs.declared.event.Event.TheVariants.{SessInit, SessTerm}
@@ -16,7 +17,6 @@ use Rattle.link_laws.proofs.Standing.{Stands, fresh, carrying, stands_none, stan
 use Rattle.link_bundle_walk.specs.Bundles.{Packed, Rest, Divided}
 use Rattle.link_pack.specs.Packing.{segment_size, sending}
 use Rattle.link_pack.specs.Segments.{Sending, cutting_of, segments_of}
-use Rattle.link_pack.specs.declared.options.PackOptions.{PackOptions}
 
 -- ---- counts of chunks
 

@@ -1,12 +1,12 @@
 -- The texts of `check` that some bytes determine are prefixes of its texts for longer inputs.
 use Rattle.std.proofs.Common.{ℕ, suc, ◌+◌, Bool, List, [], ◌∷◌, ◌++◌, length, arith}
 use Rattle.std.proofs.lemmas.Grind.{flat_map-append}
+use Rattle.link_options.specs.declared.check.CheckOptions.{CheckOptions}
 use Rattle.link_rule_report.specs.declared.line.RuleText.{RuleText}
 use Rattle.link_walk.specs.{Saying.{Keeping, said_from}, Walk.WalkEvent}
 use Rattle.link_bundle_walk.specs.Bundles.{Packed}
 use Rattle.link_check.specs.Bundles.{broken_in, broken_bundles, bundle_check_telling, bundle_check_tool}
 use Rattle.link_check.specs.{Checking.check_tool, Lines.{line_of, lines_of}}
-use Rattle.link_check.specs.declared.options.CheckOptions.{CheckOptions}
 use Rattle.link_laws.specs.Prefix.{IsPrefixed}
 use Rattle.link_laws.proofs.BundleWalks.{Grows, bundles_prefix}
 use Rattle.link_laws.proofs.Fronts.{IsFront, front_same, front_first, front_after, front_none, AreFronts, fronts_same, fronts_after}

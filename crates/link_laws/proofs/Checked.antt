@@ -3,13 +3,15 @@ use Rattle.std.specs.List.{All, flat_map}
 use Rattle.std.proofs.Common.{◌≡◌, ℕ, true, false, List, [], ◌∷◌, ◌++◌, map, drop, filter_map, option_map, Option, Some, None, if◌then◌else◌, refl, ap, sym, ◌∙◌, subst, arith}
 use Rattle.std.proofs.lemmas.{Bool.and_parts, Grind.{flat_map-append, fold-append}}
 use Rattle.std.proofs.lemmas.List.Elements.{All-nil, All-append, All-head, All-tail}
+use Rattle.link_options.specs.declared.limits.PeerLimits.{PeerLimits}
+use Rattle.link_options.specs.declared.wanted.Wanted.{Wanted}
 use Rattle.link_wire.specs.{Message.data_length, Stream.{Entry, End, Reading, reading_of, heads_of}}
 use Rattle.link_wire.specs.declared.message.{Contact.Contact, Message.Message}
 use Rattle.link_transfer.specs.{Event.event_of, Order.{refusal, with_taken}}
 use Rattle.link_transfer.specs.declared.fault.OrderFault.{OrderFault}
 use Rattle.link_message_rules.specs.{Flags.item_flags, Heads.{JudgedHead, messages_of}, NodeIds.node_id}
 use Rattle.link_message_rules.specs.MessageRules.{broken_rules, judged_rules, level_of}
-use Rattle.link_message_rules.specs.{Session.{order, order_level}, declared.limits.PeerLimits.PeerLimits}
+use Rattle.link_message_rules.specs.Session.{order, order_level}
 use Rattle.link_message_rules.specs.declared.rule.MessageRule.{MessageRule}
 use Rattle.link_message_rules.specs.declared.rule.MessageRule.TheVariants as message_rule
 use Rattle.link_report.specs.declared.fault.Fault.TheVariants.{Order}
@@ -17,7 +19,7 @@ use Rattle.link_rule_report.specs.{Names.rule_level, declared.line.RuleText.Rule
 use Rattle.link_rule_report.specs.declared.rule.BrokenRule.TheVariants as rule
 use Rattle.link_run.specs.Made.{StreamStop, stop_of}
 use Rattle.link_walk.specs.Walk.{head_at, WalkEvent, MessageHead, content_events, Walked, none_walked, with_next, walked_of, end_events, stop_by, told_of}
-use Rattle.link_unpack.specs.{Transfers.Transfer, Unpacking.Told, declared.wanted.Wanted.Wanted}
+use Rattle.link_unpack.specs.{Transfers.Transfer, Unpacking.Told}
 use Rattle.link_check.specs.Checking.{Begun, heads_with, judged, latest_with, check_tool}
 use Rattle.link_check.specs.Lines.{none_counts, at_offset}
 use Rattle.link_laws.specs.Checked.{IsAllowed, IsSecondInit, MayStop, HasOnlyAllowed}

@@ -3,6 +3,7 @@ use Rattle.std.specs.{Prelude.IfSome, List.{All, list_any}}
 use Rattle.std.proofs.Common.{◌≡◌, ℕ, suc, ◌+◌, ◌<◌, ◌≤◌, Bool, true, false, ◌==◌, is_some, List, [], ◌∷◌, ◌++◌, reverse, filter_map, Option, Some, None, refl, sym, ◌∙◌, arith}
 use Rattle.std.proofs.{Math.Bool.and-false, lemmas.Bool.{ne_eqb, le-ltb}}
 use Rattle.std.proofs.lemmas.{List.{map-append, reverse-append}, List.Elements.{All-head, All-tail}}
+use Rattle.link_options.specs.declared.limits.PeerLimits.{PeerLimits}
 use Rattle.link_wire.specs.{Spelling.{segment_with, sess_init_with}, Stream.Entry}
 use Rattle.link_wire.specs.declared.message.{Message.Message, SegmentHead.SegmentHead}
 use Rattle.link_wire.specs.declared.message.Message.TheVariants as message
@@ -19,7 +20,6 @@ use Rattle.link_message_rules.specs.Lengths.{peer_segment, size_of, if_exceeded,
 use Rattle.link_message_rules.specs.{MessageRules.broken_rules, NodeIds.node_id}
 use Rattle.link_message_rules.specs.Session.{order, before_session, keepalive}
 use Rattle.link_message_rules.specs.TransferIds.{abandoned_by, interleaved, descending, transfer_id}
-use Rattle.link_message_rules.specs.declared.limits.PeerLimits.{PeerLimits}
 use Rattle.link_run.proofs.Continued.{entry}
 use Rattle.link_walk.specs.Walk.{head_at}
 use Rattle.link_check.specs.Checking.{judged}

@@ -3,6 +3,8 @@ use Rattle.std.specs.Prelude.{IfSome}
 use Rattle.std.proofs.Common.{◌≡◌, ℕ, zero, suc, ◌+◌, ◌*◌, ◌<◌, ◌≤◌, Bool, true, false, ◌==◌, is_some, List, [], ◌∷◌, ◌++◌, length, take, reverse, Option, Some, None, if◌then◌else◌, refl, ap, sym, ◌∙◌, subst, append-nil, append_assoc, length-append, length-take, arith}
 use Rattle.std.proofs.lemmas.{Bool.{eq-eqb, ne_eqb}, List.reverse-append}
 use Rattle.std.proofs.lemmas.List.{Elements.{All-nil, All-cons}, Sums.sum_by-cons}
+use Rattle.link_options.specs.declared.limits.PeerLimits.{PeerLimits}
+use Rattle.link_options.specs.declared.pack.PackOptions.{PackOptions}
 use Rattle.link_wire.specs.{Codes.is_end, Spelling.{announced, segment_with}, Stream.Entry}
 use Rattle.link_wire.specs.declared.message.{Message.Message, SegmentHead.SegmentHead}
 use Rattle.link_wire.specs.declared.message.Message.TheVariants as message
@@ -16,7 +18,6 @@ use Rattle.link_transfer.specs.declared.joiner.Turn.TheVariants as turn
 use Rattle.link_message_rules.specs.Heads.{JudgedHead}
 use Rattle.link_message_rules.specs.Lengths.{segments_back, segments_of, first_segment, size_of, peer_transfer}
 use Rattle.link_message_rules.specs.MessageRules.{broken_rules}
-use Rattle.link_message_rules.specs.declared.limits.PeerLimits.{PeerLimits}
 use Rattle.link_run.proofs.Continued.{entry}
 use Rattle.link_bundle_walk.specs.Bundles.{Packed, Divided}
 use Rattle.link_laws.specs.PackedRules.{AllowsLimits, KeepsNodeId}
@@ -27,7 +28,7 @@ use Rattle.link_laws.proofs.Entries.{bundle_entries, due_entries, init_bytes, in
 use Rattle.link_laws.proofs.{Limits.announces, Segments.{chunk_of, message_of, segment_entries}}
 use Rattle.link_laws.proofs.Sent.{starts_as, first_may, next_may, open_by, opens_by, taken_more, taken_first, head_of, last_at}
 use Rattle.link_laws.proofs.Standing.{fresh, carrying}
-use Rattle.link_pack.specs.{Packing.sending, Segments.{Sending, cutting_of, flags_of, segments_of as bytes_of_segments}, declared.options.PackOptions.PackOptions}
+use Rattle.link_pack.specs.{Packing.sending, Segments.{Sending, cutting_of, flags_of, segments_of as bytes_of_segments}}
 
 if_some : {P Q : ℕ → Type 0} (limit : Option ℕ) → ((most : ℕ) → P most → Q most)
     → IfSome limit P → IfSome limit Q

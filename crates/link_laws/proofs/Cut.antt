@@ -1,12 +1,12 @@
 -- The report of `unpack` cuts its output.
 use Rattle.std.proofs.Common.{◌≡◌, ℕ, ◌+◌, ◌≤◌, List, [], ◌∷◌, ◌++◌, length, Option, Some, None, if◌then◌else◌, refl, ap, ◌∙◌, append-nil, length-append, arith}
+use Rattle.link_options.specs.declared.wanted.Wanted.{Wanted}
 use Rattle.link_report.specs.declared.transfer.TransferEntry.{TransferEntry}
 use Rattle.link_run.specs.Made.{StreamStop, Made, whole_by}
 use Rattle.link_laws.specs.Transfers.{transfers_of, by_transfers}
 use Rattle.link_laws.specs.Cuts.{order_of, entries_of, Follow, total_written, stream_stop, lined, reported, Divides, CutsOutput, stopping}
 use Rattle.link_laws.proofs.{Prefixes.whole_output, Due.lines_are, Same.whole_is}
 use Rattle.link_unpack.specs.{Transfers.Transfer, Unpacking.{part_of, parts_of, entry_of}}
-use Rattle.link_unpack.specs.declared.wanted.Wanted.{Wanted}
 
 -- ---- one more entry
 

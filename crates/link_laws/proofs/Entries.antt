@@ -1,6 +1,7 @@
 -- The messages of a packed stream.
 use Rattle.std.specs.Prelude.{IfSome}
 use Rattle.std.proofs.Common.{◌≡◌, ℕ, suc, ◌+◌, ◌^◌, ◌<◌, ◌≤◌, min, Bool, true, false, List, [], ◌∷◌, ◌++◌, length, Option, Some, None, if◌then◌else◌, refl, append-nil, append_assoc, arith}
+use Rattle.link_options.specs.declared.pack.PackOptions.{PackOptions}
 use Rattle.link_wire.specs.{Bytes.AreBytes, SpelledStream.{IsStream, IsReading}}
 use Rattle.link_wire.specs.Spelling.{sess_init_bytes, sess_term_bytes, sess_init_with}
 use Rattle.link_wire.specs.Stream.{Entry, Clean, Reading}
@@ -12,7 +13,6 @@ use Rattle.link_bundle_walk.specs.Bundles.{Packed, Rest, Divided}
 use Rattle.link_bundle_walk.proofs.Outcomes.{whole_of}
 use Rattle.link_pack.specs.Packing.{prelude_bytes, sending, transfer_bytes, rest_segments, end_bytes, packing_by}
 use Rattle.link_pack.specs.Segments.{Sending, cutting_of, segments_of}
-use Rattle.link_pack.specs.declared.options.PackOptions.{PackOptions}
 use Rattle.link_laws.specs.Ranges.{OptionsFit}
 use Rattle.link_laws.proofs.Divided.{AreBundles, IsRest}
 use Rattle.link_laws.proofs.Segments.{SendingFits, segment_entries, segments_stream}

@@ -2,13 +2,14 @@
 -- the order does not end the run, of those that are not stray.
 use Rattle.std.specs.List.{flat_map}
 use Rattle.std.proofs.Common.{◌≡◌, ℕ, Bool, false, not, is_some, List, [], ◌∷◌, ◌++◌, Option, Some, None, refl, ap, sym, ◌∙◌, append-nil, append_assoc, arith}
+use Rattle.link_options.specs.declared.wanted.Wanted.{Wanted}
 use Rattle.link_wire.specs.{Stream.{Entry, reading_of, heads_of}, declared.message.Message.Message}
 use Rattle.link_transfer.specs.{Event.event_of, Order.{is_stray, effect_of, with_taken}}
 use Rattle.link_transfer.specs.declared.joiner.Turn.{Turn}
 use Rattle.link_transfer.specs.declared.joiner.Turn.TheVariants as turn
 use Rattle.link_run.specs.Run.{Outcome}
 use Rattle.link_walk.proofs.Heads.{other_has_none}
-use Rattle.link_unpack.specs.{Transfers.Transfer, Unpacking.parts_of, declared.wanted.Wanted.Wanted}
+use Rattle.link_unpack.specs.{Transfers.Transfer, Unpacking.parts_of}
 use Rattle.link_unpack.proofs.Effects.{Does}
 use Rattle.link_unpack.proofs.Heads.{transfers_same, transfer_begins, transfer_continues}
 use Rattle.link_unpack.proofs.Texts.{parts_more}

@@ -1,6 +1,7 @@
 -- Unpacking a packed stream returns the bundles.
 use Rattle.std.proofs.Common.{◌≡◌, ℕ, suc, true, List, [], ◌∷◌, ◌++◌, length, Ok, if◌then◌else◌, sym, append-nil, append_assoc, length-append, arith}
 use Rattle.std.proofs.lemmas.Bool.{eq-eqb}
+use Rattle.link_options.specs.declared.pack.PackOptions.{PackOptions}
 use Rattle.link_bundle_blocks.specs.Bundle.{verdict}
 use Rattle.link_report.specs.declared.judgement.Judgement.TheVariants.{Good}
 use Rattle.link_run.specs.Run.{Outcome}
@@ -12,7 +13,6 @@ use Rattle.link_laws.proofs.Readings.{packed, nothing_left, IsPacked}
 use Rattle.link_unpack.specs.{Transfers.Transfer, Unpacking.{parts_of, judgement_of, unpack_tool}}
 use Rattle.link_unpack.proofs.Texts.{parts_more}
 use Rattle.link_bundle_walk.specs.Bundles.{Packed, divided}
-use Rattle.link_pack.specs.declared.options.PackOptions.{PackOptions}
 
 -- ---- a bundle
 

@@ -2,6 +2,7 @@
 use Rattle.std.specs.{Prelude.IfSome, List.All}
 use Rattle.std.proofs.Common.{◌≡◌, ℕ, suc, ◌+◌, ◌≤◌, ◌⊎◌, Bool, true, List, [], ◌∷◌, ◌++◌, length, Option, Some, refl, length-take, arith}
 use Rattle.std.proofs.lemmas.List.Elements.{All-nil, All-cons, All-append}
+use Rattle.link_options.specs.declared.pack.PackOptions.{PackOptions}
 use Rattle.link_wire.specs.{Spelling.announced, Stream.Entry}
 use Rattle.link_list.specs.Listing.{listing_of}
 use Rattle.link_transfer.specs.{Announced.announced_of, Chunks.chunk_count}
@@ -10,7 +11,6 @@ use Rattle.link_transfer.specs.declared.announcement.Announced.TheVariants.{Abse
 use Rattle.link_unpack.specs.Transfers.{Transfer}
 use Rattle.link_bundle_walk.specs.Bundles.{Packed, Rest, Divided}
 use Rattle.link_pack.specs.{Packing.{segment_size, sending}, Segments.{cutting_of, segments_of}}
-use Rattle.link_pack.specs.declared.options.PackOptions.{PackOptions}
 use Rattle.link_laws.specs.PackedStream.{SegmentFits, TransferFits, KeepsLimits}
 use Rattle.link_laws.proofs.Carried.{onto, rest_onto, transfer_of, due_within}
 use Rattle.link_laws.proofs.Divided.{AreBundles, IsRest}

@@ -1,5 +1,6 @@
 -- A packed stream is listed as it was cut.
 use Rattle.std.proofs.Common.{◌≡◌, ℕ, zero, suc, ◌+◌, Bool, true, List, [], ◌∷◌, ◌++◌, length, Option, None, refl, ap, ap₂, ◌∙◌, append-nil, append_assoc, length-append, arith}
+use Rattle.link_options.specs.declared.pack.PackOptions.{PackOptions}
 use Rattle.link_wire.specs.Spelling.{announce_bytes, total_bytes, segment_head_bytes, sess_init_bytes}
 use Rattle.link_transfer.specs.Cutting.{due}
 use Rattle.link_report.specs.Message.{message_text}
@@ -9,7 +10,6 @@ use Rattle.link_bundle_walk.specs.Bundles.{Packed, Rest, divided}
 use Rattle.link_bundle_walk.proofs.Outcomes.{whole_of}
 use Rattle.link_pack.specs.Packing.{sending, transfer_bytes}
 use Rattle.link_pack.specs.Segments.{Sending, cut_at, segment_bytes, segments_from}
-use Rattle.link_pack.specs.declared.options.PackOptions.{PackOptions}
 use Rattle.link_laws.specs.Listed.{size_of_segment, segment_lines, size_of_segments, chunks_of, term_line, bundle_lines, IsListed}
 use Rattle.link_laws.proofs.Entries.{init_bytes, init_entry, bundle_entries, term_entries, packed_entries, packed_reading}
 use Rattle.link_laws.proofs.Listings.{message_lines-append}

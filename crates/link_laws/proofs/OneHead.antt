@@ -3,6 +3,7 @@ use Rattle.std.specs.List.{flat_map, fold}
 use Rattle.std.proofs.Common.{◌≡◌, ℕ, Bool, true, false, not, ◌&&◌, ◌==◌, is_some, List, [], ◌∷◌, ◌++◌, length, Option, Some, None, refl, ap, sym, ◌∙◌, subst, ⊎_elim, append-nil, append_assoc, arith}
 use Rattle.std.proofs.{Math.Bool.{and-true, and_assoc}, lemmas.Bool.eq-eqb}
 use Rattle.std.proofs.lemmas.List.{Concat.flat_map-append, Folds.list_all-append}
+use Rattle.link_options.specs.declared.wanted.Wanted.{Wanted}
 use Rattle.link_wire.specs.{Codes.{is_start, is_end}, Message.data_length, Stream.Entry}
 use Rattle.link_wire.specs.declared.message.{Message.Message, SegmentHead.SegmentHead}
 use Rattle.link_wire.specs.declared.message.Message.TheVariants as message
@@ -16,7 +17,6 @@ use Rattle.link_walk.specs.Walk.{is_last, open_with}
 use Rattle.link_walk.proofs.Heads.{open_then}
 use Rattle.link_unpack.specs.{Transfers.{Transfer, closes}, TransferJudge.grown}
 use Rattle.link_unpack.specs.Unpacking.{order_line, line_due, good_due}
-use Rattle.link_unpack.specs.declared.wanted.Wanted.{Wanted}
 use Rattle.link_unpack.proofs.Effects.{zero_eq, Does, Strays, Passes, Begins, Continues, what_does}
 use Rattle.link_unpack.proofs.Heads.{transfers_same, transfer_begins, transfer_continues}
 use Rattle.link_laws.specs.Cuts.{entries_of}

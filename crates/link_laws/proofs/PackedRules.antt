@@ -3,6 +3,8 @@ use Rattle.std.specs.List.{All, filter}
 use Rattle.std.proofs.Common.{◌≡◌, ℕ, suc, ◌<◌, ◌⊎◌, Bool, true, false, ◌&&◌, is_some, List, [], ◌∷◌, ◌++◌, length, map, Option, Some, None, Result, Ok, Err, if◌then◌else◌, refl, ap, sym, ◌∙◌, subst, append-nil, arith}
 use Rattle.std.proofs.lemmas.{Bool.{eq-eqb, Decides.nat_tests}, List.map-append}
 use Rattle.std.proofs.lemmas.List.Elements.{All-nil, All-cons, All-head, All-tail, filter-append}
+use Rattle.link_options.specs.declared.limits.PeerLimits.{PeerLimits}
+use Rattle.link_options.specs.declared.pack.PackOptions.{PackOptions}
 use Rattle.link_wire.specs.{Codes.{is_start, is_end}, Message.data_length}
 use Rattle.link_wire.specs.{Stream.{Entry, reading_of, heads_of}, declared.message.Contact.Contact}
 use Rattle.link_wire.specs.declared.message.{Message.Message, SegmentHead.SegmentHead}
@@ -17,7 +19,6 @@ use Rattle.link_transfer.specs.declared.joiner.Turn.{Turn}
 use Rattle.link_transfer.proofs.Due.{chunk_left}
 use Rattle.link_message_rules.specs.{Flags.contact_flags, Heads.JudgedHead, TransferData.data_rule}
 use Rattle.link_message_rules.specs.TransferRules.{broken_transfer_rules, length_item, length_differs, length_of_one_segment}
-use Rattle.link_message_rules.specs.declared.limits.PeerLimits.{PeerLimits}
 use Rattle.link_message_rules.specs.declared.rule.TransferRule.TheVariants as transfer_rule
 use Rattle.link_rule_report.specs.declared.{line.RuleText.RuleText, rule.BrokenRule.BrokenRule}
 use Rattle.link_rule_report.specs.declared.rule.BundlePlace.{BundlePlace}
@@ -30,7 +31,6 @@ use Rattle.link_check.specs.Checking.{Begun, begun_by, closed_rules, data_rules,
 use Rattle.link_check.specs.Lines.{at_offset}
 use Rattle.link_bundle_walk.specs.Bundles.{Packed, Divided, divided}
 use Rattle.link_pack.specs.{Packing.sending, Segments.Sending}
-use Rattle.link_pack.specs.declared.options.PackOptions.{PackOptions}
 use Rattle.link_laws.specs.{PackedRules.{AllowsLimits, KeepsNodeId, BreaksNoMore}, RoundTrip.all}
 use Rattle.link_laws.specs.SameRules.{reports}
 use Rattle.link_laws.proofs.{BrokenRules.broken_from, Carried.{onto, packed_transfers, transfer_of}}

@@ -1,7 +1,7 @@
 -- The texts of `pack` that some bytes determine are prefixes of its texts for longer inputs.
 use Rattle.std.proofs.Common.{List, ℕ, ◌++◌, refl, subst}
+use Rattle.link_options.specs.declared.pack.PackOptions.{PackOptions}
 use Rattle.link_pack.specs.{Packing.pack_tool, PackRun.pack_telling}
-use Rattle.link_pack.specs.declared.options.PackOptions.{PackOptions}
 use Rattle.link_pack.proofs.Outcomes.{texts_grown, texts_whole, same_tool}
 use Rattle.link_laws.specs.Prefix.{IsPrefixed}
 use Rattle.link_laws.proofs.{BundleWalks.{Grows, bundles_prefix}, Fronts.fronts_then}

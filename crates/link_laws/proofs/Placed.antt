@@ -2,6 +2,8 @@
 use Rattle.std.specs.List.{filter, fold}
 use Rattle.std.proofs.Common.{◌≡◌, ℕ, Bool, true, false, ◌&&◌, ◌==◌, List, [], ◌∷◌, ◌++◌, map, Option, Some, None, option_map, if◌then◌else◌, refl, ap, sym, ◌∙◌, append-nil, append_assoc, arith}
 use Rattle.std.proofs.lemmas.List.Elements.{filter-append}
+use Rattle.link_options.specs.declared.wanted.Wanted.{Wanted}
+use Rattle.link_options.specs.declared.limits.PeerLimits.{PeerLimits}
 use Rattle.link_wire.specs.{Codes.{is_start, is_end}, declared.message.Message.Message}
 use Rattle.link_wire.specs.declared.message.SegmentHead.{SegmentHead}
 use Rattle.link_wire.specs.declared.message.Message.TheVariants as message
@@ -11,10 +13,9 @@ use Rattle.link_walk.specs.Walk.{Head, open_after_event, has_open, WalkEvent, Co
 use Rattle.link_walk.proofs.Heads.{has_open-append}
 use Rattle.link_unpack.specs.Transfers.{Transfer, continued}
 use Rattle.link_unpack.specs.Unpacking.{Told, transfers_at, told_event, told_after, none_told}
-use Rattle.link_unpack.specs.declared.wanted.Wanted.{Wanted}
 use Rattle.link_unpack.proofs.Effects.{zero_eq, Does, Strays, Passes, Begins, Continues, comes_does}
 use Rattle.link_unpack.proofs.Heads.{transfers_same, transfer_begins, transfer_continues}
-use Rattle.link_message_rules.specs.{Heads.JudgedHead, declared.limits.PeerLimits.PeerLimits}
+use Rattle.link_message_rules.specs.Heads.{JudgedHead}
 use Rattle.link_message_rules.specs.declared.rule.MessageRule.{MessageRule}
 use Rattle.link_message_rules.specs.declared.rule.TransferRule.TheVariants.{Unfinished}
 use Rattle.link_rule_report.specs.declared.{line.RuleText.RuleText, rule.BrokenRule.BrokenRule}

@@ -1,11 +1,11 @@
 -- The reading of a packed stream.
 use Rattle.std.proofs.Common.{◌≡◌, ℕ, List, None, refl, ap, sym, ◌∙◌, arith}
+use Rattle.link_options.specs.declared.pack.PackOptions.{PackOptions}
 use Rattle.link_wire.specs.{SpelledStream.IsReading, Stream.{Reading, reading_of, heads_of}}
 use Rattle.link_run.specs.Run.{Outcome}
 use Rattle.link_walk.proofs.Heads.{heads_clean}
 use Rattle.link_bundle_walk.specs.Bundles.{Divided, divided}
 use Rattle.link_pack.specs.Packing.{packing_of, pack_tool}
-use Rattle.link_pack.specs.declared.options.PackOptions.{PackOptions}
 use Rattle.link_laws.specs.Ranges.{OptionsFit, InputFits}
 use Rattle.link_laws.proofs.Carried.{AreCarried, packed_carried, packed_transfers}
 use Rattle.link_laws.proofs.{Divided.{IsDivided, is_divided}, Entries.{packed_reading, packed_is}}

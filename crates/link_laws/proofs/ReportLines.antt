@@ -2,11 +2,11 @@
 use Rattle.std.specs.List.{flat_map}
 use Rattle.std.proofs.Common.{◌≡◌, ℕ, not, ◌&&◌, is_some, List, [], ◌∷◌, ◌++◌, Option, Some, None, map, refl, ap, ◌∙◌, append-nil, append_assoc, arith}
 use Rattle.std.proofs.lemmas.List.Concat.{flat_map-append}
+use Rattle.link_options.specs.declared.wanted.Wanted.{Wanted}
 use Rattle.link_wire.specs.Stream.{Entry, End, reading_of, heads_of}
 use Rattle.link_transfer.specs.{Event.event_of, Order.refusal, declared.fault.OrderFault.OrderFault}
 use Rattle.link_report.specs.{Transfer.transfer_text, declared.transfer.TransferEntry.TransferEntry}
 use Rattle.link_run.specs.{Made.{StreamStop, stop_of, whole_by}, Run.Outcome}
-use Rattle.link_unpack.specs.declared.wanted.Wanted.{Wanted}
 use Rattle.link_laws.specs.Cuts.{going_on, entries_of, lined, stop_line, ReportLine, OfHead, OfTransfer, line_text, entry_in, fault_in, faults_after, CutsOutputOn}
 use Rattle.link_laws.specs.Transfers.{settled, Unpacked, with_head, unpacked_of, going_on_by, by_transfers}
 use Rattle.link_laws.proofs.Cut.{cut_by_lines}

@@ -2,6 +2,7 @@
 use Rattle.std.specs.List.{fold}
 use Rattle.std.proofs.Common.{◌≡◌, ℕ, Bool, true, false, ◌&&◌, List, [], ◌∷◌, ◌++◌, Option, Some, None, if◌then◌else◌, refl, ap, sym, ◌∙◌, append-nil, arith}
 use Rattle.std.proofs.{Math.Bool.and-true, lemmas.List.Folds.list_all-append, Math.Path.fun_ext}
+use Rattle.link_options.specs.declared.wanted.Wanted.{Wanted}
 use Rattle.link_wire.specs.Stream.{Entry, End, Reading, cut_heads, heads_of}
 use Rattle.link_wire.specs.declared.message.{Contact.Contact, Message.Message}
 use Rattle.link_transfer.specs.{Event.event_of, Order.{refusal, with_taken}}
@@ -20,7 +21,6 @@ use Rattle.link_laws.proofs.PlainHeads.{judged_taken, events_at}
 use Rattle.link_laws.proofs.Whole.{FitsData, AreRead, ReadingReads, reading_read}
 use Rattle.link_unpack.specs.Transfers.{Transfer}
 use Rattle.link_unpack.specs.Unpacking.{parts_of, unpack_tool, Told, told_after, unpack_telling, with_line}
-use Rattle.link_unpack.specs.declared.wanted.Wanted.{Wanted}
 use Rattle.link_unpack.proofs.Events.{told_then, told_push}
 
 -- ---- heads that are taken, whether or not they are in order

@@ -1,10 +1,10 @@
 -- If no head is refused, `unpack` makes the same, whether or not a fault of the order ends the run.
 use Rattle.std.proofs.{Common.{◌≡◌, ℕ, Bool, List, refl, arith}, Math.Path.fun_ext}
+use Rattle.link_options.specs.declared.wanted.Wanted.{Wanted}
 use Rattle.link_wire.specs.Stream.{End}
 use Rattle.link_walk.specs.Walk.{WalkEvent, MessageHead, Whole, LeftOpen, Walked, told_by, told_of}
 use Rattle.link_unpack.specs.Transfers.{Transfer}
 use Rattle.link_unpack.specs.Unpacking.{parts_of, line_due, Told, told_event, told_after, unpack_telling}
-use Rattle.link_unpack.specs.declared.wanted.Wanted.{Wanted}
 use Rattle.link_laws.specs.Cuts.{going_on, stopping, IsSameInOrder}
 use Rattle.link_laws.proofs.{Same.walked_same, Whole.reading_read}
 

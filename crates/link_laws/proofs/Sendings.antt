@@ -2,12 +2,12 @@
 use Rattle.std.specs.List.{All}
 use Rattle.std.proofs.Common.{◌≡◌, ℕ, zero, suc, ◌+◌, ◌*◌, ◌<◌, ◌≤◌, false, List, [], ◌∷◌, ◌++◌, length, drop, None, append-nil, append_assoc, length-take, length-drop, arith}
 use Rattle.std.proofs.lemmas.{Bool.{ne_eqb, Decides.nat_tests}, List.Elements.{All-nil, All-cons}}
+use Rattle.link_options.specs.declared.pack.PackOptions.{PackOptions}
 use Rattle.link_wire.specs.Stream.{Entry}
 use Rattle.link_transfer.specs.Chunks.{chunk_count}
 use Rattle.link_transfer.proofs.Due.{byte_left}
 use Rattle.link_unpack.specs.Transfers.{Transfer}
 use Rattle.link_pack.specs.Segments.{Sending, cut_at, segment_bytes}
-use Rattle.link_pack.specs.declared.options.PackOptions.{PackOptions}
 use Rattle.link_laws.specs.PackedStream.{SegmentFits}
 use Rattle.link_laws.proofs.Segments.{chunk_of, segment_entries}
 use Rattle.link_laws.proofs.Sent.{open_by, sent, last_at, segment_at, stands_first, stands_next}

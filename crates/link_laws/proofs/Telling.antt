@@ -1,13 +1,13 @@
 -- What `unpack` says of the events of a head and of its data.
 use Rattle.std.proofs.Common.{◌≡◌, ℕ, zero, suc, Bool, true, false, not, ◌&&◌, ◌==◌, List, [], ◌∷◌, ◌++◌, length, Option, if◌then◌else◌, refl, ap, ◌∙◌, append-nil, arith}
 use Rattle.std.proofs.{Math.Bool.{and-true, and-false}, lemmas.Bool.ne_eqb}
+use Rattle.link_options.specs.declared.wanted.Wanted.{Wanted}
 use Rattle.link_wire.specs.{Message.data_length, declared.message.Message.Message}
 use Rattle.link_wire.specs.declared.message.SegmentHead.{SegmentHead}
 use Rattle.link_transfer.specs.declared.{fault.OrderFault.OrderFault, joiner.Turn.Turn}
 use Rattle.link_walk.specs.Walk.{Head, WalkEvent, Whole, is_plain, content_events, data_events, head_events}
 use Rattle.link_unpack.specs.Transfers.{Transfer}
 use Rattle.link_unpack.specs.Unpacking.{Told, transfers_at, told_head}
-use Rattle.link_unpack.specs.declared.wanted.Wanted.{Wanted}
 use Rattle.link_unpack.proofs.Events.{told_then, told_both, data_told, whole_if, whole_told}
 
 module _ (wanted : Wanted) where

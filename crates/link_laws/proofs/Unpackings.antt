@@ -1,6 +1,7 @@
 -- The texts of `unpack` that some bytes determine are prefixes of its texts for longer inputs.
 use Rattle.std.proofs.Common.{ℕ, Bool, true, false, List, [], ◌∷◌, ◌++◌, Option, Some, None, if◌then◌else◌, refl, ⊎_elim, arith}
 use Rattle.std.proofs.lemmas.Bool.{cases_Bool}
+use Rattle.link_options.specs.declared.wanted.Wanted.{Wanted}
 use Rattle.link_wire.specs.{Codes.is_start, declared.message.Message.Message}
 use Rattle.link_bundle_blocks.specs.Bundle.{payload_in}
 use Rattle.link_transfer.specs.declared.joiner.Turn.{Turn}
@@ -8,7 +9,6 @@ use Rattle.link_run.specs.Run.{Texts}
 use Rattle.link_walk.specs.Walk.{WalkEvent, ContactHeader, MessageHead, Data, Whole, LeftOpen}
 use Rattle.link_unpack.specs.{TransferJudge.grown, Transfers.{Transfer, continued, after_message}}
 use Rattle.link_unpack.specs.Unpacking.{is_selected, parts_of, Told, transfers_at, told_event, told_after, unpack_telling, unpack_tool}
-use Rattle.link_unpack.specs.declared.wanted.Wanted.{Wanted}
 use Rattle.link_unpack.proofs.Events.{told_push}
 use Rattle.link_unpack.proofs.Heads.{kind_of, transfers_same, transfer_begins, transfer_continues}
 use Rattle.link_unpack.proofs.Texts.{parts_more}

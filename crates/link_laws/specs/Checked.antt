@@ -1,5 +1,6 @@
 -- What `unpack` reports of a recording in which `check --must` finds no rule broken.
 use Rattle.std.specs.{Prelude.{◌≡◌, ℕ, true, List, [], Option, Some, None}, List.All}
+use Rattle.link_options.specs.declared.wanted.Wanted.{Wanted}
 use Rattle.link_wire.specs.Stream.{reading_of, heads_of}
 use Rattle.link_transfer.specs.declared.fault.OrderFault.{OrderFault}
 use Rattle.link_transfer.specs.declared.fault.OrderFault.TheVariants.{SecondSessInit}
@@ -10,7 +11,6 @@ use Rattle.link_report.specs.declared.judgement.Judgement.TheVariants.{Abandoned
 use Rattle.link_run.specs.Made.{StreamStop, stop_of}
 use Rattle.link_unpack.specs.Transfers.{Transfer}
 use Rattle.link_unpack.specs.Unpacking.{judgement_of}
-use Rattle.link_unpack.specs.declared.wanted.Wanted.{Wanted}
 use Rattle.link_laws.specs.Cuts.{faults_after, reported, reported_on, stream_stop}
 
 -- A transfer with this data is good or abandoned, or its data may be a bundle that this toolkit

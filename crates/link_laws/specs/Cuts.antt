@@ -2,6 +2,7 @@
 -- where a fault of the order ends the run, and where it does not.
 use Rattle.std.specs.Prelude.{◌≡◌, ℕ, ◌+◌, ◌≤◌, Bool, true, false, List, [], ◌∷◌, ◌++◌, length, Option, Some, None}
 use Rattle.std.specs.List.{flat_map}
+use Rattle.link_options.specs.declared.wanted.Wanted.{Wanted}
 use Rattle.link_wire.specs.Stream.{Entry, reading_of, heads_of}
 use Rattle.link_wire.specs.declared.message.Message.{Message}
 use Rattle.link_transfer.specs.Event.{event_of}
@@ -16,7 +17,6 @@ use Rattle.link_unpack.specs.Transfers.{Transfer}
 use Rattle.link_walk.specs.Walk.{stop_by}
 use Rattle.link_laws.specs.Transfers.{Ordered, ordered, transfers_of, settled, unpacked_of}
 use Rattle.link_unpack.specs.Unpacking.{parts_of, entry_of, unpacking_of, unpack_tool}
-use Rattle.link_unpack.specs.declared.wanted.Wanted.{Wanted}
 use Rattle.link_laws.specs.RoundTrip.{all}
 
 -- the same of the transfers is wanted, and a fault of the order does not end the run

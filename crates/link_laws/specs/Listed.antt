@@ -1,5 +1,6 @@
 -- The listing of a packed stream.
 use Rattle.std.specs.Prelude.{◌≡◌, ℕ, zero, suc, ◌+◌, Bool, true, false, List, [], ◌∷◌, ◌++◌, length}
+use Rattle.link_options.specs.declared.pack.PackOptions.{PackOptions}
 use Rattle.link_wire.specs.Spelling.{segment_head_size, segment_with, sess_init_with}
 use Rattle.link_wire.specs.declared.message.Message.TheVariants.{SessTerm}
 use Rattle.link_transfer.specs.Chunks.{chunk_at, chunk_count}
@@ -8,7 +9,6 @@ use Rattle.link_list.specs.Listing.{list_tool}
 use Rattle.link_bundle_walk.specs.Bundles.{Packed, divided}
 use Rattle.link_pack.specs.Packing.{segment_size, sending}
 use Rattle.link_pack.specs.Segments.{Sending, cut_at, flags_of}
-use Rattle.link_pack.specs.declared.options.PackOptions.{PackOptions}
 
 -- ---- a segment
 

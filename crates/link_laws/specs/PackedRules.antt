@@ -1,11 +1,11 @@
 -- The rules that `check` finds broken in a packed stream.
 use Rattle.std.specs.{Prelude.{◌≡◌, ℕ, ◌≤◌, Bool, List, None, Ok, IfSome}, List.{All, flat_map}}
+use Rattle.link_options.specs.declared.limits.PeerLimits.{PeerLimits}
+use Rattle.link_options.specs.declared.pack.PackOptions.{PackOptions}
 use Rattle.link_wire.specs.Spelling.{sess_init_with}
 use Rattle.link_bundle_blocks.specs.Bundle.{verdict}
 use Rattle.link_message_rules.specs.NodeIds.{node_id}
-use Rattle.link_message_rules.specs.declared.limits.PeerLimits.{PeerLimits}
 use Rattle.link_check.specs.Checking.{check_tool}
-use Rattle.link_pack.specs.declared.options.PackOptions.{PackOptions}
 use Rattle.link_laws.specs.SameRules.{Carried, broken_in_transfer, reports}
 
 -- the limits that are known are at least those for which the stream was packed

@@ -1,5 +1,6 @@
 -- A packed stream and the limits of the peer for which it was packed.
 use Rattle.std.specs.{Prelude.{◌≡◌, ℕ, ◌<◌, ◌≤◌, ◌⊎◌, true, length, List, None}, List.All}
+use Rattle.link_options.specs.declared.pack.PackOptions.{PackOptions}
 use Rattle.link_wire.specs.Stream.{Entry, reading_of, heads_of}
 use Rattle.link_wire.specs.declared.message.{Message.Message, Message.TheVariants.Segment}
 use Rattle.link_transfer.specs.Announced.{announced_of}
@@ -7,7 +8,6 @@ use Rattle.link_transfer.specs.declared.announcement.Announced.TheVariants.{Abse
 use Rattle.link_list.specs.Listing.{list_tool}
 use Rattle.link_unpack.specs.Transfers.{Transfer}
 use Rattle.link_laws.specs.Transfers.{ordered, transfers_of}
-use Rattle.link_pack.specs.declared.options.PackOptions.{PackOptions}
 
 -- A segment has some data. It has no more than the peer takes (RFC 9174 section 4.6), and no more
 -- than 65,536 bytes.

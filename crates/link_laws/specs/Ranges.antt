@@ -1,8 +1,8 @@
 -- Relations: bounds that the types of the options and of the input imply.
 use Rattle.std.specs.Prelude.{ℕ, ◌^◌, ◌<◌, ◌≤◌, List, length}
+use Rattle.link_options.specs.declared.pack.PackOptions.{PackOptions}
 use Rattle.link_wire.specs.Bytes.{AreBytes}
 use Rattle.link_wire.specs.Limits.{longest_node}
-use Rattle.link_pack.specs.declared.options.PackOptions.{PackOptions}
 
 -- the numbers and the node ID fit in the fields of SESS_INIT (RFC 9174 section 4.6)
 pub record OptionsFit (options : PackOptions) : Type 0 where

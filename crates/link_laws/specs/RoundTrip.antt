@@ -1,11 +1,11 @@
 -- The result of unpacking a packed stream.
 use Rattle.std.specs.Prelude.{◌≡◌, ℕ, suc, ◌+◌, false, List, [], ◌∷◌, ◌++◌, length, None}
+use Rattle.link_options.specs.declared.wanted.Wanted.{Wanted}
+use Rattle.link_options.specs.declared.pack.PackOptions.{PackOptions}
 use Rattle.link_report.specs.Transfer.{transfer_text}
 use Rattle.link_report.specs.declared.judgement.Judgement.TheVariants.{Good}
 use Rattle.link_unpack.specs.Unpacking.{unpack_tool}
-use Rattle.link_unpack.specs.declared.wanted.Wanted.{Wanted}
 use Rattle.link_bundle_walk.specs.Bundles.{Packed, divided}
-use Rattle.link_pack.specs.declared.options.PackOptions.{PackOptions}
 
 -- `unpack` without options: all data of all transfers
 abbrev pub all : Wanted

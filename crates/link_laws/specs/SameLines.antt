@@ -1,13 +1,13 @@
 -- The lines that `blocks` writes for a recording, and those that `blocks --bundles` writes for what
 -- `unpack` writes of the same recording.
 use Rattle.std.specs.{Prelude.{◌≡◌, ℕ, suc, false, List, [], ◌∷◌, None, Ok}, List.{All, flat_map}}
+use Rattle.link_options.specs.declared.blocks.BlockOptions.{BlockOptions}
 use Rattle.link_bundle_blocks.specs.Bundle.{verdict}
 use Rattle.link_run.specs.Writers.{on_output}
 use Rattle.link_unpack.specs.Unpacking.{unpack_tool}
 use Rattle.link_bundle_walk.specs.Bundles.{Packed}
 use Rattle.link_blocks.specs.Bundles.{whole_lines, bundle_blocks_tool}
 use Rattle.link_blocks.specs.Showing.{blocks_tool}
-use Rattle.link_blocks.specs.declared.options.BlockOptions.{BlockOptions}
 use Rattle.link_laws.specs.RoundTrip.{all}
 
 -- `blocks` without options: the lines of all transfers

@@ -2,11 +2,11 @@
 -- in what `unpack` writes of the same recording.
 use Rattle.std.specs.Prelude.{◌≡◌, ℕ, Bool, true, false, List, map, Ok, if◌then◌else◌}
 use Rattle.std.specs.List.{All, filter, flat_map}
+use Rattle.link_options.specs.declared.limits.PeerLimits.{PeerLimits}
 use Rattle.link_bundle_blocks.specs.Bundle.{verdict}
 use Rattle.link_run.specs.Run.{Outcome}
 use Rattle.link_run.specs.Writers.{on_output}
 use Rattle.link_bundle_walk.specs.Bundles.{Packed}
-use Rattle.link_message_rules.specs.declared.limits.PeerLimits.{PeerLimits}
 use Rattle.link_rule_report.specs.declared.{line.RuleText.RuleText, rule.BrokenRule.BrokenRule}
 use Rattle.link_rule_report.specs.declared.rule.BrokenRule.TheVariants.{Message, Transfer, Bundle}
 use Rattle.link_rule_report.specs.declared.rule.BundlePlace.TheVariants as place

@@ -2,6 +2,7 @@
 -- The definition of `unpack` goes event by event. This goes by the list of heads.
 use Rattle.std.specs.Prelude.{ℕ, Bool, true, false, not, ◌&&◌, is_some, List, [], ◌∷◌, ◌++◌, Option, Some, None, if◌then◌else◌}
 use Rattle.std.specs.List.{fold, list_all}
+use Rattle.link_options.specs.declared.wanted.Wanted.{Wanted}
 use Rattle.link_wire.specs.Stream.{Entry, End, Reading, reading_of, heads_of}
 use Rattle.link_wire.specs.declared.message.Message.{Message}
 use Rattle.link_transfer.specs.Event.{event_of}
@@ -11,7 +12,6 @@ use Rattle.link_run.specs.Made.{Made, stop_of}
 use Rattle.link_walk.specs.Walk.{stop_by}
 use Rattle.link_unpack.specs.Transfers.{Transfer, after_message}
 use Rattle.link_unpack.specs.Unpacking.{parts_of, judgement_of, line_of, is_good, order_line}
-use Rattle.link_unpack.specs.declared.wanted.Wanted.{Wanted}
 
 -- ---- order
 

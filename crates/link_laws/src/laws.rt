@@ -4,19 +4,20 @@
 //! it do nothing either: the proof of the law uses their contracts.
 
 ghost use Rattle.std.specs.Prelude.{◌≡◌, ◌<◌, ◌≤◌, ◌^◌, Bool, true, List, ℕ, length};
+ghost use Rattle.link_options.specs.declared.wanted.Wanted.{Wanted};
+ghost use Rattle.link_options.specs.declared.blocks.BlockOptions.{BlockOptions};
+ghost use Rattle.link_options.specs.declared.check.CheckOptions.{CheckOptions};
+ghost use Rattle.link_options.specs.declared.pack.PackOptions.{PackOptions};
+ghost use Rattle.link_options.specs.declared.limits.PeerLimits.{PeerLimits};
 ghost use Rattle.link_wire.specs.Bytes.{AreBytes};
 ghost use Rattle.link_list.specs.Listing.{list_tool};
 ghost use Rattle.link_run.specs.Made.{tool_of};
 ghost use Rattle.link_unpack.specs.Unpacking.{unpack_tool};
-ghost use Rattle.link_unpack.specs.declared.wanted.Wanted.{Wanted};
 ghost use Rattle.link_blocks.specs.Bundles.{bundle_blocks_tool};
 ghost use Rattle.link_blocks.specs.Showing.{blocks_tool};
-ghost use Rattle.link_blocks.specs.declared.options.BlockOptions.{BlockOptions};
 ghost use Rattle.link_check.specs.Bundles.{bundle_check_tool};
 ghost use Rattle.link_check.specs.Checking.{check_tool};
-ghost use Rattle.link_check.specs.declared.options.CheckOptions.{CheckOptions};
 ghost use Rattle.link_pack.specs.Packing.{pack_tool};
-ghost use Rattle.link_pack.specs.declared.options.PackOptions.{PackOptions};
 ghost use Rattle.link_laws.specs.Checked.{HasOnlyAllowed};
 ghost use Rattle.link_laws.specs.Cuts.{going_on, stopping, HasEveryByte, HasEveryTakenByte, CutsOutput, CutsOutputOn, IsSameInOrder};
 ghost use Rattle.link_laws.specs.Listed.{IsListed};
@@ -27,7 +28,6 @@ ghost use Rattle.link_laws.specs.Ranges.{OptionsFit, InputFits};
 ghost use Rattle.link_laws.specs.RoundTrip.{all, GivesBack};
 ghost use Rattle.link_laws.specs.SameLines.{HasSameLines};
 ghost use Rattle.link_laws.specs.SameRules.{HasSameRules};
-ghost use Rattle.link_message_rules.specs.declared.limits.PeerLimits.{PeerLimits};
 ghost use Rattle.link_laws.specs.Transfers.{by_transfers};
 
 use link_pack::PackOptions;

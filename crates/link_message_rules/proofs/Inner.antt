@@ -10,7 +10,8 @@ use Rattle.link_message_rules.specs.Remembered.{Remembers, next_since, so_far_of
 use Rattle.link_message_rules.specs.TransferIds.{interleaved, transfer_id}
 use Rattle.link_message_rules.specs.declared.history.MessageHistory.{MessageHistory}
 use Rattle.link_message_rules.specs.declared.lengths.TransferSoFar.{TransferSoFar}
-use Rattle.link_message_rules.specs.declared.{limits.PeerLimits.PeerLimits, session.Since.Since}
+use Rattle.link_message_rules.specs.declared.session.Since.{Since}
+use Rattle.link_options.specs.declared.limits.PeerLimits.{PeerLimits}
 use Rattle.link_message_rules.proofs.{Joined.segments_of-push, Kept.segment_kept, Since.session_of_second}
 use Rattle.link_message_rules.proofs.Unchanged.{same_parameters, same_keepalives, same_run, same_ack}
 

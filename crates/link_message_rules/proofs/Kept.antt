@@ -13,7 +13,7 @@ use Rattle.link_message_rules.specs.Lengths.{peer_segment, peer_transfer, ack_le
 use Rattle.link_message_rules.specs.{MessageRules.broken_rules, NodeIds.node_id}
 use Rattle.link_message_rules.specs.Session.{order, before_session, keepalive}
 use Rattle.link_message_rules.specs.TransferIds.{interleaved, transfer_id}
-use Rattle.link_message_rules.specs.declared.limits.PeerLimits.{PeerLimits}
+use Rattle.link_options.specs.declared.limits.PeerLimits.{PeerLimits}
 use Rattle.link_message_rules.specs.declared.rule.MessageRule.{MessageRule}
 
 none_either : {A : Type 0} (test : Bool) → ◌≡◌ {A = Option A} (if test then None else None) None

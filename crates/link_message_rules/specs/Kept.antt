@@ -8,7 +8,7 @@ use Rattle.link_message_rules.specs.Heads.{JudgedHead}
 use Rattle.link_message_rules.specs.Lengths.{peer_segment, peer_transfer, ack_length}
 use Rattle.link_message_rules.specs.Session.{before_session, keepalive}
 use Rattle.link_message_rules.specs.TransferIds.{interleaved, transfer_id}
-use Rattle.link_message_rules.specs.declared.limits.PeerLimits.{PeerLimits}
+use Rattle.link_options.specs.declared.limits.PeerLimits.{PeerLimits}
 
 -- those of XFER_ACKs, XFER_REFUSEs and KEEPALIVEs
 pub record KeepsAnswerRules (before : List JudgedHead) (message : Message) : Type 0 where

@@ -6,7 +6,7 @@ use Rattle.link_message_rules.specs.Lengths.{peer_segment, peer_transfer, ack_le
 use Rattle.link_message_rules.specs.NodeIds.{node_id}
 use Rattle.link_message_rules.specs.Session.{order, before_session, keepalive}
 use Rattle.link_message_rules.specs.TransferIds.{interleaved, transfer_id}
-use Rattle.link_message_rules.specs.declared.limits.PeerLimits.{PeerLimits}
+use Rattle.link_options.specs.declared.limits.PeerLimits.{PeerLimits}
 use Rattle.link_rules.specs.declared.level.{Level.Level, Level.TheVariants.{Must, Should}}
 use Rattle.link_message_rules.specs.declared.rule.MessageRule.{MessageRule}
 use Rattle.link_message_rules.specs.declared.rule.MessageRule.TheVariants as rule

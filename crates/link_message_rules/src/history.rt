@@ -5,12 +5,12 @@ use crate::head::JudgedHeadView;
 use crate::lengths::{
     Ack, TransferSoFar, ack_after, ack_length, peer_segment, peer_transfer, so_far_after,
 };
-use crate::limits::PeerLimits;
 use crate::node::node_id;
 use crate::rule::MessageRule;
 use crate::session::{Parameters, Since, before_session, keepalive, order, parameters_after};
 use crate::transfer_ids::{IdRun, interleaved, run_after, transfer_id};
 use arrayvec::ArrayVec;
+use link_options::PeerLimits;
 use link_rules::add_if_broken;
 use link_wire::{Fields, MessageBuffer};
 

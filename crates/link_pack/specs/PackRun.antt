@@ -13,7 +13,7 @@ use Rattle.link_bundle_walk.specs.Bundles.{Packed}
 use Rattle.link_bundle_walk.specs.Telling.{BundleTelling}
 use Rattle.link_pack.specs.Segments.{segments_of, segments_left, all_given}
 use Rattle.link_pack.specs.Packing.{prelude_bytes, sending, transfer_bytes, end_bytes, report_lines}
-use Rattle.link_pack.specs.declared.options.PackOptions.{PackOptions}
+use Rattle.link_options.specs.declared.pack.PackOptions.{PackOptions}
 
 -- the texts for these bundles, and for the bytes `begun` of the next one
 abbrev pub texts_of : PackOptions → List Packed → (begun : List ℕ) → Texts

@@ -8,7 +8,7 @@ use Rattle.link_run.specs.Run.{Tool}
 use Rattle.link_bundle_walk.specs.Bundles.{Packed, Rest, Divided, divided}
 use Rattle.link_bundle_walk.specs.Telling.{stop_by}
 use Rattle.link_pack.specs.Segments.{Sending, segments_of}
-use Rattle.link_pack.specs.declared.options.PackOptions.{PackOptions}
+use Rattle.link_options.specs.declared.pack.PackOptions.{PackOptions}
 
 -- ---- the output
 

@@ -9,10 +9,9 @@
 //! ```
 #![tactic(auto)]
 
-mod options;
 mod packer;
 mod segment_text;
 mod segments;
 
-pub use options::PackOptions;
+pub use link_options::PackOptions;
 pub use packer::{PackRun, Packer, cutter_for, pack, pack_run};

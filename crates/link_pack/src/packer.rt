@@ -10,9 +10,9 @@ ghost use Rattle.link_pack.specs.Packer.{IsCutterFor};
 ghost use Rattle.link_pack.specs.Packing.{pack_tool, prelude_bytes, end_bytes, report_line, segment_size};
 ghost use Rattle.link_pack.specs.PackRun.{LacksMemory};
 
-use crate::options::PackOptions;
 use crate::segments::write_run;
 use link_bundle_walk::{BundleConsumer, BundleWalkRun, WholeView, bundle_walk_run};
+use link_options::PackOptions;
 use link_report::{PackedText, PackedView};
 use link_run::{Run, RunEnd, Writers};
 use link_transfer::Cutter;

@@ -1,5 +1,7 @@
 -- The tools by their options: when a tool is ready to run, and what a whole run does.
 use Rattle.std.specs.Prelude.{List, Option, Some, None, Result, Ok, Err, IfOk, ⊤}
+use Rattle.link_options.specs.declared.options.Options.{Options}
+use Rattle.link_options.specs.declared.options.Options.TheVariants as chosen
 use Rattle.link_wire.specs.declared.IoFault.{IoFault}
 use Rattle.link_run.specs.Run.{Tool, Looks, Devices, Wait, AfterRun}
 use Rattle.link_run.specs.declared.run.Status.{Status}
@@ -14,8 +16,6 @@ use Rattle.link_pack.specs.Packer.{IsCutterFor}
 use Rattle.link_pack.specs.PackRun.{LacksMemory}
 use Rattle.link_tools.specs.declared.options.Job.{Job}
 use Rattle.link_tools.specs.declared.options.Job.TheVariants as job
-use Rattle.link_tools.specs.declared.options.Options.{Options}
-use Rattle.link_tools.specs.declared.options.Options.TheVariants as chosen
 
 -- the options of the tool that is ready to run
 abbrev pub options_of : Job → Options

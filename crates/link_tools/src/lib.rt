@@ -17,14 +17,12 @@ mod options;
 
 pub use exit::run_exit;
 pub use link_blocks::{
-    BlockOptions, BlocksRun, BundleBlocksRun, blocks, blocks_run, bundle_blocks, bundle_blocks_run,
+    BlocksRun, BundleBlocksRun, blocks, blocks_run, bundle_blocks, bundle_blocks_run,
 };
-pub use link_check::{
-    BundleCheckRun, CheckOptions, CheckRun, PeerLimits, bundle_check, bundle_check_run, check,
-    check_run,
-};
+pub use link_check::{BundleCheckRun, CheckRun, bundle_check, bundle_check_run, check, check_run};
 pub use link_list::{ListRun, list, list_run};
-pub use link_pack::{PackOptions, PackRun, cutter_for, pack, pack_run};
+pub use link_options::{BlockOptions, CheckOptions, Options, PackOptions, PeerLimits, Wanted};
+pub use link_pack::{PackRun, cutter_for, pack, pack_run};
 pub use link_run::{Progress, Run, RunEnd, Status, Waits};
-pub use link_unpack::{UnpackRun, Wanted, unpack, unpack_run};
-pub use options::{Job, Options, run_tool};
+pub use link_unpack::{UnpackRun, unpack, unpack_run};
+pub use options::{Job, run_tool};

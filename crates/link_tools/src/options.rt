@@ -1,40 +1,19 @@
-//! One type for the options of every tool, and one call that runs any of the tools.
+//! One call that runs any of the tools.
 
 ghost use Rattle.std.specs.Prelude.{◌≡◌, false};
 ghost use Rattle.link_run.specs.Run.{looks};
 ghost use Rattle.link_tools.specs.Options.{AfterJob, IsReady, options_of};
 
-use link_blocks::{BlockOptions, blocks, bundle_blocks};
-use link_check::{CheckOptions, bundle_check, check};
+use link_blocks::{blocks, bundle_blocks};
+use link_check::{bundle_check, check};
 use link_list::list;
-use link_pack::{PackOptions, cutter_for, pack};
+use link_options::{BlockOptions, CheckOptions, Options, PackOptions, Wanted};
+use link_pack::{cutter_for, pack};
 use link_run::RunEnd;
 use link_transfer::Cutter;
-use link_unpack::{Wanted, unpack};
+use link_unpack::unpack;
 use link_wire::{InDevice, OutDevice};
 use std::alloc::{AllocError, Global};
-
-/// A tool with its options.
-#[derive(Debug, Drop, PartialEq, Eq)]
-pub enum Options {
-    /// `list`: a line for the contact header and for each message of a recording.
-    List,
-    /// `unpack`: the wanted data of a recording's transfers, and a line for each transfer.
-    Unpack(Wanted),
-    /// `blocks` of a recording: a line for each block of its bundles.
-    Blocks(BlockOptions),
-    /// `blocks` of bundles, one after another: a line for each of their blocks.
-    BundleBlocks,
-    /// `check` of a recording: a line for each rule that its sender breaks.
-    Check(CheckOptions),
-    /// `check` of bundles, one after another: a line for each rule that they break.
-    BundleCheck {
-        /// Whether only rules of level `must` have a line, and count.
-        must: bool,
-    },
-    /// `pack`: bundles as the stream of a sender, and a line for each bundle.
-    Pack(PackOptions),
-}
 
 /// A tool that is ready to run.
 #[derive(Drop)]

@@ -6,7 +6,7 @@ use Rattle.link_wire.specs.declared.message.SegmentHead.{SegmentHead}
 use Rattle.link_walk.specs.{Walk.{WalkEvent, Whole, data_events}, Telling.data_ends}
 use Rattle.link_unpack.specs.{Transfers.{Transfer, continued}, TransferJudge.grown}
 use Rattle.link_unpack.specs.Unpacking.{Told, none_told, told_event, told_after, with_line}
-use Rattle.link_unpack.specs.declared.wanted.Wanted.{Wanted}
+use Rattle.link_options.specs.declared.wanted.Wanted.{Wanted}
 
 -- the latest transfer is open
 abbrev pub LatestIsOpen : List Transfer → Type 0

@@ -18,7 +18,8 @@ use Rattle.link_unpack.specs.Unpacking.{part_of, parts_of, order_line, Told, lin
 use Rattle.link_unpack.specs.{TransferJudge.{begun, grown}, TransferScan.IsAtTransfer}
 use Rattle.link_unpack.specs.Unpacker.{IsAtLatest, KnowsTold}
 use Rattle.link_unpack.specs.declared.transfer.TransferScan.{TransferScan}
-use Rattle.link_unpack.specs.declared.{unpacker.Unpacker.Unpacker, wanted.Wanted.Wanted}
+use Rattle.link_unpack.specs.declared.unpacker.Unpacker.{Unpacker}
+use Rattle.link_options.specs.declared.wanted.Wanted.{Wanted}
 use Rattle.link_unpack.proofs.Events.{open_is, told_push, data_after, whole_if}
 use Rattle.link_unpack.proofs.Heads.{transfers_same, transfer_begins, transfer_continues}
 use Rattle.link_unpack.proofs.Effects.{zero_eq, Does, Strays, Passes, Begins, Continues, comes_does}

@@ -16,7 +16,8 @@ use Rattle.link_unpack.specs.{Transfers.Transfer, TransferJudge.{IsJudging, begu
 use Rattle.link_unpack.specs.TransferScan.{IsAtTransfer}
 use Rattle.link_unpack.specs.Unpacking.{is_selected, part_of, parts_of, judgement_of, entry_of}
 use Rattle.link_unpack.specs.declared.judge.TransferJudge.{TransferJudge}
-use Rattle.link_unpack.specs.declared.{transfer.TransferScan.TransferScan, wanted.Wanted.Wanted}
+use Rattle.link_unpack.specs.declared.transfer.TransferScan.{TransferScan}
+use Rattle.link_options.specs.declared.wanted.Wanted.{Wanted}
 use Rattle.link_unpack.proofs.Texts.{parts_more}
 
 -- ---- a transfer begins

@@ -3,7 +3,8 @@ use Rattle.std.specs.Prelude.{◌≡◌, List, length}
 use Rattle.link_unpack.specs.Transfers.{Transfer}
 use Rattle.link_unpack.specs.TransferJudge.{IsJudging}
 use Rattle.link_unpack.specs.Unpacking.{part_of, parts_of}
-use Rattle.link_unpack.specs.declared.{transfer.TransferScan.TransferScan, wanted.Wanted.Wanted}
+use Rattle.link_unpack.specs.declared.transfer.TransferScan.{TransferScan}
+use Rattle.link_options.specs.declared.wanted.Wanted.{Wanted}
 
 -- the scan is at the transfer `transfer`, which comes after those of `earlier`
 pub record IsAtTransfer (wanted : Wanted) (now : TransferScan) (transfer : Transfer)

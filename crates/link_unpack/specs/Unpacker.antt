@@ -5,7 +5,8 @@ use Rattle.link_unpack.specs.Transfers.{Transfer}
 use Rattle.link_unpack.specs.Unpacking.{parts_of, told_after}
 use Rattle.link_unpack.specs.TransferScan.{IsAtTransfer}
 use Rattle.link_unpack.specs.declared.transfer.TransferScan.{TransferScan}
-use Rattle.link_unpack.specs.declared.{unpacker.Unpacker.Unpacker, wanted.Wanted.Wanted}
+use Rattle.link_unpack.specs.declared.unpacker.Unpacker.{Unpacker}
+use Rattle.link_options.specs.declared.wanted.Wanted.{Wanted}
 
 -- the scan is at the latest transfer, which is open or not
 pub record IsAtLatest (wanted : Wanted) (latest : TransferScan) (is_open : Bool)

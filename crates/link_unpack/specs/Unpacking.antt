@@ -17,7 +17,7 @@ use Rattle.link_run.specs.Made.{Made, tool_of}
 use Rattle.link_run.specs.Run.{Tool}
 use Rattle.link_walk.specs.Walk.{Head, WalkEvent, ContactHeader, MessageHead, Data, Whole, LeftOpen, abandons, closes, Telling, told_of}
 use Rattle.link_unpack.specs.Transfers.{Transfer, continued, after_message}
-use Rattle.link_unpack.specs.declared.wanted.Wanted.{Wanted}
+use Rattle.link_options.specs.declared.wanted.Wanted.{Wanted}
 
 -- ---- the output
 

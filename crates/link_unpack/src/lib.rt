@@ -16,9 +16,8 @@ mod judge;
 mod pieces;
 mod transfer;
 mod unpacker;
-mod wanted;
 
 pub use judge::{TransferJudge, is_bundle};
+pub use link_options::Wanted;
 pub use pieces::part_in;
 pub use unpacker::{UnpackRun, Unpacker, tell_order, unpack, unpack_run};
-pub use wanted::Wanted;

@@ -5,7 +5,7 @@ ghost use Rattle.link_report.specs.Judgement.{viewed_judgement};
 
 use crate::judge::TransferJudge;
 use crate::pieces::part_in;
-use crate::wanted::Wanted;
+use link_options::Wanted;
 use link_report::{TransferText, TransferView};
 use link_wire::{INPUT_LIMIT, MessageBuffer};
 
@@ -36,7 +36,7 @@ impl TransferScan {
     ghost use Rattle.link_unpack.specs.Unpacking.{parts_of, part_of, line_of, judgement_of, is_good};
     ghost use Rattle.link_unpack.specs.TransferJudge.{IsJudging, begun, grown};
     ghost use Rattle.link_unpack.specs.TransferScan.{IsAtTransfer};
-    ghost use Rattle.link_unpack.specs.declared.wanted.Wanted.{Wanted};
+    ghost use Rattle.link_options.specs.declared.wanted.Wanted.{Wanted};
 
     /// Makes a scan for the first transfer of a stream.
     pub fn new() -> TransferScan

@@ -8,11 +8,11 @@ ghost use Rattle.link_unpack.specs.Transfers.{Transfer};
 ghost use Rattle.link_unpack.specs.Unpacking.{order_line, line_of, is_good, judgement_of, unpack_telling, unpack_tool, line_due, good_due};
 ghost use Rattle.link_unpack.specs.TransferScan.{IsAtTransfer};
 ghost use Rattle.link_unpack.specs.Unpacker.{IsAtLatest, KnowsTold};
-ghost use Rattle.link_unpack.specs.declared.wanted.Wanted.{Wanted};
+ghost use Rattle.link_options.specs.declared.wanted.Wanted.{Wanted};
 
 use crate::judge::is_bundle;
 use crate::transfer::TransferScan;
-use crate::wanted::Wanted;
+use link_options::Wanted;
 use link_report::Fault;
 use link_run::{Run, RunEnd, Writers};
 use link_transfer::OrderFault;

@@ -14,10 +14,11 @@ use crate::codes::{
 use crate::fault::WireFault;
 use crate::halt::Halt;
 use crate::list::list;
-use crate::message::{Contact, Fields, Items, ListOf, MAX_NODE_ID, MessageBuffer, NodeId};
+use crate::message::{Contact, Fields, Items, ListOf, MessageBuffer};
 use crate::parts::{bytes, field, number8, number16, number64};
 use byteorder::{BigEndian, ByteOrder};
 use link_io::{Filled, InDevice, IoFault, Source};
+use link_options::{MAX_NODE_ID, NodeId};
 
 /// Reads a contact header of six bytes: `dtn!`, the version and the flags (RFC 9174 section 4.2).
 pub fn contact<R: InDevice>(source: &mut Source<R>) -> Result<Contact, Halt>

@@ -39,9 +39,10 @@ pub use link_io::{
     BufferedReader, DeviceFault, Filled, INPUT_LIMIT, InDevice, IoFault, OutDevice, Reader, Source,
     TEXT_MAX, Text, TextWriter, WINDOW, Writer, copy_into, write_whole,
 };
+pub use link_options::{MAX_NODE_ID, NodeId};
 pub use message::{
-    Contact, Fields, Item, Items, ListOf, MAX_ITEMS, MAX_LIST_LENGTH, MAX_NODE_ID, Message,
-    MessageBuffer, NodeId, SegmentHead,
+    Contact, Fields, Item, Items, ListOf, MAX_ITEMS, MAX_LIST_LENGTH, Message, MessageBuffer,
+    SegmentHead,
 };
 pub use session::Session;
 pub use slices::{ItemAt, MessageAt, Span, contact_in, item_in, message_in};

@@ -2,9 +2,7 @@
 
 use crate::codes::START;
 use arrayvec::ArrayVec;
-
-/// The greatest length of a node ID that is read, in bytes: no report line shows a longer one.
-pub const MAX_NODE_ID: usize = 1024;
+use link_options::NodeId;
 
 /// The greatest length of an extension list that is read, in bytes.
 ///
@@ -16,9 +14,6 @@ pub const MAX_ITEMS: usize = 64;
 
 /// The items of one extension list, in order.
 pub type Items = ArrayVec<Item, MAX_ITEMS>;
-
-/// The bytes of a node ID's text; there are none if no node ID is given.
-pub type NodeId = ArrayVec<u8, MAX_NODE_ID>;
 
 /// A contact header of version 4 (RFC 9174 section 4.2).
 #[derive(Clone, Copy, Debug, PartialEq, Eq)]

@@ -15,10 +15,9 @@ use crate::codes::{
     TRANSFER_LENGTH, VERSION, XFER_ACK, XFER_REFUSE, XFER_SEGMENT,
 };
 use crate::fault::WireFault;
-use crate::message::{
-    Contact, Fields, Item, ListOf, MAX_ITEMS, MAX_LIST_LENGTH, MAX_NODE_ID, Message,
-};
+use crate::message::{Contact, Fields, Item, ListOf, MAX_ITEMS, MAX_LIST_LENGTH, Message};
 use byteorder::{BigEndian, ByteOrder};
+use link_options::MAX_NODE_ID;
 
 /// Where some bytes of a slice lie.
 #[derive(Clone, Copy, Debug, PartialEq, Eq)]

@@ -11,8 +11,9 @@ use crate::codes::{
     ITEM_HEAD, MAGIC, SESS_INIT, SESS_TERM, START, TOTAL_SIZE, TRANSFER_LENGTH, VERSION,
     XFER_SEGMENT,
 };
-use crate::message::{Message, NodeId};
+use crate::message::Message;
 use arrayvec::ArrayVec;
+use link_options::NodeId;
 
 /// The size of a [`HeadBuf`], in bytes: the longest SESS_INIT that is written has 1,049.
 pub const HEAD_MAX: usize = 2048;

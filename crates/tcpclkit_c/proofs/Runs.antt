@@ -1,7 +1,8 @@
 -- A run over slices: it never fails, and what it has written is in its slices.
 use Rattle.std.proofs.Common.{◌≡◌, ◌≤◌, ◌⊎◌, ℕ, false, List, [], ◌++◌, length, Option, Some, None, Result, Ok, Err, refl, ap, inl, inr, ⊎_elim, append-nil, append_assoc, length-append, arith}
 use Rattle.std.specs.declared.alloc.AllocError.{AllocError}
-use Rattle.link_pack.specs.{Packing.pack_tool, declared.options.PackOptions.PackOptions}
+use Rattle.link_options.specs.declared.pack.PackOptions.{PackOptions}
+use Rattle.link_pack.specs.Packing.{pack_tool}
 use Rattle.link_run.specs.Run.{Tool, Texts, Looks, Devices, HandedBack, FinishedRun, EndedRun, Wait}
 use Rattle.link_run.specs.declared.run.Status.{Status}
 use Rattle.link_tools.specs.Options.{AfterTool}

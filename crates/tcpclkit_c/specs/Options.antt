@@ -2,12 +2,12 @@
 -- the program. A word that this version does not know has to be 0.
 use Rattle.std.specs.Prelude.{◌≡◌, ℕ, ◌^◌, ◌-◌, Bool, not, ◌&&◌, ◌||◌, ◌==◌, nat_lt, nat_le, List, drop, get_or, Option, Some, None, if◌then◌else◌}
 use Rattle.std.specs.List.{list_any}
-use Rattle.link_blocks.specs.declared.options.BlockOptions.{BlockOptions}
-use Rattle.link_check.specs.declared.options.CheckOptions.{CheckOptions}
-use Rattle.link_pack.specs.declared.options.PackOptions.{PackOptions}
+use Rattle.link_options.specs.declared.blocks.BlockOptions.{BlockOptions}
+use Rattle.link_options.specs.declared.check.CheckOptions.{CheckOptions}
+use Rattle.link_options.specs.declared.pack.PackOptions.{PackOptions}
+use Rattle.link_options.specs.declared.wanted.Wanted.{Wanted}
 use Rattle.link_tools.specs.declared.options.Job.{Job}
 use Rattle.link_tools.specs.declared.options.Job.TheVariants as job
-use Rattle.link_unpack.specs.declared.wanted.Wanted.{Wanted}
 use Rattle.tcpclkit_c.specs.declared.options.BlocksNumbers.{BlocksNumbers}
 use Rattle.tcpclkit_c.specs.declared.options.PackNumbers.{PackNumbers}
 use Rattle.tcpclkit_c.specs.declared.options.CheckNumbers.{CheckNumbers}

@@ -1,11 +1,11 @@
 -- What the exports of whole tools return.
 use Rattle.std.specs.Prelude.{◌≡◌, ℕ, ◌^◌, ◌-◌, ◌==◌, ◌||◌, ◌&&◌, ◌⊎◌, Bool, nat_le, min, List, length, if◌then◌else◌}
+use Rattle.link_options.specs.declared.pack.PackOptions.{PackOptions}
 use Rattle.link_blocks.specs.Bundles.{bundle_blocks_tool}
 use Rattle.link_blocks.specs.Showing.{blocks_tool}
 use Rattle.link_check.specs.Bundles.{bundle_check_tool}
 use Rattle.link_check.specs.Checking.{check_tool}
 use Rattle.link_pack.specs.Packing.{pack_tool}
-use Rattle.link_pack.specs.declared.options.PackOptions.{PackOptions}
 use Rattle.link_run.specs.Run.{Tool, Outcome}
 use Rattle.link_unpack.specs.Unpacking.{unpack_tool}
 use Rattle.tcpclkit_c.specs.Options.{unpack_numbers, wanted_of, blocks_numbers, block_options_of, check_numbers, check_options_of, pack_numbers, HasOptions}

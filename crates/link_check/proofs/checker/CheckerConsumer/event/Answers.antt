@@ -6,7 +6,8 @@ use Rattle.link_walk.specs.Telling.{ComesAfter, data_ends, viewed_head}
 use Rattle.link_walk.specs.Walk.{Head, WalkEvent, ContactHeader, LeftOpen, MessageHead, closes, has_open, is_beginning}
 use Rattle.link_check.specs.Checker.{IsAtLatest, KnowsChecked, closed_due, kept_of}
 use Rattle.link_check.specs.Checking.{Begun, begun_by, broken_by, head_rules, judged, with_bytes}
-use Rattle.link_check.specs.declared.{checker.Checker.Checker, options.CheckOptions.CheckOptions}
+use Rattle.link_check.specs.declared.checker.Checker.{Checker}
+use Rattle.link_options.specs.declared.check.CheckOptions.{CheckOptions}
 use Rattle.link_check.proofs.{Writing.{part_written, then_written}, Closed.on_ok_by}
 use Rattle.link_check.proofs.Kept.{IsRead, closes_read, data_said, inner_said, known_data, known_inner, known_one, opens_read, read_after, said_one, tells}
 use Rattle.link_check.proofs.checker.CheckerConsumer.event.Given.{Over}

@@ -2,7 +2,7 @@
 
 ghost use Rattle.std.specs.Prelude.{◌≤◌};
 
-use link_wire::NodeId;
+use crate::node::NodeId;
 
 /// What the stream announces about its sender, and the limits of the peer that receives it.
 #[derive(Debug, Drop, PartialEq, Eq)]

@@ -1,6 +1,6 @@
 //! What is judged, and which broken rules have a line.
 
-use link_message_rules::PeerLimits;
+use crate::limits::PeerLimits;
 
 /// Which broken rules have a line, and the limits of the node's peer.
 #[derive(Clone, Copy, Debug, PartialEq, Eq)]
