@@ -75,6 +75,7 @@ fn counts(must: bool, broken: &RuleText) -> bool
 /// Writes the line of a broken rule, if it counts. Then `good` becomes false.
 ///
 /// `must` is whether only rules of level `must` count.
+#[inline(always)]
 fn write_line<W: OutDevice, E: OutDevice>(
     must: bool,
     broken: &RuleText,

@@ -112,12 +112,12 @@ impl Found {
         ensures { HasNoted self.old self.new offset head size }
     {
         self.long = self.long.or(is_long(head, size).then_some(offset));
-        if head.value.is_none() || head.major == TAG {
+        if head.is_indefinite() || head.major == TAG {
             self.note_unread(offset, head, size);
         }
     }
 
-    /// Keeps the offset of a head without a value or of a tag, if it is the first of its kind.
+    /// Keeps the offset of a head of indefinite length or of a tag, if it is the first of its kind.
     #[cold]
     #[inline(never)]
     fn note_unread(&mut self, offset: u64, head: Head, size: usize)
