@@ -23,7 +23,7 @@ LINES, NOTHING = " | ", "-"
 
 def sections():
     """The section of RFC 9174 of each rule of two sides, by the table of docs/FORMATS.md."""
-    text = (TOP / "docs" / "FORMATS.md").read_text(encoding="utf-8").partition("\n## Rules of a session\n")[2]
+    text = (TOP / "docs" / "SESSIONS.md").read_text(encoding="utf-8").partition("\n## Rules of a session\n")[2]
     rows = [[cell.strip() for cell in line.split("|")[1:3]] for line in text.partition("\n## ")[0].splitlines()]
     named = [cells for cells in rows if cells and cells[0].startswith("`")]
     return {rule.strip("` "): where for names, where in named for rule in names.split(",")}

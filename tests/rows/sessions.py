@@ -2,7 +2,7 @@
 
 A side is a list of messages, from its contact header on. In a line, `{a2}` is the offset of message
 2 of side a, counted from 0, and `{b-end}` the length of the recording of side b. The lines were
-worked out by hand from the RFC and docs/FORMATS.md. More pairs with the same form are in MORE.
+worked out by hand from the RFC and docs/SESSIONS.md. More pairs with the same form are in MORE.
 """
 
 import struct

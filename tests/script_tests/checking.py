@@ -1,4 +1,4 @@
-"""Tests of scripts/capture --check. The lines were worked out by hand from docs/FORMATS.md.
+"""Tests of scripts/capture --check. The lines were worked out by hand from docs/SESSIONS.md.
 
 A turn is a side and the data of its packet. In a line, `{b3}` is the offset of turn 3 of side b,
 counted from 0, and `{b-end}` the length of its recording.
