@@ -144,7 +144,7 @@ class Node:
             self.open = None
         may_retry = it.reason not in (NO_RESOURCES, NOT_ACCEPTABLE, TERMINATING)
         if is_first and ("retries" in self.bugs and it.reason == NO_RESOURCES or may_retry and self.rng.random() < 0.3):
-            self.bundles.insert(0, refused.data)
+            self.bundles.insert(self.rng.randint(0, len(self.bundles)), refused.data)
 
     # ---- answers
 
@@ -164,7 +164,7 @@ class Node:
     def refuse(self, it):
         """Refuses a transfer. The segments that wait are refused with it, or one by one."""
         if it.refused is None:
-            reasons = [0, 1, NO_RESOURCES, 3, NOT_ACCEPTABLE]
+            reasons = list(self.traits.reasons)
             reasons += [EXTENSION_FAILURE] if it.items else []
             reasons += [TERMINATING] if self.term else []
             it.refused = TERMINATING if it.is_late else EXTENSION_FAILURE if it.is_critical else self.rng.choice(reasons)

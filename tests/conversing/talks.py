@@ -6,7 +6,7 @@ from typing import NamedTuple
 from model import wire
 
 from .messages import CAN_TLS, CRITICAL, EXPERIMENTS, SMALLEST, Raw, spelled
-from .nodes import Node
+from .nodes import NO_RESOURCES, NOT_ACCEPTABLE, Node
 
 STEPS = 20000
 SMALL, USUAL = [1, 2, 3, 7, 20], [40, 64, 100, 1000, 1 << 16, (1 << 64) - 1]
@@ -67,14 +67,15 @@ class Talk(NamedTuple):
 class Traits:
     """What sets a node apart: its parameters, and how likely it does what."""
 
-    def __init__(self, rng, line, is_active):
-        self.rng, self.line, self.is_active = rng, line, is_active
+    def __init__(self, rng, line, is_active, name):
+        self.rng, self.line, self.is_active, self.name = rng, line, is_active, name
         self.flags = 0
         self.init = init(rng, line)
         self.is_strict = rng.random() < 0.5
         self.leaves_early = rng.random() < 0.03
         self.is_hasty, self.aborts = rng.random() < 0.15, rng.random() < 0.04
         self.refusals = rng.choice([0, 0, 0.03, 0.1, 0.3])
+        self.reasons = [0, 1, NO_RESOURCES, 3, NOT_ACCEPTABLE]
         self.refuses_at_once = rng.random() < 0.5
         self.rejects = rng.choice([0, 0, 0, 0.3])
         self.in_order, self.so_far = rng.random() < 0.7, rng.random() < 0.1
@@ -127,16 +128,16 @@ def init(rng, line):
 
 
 def talk(seed, bugs=(), **fixed):
-    """A session. With `bugs`, one of the nodes, side a, has these bugs. `fixed` sets traits of both."""
+    """A session. Side a has the bugs, but `patient` is one of side b. `fixed` sets traits of both."""
     rng = random.Random(seed)
     line = Line(rng.choice([0.001, 0.03, 0.3, 0.6]), shared_items(rng), rng.choice([1, 2, 5, 30, 60, 600]))
     is_active = rng.random() < 0.5
-    traits = [Traits(rng, line, is_active), Traits(rng, line, not is_active)]
+    traits = [Traits(rng, line, is_active, "a"), Traits(rng, line, not is_active, "b")]
     for it in traits:
         vars(it).update({name: value(it) if callable(value) else value for name, value in fixed.items()})
     if rng.random() < 0.1:
         rng.choice(traits).flags = CAN_TLS
-    nodes = [Node(rng, traits[0], bugs), Node(rng, traits[1])]
+    nodes = [Node(rng, traits[0], set(bugs) - {"patient"}), Node(rng, traits[1], set(bugs) & {"patient"})]
     nodes[0].peer, nodes[1].peer = nodes[1], nodes[0]
     steps = STEPS
     while steps and not all(it.is_closed for it in nodes):
