@@ -1,7 +1,7 @@
 """What is judged when both recordings were read: beginnings and endings, and what is missing."""
 
 from .answers import acknowledged_after, claim_missing, claim_order, compare
-from .facts import ACK, CRITICAL, INIT, REFUSE, REJECT, REPLY, TERM
+from .facts import ACK, CRITICAL, INIT, KEEPALIVE, REFUSE, REJECT, REPLY, TERM
 from .sending import claim_left
 from .sides import MUST, SHOULD
 
@@ -16,6 +16,9 @@ FIRST, HANDSHAKE, RECORDS = 6, 0x16, range(0x14, 0x18)
 
 # The first type byte that is for private use (RFC 9174 section 8.5)
 PRIVATE = 0xF0
+
+# The types of which a side may send the first message after its SESS_TERM
+LATE = ACK, REFUSE, KEEPALIVE, REJECT
 
 # Reasons of SESS_TERM and of MSG_REJECT (sections 6.1 and 5.1.2)
 VERSION_MISMATCH, CONTACT_FAILURE = 0x02, 0x04
@@ -81,8 +84,9 @@ def judge_session(side):
     terms(side)
     unanswered(side)
     if side.is_whole():
+        level = MUST if side.is_closed else SHOULD
         for ident, (offset, words) in side.accepted.items():
-            side.claim(offset, MUST, "length-not-refused", f"id={ident} {words}")
+            side.claim(offset, level, "length-not-refused", f"id={ident} {words}")
 
 
 def no_session(side):
@@ -107,7 +111,8 @@ def rejects(side):
     other, fault = side.other, side.other.listing.fault
     unknown = fault.type_byte() if fault else None
     for header, offset in side.rejects.items():
-        if header not in other.types and header != unknown:
+        is_late = header in LATE and not other.is_closed and other.seen < offset
+        if header not in other.types and header != unknown and not is_late:
             side.claim(offset, MUST, "reject-header", f"header={header:02x}", if_known=True)
     if unknown is not None and unknown not in side.rejects and is_unknown(side, fault):
         not_rejected(side, unknown, fault.offset, SHOULD)
@@ -135,7 +140,7 @@ def is_unknown(side, fault):
 def unexpected(side, kind, offset):
     """Judges that a message out of place was not rejected."""
     if side.is_whole():
-        not_rejected(side, kind, offset, MUST if side.seen >= offset else SHOULD)
+        not_rejected(side, kind, offset, MUST if side.is_closed and side.seen >= offset else SHOULD)
 
 
 def not_rejected(side, kind, offset, level):
@@ -185,7 +190,7 @@ def missing(side, transfer):
     if transfer.unanswered() <= 0 or transfer.extra:
         return
     segment, end = transfer.pending[len(transfer.strange)], side.listing.end
-    if side.is_whole() and side.answered > segment.offset:
+    if side.is_closed and side.is_whole() and side.answered > segment.offset:
         claim_missing(side, transfer, segment, end, MUST)
     elif side.is_whole() and side.seen > segment.offset:
         claim_missing(side, transfer, segment, end, SHOULD)

@@ -170,6 +170,9 @@ def is_unfinished(side):
     """Returns whether the transfer that is open at the end should have been finished.
 
     It may be left if it was refused, and in a session that a SESS_TERM ends (RFC 9174 section 6.1).
+    The other side may have done so, or have closed the connection inside a message, if its
+    recording is not whole.
     """
     is_refused = side.opened is not None and side.opened.refused is not None
-    return side.is_whole() and not (is_refused or side.terms or side.other.terms)
+    are_whole = side.is_whole() and side.other.is_whole()
+    return are_whole and not (is_refused or side.terms or side.other.terms)

@@ -11,6 +11,18 @@ OF_ONE_SIDE = {
 }
 
 
+# What a side may still send after its SESS_TERM. In a recording that is not closed, a judge may take it
+# for missing, but then it is no `must` (docs/FORMATS.md, "What is missing").
+MAY_COME = {"ack-missing", "length-not-refused", "not-rejected"}
+
+
+def may_come(talk, line, closed):
+    """Whether a line is about an answer that may still come after a SESS_TERM."""
+    sent = getattr(talk, line.side).sent
+    has_term = any(isinstance(it.it, wire.SessTerm) for it in sent)
+    return line.side not in closed and has_term and line.level == "should" and line.rule in MAY_COME
+
+
 def spelling(messages):
     """The bytes of messages."""
     return b"".join(spelled(it.it) for it in messages)

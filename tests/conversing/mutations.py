@@ -400,6 +400,8 @@ def critical_session(rng, talk):
     """A SESS_INIT has a critical item that nobody knows, and the session goes on."""
     for it in answered(talk, rng):
         n, init = first_init(talk, it.side)
+        if any(each.it.reason == 4 for each in side(talk, OTHER[it.side]) if isinstance(each.it, wire.SessTerm)):
+            continue
         return Changed(replaced(talk, it.side, n, items=[*init.items, UNKNOWN]), OTHER[it.side])
     return None
 
@@ -580,7 +582,7 @@ def ack_early(rng, talk):
         mine, theirs = ("ab".index(it.side), 1 - "ab".index(it.side))
         for n, ack in zip(it.segments, it.acks):
             early = seconds[mine][n] - 0.05
-            if seconds[theirs][ack - 1] < early:
+            if seconds[theirs][ack - 1] < early and seconds[theirs][ack] < early + 2:
                 seconds[theirs][ack] = early
                 return Changed(talk, OTHER[it.side], talk.times(seconds))
     return None
@@ -626,5 +628,5 @@ KINDS = {
     "no-session": Kind("no-session", no_session),
     "silent": Kind("keepalive-late", silent, bugs=("silent",), is_timed=True),
     "patient": Kind("idle", patient, "should", (("peer", "keepalive-late"),), ("silent", "patient"), is_timed=True),
-    "ack-early": Kind("ack-early", ack_early, is_timed=True),
+    "ack-early": Kind("ack-early", ack_early, traits={"so_far": False}, is_timed=True),
 }

@@ -58,6 +58,9 @@ NOT_WHOLE = {
     "a SESS_TERM that may come": pair([TERM], []),
     "a SESS_TERM that may be missing": pair([], [REPLIED]),
     "a message that may have been rejected": pair([], [REJECTED(3, 3)]),
+    "a KEEPALIVE that may have come after a SESS_TERM": pair([TERM], [REPLIED, REJECTED(2, 4)]),
+    "a transfer whose other side is cut off": pair([first()], [ACKED[0][:5]], options="--closed ab", status=3),
+    "a transfer whose other side may have refused it": pair([first()], [ACKED[0]], options="--closed a"),
     "a SESS_INIT that may come": bare([HEADER, A, whole()], [HEADER]),
     "nothing of a side": bare([HEADER, A, first(), whole(1)], [], status=3),
     "a beginning that is missing": bare([HEADER, A, whole(), whole(1)], [HEADER, make.xfer_ack(BOTH, 1, SIZE)[3:]], status=3),
@@ -93,6 +96,17 @@ BROKEN = {
                                                       "b {b2} must ack-missing id=0 peer-at={a2}"),
     "the second answer of a transfer is missing": pair([*THREE, TERM], [THREE_ACKED[0], THREE_ACKED[2], REPLIED],
                                                        "b {b3} must ack-missing id=0 peer-at={a3}"),
+    "an answer that may come after a SESS_TERM": pair(
+        [whole(), whole(1), TERM], [acked(1), REPLIED], "b {b-end} should ack-missing id=0 peer-at={a2}"),
+    "a refusal that may come after a SESS_TERM": pair(
+        [first(0, DATA[:HALF], LONGER), last(), TERM], [*ACKED, REPLIED],
+        f"a {{a2}} must length-differs transfer=0 announced={SIZE + 1} length={SIZE}",
+        f"b {{b3}} should length-not-refused id=0 announced={SIZE + 1} length={SIZE}"),
+    "a MSG_REJECT that may come after a SESS_TERM": pair(
+        [A, whole(), TERM], [acked(), REPLIED], "a {a2} should order fault=second-session-initiation",
+        "b {b-end} should not-rejected type=07 peer-at={a2}"),
+    "a KEEPALIVE is rejected that was not sent": pair(
+        [TERM], [REPLIED, REJECTED(2, 4)], "b {b3} must reject-header header=04", options="--closed a"),
     "an answer is missing before a SESS_TERM": pair([whole(), TERM], [REPLIED],
                                                     "b {b-end} should ack-missing id=0 peer-at={a2}"),
     "reserved flags that are not repeated": pair([RESERVED, TERM], [acked(), REPLIED], FLAGS,
@@ -104,7 +118,7 @@ BROKEN = {
         [whole(), acked()], [acked(7), acked(), whole()], "b {b2} must ack-unknown id=7"),
     "an answer to nothing that was seen": pair(
         [whole(), acked(), TERM], [acked(7), acked(), whole(), REPLIED], "a {a-end} must not-rejected type=02 peer-at={b2}",
-        "b {b2} must ack-unknown id=7"),
+        "b {b2} must ack-unknown id=7", options="--closed a"),
     "an answer to nothing that may not have been seen": pair(
         [whole(), TERM], [acked(7), acked(), REPLIED], "a {a-end} should not-rejected type=02 peer-at={b2}",
         "b {b2} must ack-unknown id=7"),
@@ -125,7 +139,7 @@ BROKEN = {
                                      "a {a3} must interleaved id=1 open=0"),
     "left, and an answer is missing": pair(
         [first(), whole(1), TERM], [acked(1), REPLIED], "a {a3} should interleaved id=1 open=0",
-        "b {b-end} must ack-missing id=0 peer-at={a2}"),
+        "b {b-end} must ack-missing id=0 peer-at={a2}", options="--closed b"),
     "two transfers take turns": pair(
         [first(), first(1), last(), last(1), TERM],
         [ACKED[0], acked(1, START, HALF), REJECTED(3, 1), acked(1, END, SIZE), REPLIED],

@@ -159,7 +159,8 @@ RULES = {
         pair([whole(), whole(7), TERM], [acked(), refused(7), REPLIED]),
     ),
     "ack-missing": (
-        pair([whole(), whole(1), TERM], [acked(1), REPLIED], "b {b-end} must ack-missing id=0 peer-at={a2}"),
+        pair([whole(), whole(1), TERM], [acked(1), REPLIED], "b {b-end} must ack-missing id=0 peer-at={a2}",
+             options="--closed b"),
         pair([whole(), whole(1), TERM], [acked(1), acked(), REPLIED]),
     ),
     "ack-beyond": (
@@ -183,7 +184,7 @@ RULES = {
     "length-not-refused": (
         pair([first(0, DATA[:HALF], LONGER), last(), TERM], [*ACKED, REPLIED],
              f"a {{a2}} must length-differs transfer=0 announced={SIZE + 1} length={SIZE}",
-             f"b {{b3}} must length-not-refused id=0 announced={SIZE + 1} length={SIZE}"),
+             f"b {{b3}} must length-not-refused id=0 announced={SIZE + 1} length={SIZE}", options="--closed b"),
         pair([first(0, DATA[:HALF], LONGER), last(), TERM], [ACKED[0], refused(0, 4), REPLIED],
              f"a {{a2}} must length-differs transfer=0 announced={SIZE + 1} length={SIZE}"),
     ),
@@ -206,7 +207,7 @@ RULES = {
     ),
     "not-rejected": (
         pair([A, whole(), TERM], [acked(), REPLIED], "a {a2} should order fault=second-session-initiation",
-             "b {b-end} must not-rejected type=07 peer-at={a2}"),
+             "b {b-end} must not-rejected type=07 peer-at={a2}", options="--closed b"),
         pair([A, whole(), TERM], [REJECTED(3, 7), acked(), REPLIED],
              "a {a2} should order fault=second-session-initiation"),
     ),
