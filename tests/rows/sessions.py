@@ -202,7 +202,8 @@ RULES = {
         pair([whole(), acked(), whole(1, OTHER), TERM], [refused(0, 4), whole(), refused(1, 4), REPLIED]),
     ),
     "reject-header": (
-        pair([whole(), TERM], [acked(), REJECTED(3, 3), REPLIED], "b {b3} must reject-header header=03"),
+        pair([whole(), TERM], [acked(), REJECTED(3, 3), REPLIED], "b {b3} must reject-header header=03",
+             options="--closed a"),
         pair([whole(), ALIVE, TERM], [acked(), REJECTED(2, 4), REPLIED]),
     ),
     "not-rejected": (
