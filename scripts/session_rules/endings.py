@@ -209,6 +209,8 @@ def judge_waiting(side):
             side.ack_lengths.pop(message.offset, None)
             if transfer is None:
                 judge_other(side, ident, message)
+            elif message.kind == REFUSE:
+                transfer.refused = transfer.refused or message
             elif message.kind == ACK and transfer.refused is not None:
                 acknowledged_after(side, transfer, message)
             elif message.kind == ACK and transfer.is_judged:

@@ -320,6 +320,8 @@ class Node:
     def leave(self):
         """Answers what has arrived, and closes the connection (section 6.1)."""
         self.take_until(self.now)
+        if self.wants_term is not None:
+            self.end(self.wants_term)
         while self.pending() or self.owed:
             if self.owed and (not self.pending() or self.rng.random() < 0.5):
                 self.pay()

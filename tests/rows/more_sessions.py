@@ -61,6 +61,8 @@ NOT_WHOLE = {
     "a KEEPALIVE that may have come after a SESS_TERM": pair([TERM], [REPLIED, REJECTED(2, 4)]),
     "a transfer whose other side is cut off": pair([first()], [ACKED[0][:5]], options="--closed ab", status=3),
     "a transfer whose other side may have refused it": pair([first()], [ACKED[0]], options="--closed a"),
+    "a refusal, and the segments before it are missing": pair(
+        [*THREE[:2], TERM], [acked(0, START, SIZE), refused(), REPLIED], options="--closed b"),
     "a SESS_INIT that may come": bare([HEADER, A, whole()], [HEADER]),
     "nothing of a side": bare([HEADER, A, first(), whole(1)], [], status=3),
     "a beginning that is missing": bare([HEADER, A, whole(), whole(1)], [HEADER, make.xfer_ack(BOTH, 1, SIZE)[3:]], status=3),
