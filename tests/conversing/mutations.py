@@ -30,7 +30,8 @@ class Changed(NamedTuple):
 
 
 class Kind(NamedTuple):
-    """A kind of mutation. `others` has each other `must` that is right too, by `same` or `peer`.
+    """A kind of mutation. `others` has each other `must` that is right too: the side (`same` or `peer`),
+    the rule, and the section and sentence of RFC 9174 by which it is.
 
     `bugs` and `traits` are those of the session that is changed.
     """
@@ -588,10 +589,16 @@ def ack_early(rng, talk):
     return None
 
 
-ORDER = ("peer", "order")
+STRAY = ("peer", "order", "5.2.2: The START flag SHALL be set to 1 when transmitting the first segment of a transfer.")
+LATE = ("peer", "order", "6.1: an entity SHALL NOT begin any new outgoing transfer for the remainder of the session.")
+RESERVED = ("peer", "segment-flags", "5.2.2: All reserved header flag bits SHALL be set to 0 by the sender.")
+DIFFERS = ("peer", "length-differs", "5.2.5.1: Total Length: A 64-bit unsigned integer indicating the size of the data "
+                                     "to be transferred.")
+SILENT = ("peer", "keepalive-late", "5.1.1: Both sides SHALL send a KEEPALIVE message whenever the negotiated interval "
+                                    "has elapsed with no transmission of any message.")
 KINDS = {
     "ack-flags": Kind("ack-flags", ack_flags),
-    "ack-reserved": Kind("ack-flags", ack_reserved, "should", (("peer", "segment-flags"),)),
+    "ack-reserved": Kind("ack-flags", ack_reserved, "should", (RESERVED,)),
     "ack-sum": Kind("ack-sum", ack_sum),
     "ack-missing": Kind("ack-missing", ack_missing),
     "all-missing": Kind("ack-missing", all_missing),
@@ -604,12 +611,12 @@ KINDS = {
     "retried": Kind("retried", retried, "should", bugs=("retries",), traits={**TALKATIVE, "refusals": 0.3, "reasons": [2]}),
     "refused-acknowledged": Kind("refused-acknowledged", refused_acknowledged, "should", traits={"refusals": 0.2}),
     "refuse-reason": Kind("refuse-reason", refuse_reason, "should", traits={"refusals": 0.2}),
-    "announces-wrong": Kind("length-not-refused", announces_wrong, others=(("peer", "length-differs"),)),
+    "announces-wrong": Kind("length-not-refused", announces_wrong, others=(DIFFERS,)),
     "interleaved": Kind("interleaved", interleaved, traits={"so_far": False}),
     "unfinished": Kind("unfinished", unfinished, "should", traits={"so_far": False}),
     "peer-segment": Kind("peer-segment", limited("segment_mru")),
     "peer-transfer": Kind("peer-transfer", limited("transfer_mru")),
-    "stray-taken": Kind("taken-out-of-order", stray_taken, "should", (ORDER,)),
+    "stray-taken": Kind("taken-out-of-order", stray_taken, "should", (STRAY,)),
     "reject-header": Kind("reject-header", reject_header),
     "not-rejected": Kind("not-rejected", not_rejected),
     "critical-session": Kind("critical-ignored", critical_session, "should"),
@@ -620,13 +627,13 @@ KINDS = {
     "term-unanswered": Kind("term-unanswered", term_unanswered, "any"),
     "starts-late": Kind("ending", starts_late, bugs=("starts",),
                         traits={**TALKATIVE, "replies": 0.03, "ends": lambda it: 0.05 if it.name == "b" else 0}),
-    "accepts-late": Kind("ending", accepts_late, others=(ORDER,)),
+    "accepts-late": Kind("ending", accepts_late, others=(LATE,)),
     "tls": Kind("tls", tls),
     "plain-tls": Kind("tls", plain_tls),
     "version": Kind("version", version),
     "bad-contact": Kind("after-bad-contact", bad_contact),
     "no-session": Kind("no-session", no_session),
     "silent": Kind("keepalive-late", silent, bugs=("silent",), is_timed=True),
-    "patient": Kind("idle", patient, "should", (("peer", "keepalive-late"),), ("silent", "patient"), is_timed=True),
+    "patient": Kind("idle", patient, "should", (SILENT,), ("silent", "patient"), is_timed=True),
     "ack-early": Kind("ack-early", ack_early, traits={"so_far": False}, is_timed=True),
 }
