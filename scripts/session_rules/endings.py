@@ -25,14 +25,16 @@ VERSION_MISMATCH, CONTACT_FAILURE = 0x02, 0x04
 TYPE_UNKNOWN, UNEXPECTED = 0x01, 0x03
 
 
-def judge_contact(side):
-    """Judges what a side sends after the contact header of the other one."""
+def judge_contact(side, are_begun):
+    """Judges what a side sends after the contact header of the other one. A header that
+    `tcpclkit-resync` wrote does not show whether its side has TLS."""
     listing, other = side.listing, side.other.listing
     if listing.contact is None:
         return
     fault = other.fault
     if other.contact is not None:
-        tls(side, bool(listing.contact & other.contact & CAN_TLS))
+        if are_begun:
+            tls(side, bool(listing.contact & other.contact & CAN_TLS))
     elif fault is not None and fault.version() is not None and side.first is not None:
         version(side, fault.version())
     elif fault is not None and fault.text == "not a contact header" and side.first is not None:
@@ -63,13 +65,14 @@ def after_bad_contact(side):
     """Judges the first message after bytes that are no contact header.
 
     If these bytes may be a message, or the zeros of a gap, the beginning may be missing. So it may
-    if this side went on as in a session.
+    if this side went on as in a session, or rejected a message of their type.
     """
     with open(side.other.path, "rb") as file:
         byte = file.read(1)[0]
     first = side.first
     is_blind = first.kind == TERM and first.reason not in (VERSION_MISMATCH, CONTACT_FAILURE)
-    if byte > INIT and side.first_use is None and not is_blind:
+    is_message = byte <= INIT or byte in side.rejects
+    if not is_message and side.first_use is None and not is_blind:
         side.claim(first.offset, MUST, "after-bad-contact", f"type={first.kind:02x}")
 
 

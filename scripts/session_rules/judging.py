@@ -98,7 +98,7 @@ def both(sides, are_begun):
         side.other.waited += 1
         side = order.turn(a, b)
     for side in sides:
-        endings.judge_contact(side)
+        endings.judge_contact(side, are_begun)
     for judge in (endings.judge_waiting, endings.judge_session) if are_begun else ():
         for side in sides:
             judge(side)
@@ -112,6 +112,8 @@ def take(side, are_begun):
         side.first = message
     if kind <= REFUSE and side.first_use is None:
         side.first_use = message.offset
+    if kind == REJECT:
+        side.rejects.setdefault(message.header, message.offset)
     if not are_begun:
         return
     came = side.clock.came(message) if side.clock else None
@@ -139,7 +141,6 @@ def take_other(side, message):
             side.terms.append(message)
     elif message.kind == REJECT:
         side.seen = max(side.seen, other.types.get(message.header, -1))
-        side.rejects.setdefault(message.header, message.offset)
     elif message.kind == INIT and len(side.inits) < 2:
         side.inits.append(message)
     elif message.kind == KEEPALIVE and not side.sent_keepalive:

@@ -4,7 +4,7 @@ from bisect import bisect_right
 from collections import OrderedDict, deque
 from typing import NamedTuple, Optional
 
-from .facts import REFUSE
+from .facts import END, REFUSE
 
 MUST, SHOULD = "must", "should"
 
@@ -192,14 +192,14 @@ def can_take(sender, answer):
     """Returns whether an XFER_ACK or an XFER_REFUSE can be taken: whether what it answers was.
 
     For an XFER_ACK, a segment has no answer, and the transfer has the acknowledged length so far,
-    or gets no more.
+    and its END if the XFER_ACK has END; or the transfer gets no more.
     """
     transfer = sender.sent.get(answer.ident)
     if transfer is None:
         return answer.ident in sender.strays or answer.kind == REFUSE and answer.ident in sender.over
     if answer.kind == REFUSE or not transfer.is_judged:
         return True
-    if transfer.is_open and answer.length > transfer.total:
+    if transfer.is_open and (answer.length > transfer.total or answer.flags & END):
         return False
     is_compared = bool(transfer.strange) and not transfer.is_open
     return is_compared or transfer.refused is not None or transfer.extra > 0 or transfer.unanswered() > 0

@@ -1,7 +1,7 @@
 """The bytes of messages (RFC 9174) and of bundles (RFC 9171) that keep all rules."""
 
 import struct
-from typing import NamedTuple, Optional
+from typing import NamedTuple
 
 from model import check, wire
 
@@ -106,8 +106,3 @@ def bundle(sequence, payload):
 
 
 SMALLEST = len(bundle(0, b""))
-
-
-def of_kind(it, *kinds: type) -> Optional[object]:
-    """The message if it is of one of these kinds, and otherwise None."""
-    return it if isinstance(it, kinds) else None

@@ -8,7 +8,7 @@ from typing import NamedTuple
 
 from model import wire
 
-from .messages import CAN_TLS, CRITICAL, END, LENGTH, REPLY, START, Contact, Raw, Sent, length_item, segment
+from .messages import CAN_TLS, CRITICAL, END, LENGTH, REPLY, START, Raw, length_item, segment
 
 OTHER = {"a": "b", "b": "a"}
 UNKNOWN = wire.Item(CRITICAL, 0x8020, b"")
@@ -16,6 +16,9 @@ UNKNOWN = wire.Item(CRITICAL, 0x8020, b"")
 # Whole sessions, both ways
 USUAL = {"is_hasty": False, "aborts": False, "leaves_early": False, "bundles": lambda it: it.bundles or [20, 30],
          "is_strict": False, "ends": 0.005}
+
+# Each XFER_ACK has the sum up to its segment. Otherwise one that is changed may be a right one of another
+EXACT = {"so_far": False}
 
 # Side a sends many short transfers, and side b few long ones
 TALKATIVE = {"so_far": False, "in_order": True, "longest": lambda it: 1000 if it.name == "a" else 3,
@@ -77,8 +80,8 @@ def transfers(talk, name):
     mine, theirs = side(talk, name), side(talk, OTHER[name])
     starts = [n for n in at(mine, wire.Segment) if mine[n].it.flags & START]
     ids = [mine[n].it.id for n in starts]
-    return [Transfer(name, it, of_id(mine, wire.Segment, it), of_id(theirs, wire.Ack, it), of_id(theirs, wire.Refuse, it))
-            for it in ids]
+    kinds = (mine, wire.Segment), (theirs, wire.Ack), (theirs, wire.Refuse)
+    return [Transfer(name, it, *(of_id(messages, kind, it) for messages, kind in kinds)) for it in ids]
 
 
 def answered(talk, rng, count=1):
@@ -366,7 +369,8 @@ def stray_taken(rng, talk):
     """A segment without START that continues no transfer is acknowledged."""
     for it in answered(talk, rng):
         n = it.segments[-1] + 1
-        stray = segment(END, 1 << 41 | rng.getrandbits(20), b"x" * rng.randint(0, min(9, first_init(talk, OTHER[it.side])[1].segment_mru)))
+        limit = min(9, first_init(talk, OTHER[it.side])[1].segment_mru)
+        stray = segment(END, 1 << 41 | rng.getrandbits(20), b"x" * rng.randint(0, limit))
         place = after(talk, it.side, n - 1)
         talk = inserted(talk, OTHER[it.side], place, wire.Ack(END, stray.id, stray.length))
         return Changed(inserted(talk, it.side, n, stray), OTHER[it.side])
@@ -477,7 +481,8 @@ def accepts_late(rng, talk):
     """A transfer that begins after the SESS_TERM of its sender is acknowledged."""
     for it in answered(talk, rng):
         n, term = terms(talk, it.side)
-        if n is not None and not term.flags & REPLY and n > it.segments[-1] and it.segments[-1] == at(side(talk, it.side), wire.Segment)[-1]:
+        is_last = it.segments[-1] == at(side(talk, it.side), wire.Segment)[-1]
+        if is_last and n is not None and not term.flags & REPLY and n > it.segments[-1]:
             sent = list(side(talk, it.side))
             sent.insert(it.segments[0], sent[it.segments[0]]._replace(it=sent.pop(n).it))
             return Changed(talk.changed(it.side, sent), OTHER[it.side])
@@ -532,7 +537,8 @@ def no_session(rng, talk):
     for it in answered(talk, rng):
         if talk.closed() == "ab":
             mine, theirs = side(talk, it.side), side(talk, OTHER[it.side])
-            sent = [*mine[:at(mine, wire.SessInit)[0] + 1], mine[it.segments[0]], mine[-1]._replace(it=wire.SessTerm(REPLY, 3))]
+            reply = mine[-1]._replace(it=wire.SessTerm(REPLY, 3))
+            sent = [*mine[:at(mine, wire.SessInit)[0] + 1], mine[it.segments[0]], reply]
             talk = talk.changed(OTHER[it.side], [theirs[0], theirs[0]._replace(it=wire.SessTerm(0, 3))])
             return Changed(talk.changed(it.side, sent), it.side)
     return None
@@ -589,7 +595,8 @@ def ack_early(rng, talk):
     return None
 
 
-STRAY = ("peer", "order", "5.2.2: The START flag SHALL be set to 1 when transmitting the first segment of a transfer.")
+STRAY = ("peer", "order", "5.2.2: The START flag SHALL be set to 1 when transmitting the first segment of a "
+                          "transfer.")
 LATE = ("peer", "order", "6.1: an entity SHALL NOT begin any new outgoing transfer for the remainder of the session.")
 RESERVED = ("peer", "segment-flags", "5.2.2: All reserved header flag bits SHALL be set to 0 by the sender.")
 DIFFERS = ("peer", "length-differs", "5.2.5.1: Total Length: A 64-bit unsigned integer indicating the size of the data "
@@ -597,23 +604,24 @@ DIFFERS = ("peer", "length-differs", "5.2.5.1: Total Length: A 64-bit unsigned i
 SILENT = ("peer", "keepalive-late", "5.1.1: Both sides SHALL send a KEEPALIVE message whenever the negotiated interval "
                                     "has elapsed with no transmission of any message.")
 KINDS = {
-    "ack-flags": Kind("ack-flags", ack_flags),
+    "ack-flags": Kind("ack-flags", ack_flags, traits=EXACT),
     "ack-reserved": Kind("ack-flags", ack_reserved, "should", (RESERVED,)),
-    "ack-sum": Kind("ack-sum", ack_sum),
-    "ack-missing": Kind("ack-missing", ack_missing),
+    "ack-sum": Kind("ack-sum", ack_sum, traits=EXACT),
+    "ack-missing": Kind("ack-missing", ack_missing, traits=EXACT),
     "all-missing": Kind("ack-missing", all_missing),
     "ack-twice": Kind("ack-beyond", ack_twice),
     "ack-too-long": Kind("ack-beyond", ack_too_long),
     "ack-unknown": Kind("ack-unknown", unknown(wire.Ack, 2)),
     "refuse-unknown": Kind("refuse-unknown", unknown(wire.Refuse, 3)),
     "refuse-order": Kind("refuse-order", refuse_order, traits={"refusals": 0.3, "answers": 0.3, "in_order": True}),
-    "continued": Kind("refused-continued", continued, bugs=("continues",), traits={"refusals": 0.2, "longest": 5}),
-    "retried": Kind("retried", retried, "should", bugs=("retries",), traits={**TALKATIVE, "refusals": 0.3, "reasons": [2]}),
+    "continued": Kind("refused-continued", continued, bugs=("continues",), traits={**EXACT, "refusals": 0.2, "longest": 5}),
+    "retried": Kind("retried", retried, "should", bugs=("retries",),
+                    traits={**TALKATIVE, "refusals": 0.3, "reasons": [2]}),
     "refused-acknowledged": Kind("refused-acknowledged", refused_acknowledged, "should", traits={"refusals": 0.2}),
     "refuse-reason": Kind("refuse-reason", refuse_reason, "should", traits={"refusals": 0.2}),
     "announces-wrong": Kind("length-not-refused", announces_wrong, others=(DIFFERS,)),
-    "interleaved": Kind("interleaved", interleaved, traits={"so_far": False}),
-    "unfinished": Kind("unfinished", unfinished, "should", traits={"so_far": False}),
+    "interleaved": Kind("interleaved", interleaved, traits=EXACT),
+    "unfinished": Kind("unfinished", unfinished, "should", traits=EXACT),
     "peer-segment": Kind("peer-segment", limited("segment_mru")),
     "peer-transfer": Kind("peer-transfer", limited("transfer_mru")),
     "stray-taken": Kind("taken-out-of-order", stray_taken, "should", (STRAY,)),
@@ -635,5 +643,5 @@ KINDS = {
     "no-session": Kind("no-session", no_session),
     "silent": Kind("keepalive-late", silent, bugs=("silent",), is_timed=True),
     "patient": Kind("idle", patient, "should", (SILENT,), ("silent", "patient"), is_timed=True),
-    "ack-early": Kind("ack-early", ack_early, traits={"so_far": False}, is_timed=True),
+    "ack-early": Kind("ack-early", ack_early, traits=EXACT, is_timed=True),
 }

@@ -12,8 +12,9 @@ It answers segments late, refuses transfers, abandons those that are refused, an
 
 from model import wire
 
-from .messages import CRITICAL, END, EXPERIMENTS, LENGTH, REPLY, SMALLEST, START, Contact, Raw, Sent, TYPES, bundle
-from .messages import length_item, segment, spelled
+from .messages import (
+    CRITICAL, END, LENGTH, REPLY, START, TYPES, Contact, Raw, Sent, bundle, length_item, segment, spelled,
+)
 
 # Reasons (sections 5.2.4, 6.1 and 5.1.2)
 NO_RESOURCES, NOT_ACCEPTABLE, EXTENSION_FAILURE, TERMINATING = 0x02, 0x04, 0x05, 0x06
@@ -143,7 +144,8 @@ class Node:
         if self.open is refused and "continues" not in self.bugs:
             self.open = None
         may_retry = it.reason not in (NO_RESOURCES, NOT_ACCEPTABLE, TERMINATING)
-        if is_first and ("retries" in self.bugs and it.reason == NO_RESOURCES or may_retry and self.rng.random() < 0.3):
+        has_bug = "retries" in self.bugs and it.reason == NO_RESOURCES
+        if is_first and (has_bug or may_retry and self.rng.random() < 0.3):
             self.bundles.insert(self.rng.randint(0, len(self.bundles)), refused.data)
 
     # ---- answers
@@ -167,7 +169,8 @@ class Node:
             reasons = list(self.traits.reasons)
             reasons += [EXTENSION_FAILURE] if it.items else []
             reasons += [TERMINATING] if self.term else []
-            it.refused = TERMINATING if it.is_late else EXTENSION_FAILURE if it.is_critical else self.rng.choice(reasons)
+            due = TERMINATING if it.is_late else EXTENSION_FAILURE if it.is_critical else None
+            it.refused = due or self.rng.choice(reasons)
             if self.traits.refuses_at_once:
                 del it.pending[1:]
         if it.pending:
@@ -249,7 +252,8 @@ class Node:
     def may_begin(self):
         """Whether a new transfer may begin."""
         is_ending = self.term is not None or self.peer_term is not None and "starts" not in self.bugs
-        return self.is_established() and not is_ending and not self.wants_term and self.open is None and bool(self.bundles)
+        has_turn = self.open is None and bool(self.bundles)
+        return self.is_established() and has_turn and not is_ending and not self.wants_term
 
     def has_finished(self):
         """Whether the session has ended: both SESS_TERM have come, and nothing is in progress."""
@@ -349,7 +353,8 @@ class Node:
 
     def is_idle(self):
         """Whether nothing has come for more than twice the interval (section 5.1.1)."""
-        return bool(self.interval()) and self.now - self.last_in > 2 * self.interval() + 4 and "patient" not in self.bugs
+        limit = 2 * self.interval() + 4
+        return bool(self.interval()) and self.now - self.last_in > limit and "patient" not in self.bugs
 
     def is_silent_for_long(self):
         """Whether a KEEPALIVE is due (section 5.1.1)."""

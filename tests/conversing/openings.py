@@ -32,7 +32,8 @@ def another_version(rng):
 
 def handshake(rng):
     """Both enable TLS, and its handshake begins (section 4.4.3)."""
-    return side(rng.random() < 0.5, Contact(CAN_TLS), Raw(HELLO)), side(rng.random() < 0.5, Contact(CAN_TLS), Raw(HELLO))
+    messages = Contact(CAN_TLS), Raw(HELLO)
+    return side(rng.random() < 0.5, *messages), side(rng.random() < 0.5, *messages)
 
 
 def no_tls(rng):
@@ -52,9 +53,9 @@ def refused(rng):
 def unknown_type(rng):
     """A message has a type that the other side does not know, and is rejected (section 5.1.2)."""
     kind = rng.choice([PRIVATE, 0xFF, 0x08, 0x20])
-    flow = [Contact(), an_init(rng)]
-    ends = [wire.Reject(1, kind)]
-    return side(rng.random() < 0.5, *flow, Raw(bytes([kind]) + rng.randbytes(rng.randint(0, 9)))), side(True, Contact(), an_init(rng), *ends)
+    unknown = Raw(bytes([kind]) + rng.randbytes(rng.randint(0, 9)))
+    one = side(rng.random() < 0.5, Contact(), an_init(rng), unknown)
+    return one, side(True, Contact(), an_init(rng), wire.Reject(1, kind))
 
 
 KINDS = [nothing, another_version, handshake, no_tls, refused, unknown_type]

@@ -5,7 +5,7 @@ from typing import NamedTuple
 
 from model import wire
 
-from .messages import CAN_TLS, CRITICAL, EXPERIMENTS, SMALLEST, Raw, spelled
+from .messages import CAN_TLS, CRITICAL, EXPERIMENTS, SMALLEST, spelled
 from .nodes import NO_RESOURCES, NOT_ACCEPTABLE, Node
 
 STEPS = 20000
@@ -89,7 +89,8 @@ class Traits:
 
     def delay(self):
         """How long a message is under way. Some packets are lost, and sent again."""
-        return self.line.latency * self.rng.uniform(1, 1.5) + (self.rng.uniform(0.2, 1) if self.rng.random() < 0.02 else 0)
+        lost = self.rng.uniform(0.2, 1) if self.rng.random() < 0.02 else 0
+        return self.line.latency * self.rng.uniform(1, 1.5) + lost
 
     def ident(self, count):
         """The ID of the next transfer (section 5.2.1)."""
@@ -151,8 +152,3 @@ def shared_items(rng):
     """Session items that both nodes send, and so know."""
     kinds = rng.sample(EXPERIMENTS, 2)
     return [wire.Item(rng.randint(0, 1), it, b"x") for it in kinds] if rng.random() < 0.15 else []
-
-
-def is_cut_off(side):
-    """Whether a side ends inside a message."""
-    return bool(side.sent) and isinstance(side.sent[-1].it, Raw)

@@ -12,6 +12,9 @@ THREE = [make.xfer_segment(flags, 0, data) for flags, data in
          ((START, DATA[:10]), (0, DATA[10:30]), (END, DATA[30:]))]
 THREE_ACKED = [acked(0, START, 10), acked(0, 0, 30), acked(0, END, SIZE)]
 
+# The beginning of a record of TLS (RFC 8446 section 5.1)
+HANDSHAKE = b"\x16\x03\x01"
+
 # A session of both sides with what the RFC permits: answers that come late, a transfer that is
 # refused and left, one that is refused after it was sent, IDs of any order, and an end while both
 # sides send
@@ -61,6 +64,8 @@ NOT_WHOLE = {
     "a KEEPALIVE that may have come after a SESS_TERM": pair([TERM], [REPLIED, REJECTED(2, 4)]),
     "a transfer whose other side is cut off": pair([first()], [ACKED[0][:5]], options="--closed ab", status=3),
     "a transfer whose other side may have refused it": pair([first()], [ACKED[0]], options="--closed a"),
+    "TLS after a header of tcpclkit-resync": bare(
+        [CAN_TLS, HANDSHAKE], [HEADER, init(b"", keepalive=0, segment=0, transfer=0)], status=3),
     "a refusal, and the segments before it are missing": pair(
         [*THREE[:2], TERM], [acked(0, START, SIZE), refused(), REPLIED], options="--closed b"),
     "a SESS_INIT that may come": bare([HEADER, A, whole()], [HEADER]),
@@ -74,7 +79,6 @@ RESERVED = make.xfer_segment(0x80 | BOTH, 0, DATA)
 FLAGS = "a {a2} must segment-flags flags=83"
 LATE = "a {a3} must order fault=start-after-session-termination"
 UNKNOWN = b"\x20"
-HANDSHAKE = b"\x16\x03\x01"
 
 BROKEN = {
     "a limit of 0 for segments": bare(
@@ -109,6 +113,9 @@ BROKEN = {
         "b {b-end} should not-rejected type=07 peer-at={a2}"),
     "a KEEPALIVE is rejected that was not sent": pair(
         [TERM], [REPLIED, REJECTED(2, 4)], "b {b3} must reject-header header=04", options="--closed a"),
+    "an answer is missing, and the last segment is empty": pair(
+        [first(0, DATA[:10]), *(make.xfer_segment(*it) for it in ((0, 0, b""), (0, 0, DATA[10:]), (END, 0, b""))), TERM],
+        [acked(0, START, 10), acked(0, 0, SIZE), acked(0, END, SIZE), REPLIED], "b {b3} must ack-missing id=0 peer-at={a3}"),
     "an answer is missing before a SESS_TERM": pair([whole(), TERM], [REPLIED],
                                                     "b {b-end} should ack-missing id=0 peer-at={a2}"),
     "reserved flags that are not repeated": pair([RESERVED, TERM], [acked(), REPLIED], FLAGS,
@@ -167,6 +174,7 @@ BROKEN = {
     "no contact header, and busy": bare([b"HTTP/1.1 "], [HEADER, make.sess_term(0, 3)], status=3),
     "no contact header, and a session": bare([b"HTTP/1.1 "], [HEADER, B, whole()], status=3),
     "zeros and no contact header": bare([bytes(9)], [HEADER, B], status=3),
+    "a rejected message and no contact header": bare([b"\xf0"], [HEADER, B, REJECTED(1, 0xf0)], status=3),
     "a message and no contact header": bare([A], [HEADER, B], status=3),
     "the same bundle again after no-resources": pair(
         [whole(), acked(), whole(1, DATA, make.item(0, 0x8000, b"")), TERM], [refused(), whole(), acked(1), REPLIED],
