@@ -174,7 +174,7 @@ BROKEN = {
     "no contact header, and busy": bare([b"HTTP/1.1 "], [HEADER, make.sess_term(0, 3)], status=3),
     "no contact header, and a session": bare([b"HTTP/1.1 "], [HEADER, B, whole()], status=3),
     "zeros and no contact header": bare([bytes(9)], [HEADER, B], status=3),
-    "a rejected message and no contact header": bare([b"\xf0"], [HEADER, B, REJECTED(1, 0xf0)], status=3),
+    "a rejected message and no contact header": bare([b"\xf0" * 9], [HEADER, B, REJECTED(1, 0xf0)], status=3),
     "a message and no contact header": bare([A], [HEADER, B], status=3),
     "the same bundle again after no-resources": pair(
         [whole(), acked(), whole(1, DATA, make.item(0, 0x8000, b"")), TERM], [refused(), whole(), acked(1), REPLIED],
