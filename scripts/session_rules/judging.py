@@ -97,7 +97,7 @@ def both(sides, are_begun):
         take(side, are_begun)
         side.other.waited += 1
         side = order.turn(a, b)
-    for side in sides:
+    for side in filter(is_begun, sides):
         endings.judge_contact(side, are_begun)
     for judge in (endings.judge_waiting, endings.judge_session) if are_begun else ():
         for side in sides:

@@ -17,8 +17,9 @@ UNKNOWN = wire.Item(CRITICAL, 0x8020, b"")
 USUAL = {"is_hasty": False, "aborts": False, "leaves_early": False, "bundles": lambda it: it.bundles or [20, 30],
          "is_strict": False, "ends": 0.005}
 
-# Each XFER_ACK has the sum up to its segment. Otherwise one that is changed may be a right one of another
-EXACT = {"so_far": False}
+# Each XFER_ACK of a transfer has its own sum. Otherwise one that is changed may be a right one of another
+# segment
+EXACT = {"so_far": False, "empty": 0}
 
 # Side a sends many short transfers, and side b few long ones
 TALKATIVE = {"so_far": False, "in_order": True, "longest": lambda it: 1000 if it.name == "a" else 3,

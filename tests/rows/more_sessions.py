@@ -66,6 +66,8 @@ NOT_WHOLE = {
     "a transfer whose other side may have refused it": pair([first()], [ACKED[0]], options="--closed a"),
     "TLS after a header of tcpclkit-resync": bare(
         [CAN_TLS, HANDSHAKE], [HEADER, init(b"", keepalive=0, segment=0, transfer=0)], status=3),
+    "another version, and a SESS_INIT of tcpclkit-resync": bare(
+        [b"dtn!\x03\x00"], [HEADER, init(b"", keepalive=0, segment=0, transfer=0)], status=3),
     "a refusal, and the segments before it are missing": pair(
         [*THREE[:2], TERM], [acked(0, START, SIZE), refused(), REPLIED], options="--closed b"),
     "a SESS_INIT that may come": bare([HEADER, A, whole()], [HEADER]),
