@@ -2,7 +2,7 @@
 
 from . import captured
 from .answers import acknowledged_after, claim_missing, claim_order, compare
-from .facts import ACK, CRITICAL, INIT, REFUSE, REJECT, REPLY, TERM
+from .facts import ACK, CRITICAL, INIT, KEEPALIVE, REFUSE, REJECT, REPLY, TERM
 from .sending import claim_left
 from .sides import MUST, SHOULD
 
@@ -18,19 +18,24 @@ FIRST, HANDSHAKE, RECORDS = 6, 0x16, range(0x14, 0x18)
 # The first type byte that is for private use (RFC 9174 section 8.5)
 PRIVATE = 0xF0
 
+# The types of which a side may send the first message after its SESS_TERM
+LATE = ACK, REFUSE, KEEPALIVE, REJECT
+
 # Reasons of SESS_TERM and of MSG_REJECT (sections 6.1 and 5.1.2)
 VERSION_MISMATCH, CONTACT_FAILURE = 0x02, 0x04
 TYPE_UNKNOWN, UNEXPECTED = 0x01, 0x03
 
 
-def judge_contact(side):
-    """Judges what a side sends after the contact header of the other one."""
+def judge_contact(side, are_begun):
+    """Judges what a side sends after the contact header of the other one. A header that
+    `tcpclkit-resync` wrote does not show whether its side has TLS."""
     listing, other = side.listing, side.other.listing
     if listing.contact is None:
         return
     fault = other.fault
     if other.contact is not None:
-        tls(side, bool(listing.contact & other.contact & CAN_TLS))
+        if are_begun:
+            tls(side, bool(listing.contact & other.contact & CAN_TLS))
     elif fault is not None and fault.version() is not None and side.first is not None:
         version(side, fault.version())
     elif fault is not None and fault.text == "not a contact header" and side.first is not None:
@@ -61,13 +66,14 @@ def after_bad_contact(side):
     """Judges the first message after bytes that are no contact header.
 
     If these bytes may be a message, or the zeros of a gap, the beginning may be missing. So it may
-    if this side went on as in a session.
+    if this side went on as in a session, or rejected a message of their type.
     """
     with open(side.other.path, "rb") as file:
         byte = file.read(1)[0]
     first = side.first
     is_blind = first.kind == TERM and first.reason not in (VERSION_MISMATCH, CONTACT_FAILURE)
-    if byte > INIT and side.first_use is None and not is_blind:
+    is_message = byte <= INIT or byte in side.rejects
+    if not is_message and side.first_use is None and not is_blind:
         side.claim(first.offset, MUST, "after-bad-contact", f"type={first.kind:02x}")
 
 
@@ -81,7 +87,7 @@ def judge_session(side):
     rejects(side)
     terms(side)
     unanswered(side)
-    if side.is_whole():
+    if side.is_over():
         for ident, (offset, words) in side.accepted.items():
             side.claim(offset, MUST, "length-not-refused", f"id={ident} {words}")
 
@@ -108,7 +114,8 @@ def rejects(side):
     other, fault = side.other, side.other.listing.fault
     unknown = fault.type_byte() if fault else None
     for header, offset in side.rejects.items():
-        if header not in other.types and header != unknown:
+        is_late = header in LATE and not other.is_closed and other.seen < offset
+        if header not in other.types and header != unknown and not is_late:
             side.claim(offset, MUST, "reject-header", f"header={header:02x}", if_known=True)
     if unknown is not None and unknown not in side.rejects and is_unknown(side, fault):
         not_rejected(side, unknown, fault.offset, SHOULD)
@@ -130,12 +137,12 @@ def is_unknown(side, fault):
     is_tls = fault.offset == FIRST and fault.type_byte() in RECORDS
     if fault.type_byte() == 0 or fault.type_byte() >= PRIVATE or is_negotiated or is_tls:
         return False
-    return side.is_whole() or bool(side.waiting)
+    return side.is_over() or bool(side.waiting)
 
 
 def unexpected(side, kind, offset):
     """Judges that a message out of place was not rejected."""
-    if side.is_whole():
+    if side.is_over():
         not_rejected(side, kind, offset, MUST if side.seen >= offset else SHOULD)
 
 
@@ -186,9 +193,9 @@ def missing(side, transfer):
     if transfer.unanswered() <= 0 or transfer.extra:
         return
     segment, end = transfer.pending[len(transfer.strange)], side.listing.end
-    if side.is_whole() and side.answered > segment.offset:
+    if side.is_over() and side.answered > segment.offset:
         claim_missing(side, transfer, segment, end, MUST)
-    elif side.is_whole() and side.seen > segment.offset:
+    elif side.is_over() and side.seen > segment.offset:
         claim_missing(side, transfer, segment, end, SHOULD)
     elif transfer.overtaken is not None:
         claim_order(side, transfer)
@@ -208,6 +215,8 @@ def judge_waiting(side):
             side.ack_lengths.pop(message.offset, None)
             if transfer is None:
                 judge_other(side, ident, message)
+            elif message.kind == REFUSE:
+                transfer.refused = transfer.refused or message
             elif message.kind == ACK and transfer.refused is not None:
                 acknowledged_after(side, transfer, message)
             elif message.kind == ACK and transfer.is_judged:

@@ -105,8 +105,9 @@ def both(sides, are_begun):
         take(side, are_begun)
         side.other.waited += 1
         side = order.turn(a, b)
+    for side in filter(is_begun, sides):
+        endings.judge_contact(side, are_begun)
     for side in sides:
-        endings.judge_contact(side)
         captured.judge(side)
     for judge in (endings.judge_waiting, endings.judge_session) if are_begun else ():
         for side in sides:
@@ -121,6 +122,8 @@ def take(side, are_begun):
         side.first = message
     if kind <= REFUSE and side.first_use is None:
         side.first_use = message.offset
+    if kind == REJECT:
+        side.rejects.setdefault(message.header, message.offset)
     if not are_begun:
         return
     came = side.clock.came(message) if side.clock else None
@@ -148,7 +151,6 @@ def take_other(side, message):
             side.terms.append(message)
     elif message.kind == REJECT:
         side.seen = max(side.seen, other.types.get(message.header, -1))
-        side.rejects.setdefault(message.header, message.offset)
     elif message.kind == INIT and len(side.inits) < 2:
         side.inits.append(message)
     elif message.kind == KEEPALIVE and not side.sent_keepalive:
@@ -179,6 +181,9 @@ def is_unfinished(side):
     """Returns whether the transfer that is open at the end should have been finished.
 
     It may be left if it was refused, and in a session that a SESS_TERM ends (RFC 9174 section 6.1).
+    The other side may have done so, or have closed the connection inside a message, if its
+    recording is not whole.
     """
     is_refused = side.opened is not None and side.opened.refused is not None
-    return side.is_whole() and not (is_refused or side.terms or side.other.terms)
+    are_whole = side.is_whole() and side.other.is_whole()
+    return are_whole and not (is_refused or side.terms or side.other.terms)

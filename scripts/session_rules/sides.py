@@ -4,7 +4,7 @@ from bisect import bisect_right
 from collections import OrderedDict, deque
 from typing import NamedTuple, Optional
 
-from .facts import REFUSE
+from .facts import END, REFUSE
 
 MUST, SHOULD = "must", "should"
 
@@ -184,6 +184,11 @@ class Side:
         is_ended = self.is_closed or self.captured is None and self.terms and self.opened is None
         return self.listing.fault is None and bool(is_ended)
 
+    def is_over(self):
+        """Returns whether an answer that the recording lacks at its end was never sent. A side may
+        answer after its SESS_TERM, so only the end of the connection shows it."""
+        return self.is_closed and self.is_whole()
+
     def is_known(self, offset):
         """Returns whether the recording has all that the other side could have seen when it sent
         the message at an offset of its own recording."""
@@ -194,14 +199,14 @@ def can_take(sender, answer):
     """Returns whether an XFER_ACK or an XFER_REFUSE can be taken: whether what it answers was.
 
     For an XFER_ACK, a segment has no answer, and the transfer has the acknowledged length so far,
-    or gets no more.
+    and its END if the XFER_ACK has END; or the transfer gets no more.
     """
     transfer = sender.sent.get(answer.ident)
     if transfer is None:
         return answer.ident in sender.strays or answer.kind == REFUSE and answer.ident in sender.over
     if answer.kind == REFUSE or not transfer.is_judged:
         return True
-    if transfer.is_open and answer.length > transfer.total:
+    if transfer.is_open and (answer.length > transfer.total or answer.flags & END):
         return False
     is_compared = bool(transfer.strange) and not transfer.is_open
     return is_compared or transfer.refused is not None or transfer.extra > 0 or transfer.unanswered() > 0

@@ -12,6 +12,9 @@ THREE = [make.xfer_segment(flags, 0, data) for flags, data in
          ((START, DATA[:10]), (0, DATA[10:30]), (END, DATA[30:]))]
 THREE_ACKED = [acked(0, START, 10), acked(0, 0, 30), acked(0, END, SIZE)]
 
+# The beginning of a record of TLS (RFC 8446 section 5.1)
+HANDSHAKE = b"\x16\x03\x01"
+
 # A session of both sides with what the RFC permits: answers that come late, a transfer that is
 # refused and left, one that is refused after it was sent, IDs of any order, and an end while both
 # sides send
@@ -58,6 +61,15 @@ NOT_WHOLE = {
     "a SESS_TERM that may come": pair([TERM], []),
     "a SESS_TERM that may be missing": pair([], [REPLIED]),
     "a message that may have been rejected": pair([], [REJECTED(3, 3)]),
+    "a KEEPALIVE that may have come after a SESS_TERM": pair([TERM], [REPLIED, REJECTED(2, 4)]),
+    "a transfer whose other side is cut off": pair([first()], [ACKED[0][:5]], options="--closed ab", status=3),
+    "a transfer whose other side may have refused it": pair([first()], [ACKED[0]], options="--closed a"),
+    "TLS after a header of tcpclkit-resync": bare(
+        [CAN_TLS, HANDSHAKE], [HEADER, init(b"", keepalive=0, segment=0, transfer=0)], status=3),
+    "another version, and a SESS_INIT of tcpclkit-resync": bare(
+        [b"dtn!\x03\x00"], [HEADER, init(b"", keepalive=0, segment=0, transfer=0)], status=3),
+    "a refusal, and the segments before it are missing": pair(
+        [*THREE[:2], TERM], [acked(0, START, SIZE), refused(), REPLIED], options="--closed b"),
     "a SESS_INIT that may come": bare([HEADER, A, whole()], [HEADER]),
     "nothing of a side": bare([HEADER, A, first(), whole(1)], [], status=3),
     "a beginning that is missing": bare([HEADER, A, whole(), whole(1)], [HEADER, make.xfer_ack(BOTH, 1, SIZE)[3:]], status=3),
@@ -69,7 +81,6 @@ RESERVED = make.xfer_segment(0x80 | BOTH, 0, DATA)
 FLAGS = "a {a2} must segment-flags flags=83"
 LATE = "a {a3} must order fault=start-after-session-termination"
 UNKNOWN = b"\x20"
-HANDSHAKE = b"\x16\x03\x01"
 
 BROKEN = {
     "a limit of 0 for segments": bare(
@@ -93,8 +104,20 @@ BROKEN = {
                                                       "b {b2} must ack-missing id=0 peer-at={a2}"),
     "the second answer of a transfer is missing": pair([*THREE, TERM], [THREE_ACKED[0], THREE_ACKED[2], REPLIED],
                                                        "b {b3} must ack-missing id=0 peer-at={a3}"),
+    "an answer that may come after a SESS_TERM": pair(
+        [whole(), whole(1), TERM], [acked(1), REPLIED]),
+    "a refusal that may come after a SESS_TERM": pair(
+        [first(0, DATA[:HALF], LONGER), last(), TERM], [*ACKED, REPLIED],
+        f"a {{a2}} must length-differs transfer=0 announced={SIZE + 1} length={SIZE}"),
+    "a MSG_REJECT that may come after a SESS_TERM": pair(
+        [A, whole(), TERM], [acked(), REPLIED], "a {a2} should order fault=second-session-initiation"),
+    "a KEEPALIVE is rejected that was not sent": pair(
+        [TERM], [REPLIED, REJECTED(2, 4)], "b {b3} must reject-header header=04", options="--closed a"),
+    "an answer is missing, and the last segment is empty": pair(
+        [first(0, DATA[:10]), *(make.xfer_segment(*it) for it in ((0, 0, b""), (0, 0, DATA[10:]), (END, 0, b""))), TERM],
+        [acked(0, START, 10), acked(0, 0, SIZE), acked(0, END, SIZE), REPLIED], "b {b3} must ack-missing id=0 peer-at={a3}"),
     "an answer is missing before a SESS_TERM": pair([whole(), TERM], [REPLIED],
-                                                    "b {b-end} should ack-missing id=0 peer-at={a2}"),
+                                                    "b {b-end} should ack-missing id=0 peer-at={a2}", options="--closed b"),
     "reserved flags that are not repeated": pair([RESERVED, TERM], [acked(), REPLIED], FLAGS,
                                                  "b {b2} should ack-flags id=0 flags=03 segment=83"),
     "reserved flags that are repeated": pair([RESERVED, TERM], [acked(0, 0x83), REPLIED], FLAGS),
@@ -104,10 +127,10 @@ BROKEN = {
         [whole(), acked()], [acked(7), acked(), whole()], "b {b2} must ack-unknown id=7"),
     "an answer to nothing that was seen": pair(
         [whole(), acked(), TERM], [acked(7), acked(), whole(), REPLIED], "a {a-end} must not-rejected type=02 peer-at={b2}",
-        "b {b2} must ack-unknown id=7"),
+        "b {b2} must ack-unknown id=7", options="--closed a"),
     "an answer to nothing that may not have been seen": pair(
         [whole(), TERM], [acked(7), acked(), REPLIED], "a {a-end} should not-rejected type=02 peer-at={b2}",
-        "b {b2} must ack-unknown id=7"),
+        "b {b2} must ack-unknown id=7", options="--closed a"),
     "a refusal before an earlier transfer, and then the end": pair(
         [whole(), whole(1), TERM], [refused(1)], "b {b2} must refuse-order id=1 unanswered=0"),
     "a refusal before an earlier transfer that is refused": pair(
@@ -125,7 +148,7 @@ BROKEN = {
                                      "a {a3} must interleaved id=1 open=0"),
     "left, and an answer is missing": pair(
         [first(), whole(1), TERM], [acked(1), REPLIED], "a {a3} should interleaved id=1 open=0",
-        "b {b-end} must ack-missing id=0 peer-at={a2}"),
+        "b {b-end} must ack-missing id=0 peer-at={a2}", options="--closed b"),
     "two transfers take turns": pair(
         [first(), first(1), last(), last(1), TERM],
         [ACKED[0], acked(1, START, HALF), REJECTED(3, 1), acked(1, END, SIZE), REPLIED],
@@ -151,6 +174,7 @@ BROKEN = {
     "no contact header, and busy": bare([b"HTTP/1.1 "], [HEADER, make.sess_term(0, 3)], status=3),
     "no contact header, and a session": bare([b"HTTP/1.1 "], [HEADER, B, whole()], status=3),
     "zeros and no contact header": bare([bytes(9)], [HEADER, B], status=3),
+    "a rejected message and no contact header": bare([b"\xf0" * 9], [HEADER, B, REJECTED(1, 0xf0)], status=3),
     "a message and no contact header": bare([A], [HEADER, B], status=3),
     "the same bundle again after no-resources": pair(
         [whole(), acked(), whole(1, DATA, make.item(0, 0x8000, b"")), TERM], [refused(), whole(), acked(1), REPLIED],
@@ -164,7 +188,8 @@ BROKEN = {
     "a wrong length that is refused otherwise": pair(
         [first(0, DATA[:HALF], LONGER), last(), TERM], [ACKED[0], refused(), REPLIED],
         f"a {{a2}} must length-differs transfer=0 announced={SIZE + 1} length={SIZE}"),
-    "an unknown type": pair([UNKNOWN], [TERM], "b {b-end} should not-rejected type=20 peer-at={a2}", status=3),
+    "an unknown type": pair([UNKNOWN], [TERM], "b {b-end} should not-rejected type=20 peer-at={a2}",
+                            status=3, options="--closed b"),
     "an unknown type that is rejected": pair([UNKNOWN], [REJECTED(1, 0x20)], status=3),
     "an unknown type for private use": pair([b"\xf0"], [TERM], status=3),
     "a type that may be a gap": pair([b"\x00"], [TERM], status=3),

@@ -159,7 +159,8 @@ RULES = {
         pair([whole(), whole(7), TERM], [acked(), refused(7), REPLIED]),
     ),
     "ack-missing": (
-        pair([whole(), whole(1), TERM], [acked(1), REPLIED], "b {b-end} must ack-missing id=0 peer-at={a2}"),
+        pair([whole(), whole(1), TERM], [acked(1), REPLIED], "b {b-end} must ack-missing id=0 peer-at={a2}",
+             options="--closed b"),
         pair([whole(), whole(1), TERM], [acked(1), acked(), REPLIED]),
     ),
     "ack-beyond": (
@@ -183,7 +184,7 @@ RULES = {
     "length-not-refused": (
         pair([first(0, DATA[:HALF], LONGER), last(), TERM], [*ACKED, REPLIED],
              f"a {{a2}} must length-differs transfer=0 announced={SIZE + 1} length={SIZE}",
-             f"b {{b3}} must length-not-refused id=0 announced={SIZE + 1} length={SIZE}"),
+             f"b {{b3}} must length-not-refused id=0 announced={SIZE + 1} length={SIZE}", options="--closed b"),
         pair([first(0, DATA[:HALF], LONGER), last(), TERM], [ACKED[0], refused(0, 4), REPLIED],
              f"a {{a2}} must length-differs transfer=0 announced={SIZE + 1} length={SIZE}"),
     ),
@@ -201,12 +202,13 @@ RULES = {
         pair([whole(), acked(), whole(1, OTHER), TERM], [refused(0, 4), whole(), refused(1, 4), REPLIED]),
     ),
     "reject-header": (
-        pair([whole(), TERM], [acked(), REJECTED(3, 3), REPLIED], "b {b3} must reject-header header=03"),
+        pair([whole(), TERM], [acked(), REJECTED(3, 3), REPLIED], "b {b3} must reject-header header=03",
+             options="--closed a"),
         pair([whole(), ALIVE, TERM], [acked(), REJECTED(2, 4), REPLIED]),
     ),
     "not-rejected": (
         pair([A, whole(), TERM], [acked(), REPLIED], "a {a2} should order fault=second-session-initiation",
-             "b {b-end} must not-rejected type=07 peer-at={a2}"),
+             "b {b-end} must not-rejected type=07 peer-at={a2}", options="--closed b"),
         pair([A, whole(), TERM], [REJECTED(3, 7), acked(), REPLIED],
              "a {a2} should order fault=second-session-initiation"),
     ),
