@@ -19,20 +19,18 @@ class Transfer:
     `part` is the number of its recording: 0, or that of the gap before it. `end` is where its last
     segment ends, and `sent` is when that was captured. It is over at its END. It is abandoned if
     another transfer begins before, and cut if the recording ends before. `judged` is what the line
-    says of its data. `answers` counts those that it got, and `answer` is the one that decides. It
-    is passed if an acknowledgement with END has another length, or an answer to a later transfer
-    with its ID came.
+    says of its data. `answers` counts those that it got, and `answer` is the one that decides.
     """
 
     __slots__ = (
         "ident", "offset", "part", "segments", "length", "end", "sent", "is_over", "is_abandoned",
-        "is_cut", "is_passed", "answers", "answer", "judged",
+        "is_cut", "answers", "answer", "judged",
     )  # fmt: skip
 
     def __init__(self, ident, offset, part=0):
         self.ident, self.offset, self.part = ident, offset, part
         self.segments, self.length, self.end, self.sent = 0, 0, offset, None
-        self.is_over = self.is_abandoned = self.is_cut = self.is_passed = False
+        self.is_over = self.is_abandoned = self.is_cut = False
         self.answers, self.answer, self.judged = 0, None, None
 
     def add(self, length, end, sent):
@@ -46,10 +44,6 @@ class Transfer:
         if not answer.flags & END:
             return False
         return answer.length == self.length or (self.is_cut and answer.length > self.length)
-
-    def is_in_progress(self):
-        """Returns whether a part of it was acknowledged, and its END may still be."""
-        return self.answers > 0 and not self.is_passed
 
 
 class Answer:
@@ -161,7 +155,6 @@ class Pairing:
             self.late.pop(ident, None)
             transfer, is_only = transfers[0], len(transfers) == 1
             if not is_only and answers[0].flags & self.flags_of_later(transfer):
-                transfer.is_passed = True
                 self.unanswered.append(transfers.popleft())
             elif self.decides(transfer, answers.popleft(), is_only):
                 decided.append(transfer)
@@ -188,7 +181,6 @@ class Pairing:
             return True
         if not answer.flags & END:
             return False
-        transfer.is_passed = True
         self.wrong += 1
         self.first_wrong = self.first_wrong or (answer, transfer)
         if not is_only:

@@ -79,7 +79,7 @@ STREAMS = (
 
 
 OPEN = "open at the end of the capture: stream 0"
-NONE = "no TCPCL connection; if a session began before the capture, --port N names its port"
+NONE = "no TCPCL connection"
 
 
 def noted(*notes):
