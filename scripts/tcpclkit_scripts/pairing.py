@@ -10,6 +10,9 @@ from .messages import END, START
 # The reason of an XFER_REFUSE that is no loss (RFC 9174 section 5.2.4)
 COMPLETED = "01/completed"
 
+# How many IDs a report shows
+MOST_IDENTS = 10
+
 EMPTY = deque()
 
 
@@ -203,13 +206,13 @@ class Pairing:
         return sorted(rest, key=lambda it: (it.part, it.offset))
 
     def strays(self):
-        """Returns how many answers are to no transfer, and the first of them, or None."""
+        """Returns the answers that are to no transfer, in their order."""
         rest = [it for them in self.read.values() for it in them if not self.spend(it)]
-        return len(rest), min(rest, key=lambda it: (it.part, it.offset), default=None)
+        return sorted(rest, key=lambda it: (it.part, it.offset))
 
     def notes(self, a, b):
         """Returns what is to be reported of the answers. a and b name recordings by their part."""
-        texts, (count, first) = [], self.strays()
+        texts, strays = [], self.strays()
         if self.wrong > 0:
             answer, transfer = self.first_wrong
             texts.append(
@@ -217,10 +220,18 @@ class Pairing:
                 f"byte {answer.offset}: {answer.length} bytes of transfer {transfer.ident}, which "
                 f"has {transfer.length}"
             )
-        if count > 0:
-            text = f"answers to no transfer of {a(0)}"
-            texts.append(f"{b(first.part)}: {text}: {count}, the first at byte {first.offset}")
+        if strays:
+            text = f"{b(strays[0].part)}: answers to no transfer of {a(0)}: {len(strays)}"
+            texts.append(f"{text}, the first at byte {strays[0].offset}; {kinds_of(strays)}")
         return texts
+
+
+def kinds_of(strays):
+    """Returns how many of some answers are refusals, and the least IDs that they have."""
+    idents, refusals = sorted({it.ident for it in strays}), [it for it in strays if it.reason]
+    shown = ", ".join(map(str, idents[:MOST_IDENTS]))
+    rest = ", .." if len(idents) > MOST_IDENTS else ""
+    return f"refusals: {len(refusals)}; IDs: {shown}{rest}"
 
 
 def line(transfer, said):

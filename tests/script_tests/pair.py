@@ -30,23 +30,24 @@ IDENTS = {"order-faults": [0, 0, 1, 2]}
 REFUSED_TOO, EXTENSION = "refused reason=04/not-acceptable", "refused reason=05/extension-failure"
 
 # For each example one with answers, what a line says of each, and how many answers belong to no
-# transfer, with the first offset. The last is what is reported of its own order, if anything is.
+# transfer, with the first offset, how many of them are refusals, and their IDs. The last is what is
+# reported of its own order, if anything is.
 # `LOST` is `unanswered` if nothing says that the other side closed the connection.
 PAIRS = {
     "every-block": ("prelude-and-transfer", [LOST] * 3, None),
-    "every-message": ("every-message", [ACKED], (1, 154)),
-    "late-transfers": ("every-message", [ACKED, *[LOST] * 29], (1, 154)),
+    "every-message": ("every-message", [ACKED], (1, 154, 1, "0")),
+    "late-transfers": ("every-message", [ACKED, *[LOST] * 29], (1, 154, 1, "0")),
     "order-faults": (
         "every-message",
         [LOST, ACKED, LOST, LOST],
-        (1, 154),
+        (1, 154, 1, "0"),
         "byte 70: start repeats the open transfer",
     ),
-    "prelude-and-transfer": ("session-b", [ACKED], (4, 74)),
+    "prelude-and-transfer": ("session-b", [ACKED], (4, 74, 3, "1, 2, 3, 4")),
     "session-a": ("session-b", [ACKED, ACKED, REFUSED, EXTENSION, REFUSED_TOO], None),
-    "session-b": ("session-a", [ACKED], (1, 393)),
+    "session-b": ("session-a", [ACKED], (1, 393, 0, "9")),
     "status-reports": ("prelude-and-transfer", [LOST] * 4, None),
-    "transfers": ("session-b", [ACKED, ACKED, REFUSED, EXTENSION], (1, 112)),
+    "transfers": ("session-b", [ACKED, ACKED, REFUSED, EXTENSION], (1, 112, 1, "4")),
 }
 
 
@@ -68,8 +69,8 @@ OTHERS = [
 ]
 
 # The flags, the ID and the length of each segment of A; the answers of B; what the lines say if B
-# closed the connection; the status then; and what is reported. Otherwise `LOST` is `unanswered`, and
-# is no loss. A SESS_TERM does not matter (RFC 9174 section 6.1).
+# closed the connection; the status then; and what is reported. Otherwise `LOST` is `unanswered`,
+# and is no loss. A SESS_TERM does not matter (RFC 9174 section 6.1).
 CASES = {
     "one of each": (
         [(BOTH, 0, 5), (BOTH, 1, 6), (BOTH, 2, 7)],
@@ -152,7 +153,15 @@ CASES = {
         [refuse(2, 1), ack(BOTH, 0, 5), refuse(2, 0), ack(BOTH, 2, 5)],
         [ACKED],
         0,
-        "B: answers to no transfer of A: 3, the first at byte 38",
+        "B: answers to no transfer of A: 3, the first at byte 38; refusals: 2; IDs: 0, 1, 2",
+    ),
+    "answers to no transfer, of 12 IDs": (
+        [(BOTH, 0, 5)],
+        [ack(BOTH, 0, 5), *[refuse(2, ident) for ident in range(12, 0, -1)]],
+        [ACKED],
+        0,
+        "B: answers to no transfer of A: 12, the first at byte 56; refusals: 12; "
+        "IDs: 1, 2, 3, 4, 5, 6, 7, 8, 9, 10, ..",
     ),
     "an ID twice": (
         [(BOTH, 3, 5), (BOTH, 3, 6)],
@@ -232,7 +241,7 @@ CASES = {
         [ACKED],
         3,
         "A: byte 38: no such open transfer",
-        "B: answers to no transfer of A: 1, the first at byte 38",
+        "B: answers to no transfer of A: 1, the first at byte 38; refusals: 0; IDs: 7",
     ),
     "A begins the open transfer again": (
         [(START, 0, 5), (BOTH, 0, 6)],
@@ -301,7 +310,8 @@ def pair_examples():
         notes = [f"{a}.tcpcl: {fault}" for fault in faults]
         if left:
             text = f"{b}.tcpcl: answers to no transfer of {a}.tcpcl"
-            notes.append(f"{text}: {left[0]}, the first at byte {left[1]}")
+            text += f": {left[0]}, the first at byte {left[1]}"
+            notes.append(f"{text}; refusals: {left[2]}; IDs: {left[3]}")
         lines, notes, paths = "".join(lines), noted(*notes), (f"{a}.tcpcl", f"{b}.tcpcl")
         status = 3 if faults else int(set(said) != {ACKED})
         got = run(f"{TOP}/examples", "pair", "--closed", "b", *paths)
@@ -373,12 +383,14 @@ def pair_faults():
             ("late", example("session-a")[7:]),
         ]:
             write(f"{at}/{name}", content)
-        notes = noted("cut-a: byte 125: truncated", f"{left} cut-a: 4, the first at byte 74")
+        rest_of_a = f"{left} cut-a: 4, the first at byte 74; refusals: 3; IDs: 1, 2, 3, 4"
+        notes = noted("cut-a: byte 125: truncated", rest_of_a)
         yield "pair: A is cut", (3, f"{first}{ACKED}\n", notes), run(at, "pair", "cut-a", "B")
         notes = noted("cut-b: byte 56: truncated")
         wanted = 3, f"{first}{UNANSWERED}\n{rest}", notes
         yield "pair: B is cut", wanted, run(at, "pair", "A", "cut-b")
-        notes = noted("late: byte 0: not a contact header", f"{left} late: 6, the first at byte 38")
+        all_of_b = f"{left} late: 6, the first at byte 38; refusals: 3; IDs: 0, 1, 2, 3, 4"
+        notes = noted("late: byte 0: not a contact header", all_of_b)
         yield "pair: A has no beginning", (3, "", notes), run(at, "pair", "late", "B")
         notes = noted("nothing: cannot open the input")
         yield "pair: A is not there", (4, "", notes), run(at, "pair", "nothing", "B")
