@@ -7,7 +7,7 @@ _tcpclkit_script() {
   case ${COMP_WORDS[0]##*/} in
     tcpclkit-capture) numbers='--port' paths='--tcpclkit' flags+=' --check' again='--port' ;;
     tcpclkit-split) paths='--tcpclkit' flags+=' --keep-going' ;;
-    tcpclkit-pair) paths='--tcpclkit' ;;
+    tcpclkit-pair) sides='--closed' paths='--tcpclkit' ;;
     tcpclkit-resync) numbers='--longest' paths='-o --output' flags+=' --start' ;;
     tcpclkit-check-session) sides='--closed' paths='--times --tcpclkit' flags+=' --must' ;;
   esac

@@ -11,6 +11,7 @@ complete -c tcpclkit-capture -r -l tcpclkit -d 'the program that reads the recor
 complete -c tcpclkit-split -n 'not __fish_contains_opt keep-going' -l keep-going -d 'go on after a fault of the order of messages'
 complete -c tcpclkit-split -r -l tcpclkit -d 'the program that reads the recordings'
 
+complete -c tcpclkit-pair -x -l closed -a 'a b ab' -d 'these sides closed the connection'
 complete -c tcpclkit-pair -r -l tcpclkit -d 'the program that reads the recordings'
 
 complete -c tcpclkit-resync -r -s o -l output -d 'write a recording to this file'

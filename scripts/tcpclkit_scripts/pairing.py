@@ -10,6 +10,9 @@ from .messages import END, START
 # The reason of an XFER_REFUSE that is no loss (RFC 9174 section 5.2.4)
 COMPLETED = "01/completed"
 
+# How many IDs a report shows
+MOST_IDENTS = 10
+
 EMPTY = deque()
 
 
@@ -19,20 +22,18 @@ class Transfer:
     `part` is the number of its recording: 0, or that of the gap before it. `end` is where its last
     segment ends, and `sent` is when that was captured. It is over at its END. It is abandoned if
     another transfer begins before, and cut if the recording ends before. `judged` is what the line
-    says of its data. `answers` counts those that it got, and `answer` is the one that decides. It
-    is passed if an acknowledgement with END has another length, or an answer to a later transfer
-    with its ID came.
+    says of its data. `answers` counts those that it got, and `answer` is the one that decides.
     """
 
     __slots__ = (
         "ident", "offset", "part", "segments", "length", "end", "sent", "is_over", "is_abandoned",
-        "is_cut", "is_passed", "answers", "answer", "judged",
+        "is_cut", "answers", "answer", "judged",
     )  # fmt: skip
 
     def __init__(self, ident, offset, part=0):
         self.ident, self.offset, self.part = ident, offset, part
         self.segments, self.length, self.end, self.sent = 0, 0, offset, None
-        self.is_over = self.is_abandoned = self.is_cut = self.is_passed = False
+        self.is_over = self.is_abandoned = self.is_cut = False
         self.answers, self.answer, self.judged = 0, None, None
 
     def add(self, length, end, sent):
@@ -46,10 +47,6 @@ class Transfer:
         if not answer.flags & END:
             return False
         return answer.length == self.length or (self.is_cut and answer.length > self.length)
-
-    def is_in_progress(self):
-        """Returns whether a part of it was acknowledged, and its END may still be."""
-        return self.answers > 0 and not self.is_passed
 
 
 class Answer:
@@ -161,7 +158,6 @@ class Pairing:
             self.late.pop(ident, None)
             transfer, is_only = transfers[0], len(transfers) == 1
             if not is_only and answers[0].flags & self.flags_of_later(transfer):
-                transfer.is_passed = True
                 self.unanswered.append(transfers.popleft())
             elif self.decides(transfer, answers.popleft(), is_only):
                 decided.append(transfer)
@@ -188,7 +184,6 @@ class Pairing:
             return True
         if not answer.flags & END:
             return False
-        transfer.is_passed = True
         self.wrong += 1
         self.first_wrong = self.first_wrong or (answer, transfer)
         if not is_only:
@@ -211,13 +206,13 @@ class Pairing:
         return sorted(rest, key=lambda it: (it.part, it.offset))
 
     def strays(self):
-        """Returns how many answers are to no transfer, and the first of them, or None."""
+        """Returns the answers that are to no transfer, in their order."""
         rest = [it for them in self.read.values() for it in them if not self.spend(it)]
-        return len(rest), min(rest, key=lambda it: (it.part, it.offset), default=None)
+        return sorted(rest, key=lambda it: (it.part, it.offset))
 
     def notes(self, a, b):
         """Returns what is to be reported of the answers. a and b name recordings by their part."""
-        texts, (count, first) = [], self.strays()
+        texts, strays = [], self.strays()
         if self.wrong > 0:
             answer, transfer = self.first_wrong
             texts.append(
@@ -225,10 +220,18 @@ class Pairing:
                 f"byte {answer.offset}: {answer.length} bytes of transfer {transfer.ident}, which "
                 f"has {transfer.length}"
             )
-        if count > 0:
-            text = f"answers to no transfer of {a(0)}"
-            texts.append(f"{b(first.part)}: {text}: {count}, the first at byte {first.offset}")
+        if strays:
+            text = f"{b(strays[0].part)}: answers to no transfer of {a(0)}: {len(strays)}"
+            texts.append(f"{text}, the first at byte {strays[0].offset}; {kinds_of(strays)}")
         return texts
+
+
+def kinds_of(strays):
+    """Returns how many of some answers are refusals, and the least IDs that they have."""
+    idents, refusals = sorted({it.ident for it in strays}), [it for it in strays if it.reason]
+    shown = ", ".join(map(str, idents[:MOST_IDENTS]))
+    rest = ", .." if len(idents) > MOST_IDENTS else ""
+    return f"refusals: {len(refusals)}; IDs: {shown}{rest}"
 
 
 def line(transfer, said):

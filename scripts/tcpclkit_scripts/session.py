@@ -2,7 +2,7 @@
 
 import subprocess
 
-from .messages import CONTACT_HEADER, FIXED, MAGIC, SESS_TERM, XFER_REFUSE, spelled
+from .messages import CONTACT_HEADER, CONTACT_LENGTH, FIXED, MAGIC, SESS_TERM, XFER_REFUSE, spelled
 from .packets import spelled_end, spelled_time
 from .pairing import Pairing, line
 from .recording import Recorder
@@ -143,7 +143,7 @@ class Talk:
         for name, pairing in self.pairings.items():
             other = OTHER[name]
             for transfer in pairing.end():
-                is_lost = self.is_lost(other, transfer)
+                is_lost = self.is_lost(other)
                 self.say(name, transfer, "lost" if is_lost else "unanswered")
                 self.shared.notes.raise_status(LOST if is_lost else 0)
         for name in "ab":
@@ -152,27 +152,33 @@ class Talk:
             for text in pairing.notes(self.path_of(name), self.path_of(OTHER[name])):
                 self.shared.notes.report(text)
 
-    def is_lost(self, other, transfer):
-        """Returns whether what the other side sent shows that no answer to a transfer came.
+    def is_lost(self, other):
+        """Returns whether the other side shows that it sent no more answers than those that came.
 
-        After a SESS_TERM, a transfer that was begun may go on (RFC 9174 section 6.1).
+        A SESS_TERM shows nothing: an entity may finish a transfer after it (RFC 9174 section 6.1).
         """
         recorder, side = self.recorders[other], self.sides[other]
         is_whole = not (recorder.gaps or recorder.is_late or side.lacks_end())
         if not is_whole or recorder.reader.fault or recorder.reader.is_cut():
             return False
-        if self.connection.ending(side) != "open":
-            return True
-        return recorder.term is not None and not transfer.is_in_progress()
+        return not self.is_open(other)
 
     def is_open(self, name):
         """Returns whether a side may send more after the end of the capture."""
-        is_open = self.connection.ending(self.sides[name]) == "open"
-        return is_open and self.recorders[name].term is None
+        return self.connection.ending(self.sides[name]) == "open"
 
     def is_any_open(self):
         """Returns whether a side may send more after the end of the capture."""
         return any(self.is_open(name) for name in "ab")
+
+    def is_unsent(self, name):
+        """Returns whether a side has sent nothing yet, as far as the other one shows.
+
+        The number of its first byte is known then, and the other side acknowledged none. Nor did it
+        send more than a contact header: messages come after that of the other side (section 4.3).
+        """
+        side, other = self.sides[name], self.sides[OTHER[name]]
+        return side.first is not None and side.sent == 0 and other.count <= CONTACT_LENGTH
 
     def path_of(self, name):
         """Returns what names a recording of a side by its number."""
@@ -182,7 +188,7 @@ class Talk:
     def report(self, name):
         """Reports what the recordings of a side lack, and what is wrong with them."""
         recorder, side, notes = self.recorders[name], self.sides[name], self.shared.notes
-        for text in gap_texts(recorder, side):
+        for text in gap_texts(recorder, side, self.is_unsent(name)):
             notes.report(f"stream {self.number} {name}: {text}", FAULT)
         path, reader = self.path_of(name)(recorder.part), recorder.reader
         if reader.fault:
@@ -213,7 +219,7 @@ class Talk:
         return "".join(f"{line}\n" for line in lines)
 
 
-def gap_texts(recorder, side):
+def gap_texts(recorder, side, is_unsent):
     """Returns what is to be reported of the gaps in what a side sent, and of its beginning."""
     gaps = [begin for begin, _ in recorder.gaps] + ([side.count] if side.lacks_end() else [])
     texts = ["began before the capture"] if recorder.is_late else []
@@ -222,7 +228,7 @@ def gap_texts(recorder, side):
     elif gaps:
         texts.append(f"{len(gaps)} gaps, the first at {gaps[0]}")
     elif side.count == 0:
-        return ["nothing was captured"]
+        return [] if is_unsent else ["nothing was captured"]
     found = [f"{recorder.path(it.part)}.tcpcl" for it in recorder.found]
     if len(found) == 1:
         texts.append(f"{found[0]} goes on at {recorder.found[0].begins}")

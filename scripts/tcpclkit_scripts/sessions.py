@@ -94,18 +94,20 @@ class Sessions:
         has_gap = any(side.has_gap() or side.lacks_end() for side in connection.sides)
         if has_gap and self.ports & connection.ports():
             self.begin(number, connection, connection.sides[0])
+        elif any(side.count > 0 for side in connection.sides):
+            self.drop(number, connection)
 
     def report(self):
-        """Reports which sessions are open, and whether there are any."""
+        """Reports which sessions are open, whether there are any, and what may be one."""
         notes = self.shared.notes
         is_open = [number for number, talk in sorted(self.talks.items()) if talk.is_any_open()]
         if is_open:
             notes.report(f"open at the end of the capture: {spelled_numbers(is_open)}")
         if not self.talks:
-            text = "if a session began before the capture, --port N names its port"
-            notes.report(f"no TCPCL connection; {text}", FAULT)
-        if not self.talks and self.late:
-            notes.report(f"connections that began before the capture: {self.late}", FAULT)
+            notes.report("no TCPCL connection", FAULT)
+        if self.late:
+            text = "if one is of TCPCL, --port N names its port"
+            notes.report(f"connections that began before the capture: {self.late}; {text}")
 
 
 def spelled_numbers(numbers):

@@ -79,7 +79,7 @@ STREAMS = (
 
 
 OPEN = "open at the end of the capture: stream 0"
-NONE = "no TCPCL connection; if a session began before the capture, --port N names its port"
+NONE = "no TCPCL connection"
 
 
 def noted(*notes):
@@ -90,7 +90,7 @@ def noted(*notes):
 def strays(folder):
     """Returns what is noted of the session: one of a's answers is to no transfer."""
     a, b = f"{folder}/0000-a.tcpcl", f"{folder}/0000-b.tcpcl"
-    return noted(f"{a}: answers to no transfer of {b}: 1, the first at byte 393")
+    return noted(f"{a}: answers to no transfer of {b}: 1, the first at byte 393; refusals: 0; IDs: 9")
 
 
 # ---- captures
@@ -374,7 +374,8 @@ def one_side():
     with empty_room() as at:
         write(f"{at}/a.pcap", pcap([it for it in frames if it[34:36] == b"\xc0\x00"]))
         a, b = "made/0000-a.tcpcl", "made/0000-b.tcpcl"
-        left = f"{a}: answers to no transfer of {b}: 2, the first at byte 375"
+        left = f"{a}: answers to no transfer of {b}: 2, the first at byte 375; "
+        left += "refusals: 0; IDs: 0, 9"
         notes = noted("stream 0 b: gap at 0", left, OPEN)
         status, shown, errors = run(at, "capture", "made", "a.pcap")
         yield "capture of one side", (3, 5, notes), (status, shown.count(" unanswered "), errors)

@@ -10,8 +10,24 @@ from typing import NamedTuple
 
 import make
 
-from .capture import NONE, OPEN, SESSION, SHOWN, frames_of, noted, pcap
-from .common import PROGRAM, SEED, empty_room, example, read, run, write
+from .capture import (
+    ACK,
+    FIN,
+    GOOD,
+    NONE,
+    OPEN,
+    SESSION,
+    SHOWN,
+    Link,
+    Segment,
+    frames_of,
+    noted,
+    opening,
+    pcap,
+    seconds,
+    strays,
+)
+from .common import END, HEAD, PROGRAM, SEED, START, empty_room, example, read, run, write
 
 # The offsets at which the messages of a side begin, and its end
 BEGINS = {
@@ -270,6 +286,12 @@ def late_sessions():
                 yield f"{name_of_check}: {side} before", b"", read(f"{at}/{name}/0000-{side}.tcpcl")
 
 
+def late(count):
+    """Returns what is reported of connections that may be of TCPCL."""
+    text = "if one is of TCPCL, --port N names its port"
+    return f"connections that began before the capture: {count}; {text}"
+
+
 def ports():
     """A session that began before the capture is known by its port. There may be several."""
     frames = [it.replace(b"\x11\xcc", b"\x17\x70") for it in frames_of(read(SESSION))[9:]]
@@ -277,21 +299,27 @@ def ports():
     with empty_room() as at:
         write(f"{at}/other.pcap", both)
         got = run(at, "capture", "none", "other.pcap")
-        notes = noted(NONE, "connections that began before the capture: 2")
+        notes = noted(NONE, late(2))
         yield "capture from packet 10 on, other ports", (3, "", notes), got
         for words, count in [(["6000"], 5), (["6001"], 5), (["6001", "6000"], 10)]:
             options = [it for port in words for it in ("--port", port)]
             status, shown, _ = run(at, "capture", *options, f"of {words}", "other.pcap")
             yield f"capture {' '.join(options)}", (3, count), (status, shown.count("\n"))
+        numbers = [*range(31), *range(31, 31 + 2 * len(frames))]
+        write(f"{at}/third.pcap", pcap(frames_of(read(SESSION)) + frames_of(both), numbers))
+        status, _, errors = run(at, "capture", "third", "third.pcap")
+        wanted = 1, strays("third") + noted(late(2))
+        yield "capture: a session, and others from packet 10 on", wanted, (status, errors)
 
 
 # What is taken out of the end: how many packets are left, and what the lines of the transfers of a
-# say. The transfers that have no line are left out. 27 has both SESS_TERM, and no FIN.
+# say. The transfers that have no line are left out. 28 has both SESS_TERM and no FIN, and 31 all.
 OPEN_ENDS = {
     9: (["unanswered"], True),
     14: (["acknowledged", "unanswered"], True),
     16: (["acknowledged", "acknowledged", "unanswered"], True),
-    28: (["acknowledged"] * 2 + ["refused"] * 3, False),
+    28: (["acknowledged"] * 2 + ["refused"] * 3, True),
+    31: (["acknowledged"] * 2 + ["refused"] * 3, False),
 }
 
 
@@ -308,7 +336,79 @@ def open_ends():
             yield f"{name}: what is reported", is_open, noted(OPEN) in errors
 
 
-PARTS = [lost_packets, recordings_after_gaps, late_sessions, ports, open_ends]
+LINK = Link((49152, 1), (4556, 2))
+TERMS = {"a": make.sess_term(0, 0), "b": make.sess_term(1, 0)}
+
+
+def packets_of(turns, before=tuple(opening(LINK))):
+    """Returns the packets of a session: each turn is a side, and its data or its FIN."""
+    sent, out = {"a": 0, "b": 0}, list(before)
+    for side, data in turns:
+        seen, is_fin = sent["b" if side == "a" else "a"], data == FIN
+        content, flags = (b"", FIN | ACK) if is_fin else (data, ACK)
+        out.append(Segment(LINK, side, sent[side], content, flags, seen))
+        sent[side] += len(content)
+    return out
+
+
+def without_answer():
+    """After a SESS_TERM of both sides, a transfer and its answer may go on."""
+    heads = [("a", HEAD), ("b", HEAD)]
+    whole = [*heads, ("a", make.xfer_segment(START | END, 0, make.BUNDLE)), *TERMS.items()]
+    part = [*heads, ("a", make.xfer_segment(START, 0, make.BUNDLE[:9])), *TERMS.items()]
+    rest = ("a", make.xfer_segment(END, 0, make.BUNDLE[9:]))
+    done = ("b", make.xfer_ack(START | END, 0, len(make.BUNDLE)))
+    cases = {
+        "no answer yet": (whole, f"34 unanswered {GOOD}", 5, None, 0, True),
+        "an answer": ([*whole, done], f"34 acknowledged {GOOD}", 5, 8, 0, True),
+        "a FIN of b": ([*whole, ("b", FIN)], f"34 lost {GOOD}", 5, None, 1, True),
+        "a FIN of a": ([*whole, ("a", FIN)], f"34 unanswered {GOOD}", 5, None, 0, True),
+        "both FIN": ([*whole, ("a", FIN), ("b", FIN)], f"34 lost {GOOD}", 5, None, 1, False),
+        "no END yet": (part, "9 unanswered cut", 5, None, 0, True),
+        "an END": ([*part, rest], f"34 unanswered {GOOD}", 8, None, 0, True),
+        "no END, a FIN of a": ([*part, ("a", FIN)], "9 unanswered abandoned", 5, None, 0, True),
+    }
+    with empty_room() as at:
+        for name, (turns, words, sent, later, status, is_open) in cases.items():
+            frames = [it.frame(number) for number, it in enumerate(packets_of(turns))]
+            write(f"{at}/{name}.pcap", pcap(frames))
+            line = f"stream 0 a transfer 0 offset=38 length={words} sent={seconds(sent)}"
+            line += "" if later is None else f" answered=+0.0{later - sent}0000"
+            wanted = status, f"{line}\n", noted(OPEN) if is_open else ""
+            got = run(at, "capture", name, f"{name}.pcap")
+            yield f"capture: after both SESS_TERM: {name}", wanted, got
+
+
+def nothing_sent():
+    """The capture has no byte of side b: it has sent none, or they are missing."""
+    first = packets_of([("a", make.CONTACT)])
+    more = Segment(LINK, "a", len(make.CONTACT), HEAD[len(make.CONTACT) :])
+    nothing, gap = "stream 0 b: nothing was captured", "stream 0 b: gap at 0"
+    cases = {
+        "a contact header": (first, []),
+        "and b's TCP has it": ([*first, Segment(LINK, "b", 0, seen=6)], []),
+        "and b's FIN": ([*first, Segment(LINK, "b", 0, flags=FIN | ACK, seen=6)], []),
+        "and a has 6 bytes of b": ([*first, Segment(LINK, "a", 6, seen=6)], [gap]),
+        "and a SESS_INIT": ([*first, more], [nothing]),
+        "without the SYN of both": (first[2:], [nothing]),
+    }
+    with empty_room() as at:
+        for name, (packets, notes) in cases.items():
+            write(f"{at}/{name}.pcap", pcap([it.frame(it.offset + 1) for it in packets]))
+            wanted = 3 if notes else 0, "", noted(*notes, OPEN)
+            got = run(at, "capture", name, f"{name}.pcap")
+            yield f"capture: nothing of b: {name}", wanted, got
+
+
+PARTS = [
+    lost_packets,
+    recordings_after_gaps,
+    late_sessions,
+    ports,
+    open_ends,
+    without_answer,
+    nothing_sent,
+]
 
 # The tools that a part needs.
 TOOLS = {part: ["tshark"] for part in PARTS}

@@ -151,8 +151,8 @@ def each_rule():
 
 
 def each_word_of_two_sides():
-    """json.lines has each word of the rules of two sides of docs/FORMATS.md."""
-    rows = rows_of("FORMATS.md", "| Rule | RFC 9174 | Level | S breaks it if | WORDS |")
+    """json.lines has each word of the rules of two sides of docs/SESSIONS.md."""
+    rows = rows_of("SESSIONS.md", "| Rule | RFC 9174 | Level | S breaks it if | WORDS |")
     wanted = {word for *_, words in rows for word in re.findall(r"([a-z-]+)=", words)}
     lines = [line for line, _ in PAIRS if re.match(r"[ab] \d+ (must|should) ", line)]
     shown = {word.partition("=")[0] for line in lines for word in line.split(" ")[4:]}

@@ -9,6 +9,7 @@ from .common import (
     END,
     EXAMPLES,
     LOST,
+    NO_MESSAGE,
     REFUSED,
     Recording,
     START,
@@ -29,23 +30,24 @@ IDENTS = {"order-faults": [0, 0, 1, 2]}
 REFUSED_TOO, EXTENSION = "refused reason=04/not-acceptable", "refused reason=05/extension-failure"
 
 # For each example one with answers, what a line says of each, and how many answers belong to no
-# transfer, with the first offset. The last is what is reported of its own order, if anything is.
-# Only session-a and session-b have a SESS_TERM, and so does every-message.
+# transfer, with the first offset, how many of them are refusals, and their IDs. The last is what is
+# reported of its own order, if anything is.
+# `LOST` is `unanswered` if nothing says that the other side closed the connection.
 PAIRS = {
-    "every-block": ("prelude-and-transfer", [UNANSWERED] * 3, None),
-    "every-message": ("every-message", [ACKED], (1, 154)),
-    "late-transfers": ("every-message", [ACKED, *[LOST] * 29], (1, 154)),
+    "every-block": ("prelude-and-transfer", [LOST] * 3, None),
+    "every-message": ("every-message", [ACKED], (1, 154, 1, "0")),
+    "late-transfers": ("every-message", [ACKED, *[LOST] * 29], (1, 154, 1, "0")),
     "order-faults": (
         "every-message",
         [LOST, ACKED, LOST, LOST],
-        (1, 154),
+        (1, 154, 1, "0"),
         "byte 70: start repeats the open transfer",
     ),
-    "prelude-and-transfer": ("session-b", [ACKED], (4, 74)),
+    "prelude-and-transfer": ("session-b", [ACKED], (4, 74, 3, "1, 2, 3, 4")),
     "session-a": ("session-b", [ACKED, ACKED, REFUSED, EXTENSION, REFUSED_TOO], None),
-    "session-b": ("session-a", [ACKED], (1, 393)),
-    "status-reports": ("prelude-and-transfer", [UNANSWERED] * 4, None),
-    "transfers": ("session-b", [ACKED, ACKED, REFUSED, EXTENSION], (1, 112)),
+    "session-b": ("session-a", [ACKED], (1, 393, 0, "9")),
+    "status-reports": ("prelude-and-transfer", [LOST] * 4, None),
+    "transfers": ("session-b", [ACKED, ACKED, REFUSED, EXTENSION], (1, 112, 1, "4")),
 }
 
 
@@ -67,8 +69,8 @@ OTHERS = [
 ]
 
 # The flags, the ID and the length of each segment of A; the answers of B; what the lines say if B
-# ends with a SESS_TERM; the status then; and what is reported. `LOST` is `unanswered` if B has no
-# SESS_TERM, and then it is no loss.
+# closed the connection; the status then; and what is reported. Otherwise `LOST` is `unanswered`,
+# and is no loss. A SESS_TERM does not matter (RFC 9174 section 6.1).
 CASES = {
     "one of each": (
         [(BOTH, 0, 5), (BOTH, 1, 6), (BOTH, 2, 7)],
@@ -105,12 +107,12 @@ CASES = {
         [REFUSED],
         1,
     ),
-    "a part is acknowledged": ([(START, 0, 5), (END, 0, 6)], [ack(START, 0, 5)], [UNANSWERED], 0),
+    "a part is acknowledged": ([(START, 0, 5), (END, 0, 6)], [ack(START, 0, 5)], [LOST], 1),
     "all is acknowledged without END": (
         [(START, 0, 5), (END, 0, 0)],
         [ack(START, 0, 5)],
-        [UNANSWERED],
-        0,
+        [LOST],
+        1,
     ),
     "each acknowledgement has START": (
         [(START, 0, 5), (0, 0, 6), (END, 0, 7)],
@@ -151,7 +153,15 @@ CASES = {
         [refuse(2, 1), ack(BOTH, 0, 5), refuse(2, 0), ack(BOTH, 2, 5)],
         [ACKED],
         0,
-        "B: answers to no transfer of A: 3, the first at byte 38",
+        "B: answers to no transfer of A: 3, the first at byte 38; refusals: 2; IDs: 0, 1, 2",
+    ),
+    "answers to no transfer, of 12 IDs": (
+        [(BOTH, 0, 5)],
+        [ack(BOTH, 0, 5), *[refuse(2, ident) for ident in range(12, 0, -1)]],
+        [ACKED],
+        0,
+        "B: answers to no transfer of A: 12, the first at byte 56; refusals: 12; "
+        "IDs: 1, 2, 3, 4, 5, 6, 7, 8, 9, 10, ..",
     ),
     "an ID twice": (
         [(BOTH, 3, 5), (BOTH, 3, 6)],
@@ -231,7 +241,7 @@ CASES = {
         [ACKED],
         3,
         "A: byte 38: no such open transfer",
-        "B: answers to no transfer of A: 1, the first at byte 38",
+        "B: answers to no transfer of A: 1, the first at byte 38; refusals: 0; IDs: 7",
     ),
     "A begins the open transfer again": (
         [(START, 0, 5), (BOTH, 0, 6)],
@@ -264,21 +274,30 @@ def noted(*notes):
     return "".join(f"tcpclkit-pair: {note}\n" for note in notes)
 
 
+# What B has at its end, and what is said of that
+ENDS = [
+    ("closed", make.sess_term(0, 0), ["--closed", "b"]),
+    ("closed without SESS_TERM", b"", ["--closed", "b"]),
+    ("with a SESS_TERM", make.sess_term(0, 0), []),
+    ("without its end", b"", []),
+]
+
+
 def pair_cases():
     """What the lines say of the cases above."""
     with empty_room() as at:
         for name, (segments, answers, said, status, *notes) in CASES.items():
             a, b, transfers = sides(segments, answers)
             write(f"{at}/A", a)
-            for end, rest in [("with its end", make.sess_term(0, 0)), ("without its end", b"")]:
+            for end, rest, words in ENDS:
                 write(f"{at}/B", b + rest)
                 lines = ""
                 for (ident, offset, length), text in zip(transfers, said):
-                    text = UNANSWERED if text == LOST and not rest else text
+                    text = UNANSWERED if text == LOST and not words else text
                     lines += f"transfer {ident} offset={offset} length={length} {text}\n"
                 is_refused = any(it.startswith("refused") and it != COMPLETED for it in said)
-                wanted = 0 if status == 1 and not rest and not is_refused else status
-                got = run(at, "pair", "A", "B")
+                wanted = 0 if status == 1 and not words and not is_refused else status
+                got = run(at, "pair", *words, "A", "B")
                 yield f"pair: {name}, {end}", (wanted, lines, noted(*notes)), got
 
 
@@ -291,10 +310,44 @@ def pair_examples():
         notes = [f"{a}.tcpcl: {fault}" for fault in faults]
         if left:
             text = f"{b}.tcpcl: answers to no transfer of {a}.tcpcl"
-            notes.append(f"{text}: {left[0]}, the first at byte {left[1]}")
-        status = 3 if faults else int(not {ACKED, UNANSWERED}.issuperset(said))
-        got = run(f"{TOP}/examples", "pair", f"{a}.tcpcl", f"{b}.tcpcl")
-        yield f"pair {a} {b}", (status, "".join(lines), noted(*notes)), got
+            text += f": {left[0]}, the first at byte {left[1]}"
+            notes.append(f"{text}; refusals: {left[2]}; IDs: {left[3]}")
+        lines, notes, paths = "".join(lines), noted(*notes), (f"{a}.tcpcl", f"{b}.tcpcl")
+        status = 3 if faults else int(set(said) != {ACKED})
+        got = run(f"{TOP}/examples", "pair", "--closed", "b", *paths)
+        yield f"pair --closed b {a} {b}", (status, lines, notes), got
+        lines = lines.replace(f" {LOST}\n", f" {UNANSWERED}\n")
+        status = 3 if faults else int(not {ACKED, LOST}.issuperset(said))
+        got = run(f"{TOP}/examples", "pair", *paths)
+        yield f"pair {a} {b}", (status, lines, notes), got
+
+
+def pair_closed():
+    """Which side closed the connection matters: a's last transfer goes on, or is too short."""
+    segments, answers = [(BOTH, 0, 5), (START, 1, 5)], [ack(START, 1, 5), ack(END, 1, 9)]
+    wrong = "B: acknowledgements of another length: 1, the first at byte 56: "
+    wrong += "9 bytes of transfer 1, which has 5"
+    cases = [
+        ([], [UNANSWERED, ACKED], 0, []),
+        (["--closed", "b"], [LOST, ACKED], 1, []),
+        (["--closed", "a"], [UNANSWERED, UNANSWERED], 0, [wrong]),
+        (["--closed", "ab"], [LOST, LOST], 1, [wrong]),
+    ]
+    a, b, transfers = sides(segments, answers)
+    with empty_room() as at:
+        write(f"{at}/A", a + make.sess_term(0, 0))
+        write(f"{at}/B", b + make.sess_term(1, 0))
+        for words, said, status, notes in cases:
+            lines = ""
+            for (ident, offset, length), text in zip(transfers, said):
+                lines += f"transfer {ident} offset={offset} length={length} {text}\n"
+            wanted = status, lines, noted(*notes)
+            yield f"pair: who closed: {words}", wanted, run(at, "pair", *words, "A", "B")
+        write(f"{at}/B", b + NO_MESSAGE)
+        line = f"transfer 0 offset={transfers[0][1]} length=5 {UNANSWERED}\n"
+        status, shown, _ = run(at, "pair", "--closed", "b", "A", "B")
+        yield "pair: --closed, and a fault", (3, line), (status, shown.splitlines(True)[0])
+        yield "pair: --closed ba", 2, run(at, "pair", "--closed", "ba", "A", "B")[0]
 
 
 def pair_many():
@@ -303,14 +356,14 @@ def pair_many():
     with empty_room() as at:
         write(f"{at}/A", a.content)
         write(f"{at}/B", b.content)
-        status, shown, errors = run(at, "pair", "A", "B")
+        status, shown, errors = run(at, "pair", "--closed", "b", "A", "B")
         yield "pair 10,000 transfers", (1, ""), (status, errors)
         lines, wanted = shown.splitlines(True), [it.line() for it in transfers]
         differing = [(one, other) for one, other in zip(wanted, lines) if one != other]
         yield "pair 10,000 transfers: lines", (len(wanted), []), (len(lines), differing[:3])
         for name, words in [("A", ["-", "B"]), ("B", ["A", "-"])]:
             with open(f"{at}/{name}", "rb") as stdin:
-                got = run(at, "pair", *words, stdin=stdin)
+                got = run(at, "pair", "--closed", "b", *words, stdin=stdin)
             yield f"pair {' '.join(words)}", True, got == (status, shown, errors)
 
 
@@ -330,12 +383,14 @@ def pair_faults():
             ("late", example("session-a")[7:]),
         ]:
             write(f"{at}/{name}", content)
-        notes = noted("cut-a: byte 125: truncated", f"{left} cut-a: 4, the first at byte 74")
+        rest_of_a = f"{left} cut-a: 4, the first at byte 74; refusals: 3; IDs: 1, 2, 3, 4"
+        notes = noted("cut-a: byte 125: truncated", rest_of_a)
         yield "pair: A is cut", (3, f"{first}{ACKED}\n", notes), run(at, "pair", "cut-a", "B")
         notes = noted("cut-b: byte 56: truncated")
         wanted = 3, f"{first}{UNANSWERED}\n{rest}", notes
         yield "pair: B is cut", wanted, run(at, "pair", "A", "cut-b")
-        notes = noted("late: byte 0: not a contact header", f"{left} late: 6, the first at byte 38")
+        all_of_b = f"{left} late: 6, the first at byte 38; refusals: 3; IDs: 0, 1, 2, 3, 4"
+        notes = noted("late: byte 0: not a contact header", all_of_b)
         yield "pair: A has no beginning", (3, "", notes), run(at, "pair", "late", "B")
         notes = noted("nothing: cannot open the input")
         yield "pair: A is not there", (4, "", notes), run(at, "pair", "nothing", "B")
@@ -346,4 +401,4 @@ def pair_faults():
         yield "pair: a full device", (4, None, noted("No space left on device")), got
 
 
-PARTS = [pair_cases, pair_examples, pair_many, pair_faults]
+PARTS = [pair_cases, pair_examples, pair_closed, pair_many, pair_faults]
