@@ -235,6 +235,8 @@ pub fn pack_run<R: InDevice, W: OutDevice, E: OutDevice>(
 /// The answer is an error if a device failed, or the input has more than 2^63 - 1 bytes. `memory`
 /// is the result of [`cutter_for`](crate::cutter_for). If it is a refusal, the answer is
 /// [`IoFault::Memory`], and the devices are returned as they were.
+// Not inlined: its frame would lie below the frames of the other tools too.
+#[inline(never)]
 pub fn pack<R: InDevice, W: OutDevice, E: OutDevice>(
     memory: Result<Cutter, AllocError>,
     options: PackOptions,
