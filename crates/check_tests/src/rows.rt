@@ -313,7 +313,7 @@ pub const NOT_READ: Row = Row {
 };
 
 /// Recordings that are read to their end.
-pub static WHOLE: [Row; 14] = [
+pub static WHOLE: [Row; 8] = [
     Row {
         name: "order, kept 0",
         tool: ALL,
@@ -359,6 +359,10 @@ pub static WHOLE: [Row; 14] = [
         report: &[],
         status: 1,
     },
+];
+
+/// Recordings with messages out of order, which are read to their end.
+pub static OUT_OF_ORDER: [Row; 6] = [
     Row {
         name: "a START of its own ID abandons it",
         tool: ALL,
