@@ -2,9 +2,9 @@
 ghost use Rattle.std.specs.Prelude.{◌+◌, ◌-◌, ◌^◌, ◌<◌, ◌≤◌, length};
 
 use super::rows::Row;
-use super::rows::blocks::BLOCKS;
-use super::rows::data::DATA;
-use super::rows::primary::PRIMARY;
+use super::rows::blocks::{BLOCKS, CONFIDENTIAL, EXTENSIONS, HOP_COUNTS};
+use super::rows::data::{DATA, HIDDEN_DATA, RECORDS, UNREAD, UNREAD_IN_ORDER};
+use super::rows::primary::{FRAGMENTS, NAMES, PRIMARY, PRIMARY_CHECKS, SOURCES, WHOLE_FRAGMENTS};
 use super::rows::together::TOGETHER;
 use link_block_data::{DataFault, DataKind, DataScan, DataView};
 use link_block_report::data_kind;
@@ -146,13 +146,73 @@ fn judges_primary_blocks(rt: HostRuntime) {
 }
 
 #[test]
+fn judges_primary_checks(rt: HostRuntime) {
+    expect_all(&rt, &PRIMARY_CHECKS);
+}
+
+#[test]
+fn judges_sources_and_records(rt: HostRuntime) {
+    expect_all(&rt, &SOURCES);
+}
+
+#[test]
+fn judges_dtn_names(rt: HostRuntime) {
+    expect_all(&rt, &NAMES);
+}
+
+#[test]
+fn judges_fragments(rt: HostRuntime) {
+    expect_all(&rt, &FRAGMENTS);
+}
+
+#[test]
+fn judges_whole_fragments(rt: HostRuntime) {
+    expect_all(&rt, &WHOLE_FRAGMENTS);
+}
+
+#[test]
 fn judges_blocks(rt: HostRuntime) {
     expect_all(&rt, &BLOCKS);
 }
 
 #[test]
+fn judges_extension_blocks(rt: HostRuntime) {
+    expect_all(&rt, &EXTENSIONS);
+}
+
+#[test]
+fn judges_hop_counts(rt: HostRuntime) {
+    expect_all(&rt, &HOP_COUNTS);
+}
+
+#[test]
+fn judges_confidential_blocks_and_hops(rt: HostRuntime) {
+    expect_all(&rt, &CONFIDENTIAL);
+}
+
+#[test]
 fn judges_data_of_blocks(rt: HostRuntime) {
     expect_all(&rt, &DATA);
+}
+
+#[test]
+fn judges_hidden_data(rt: HostRuntime) {
+    expect_all(&rt, &HIDDEN_DATA);
+}
+
+#[test]
+fn judges_data_that_is_not_read(rt: HostRuntime) {
+    expect_all(&rt, &UNREAD);
+}
+
+#[test]
+fn judges_the_first_data_that_is_not_read(rt: HostRuntime) {
+    expect_all(&rt, &UNREAD_IN_ORDER);
+}
+
+#[test]
+fn judges_records(rt: HostRuntime) {
+    expect_all(&rt, &RECORDS);
 }
 
 #[test]

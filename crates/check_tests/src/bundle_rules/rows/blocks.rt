@@ -7,7 +7,7 @@ use super::{
 };
 use link_bundle_rules::{BundleRule as Rule, Level};
 
-pub(crate) static BLOCKS: [Row; 55] = [
+pub(crate) static BLOCKS: [Row; 14] = [
     // block-reports
     (
         &[
@@ -81,6 +81,9 @@ pub(crate) static BLOCKS: [Row; 55] = [
         ],
         &[],
     ),
+];
+
+pub(crate) static EXTENSIONS: [Row; 13] = [
     // age
     (
         &[
@@ -188,6 +191,9 @@ pub(crate) static BLOCKS: [Row; 55] = [
         &[Rule::PreviousNode { blocks: 2 }],
     ),
     (&[CLEAN, NODE, PAYLOAD], &[]),
+];
+
+pub(crate) static HOP_COUNTS: [Row; 16] = [
     // hop-count
     (
         &[CLEAN, HOPS, OTHER_HOPS, PAYLOAD],
@@ -298,6 +304,9 @@ pub(crate) static BLOCKS: [Row; 55] = [
         &[],
     ),
     (&[CLEAN, NO_HOPS, HIDDEN_CUT, PAYLOAD], &[]),
+];
+
+pub(crate) static CONFIDENTIAL: [Row; 12] = [
     // confidential-primary
     (
         &[

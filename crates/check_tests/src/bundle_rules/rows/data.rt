@@ -6,7 +6,7 @@ use super::{
 };
 use link_bundle_rules::BundleRule as Rule;
 
-pub(crate) static DATA: [Row; 72] = [
+pub(crate) static DATA: [Row; 20] = [
     // block-data
     (
         &[CLEAN, AGE, b"\x85\x06\x03\x00\x00\x41\x00", PAYLOAD],
@@ -109,6 +109,9 @@ pub(crate) static DATA: [Row; 72] = [
         &[],
     ),
     (&[CLEAN, b"\x85\x0b\x02\x00\x00\x40", PAYLOAD], &[]),
+];
+
+pub(crate) static HIDDEN_DATA: [Row; 7] = [
     // What may be ciphertext
     (&[CLEAN, NO_AGE, HIDDEN_2, PAYLOAD], &[]),
     (&[CLEAN, HIDDEN_2, NO_AGE, PAYLOAD], &[]),
@@ -155,6 +158,9 @@ pub(crate) static DATA: [Row; 72] = [
         ],
         &[],
     ),
+];
+
+pub(crate) static UNREAD: [Row; 18] = [
     // data-not-read
     (
         &[
@@ -270,6 +276,9 @@ pub(crate) static DATA: [Row; 72] = [
         ],
         &[Rule::DataNotRead { block: 1, byte: 45 }],
     ),
+];
+
+pub(crate) static UNREAD_IN_ORDER: [Row; 16] = [
     // The first one in their order, also before a record
     (
         &[
@@ -336,6 +345,9 @@ pub(crate) static DATA: [Row; 72] = [
         ],
         &[],
     ),
+];
+
+pub(crate) static RECORDS: [Row; 11] = [
     // record
     (&[RECORD, PAYLOAD], &[Rule::Record { byte: 32 }]),
     (

@@ -2,12 +2,12 @@
 
 use super::{
     AGE, ANONYMOUS, CLEAN, FRAGMENT, GOOD_RECORD, HIDDEN, HIDDEN_2, HIDDEN_CUT, HIDING_64,
-    HIDING_65, INTEGRITY, PAYLOAD, RECORD, Row, SOURCE, TARGET_64, TARGET_65, TARGETS_63,
+    HIDING_65, INTEGRITY, NO_HOPS, PAYLOAD, RECORD, Row, SOURCE, TARGET_64, TARGET_65, TARGETS_63,
     UNCHECKED,
 };
 use link_bundle_rules::{BundleRule as Rule, Endpoint, Level};
 
-pub(crate) static PRIMARY: [Row; 81] = [
+pub(crate) static PRIMARY: [Row; 12] = [
     // long-head
     (
         &[
@@ -87,6 +87,9 @@ pub(crate) static PRIMARY: [Row; 81] = [
         ],
         &[],
     ),
+];
+
+pub(crate) static PRIMARY_CHECKS: [Row; 19] = [
     // primary-check
     (
         &[UNCHECKED, PAYLOAD],
@@ -149,6 +152,16 @@ pub(crate) static PRIMARY: [Row; 81] = [
             INTEGRITY,
             PAYLOAD,
         ],
+        &[],
+    ),
+    // The first fragment may have the block that encrypts a hop count
+    (
+        &[
+            b"\x9f\x8a\x07\x01\x00\x82\x02\x82\x02\x01\x82\x02\x82\x01\x01\x82\x01\x00\x82\x01\
+            \x00\x00\x01\x03",
+            NO_HOPS,
+            PAYLOAD,
+        ],
         &[Rule::PrimaryCheck {
             level: Level::Should,
         }],
@@ -191,6 +204,9 @@ pub(crate) static PRIMARY: [Row; 81] = [
         ],
         &[],
     ),
+];
+
+pub(crate) static SOURCES: [Row; 11] = [
     // anonymous
     (
         &[
@@ -267,6 +283,9 @@ pub(crate) static PRIMARY: [Row; 81] = [
         ],
         &[],
     ),
+];
+
+pub(crate) static NAMES: [Row; 15] = [
     // dtn-name
     (
         &[
@@ -412,6 +431,9 @@ pub(crate) static PRIMARY: [Row; 81] = [
         ],
         &[],
     ),
+];
+
+pub(crate) static FRAGMENTS: [Row; 16] = [
     // fragment
     (
         &[
@@ -583,6 +605,9 @@ pub(crate) static PRIMARY: [Row; 81] = [
         ],
         &[],
     ),
+];
+
+pub(crate) static WHOLE_FRAGMENTS: [Row; 9] = [
     // whole-fragment
     (
         &[
