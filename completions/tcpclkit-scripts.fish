@@ -1,10 +1,11 @@
 # Completions of the scripts of tcpclkit for fish.
 
-for script in capture split pair resync json faults check-session
+for script in capture split pair resync json faults check-session page
     complete -c tcpclkit-$script -s h -l help -d 'write this text, and do nothing else'
 end
 
 complete -c tcpclkit-capture -n 'not __fish_contains_opt check' -l check -d 'write the rules that each side breaks'
+complete -c tcpclkit-capture -n 'not __fish_contains_opt page' -l page -d 'write a page of each session'
 complete -c tcpclkit-capture -x -l port -d 'the port of TCPCL'
 complete -c tcpclkit-capture -r -l tcpclkit -d 'the program that reads the recordings'
 
@@ -22,3 +23,8 @@ complete -c tcpclkit-check-session -r -l times -d 'when the bytes of both sides 
 complete -c tcpclkit-check-session -x -l closed -a 'a b ab' -d 'these sides closed the connection'
 complete -c tcpclkit-check-session -n 'not __fish_contains_opt must' -l must -d 'write lines of level `must` alone'
 complete -c tcpclkit-check-session -r -l tcpclkit -d 'the program that reads the recordings'
+
+complete -c tcpclkit-page -r -s o -l output -d 'write the page to this file'
+complete -c tcpclkit-page -r -l times -d 'when the bytes of both sides were captured'
+complete -c tcpclkit-page -x -l closed -a 'a b ab' -d 'these sides closed the connection'
+complete -c tcpclkit-page -r -l tcpclkit -d 'the program that reads the recordings'

@@ -27,7 +27,7 @@ complete -c tcpclkit -n __tcpclkit_begins -s V -l version -d 'Print version'
 complete -c tcpclkit -n __tcpclkit_begins -a list -d 'Writes a line for the contact header and each message of a recording'
 complete -c tcpclkit -n __tcpclkit_begins -a unpack -d "Writes the data of a recording's transfers"
 complete -c tcpclkit -n __tcpclkit_begins -a blocks -d 'Writes a line for each block of the bundles in a recording'
-complete -c tcpclkit -n __tcpclkit_begins -a check -d 'Writes a line for each of 37 rules of the RFCs that the sender of a recording breaks'
+complete -c tcpclkit -n __tcpclkit_begins -a check -d 'Writes a line for each judged rule of the RFCs that the sender of a recording breaks'
 complete -c tcpclkit -n __tcpclkit_begins -a pack -d 'Writes bundles as the stream of a sender'
 
 complete -c tcpclkit -n __tcpclkit_begins -a help -d 'Print this message or the help of the given subcommand'

@@ -718,7 +718,7 @@ def blocks(content, transfer=None, keep_going=False, bundles=False):
 
 
 def check(content, must=False, peer_segment=None, peer_transfer=None, bundles=False):
-    """`tcpclkit check`: a line for each of 37 rules of the RFCs that the sender of a recording breaks.
+    """`tcpclkit check`: a line for each judged rule of the RFCs that the sender of a recording breaks.
 
     With `must`, only the rules of level `must` have a line, and count. `peer_segment` and
     `peer_transfer` are the longest data of a segment and the longest transfer that the peer

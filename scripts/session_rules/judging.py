@@ -21,6 +21,10 @@ class Verdict(NamedTuple):
                 for name, lines in self.lines for line in lines if line.level == MUST or not is_must]
 
 
+# The rules of `check` that the beginning of a session decides, beside its SESS_INIT
+OF_BEGINNING = ("transfer-id-order", "answer-order")
+
+
 def is_begun(side):
     """Returns whether a recording has the beginning of its session.
 
@@ -88,7 +92,7 @@ def take_line(side, line, are_begun):
         side.ack_lengths[line.offset] = line
     elif line.rule == "unfinished":
         side.unfinished = line
-    elif line.rule != "interleaved":
+    elif line.rule != "interleaved" and (is_begun(side) or line.rule not in OF_BEGINNING):
         side.lines.append(line)
     if line.rule == "length-differs":
         side.differing[line.offset] = line.words.partition(" ")[2]

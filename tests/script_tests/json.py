@@ -12,7 +12,7 @@ import select
 import subprocess
 import sys
 
-from model import texts, wire
+from model import checking, texts, wire
 
 from .common import EXAMPLES, PROGRAM, SECONDS, SEED, TOP, empty_room, example, read, run, write
 from .split import PEAK
@@ -141,7 +141,7 @@ def each_rule():
     """json.lines has a line of each rule of docs/FORMATS.md, with each of its words."""
     heads = ["| Rule | Level | RFC 9174 |", "| Rule | Level | RFC |", "| Rule | Level | RFC 9171 |"]
     rules = [it for head in heads for it in rows_of("FORMATS.md", f"{head} Broken if | WORDS |")]
-    yield "json: rules of docs/FORMATS.md", 37, len(rules)
+    yield "json: rules of docs/FORMATS.md", {it.name for it in checking.RULES}, {name.strip("`") for name, *_ in rules}
     lines = [line.split(" ") for line, _ in PAIRS if re.match(r"\d+ (must|should) ", line)]
     for name, *_, words in rules:
         shown = {word.partition("=")[0] for it in lines if it[2] == name.strip("`") for word in it[3:]}
@@ -295,7 +295,8 @@ def rule_line_of(it):
     fields = dict(it)
     words = [str(fields.pop(name)) for name in ("offset", "level", "rule")]
     for name, value in fields.items():
-        value = texts.hexadecimal(value) if name in ("flags", "type") else value
+        if name in ("flags", "type", "reason", "header"):
+            value = f"{value:04x}" if it["rule"] == "item-type" and name == "type" else texts.hexadecimal(value)
         words.append(f"{name.replace('fragment-', '')}={value}")
     return " ".join(words)
 
@@ -309,7 +310,7 @@ def examples_checked():
     status, got, errors = objects(lines.encode())
     back = joined(rule_line_of(it) for it in got).decode()
     yield "json: the lines of check", (0, lines, ""), (status, back, errors)
-    yield "json: the rules in them", 37, len({it["rule"] for it in got})
+    yield "json: the rules in them", {it.name for it in checking.RULES}, {it["rule"] for it in got}
 
 
 # ---- what is wrong with a line

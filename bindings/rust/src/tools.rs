@@ -241,7 +241,7 @@ pub fn blocks(bytes: &[u8], options: &BlocksOptions) -> Result<Run, ToolError> {
     })
 }
 
-/// `tcpclkit check`: a line for each of 37 rules of the RFCs that the sender of a recording breaks,
+/// `tcpclkit check`: a line for each judged rule of the RFCs that the sender of a recording breaks,
 /// or that bundles break. The exit status is 0 if no line was written, and 3 after a fault.
 ///
 /// # Errors

@@ -1,5 +1,4 @@
-mod Overlays
-pub mod Runs
+mod Packed
 mod Scanning
 mod Blocks
 mod Walks

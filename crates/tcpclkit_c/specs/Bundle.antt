@@ -8,7 +8,7 @@ use Rattle.link_primary.specs.Fields.{PrimaryFields}
 use Rattle.link_numbers.specs.Bundle.{state_status, verdict_shown, name_of, name_or_none, primary_shown, bundle_shown}
 use Rattle.link_numbers.specs.declared.bundle.Bundle.{Bundle}
 use Rattle.link_numbers.specs.declared.bundle.Verdict.{Verdict}
-use Rattle.tcpclkit_c.specs.Slice.{HoldsFront, KeepsRest}
+use Rattle.link_slices.specs.Slice.{HoldsFront, KeepsRest}
 
 -- the three names, or the slices for them before or after a call
 pub record Names : Type 0 where

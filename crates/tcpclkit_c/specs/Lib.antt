@@ -1,8 +1,5 @@
-pub mod Slice
 pub mod Bundle
 pub mod Scan
 pub mod NextBlock
 pub mod Text
-pub mod Options
-pub mod Tool
-pub mod Run
+pub mod Packed

@@ -6,7 +6,7 @@ use Rattle.link_report.specs.Eid.{eid_text}
 use Rattle.link_report.specs.Fault.{wire_text, order_text}
 use Rattle.link_numbers.specs.declared.named.Named.{Named}
 use Rattle.link_numbers.specs.declared.named.Named.TheVariants as named
-use Rattle.tcpclkit_c.specs.Slice.{HoldsFront, KeepsRest}
+use Rattle.link_slices.specs.Slice.{HoldsFront, KeepsRest}
 
 -- the words of a fault; those of a bundle begin with its code
 abbrev pub named_text : Named → List ℕ

@@ -9,7 +9,6 @@ ghost use Rattle.link_primary.specs.View.{viewed_fields};
 ghost use Rattle.link_numbers.specs.Bundle.{state_status, verdict_shown, ReturnsVerdict};
 ghost use Rattle.tcpclkit_c.specs.Bundle.{three_names, GivesNames, names_status, ReturnsBundle, ReturnsStop, ReturnsInfo};
 
-use crate::slice::copy_front;
 use link_bundle::{BundleScan, BundleView, State};
 use link_numbers::bundle::{
     Bundle, Verdict, bundle_shown, fault_of, name_of, name_or_none, primary_shown, state_status,
@@ -17,6 +16,7 @@ use link_numbers::bundle::{
 };
 use link_numbers::status::{OK, TOO_SMALL};
 use link_primary::{PrimaryView, primary_fields};
+use link_slices::copy_front;
 
 /// Makes a scan that has judged the bytes.
 fn judged_scan(bytes: &[u8]) -> BundleScan

@@ -13,15 +13,10 @@
 ghost use Rattle.std.specs.Prelude.{◌≡◌};
 
 mod bundle;
-mod device;
-mod history;
 mod kept;
-mod options;
 mod order;
 mod recording;
-mod running;
 mod scan;
-mod slice;
 mod text;
 mod tool;
 

@@ -5,11 +5,11 @@ ghost use Rattle.link_numbers.specs.Bundle.{eid_by};
 ghost use Rattle.link_numbers.specs.Named.{named_by};
 ghost use Rattle.tcpclkit_c.specs.Text.{named_text, option_text, option_eid_text, HoldsText, ReturnsText};
 
-use crate::slice::copy_front;
 use link_numbers::bundle::{EidNumbers, eid_by};
 use link_numbers::named::{Named, named_by};
 use link_numbers::status::{OK, RANGE, TOO_SMALL};
 use link_report::{Line, code_of, order_words, put_eid, put_text, put_wire, words_of};
+use link_slices::copy_front;
 
 /// Writes the words of a fault into an empty line.
 fn put_named(line: &mut Line, named: Named)

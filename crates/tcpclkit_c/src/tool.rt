@@ -4,18 +4,22 @@
 //! `options` has a number for each option that the caller's version of the header has, in the order
 //! of the header.
 
-ghost use Rattle.std.specs.Prelude.{◌≡◌, true, false, None, Some, length};
+ghost use Rattle.std.specs.Prelude.{◌≡◌, true, false, Some, length};
 ghost use Rattle.link_list.specs.Listing.{list_tool};
-ghost use Rattle.tcpclkit_c.specs.Options.{unpack_in_range, blocks_in_range, check_in_range, pack_in_range};
-ghost use Rattle.tcpclkit_c.specs.Tool.{ReturnsTexts, Unpacks, ShowsBlocks, JudgesRules, ReturnsPacked};
+ghost use Rattle.link_slices.specs.Options.{unpack_in_range, blocks_in_range, check_in_range, pack_in_range};
+ghost use Rattle.link_slices.specs.Tool.{ReturnsTexts, Unpacks, ShowsBlocks, JudgesRules};
+ghost use Rattle.link_tools.specs.Options.{IsReady, job_tool};
+ghost use Rattle.link_tools.specs.declared.options.Job.TheVariants as job;
+ghost use Rattle.tcpclkit_c.specs.Packed.{ReturnsPacked};
 
-use crate::options::{
-    blocks_job_in, check_job_in, pack_in_range, pack_numbers, packing_of, wanted_in,
-};
-use crate::running::{Run, Wants, run_job};
 use link_numbers::status::RANGE;
-use link_tools::{Job, cutter_for};
-use std::alloc::Global;
+use link_slices::{
+    Run, SliceReader, SliceTool, SliceWriter, Wants, blocks_into, check_into, list_into,
+    pack_in_range, pack_numbers, packing_of, run_into, unpack_into,
+};
+use link_tools::{PackOptions, RunEnd, cutter_for, pack};
+use link_transfer::Cutter;
+use std::alloc::{AllocError, Global};
 
 /// `list`.
 #[unsafe(no_mangle)]
@@ -37,7 +41,7 @@ pub extern "C" fn tcpclkit_raw_list(
         output: wants_output,
         report: wants_report,
     };
-    run_job(Job::List, bytes, wants, output, report, answer)
+    list_into(bytes, wants, output, report, answer)
 }
 
 /// `unpack`.
@@ -59,18 +63,14 @@ pub extern "C" fn tcpclkit_raw_unpack(
         answer.new result }
     ensures unwritten { result ≡ 6 → (output.new ≡ output.old) × (report.new ≡ report.old) }
 {
-    let Some(wanted) = wanted_in(options) else {
-        return RANGE;
-    };
     let wants = Wants {
         output: wants_output,
         report: wants_report,
     };
-    run_job(Job::Unpack(wanted), bytes, wants, output, report, answer)
+    unpack_into(bytes, options, wants, output, report, answer)
 }
 
 /// `blocks`.
-#[tactic(auto, using(crate::proofs::Runs::in_range))]
 #[unsafe(no_mangle)]
 pub extern "C" fn tcpclkit_raw_blocks(
     bytes: &[u8],
@@ -89,18 +89,14 @@ pub extern "C" fn tcpclkit_raw_blocks(
         answer.new result }
     ensures unwritten { result ≡ 6 → (output.new ≡ output.old) × (report.new ≡ report.old) }
 {
-    let Some(job) = blocks_job_in(options) else {
-        return RANGE;
-    };
     let wants = Wants {
         output: wants_output,
         report: wants_report,
     };
-    run_job(job, bytes, wants, output, report, answer)
+    blocks_into(bytes, options, wants, output, report, answer)
 }
 
 /// `check`.
-#[tactic(auto, using(crate::proofs::Runs::in_range))]
 #[unsafe(no_mangle)]
 pub extern "C" fn tcpclkit_raw_check(
     bytes: &[u8],
@@ -119,14 +115,33 @@ pub extern "C" fn tcpclkit_raw_check(
         answer.new result }
     ensures unwritten { result ≡ 6 → (output.new ≡ output.old) × (report.new ≡ report.old) }
 {
-    let Some(job) = check_job_in(options) else {
-        return RANGE;
-    };
     let wants = Wants {
         output: wants_output,
         report: wants_report,
     };
-    run_job(job, bytes, wants, output, report, answer)
+    check_into(bytes, options, wants, output, report, answer)
+}
+
+/// `pack`, with the result of its one request for memory.
+#[derive(Drop)]
+struct Packing {
+    options: PackOptions,
+    memory: Result<Cutter, AllocError>,
+}
+
+impl SliceTool for Packing {
+    ghost tool = { λ packing. job_tool (job.Pack packing.options packing.memory) };
+
+    ghost ready = { λ packing. IsReady (job.Pack packing.options packing.memory) };
+
+    fn run<'a, 'b, 'c>(
+        self,
+        reader: SliceReader<'a>,
+        output: SliceWriter<'b>,
+        report: SliceWriter<'c>,
+    ) -> RunEnd<SliceReader<'a>, SliceWriter<'b>, SliceWriter<'c>> {
+        pack(self.memory, self.options, reader, output, report)
+    }
 }
 
 /// `pack`.
@@ -155,14 +170,14 @@ pub extern "C" fn tcpclkit_raw_pack(
     if !pack_in_range(options, node.len()) {
         return RANGE;
     }
-    let packing = packing_of(&pack_numbers(options), node);
-    let memory = cutter_for(alloc, &packing);
+    let options = packing_of(&pack_numbers(options), node);
+    let memory = cutter_for(alloc, &options);
     let wants = Wants {
         output: wants_output,
         report: wants_report,
     };
-    run_job(
-        Job::Pack(packing, memory),
+    run_into(
+        Packing { options, memory },
         bytes,
         wants,
         output,

@@ -1,0 +1,3 @@
+mod Overlays
+pub mod Runs
+pub mod Walks
