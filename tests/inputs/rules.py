@@ -114,8 +114,56 @@ def node_ids():
         for them in itertools.product(b"a1+: ", repeat=length):
             yield stream(sess_init(node=bytes(them))), CHECKS[:1]
     for byte in range(256):
-        for node in (b"%c:", b"a%c:", b"a:%c"):
+        for node in (b"%c:", b"a%c:", b"a:%c", b"dtn://%c/", b"dtn://n/%c", b"ipn:%c.0", b"ipn:1.%c", b"a:%%%c0", b"a:%%0%c"):
             yield stream(sess_init(node=node % byte)), CHECKS[:1]
+    parts = [b"", b"none", b"NonE", b"n", b"/", b"//", b"///", b"//n", b"//n/", b"//n/~", b"//n/a~", b"//%4a/", b"//%4/", b"~"]
+    parts += [b".".join(them) for length in range(5) for them in itertools.product((b"", b"0", b"00", b"10"), repeat=length)]
+    for scheme, part in itertools.product((b"dtn", b"DTN", b"ipn", b"iPn", b"dtn2", b"ip", b""), [*parts, b"!", b"!1.1", b"1.0!"]):
+        yield stream(sess_init(node=scheme + b":" + part)), CHECKS[:1]
+
+
+def intervals_and_codes():
+    """Each interval around its limits, each type of an item, each reason, and each rejected header."""
+    for interval in (*range(33), *range(598, 603), 65535):
+        yield stream(sess_init(keepalive=interval)), CHECKS[:1]
+    for kind in (0, 1, 2, 3, 0x00FF, 0x0100, 0x7FFE, 0x7FFF, 0x8000, 0x8001, 0xFFFF):
+        yield stream(sess_init(items=[item("session", 0, 0x8000, b""), item("session", 0, kind, b"")])), CHECKS[:1]
+        yield stream(sess_init(), segment(START | END, 0, b"", [item("transfer", 0, kind, b"")])), CHECKS[:1]
+        yield stream(sess_init(), segment(START, 0, b"", [total(0), item("transfer", 0, kind, b"")])), CHECKS[:1]
+    for reason in range(256):
+        for message in (b"\x06%c\x07", b"\x06%c\x08", b"\x05\x00%c", b"\x05\x01%c", b"\x03%c" + bytes(8)):
+            yield stream(sess_init(), [message % reason]), CHECKS[:1]
+        for why in range(5):
+            yield stream(sess_init(), [b"\x06%c%c" % (why, reason)]), CHECKS[:1]
+
+
+def orders_of_answers():
+    """Every four of some XFER_ACKs and XFER_REFUSEs, after a SESS_INIT and around one."""
+    answers = [ack(flags, number, 5) for flags in (0, START, END) for number in (0, 1)]
+    answers += [[b"\x03%c" % reason + bytes(7) + bytes([number])] for reason, number in ((0, 0), (4, 0), (0, 1))]
+    for them in itertools.product(answers, repeat=4):
+        yield stream(sess_init(), *them), CHECKS[:1]
+        yield stream(*them[:2], sess_init(), *them[2:]), CHECKS[:1]
+
+
+def after_the_end():
+    """Every four of some messages, among them a MSG_REJECT that ends the session and a SESS_TERM."""
+    messages = [
+        [b"\x06\x01\x20"], [b"\x06\x02\x07"], [b"\x05\x00\x00"], [b"\x05\x01\x00"], sess_init(), [b"\x04"],
+        segment(START, 0, b""), segment(0, 0, b"x"), ack(START, 0, 5),
+    ]
+    for them in itertools.product(messages, repeat=4):
+        yield stream(*them), CHECKS[:1]
+        yield stream(sess_init(), *them), CHECKS[:1]
+
+
+def many_runs():
+    """As many runs of IDs as are remembered and one more, and then each ID of the first ones again."""
+    for count in (62, 63, 64, 65, 66):
+        for last in (0, 1, 3, 4, 6, 7, 3 * count - 2):
+            ids = [it for run in range(count) for it in (3 * run, 3 * run + 1)]
+            ends = [segment(START | END, it, b"") for it in (*ids, last)]
+            yield stream(sess_init(), *ends), CHECKS[:1]
 
 
 def flags_of_messages():
@@ -331,7 +379,8 @@ def tags():
 
 def groups():
     """The groups of this file."""
-    for make in (messages_before, session_parameters, transfer_ids, limits_of_the_peer, node_ids, flags_of_messages,
+    for make in (messages_before, session_parameters, transfer_ids, limits_of_the_peer, node_ids, intervals_and_codes,
+                 orders_of_answers, after_the_end, many_runs, flags_of_messages,
                  flags_of_bundles, flags_of_blocks, dtn_names, fragments, blocks_of_fragments, blocks_together, hidden_data,
                  hidden_among_many, hop_counts, security_targets, long_heads, indefinite, tags):
         yield f"rules: {make.__name__.replace('_', ' ')}", make

@@ -11,6 +11,7 @@ from .block_data import (
     ADMINISTRATIVE, BUNDLE_AGE, CONFIDENTIALITY, FRAGMENT, HOP_COUNT, INTEGRITY, PAYLOAD, PREVIOUS_NODE, Malformed,
     content_of,
 )
+from .rules import MUST, SHOULD, Rules
 
 # Flags of a bundle (section 4.2.3): it must not be fragmented; reports are requested of its
 # reception, forwarding, delivery and deletion
@@ -35,6 +36,8 @@ MAX_TARGETS = 64
 
 # A dtn name: `//`, a node name, `/`, and a demux (section 4.2.5.1.1). Either may be empty.
 NAME = re.compile(rb"//[\x21-\x7e]*/[\x21-\x7e]*")
+
+RULES = Rules()
 
 
 def of_kind(it, kind):
@@ -98,23 +101,16 @@ def flags_of(it):
     return f"flags={texts.hexadecimal(it.primary.flags)}"
 
 
+@RULES.rule(MUST)
 def long_head(it):
     """Each head is the shortest for its number (section 4.1)."""
     return None if it.long_head is None else f"byte={it.long_head}"
 
 
+@RULES.rule(SHOULD)
 def bundle_flags(it):
     """A bundle has no flag but those that are defined (section 4.2.3)."""
     return flags_of(it) if it.primary.flags & ~BUNDLE_FLAGS else None
-
-
-def primary_check(it):
-    """The primary block has a check, or a block integrity block protects it (section 4.3.1).
-
-    A block whose targets cannot be read may protect it.
-    """
-    is_protected = any(may_protect(it, block) for block in of_kind(it, INTEGRITY))
-    return None if it.primary.check or is_protected else ""
 
 
 def may_protect(it, block):
@@ -131,17 +127,30 @@ def has_all_blocks(it):
     return it.primary.fragment is None or it.primary.fragment[0] == 0
 
 
+@RULES.rule(has_all_blocks)
+def primary_check(it):
+    """The primary block has a check, or a block integrity block protects it (section 4.3.1).
+
+    A block whose targets cannot be read may protect it.
+    """
+    is_protected = any(may_protect(it, block) for block in of_kind(it, INTEGRITY))
+    return None if it.primary.check or is_protected else ""
+
+
+@RULES.rule(MUST)
 def anonymous(it):
     """A bundle without a source is not fragmented, and asks for no reports (section 4.2.3)."""
     is_wrong = not it.primary.flags & NO_FRAGMENTS or asks_for_reports(it)
     return flags_of(it) if is_anonymous(it) and is_wrong else None
 
 
+@RULES.rule(MUST)
 def record_reports(it):
     """An administrative record asks for no reports (section 4.2.3)."""
     return flags_of(it) if is_record(it) and asks_for_reports(it) else None
 
 
+@RULES.rule(MUST)
 def block_reports(it):
     """The blocks of an administrative record, or of a bundle without a source, ask for no reports.
 
@@ -151,12 +160,14 @@ def block_reports(it):
     return f"block={asking[0].number}" if asking and (is_record(it) or is_anonymous(it)) else None
 
 
+@RULES.rule(SHOULD)
 def block_flags(it):
     """A block has no flag but those that are defined (section 4.2.4)."""
     wrong = [block for block in it.blocks if block.flags & ~BLOCK_FLAGS]
     return f"block={wrong[0].number} flags={texts.hexadecimal(wrong[0].flags)}" if wrong else None
 
 
+@RULES.rule(MUST)
 def dtn_name(it):
     """A dtn endpoint ID that is a text has the form of a dtn name (section 4.2.5.1.1)."""
     begin = it.primary
@@ -165,6 +176,7 @@ def dtn_name(it):
     return wrong[0] if wrong else None
 
 
+@RULES.rule(MUST)
 def fragment(it):
     """A fragment may be one, and is a part of its application data.
 
@@ -179,6 +191,7 @@ def fragment(it):
     return f"offset={offset} length={length} total={total}" if is_wrong else None
 
 
+@RULES.rule(SHOULD)
 def whole_fragment(it):
     """A fragment is less than the whole data (section 5.8).
 
@@ -188,17 +201,19 @@ def whole_fragment(it):
     return f"total={it.identity.payload}" if is_whole else None
 
 
+def is_age_due(it):
+    """Whether a wrong number of bundle age blocks is the node's fault, whatever was fragmented."""
+    return has_all_blocks(it) or len(of_kind(it, BUNDLE_AGE)) > 1
+
+
+@RULES.rule(is_age_due)
 def age(it):
     """A bundle has at most one bundle age block, and one if its time is 0 (section 4.4.2)."""
     blocks = len(of_kind(it, BUNDLE_AGE))
     return f"blocks={blocks}" if blocks > 1 or it.primary.time == 0 and blocks == 0 else None
 
 
-def is_age_due(it):
-    """Whether a wrong number of bundle age blocks is the node's fault, whatever was fragmented."""
-    return has_all_blocks(it) or len(of_kind(it, BUNDLE_AGE)) > 1
-
-
+@RULES.rule(MUST)
 def previous_node(it):
     """A bundle has one previous node block at most (section 4.4.1)."""
     blocks = len(of_kind(it, PREVIOUS_NODE))
@@ -214,6 +229,7 @@ def first_hop_count(it):
     return None if isinstance(first, Malformed) else first
 
 
+@RULES.rule(MUST)
 def hop_count(it):
     """A bundle has one hop count block at most, with a limit from 1 to 255 (section 4.4.3).
 
@@ -225,12 +241,14 @@ def hop_count(it):
     return f"blocks={blocks}" + (f" limit={first.limit}" if first else "")
 
 
+@RULES.rule(MUST)
 def confidential_primary(it):
     """No block confidentiality block has the primary block as a target (RFC 9172 section 3.8)."""
     wrong = [number for number, each in targets(it, CONFIDENTIALITY) if PRIMARY in each]
     return f"block={wrong[0]}" if wrong else None
 
 
+@RULES.rule(SHOULD)
 def hops(it):
     """The hop count is within its limit (section 4.4.3)."""
     first = first_hop_count(it)
@@ -253,6 +271,7 @@ def malformed(it, is_limit):
     ]
 
 
+@RULES.rule(MUST)
 def block_data(it):
     """The data of previous node, bundle age and hop count blocks is well formed.
 
@@ -262,6 +281,7 @@ def block_data(it):
     return f"block={wrong[0][0]} byte={wrong[0][1]}" if wrong else None
 
 
+@RULES.rule(SHOULD)
 def data_not_read(it):
     """The data of blocks and an administrative record are within the limits of the toolkit.
 
@@ -271,6 +291,7 @@ def data_not_read(it):
     return f"block={wrong[0][0]} byte={wrong[0][1]}" if wrong else None
 
 
+@RULES.rule(MUST)
 def record(it):
     """The payload of an administrative record is well formed (sections 6.1 and 6.1.1).
 

@@ -1,24 +1,31 @@
 """The tool `check`: which rules a node breaks in a recording, or in a file of bundles."""
 
-from . import bundle, rules, texts, tools, wire
-from .message_rules import Turn
+from . import bundle, bundle_rules, message_rules, rules, texts, tools, transfer_rules, wire
+
+# The rule of a contact header, and those of messages. A transfer that is not closed when the stream
+# ends breaks the first of transfers, and any other transfer keeps it.
+CONTACT, MESSAGES = message_rules.RULES[:1], message_rules.RULES[1:]
+UNFINISHED, CLOSED = transfer_rules.RULES[:1], transfer_rules.RULES[1:]
+
+# All rules in the order of docs/FORMATS.md
+RULES = [*message_rules.RULES, *transfer_rules.RULES, *bundle_rules.RULES]
 
 
 def of_bundle(judged, at, of):
     """The levels and lines of the rules that a bundle breaks. Only a good one is judged."""
-    return [] if judged.fault else [*rules.broken(rules.BUNDLES, judged, at, of)]
+    return [] if judged.fault else [*rules.broken(bundle_rules.RULES, judged, at, of)]
 
 
 def of_transfer(transfer):
     """The levels and lines of the rules that a closed transfer breaks, and then its bundle."""
     at, of = transfer.heads[0].at, f"transfer={transfer.id}"
-    return [*rules.broken(rules.TRANSFERS, transfer, at, of), *of_bundle(transfer.judged, at, of)]
+    return [*rules.broken(CLOSED, transfer, at, of), *of_bundle(transfer.judged, at, of)]
 
 
 def of_end(transfers, count):
     """The levels and lines of the transfer that a clean end after `count` heads abandons."""
     last = [it for it in transfers if it.due == (count, tools.ABANDONED)]
-    return [found for it in last for found in rules.broken(rules.UNFINISHED, it, it.heads[0].at, f"transfer={it.id}")]
+    return [found for it in last for found in rules.broken(UNFINISHED, it, it.heads[0].at, f"transfer={it.id}")]
 
 
 def of_recording(stream, peer_segment, peer_transfer):
@@ -30,10 +37,10 @@ def of_recording(stream, peer_segment, peer_transfer):
     heads, fault = tools.heads_of(read, keep_going=True)
     transfers = tools.walk(heads, fault)
     closed = {it.due[0]: it for it in transfers if it.due and it.due[1] == tools.CLOSED}
-    found = [] if read.contact is None else [*rules.broken(rules.CONTACT, read.contact, 0)]
+    found = [] if read.contact is None else [*rules.broken(CONTACT, read.contact, 0)]
     for head in heads:
-        turn = Turn(head, heads[:head.number], peer_segment, peer_transfer)
-        found += rules.broken(rules.MESSAGES, turn, head.at)
+        turn = message_rules.Turn(head, heads[:head.number], peer_segment, peer_transfer)
+        found += rules.broken(MESSAGES, turn, head.at)
         found += of_transfer(closed[head.number]) if head.number in closed else []
     return found + of_end(transfers, len(heads)), texts.wire_fault(fault)
 

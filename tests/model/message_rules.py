@@ -7,9 +7,19 @@ import re
 from typing import NamedTuple, Optional
 
 from . import tools, wire
+from .rules import MUST, SHOULD, Rules
 
-# A scheme, a colon, and bytes that a URI may have (RFC 3986 section 3.1)
-URI = re.compile(rb"[A-Za-z][A-Za-z0-9+.-]*:[\x21-\x7e]*")
+# A scheme, a colon, and bytes that a URI may have (RFC 3986 sections 2 and 3.1). A `%` begins an
+# octet in hexadecimal digits (section 2.1).
+URI = re.compile(rb"([A-Za-z][A-Za-z0-9+.-]*):((?:[!#-$&-;=?-Z[\]_a-z~]|%[0-9A-Fa-f]{2})*)")
+
+# What follows `dtn:`: `none`, or the name of a node between slashes, and a demux (RFC 9171 section
+# 4.2.5.1.1). The name is a reg-name (RFC 3986 section 3.2.2).
+DTN_NONE = re.compile(rb"none", re.IGNORECASE)
+DTN_NAME = re.compile(rb"//(?:[A-Za-z0-9._~!$&'()*+,;=-]|%[0-9A-Fa-f]{2})*/([\x21-\x7e]*)")
+
+# What follows `ipn:`: two numbers (RFC 9171 section 4.2.5.1.2), or three
+IPN_NUMBERS = re.compile(rb"[0-9]+\.(?:[0-9]+\.)?([0-9]+)")
 
 # The flags that are defined: of a contact header (section 4.2), of an extension item (sections 4.8
 # and 5.2.5), of XFER_SEGMENT (section 5.2.2) and of SESS_TERM (section 6.1)
@@ -17,8 +27,32 @@ CAN_TLS = 0x01
 CRITICAL = 0x01
 REPLY = 0x01
 
-# The type bytes of XFER_ACK, XFER_REFUSE and KEEPALIVE (section 4.5)
-TYPES = {wire.Ack: 0x02, wire.Refuse: 0x03, wire.Keepalive: 0x04}
+# The type bytes of messages (section 4.5)
+TYPES = {
+    wire.Segment: 0x01, wire.Ack: 0x02, wire.Refuse: 0x03, wire.Keepalive: 0x04, wire.SessTerm: 0x05, wire.Reject: 0x06,
+    wire.SessInit: 0x07,
+}
+
+# Reasons of MSG_REJECT: the type is unknown, the message is unsupported, or unexpected (section
+# 5.1.2). A reason of XFER_REFUSE: the bundle is not acceptable (section 5.2.4).
+TYPE_UNKNOWN, UNSUPPORTED, UNEXPECTED = 0x01, 0x02, 0x03
+NOT_ACCEPTABLE = 0x04
+
+# The reasons that are neither assigned nor for private use, by the type of the message (sections
+# 8.6 to 8.8)
+UNASSIGNED = {wire.Reject: {0x00, *range(0x04, 0xF0)}, wire.Refuse: range(0x07, 0xF0), wire.SessTerm: range(0x06, 0xF0)}
+
+# The seconds between KEEPALIVEs that are recommended (section 5.1.1)
+INTERVALS = range(30, 601)
+
+# Extension types from here on are for private use. 0000 is reserved, and only the Transfer Length
+# item has a type between the two (sections 8.3 and 8.4).
+PRIVATE_ITEMS = 0x8000
+
+# How many runs of transfer IDs are remembered
+RUNS = 64
+
+RULES = Rules()
 
 
 class Turn(NamedTuple):
@@ -39,29 +73,56 @@ def is_start(it):
     return isinstance(it, wire.Segment) and bool(it.flags & wire.START)
 
 
+def kind_of(it):
+    """The words for the type of a message."""
+    return f"type={TYPES[type(it)]:02x}"
+
+
+def turn_before(turn, number):
+    """The turn of an earlier message."""
+    return turn._replace(head=turn.before[number], before=turn.before[:number])
+
+
+def is_first(turn, holds):
+    """Whether something holds of a message and of none before it."""
+    return holds(turn) and not any(holds(turn_before(turn, number)) for number in range(len(turn.before)))
+
+
+@RULES.rule(MUST)
 def contact_flags(flags):
     """A contact header, of these flags, has no flag but CAN_TLS (section 4.2)."""
     return f"flags={flags:02x}" if flags & ~CAN_TLS else None
 
 
+def is_name(node):
+    """Whether a node ID is a URI, and one of its scheme if this is dtn or ipn."""
+    uri = URI.fullmatch(node)
+    if not uri:
+        return False
+    scheme, rest = uri[1].lower(), uri[2]
+    if scheme == b"dtn":
+        return bool(DTN_NONE.fullmatch(rest) or DTN_NAME.fullmatch(rest))
+    return scheme != b"ipn" or rest.startswith(b"!") or bool(IPN_NUMBERS.fullmatch(rest))
+
+
+@RULES.rule(MUST)
 def node_id(turn):
-    """A node ID is empty or a URI (section 4.6)."""
+    """A node ID is empty or a URI (section 4.6), with the syntax of its scheme.
+
+    (RFC 9171 sections 4.2.5.1.1 and 4.2.5.1.2.)
+    """
     it = turn.head.it
-    if not isinstance(it, wire.SessInit) or not it.node or URI.fullmatch(it.node):
+    if not isinstance(it, wire.SessInit) or not it.node or is_name(it.node):
         return None
     return f"length={len(it.node)}"
 
 
+@RULES.rule(MUST)
 def item_flags(turn):
     """An extension item has no flag but CRITICAL (sections 4.8 and 5.2.5)."""
     flags = [item.flags for item in getattr(turn.head.it, "items", None) or []]
     reserved = [f"item={number} flags={it:02x}" for number, it in enumerate(flags) if it & ~CRITICAL]
     return reserved[0] if reserved else None
-
-
-def order(turn):
-    """Messages are in order (sections 4, 4.7, 5.1.2, 5.2, 5.2.1, 5.2.2 and 6.1)."""
-    return turn.head.why and f"fault={turn.head.why.replace(' ', '-')}"
 
 
 def parameters(it):
@@ -83,15 +144,24 @@ def changes_session(turn):
     return is_established and parameters(turn.head.it) != parameters(before[first])
 
 
+@RULES.rule(changes_session)
+def order(turn):
+    """Messages are in order (sections 4, 4.7, 5.1.2, 5.2, 5.2.1, 5.2.2 and 6.1)."""
+    return turn.head.why and f"fault={turn.head.why.replace(' ', '-')}"
+
+
+@RULES.rule(SHOULD)
 def before_session(turn):
     """No XFER_ACK, XFER_REFUSE or KEEPALIVE comes before the first SESS_INIT.
 
     (Sections 4 and 5.1.2.)
     """
-    kind = TYPES.get(type(turn.head.it))
-    return f"type={kind:02x}" if kind and not earlier(turn, wire.SessInit) else None
+    it = turn.head.it
+    is_due = isinstance(it, (wire.Ack, wire.Refuse, wire.Keepalive)) and not earlier(turn, wire.SessInit)
+    return kind_of(it) if is_due else None
 
 
+@RULES.rule(SHOULD)
 def interleaved(turn):
     """A transfer does not begin while one of another ID is open (sections 5.2 and 5.2.2).
 
@@ -104,6 +174,7 @@ def interleaved(turn):
     return None if opened in (None, it.id) else f"id={it.id} open={opened}"
 
 
+@RULES.rule(MUST)
 def segment_flags(turn):
     """A segment has no flag but END and START (section 5.2.2)."""
     it = turn.head.it
@@ -111,25 +182,32 @@ def segment_flags(turn):
     return f"flags={it.flags:02x}" if is_wrong else None
 
 
-def last_run(ids):
-    """The last ID, and those before it as far back as each is one more than its predecessor."""
-    run = ids[-1:]
-    for it in ids[-2::-1]:
-        if it + 1 != run[-1]:
-            break
-        run.append(it)
-    return run
+def runs(ids):
+    """The longest stretches in which each ID is one more than the ID before it."""
+    found = []
+    for it in ids:
+        if found and found[-1][-1] + 1 == it:
+            found[-1].append(it)
+        else:
+            found.append([it])
+    return found
 
 
+def starts(turn):
+    """The IDs of the STARTs before this message."""
+    return [it.id for it in earlier(turn, wire.Segment) if is_start(it)]
+
+
+@RULES.rule(MUST)
 def transfer_id(turn):
-    """The ID of a transfer is new (section 5.2.1), as far as a run of IDs shows."""
+    """The ID of a transfer is new (section 5.2.1), as far as the last runs of IDs show."""
     it = turn.head.it
     if not is_start(it):
         return None
-    ids = [each.id for each in earlier(turn, wire.Segment) if is_start(each)]
-    return f"id={it.id}" if it.id in last_run(ids) else None
+    return f"id={it.id}" if any(it.id in run for run in runs(starts(turn))[-RUNS:]) else None
 
 
+@RULES.rule(MUST)
 def peer_segment(turn):
     """A segment's data is no longer than the peer's segment MRU (sections 4.6 and 5.2)."""
     it, limit = turn.head.it, turn.peer_segment
@@ -145,6 +223,7 @@ def segments_so_far(turn):
     return [head.it for head in tools.transfers_of([*turn.before, turn.head])[-1]]
 
 
+@RULES.rule(MUST)
 def peer_transfer(turn):
     """A transfer is no longer than the peer's transfer MRU (section 4.6), as announced and as sent.
 
@@ -162,6 +241,7 @@ def peer_transfer(turn):
     return f"length={sum(lengths)} limit={limit}" if sum(lengths[:-1]) <= limit < sum(lengths) else None
 
 
+@RULES.rule(MUST)
 def ack_length(turn):
     """An acknowledged length does not fall within a transfer (section 5.2.3)."""
     it = turn.head.it
@@ -170,6 +250,7 @@ def ack_length(turn):
     return f"length={it.length} before={falls[0].length}" if falls else None
 
 
+@RULES.rule(SHOULD)
 def keepalive(turn):
     """No KEEPALIVE comes after a SESS_INIT whose interval is 0 (sections 4.7 and 5.1.1).
 
@@ -184,7 +265,158 @@ def keepalive(turn):
     return "" if is_first else None
 
 
+@RULES.rule(MUST)
 def term_flags(turn):
     """A SESS_TERM has no flag but REPLY (section 6.1). A reply repeats what it answers."""
     it = turn.head.it
     return f"flags={it.flags:02x}" if isinstance(it, wire.SessTerm) and it.flags and not it.flags & REPLY else None
+
+
+def demux_of(node):
+    """The demux of a dtn name (RFC 9171 section 4.2.5.1.1), or None for another node ID."""
+    scheme, _, rest = node.partition(b":")
+    named = DTN_NAME.fullmatch(rest) if scheme.lower() == b"dtn" else None
+    return named and named[1]
+
+
+def names_node(node):
+    """Whether a node ID that has the syntax of its scheme names the node itself.
+
+    An ipn name that begins with `!` may.
+    """
+    scheme, _, rest = node.partition(b":")
+    if scheme.lower() == b"ipn":
+        return rest.startswith(b"!") or int(IPN_NUMBERS.fullmatch(rest)[1]) == 0
+    return demux_of(node) == b""
+
+
+def is_no_singleton(turn):
+    """Whether the node ID of a SESS_INIT names a group (RFC 9171 section 4.2.5.1.1)."""
+    return (demux_of(turn.head.it.node) or b"").startswith(b"~")
+
+
+@RULES.rule(is_no_singleton)
+def node_name(turn):
+    """A node ID is the endpoint ID of the node's administrative endpoint (section 4.6).
+
+    (RFC 9171 sections 4.2.5.1 and 4.2.5.2.) One of another scheme than dtn and ipn is not known to be.
+    """
+    it = turn.head.it
+    is_due = isinstance(it, wire.SessInit) and it.node and is_name(it.node)
+    return f"length={len(it.node)}" if is_due and not names_node(it.node) else None
+
+
+@RULES.rule(SHOULD)
+def keepalive_interval(turn):
+    """The interval of a SESS_INIT is 0, or neither short nor long (section 5.1.1)."""
+    it = turn.head.it
+    is_wrong = isinstance(it, wire.SessInit) and it.keepalive and it.keepalive not in INTERVALS
+    return f"interval={it.keepalive}" if is_wrong else None
+
+
+@RULES.rule(SHOULD)
+def item_type(turn):
+    """The type of an extension item is assigned, or for private use (sections 8.3 and 8.4)."""
+    it = turn.head.it
+    known = [tools.TRANSFER_LENGTH] if isinstance(it, wire.Segment) else []
+    kinds = [item.kind for item in getattr(it, "items", None) or []]
+    others = [f"item={at} type={kind:04x}" for at, kind in enumerate(kinds) if kind < PRIVATE_ITEMS and kind not in known]
+    return others[0] if others else None
+
+
+def jumps(turn):
+    """Whether a new transfer ID is not one more than the last, or the first is not 0.
+
+    Only a START after a SESS_INIT counts.
+    """
+    it = turn.head.it
+    if not is_start(it) or transfer_id(turn) is not None or not earlier(turn, wire.SessInit):
+        return False
+    before = starts(turn)
+    return it.id != (before[-1] + 1 if before else 0)
+
+
+@RULES.rule(SHOULD)
+def transfer_id_order(turn):
+    """Transfer IDs begin at 0 and count up (section 5.2.1). The first that does not counts."""
+    return f"id={turn.head.it.id}" if is_first(turn, jumps) else None
+
+
+def answer_fault(it, before):
+    """Why an XFER_ACK or XFER_REFUSE does not follow those before it, or None."""
+    acks = [each for each in before if isinstance(each, wire.Ack)]
+    refusals = [at for at, each in enumerate(before) if isinstance(each, wire.Refuse)]
+    acked = acks[-1].id if acks else None
+    refused = before[refusals[-1]].id if refusals else None
+    has_ended = bool(acks and acks[-1].flags & wire.END) and it.id == acked
+    if isinstance(it, wire.Refuse):
+        return "refused-after-end" if it.reason != NOT_ACCEPTABLE and has_ended else None
+    if it.flags & wire.START:
+        return "start-repeats" if it.id == acked else None
+    if it.id not in (acked, refused):
+        return "not-the-last"
+    if has_ended:
+        return "after-end"
+    since = before[refusals[-1]:] if refusals else []
+    is_acked = any(isinstance(each, wire.Ack) and each.id == it.id for each in since)
+    return "after-refusal" if it.id == refused and not is_acked else None
+
+
+@RULES.rule(SHOULD)
+def answer_order(turn):
+    """The segments of a transfer are answered one after another (sections 5.2.3 and 5.2.4)."""
+    it = turn.head.it
+    if not isinstance(it, (wire.Ack, wire.Refuse)) or not earlier(turn, wire.SessInit):
+        return None
+    fault = answer_fault(it, [head.it for head in turn.before])
+    return fault and f"id={it.id} fault={fault}"
+
+
+def comes_after_reject(turn):
+    """Whether a MSG_REJECT before this message says that a type is unknown, which ends the session."""
+    return any(it.reason == TYPE_UNKNOWN for it in earlier(turn, wire.Reject))
+
+
+def begins_anew(turn):
+    """Whether a message after such a MSG_REJECT begins or ends the session, or begins a transfer."""
+    it = turn.head.it
+    return comes_after_reject(turn) and (is_start(it) or isinstance(it, (wire.SessInit, wire.SessTerm)))
+
+
+@RULES.rule(begins_anew)
+def after_reject(turn):
+    """No message comes after a MSG_REJECT that ends the session (sections 5.1.2 and 8.5).
+
+    The first one counts, and the first that begins something.
+    """
+    is_due = is_first(turn, comes_after_reject) or is_first(turn, begins_anew)
+    return kind_of(turn.head.it) if is_due else None
+
+
+@RULES.rule(SHOULD)
+def reject_known(turn):
+    """A MSG_REJECT calls a type unknown if and only if RFC 9174 has it not (section 5.1.2)."""
+    it = turn.head.it
+    if not isinstance(it, wire.Reject):
+        return None
+    is_known = it.header in TYPES.values()
+    is_wrong = it.reason == TYPE_UNKNOWN if is_known else it.reason in (UNSUPPORTED, UNEXPECTED)
+    return f"reason={it.reason:02x} header={it.header:02x}" if is_wrong else None
+
+
+@RULES.rule(SHOULD)
+def reason(turn):
+    """A reason is assigned, or for private use (sections 8.6 to 8.8). A reply repeats what it answers."""
+    it = turn.head.it
+    is_reply = isinstance(it, wire.SessTerm) and it.flags & REPLY
+    is_wrong = not is_reply and type(it) in UNASSIGNED and it.reason in UNASSIGNED[type(it)]
+    return f"{kind_of(it)} reason={it.reason:02x}" if is_wrong else None
+
+
+@RULES.rule(SHOULD)
+def term_order(turn):
+    """A session ends once, after it has begun (section 6.1)."""
+    it = turn.head.it
+    is_term = isinstance(it, wire.SessTerm)
+    is_due = is_term or isinstance(it, wire.SessInit) and not earlier(turn, wire.SessInit)
+    return kind_of(it) if is_due and earlier(turn, wire.SessTerm) else None

@@ -5,6 +5,7 @@ the words of its line. Only `unfinished` is judged of a transfer that is not clo
 """
 
 from . import bundle, tools, wire
+from .rules import MUST, SHOULD, Rules
 
 # Faults by which the toolkit reads less than RFC 9171 permits: another scheme than dtn and ipn, a
 # long name, and more than 64 blocks
@@ -18,23 +19,29 @@ BYTE_STRING = 0x5F
 # A tag of a bundle before its first byte, and a tag before the data of a block (RFC 9171 appendix B)
 TAGGED_BUNDLE, TAGGED_DATA = b"\xd9\xd9\xf7\x9f", b"\xd8\x18"
 
+RULES = Rules()
 
+
+@RULES.rule(SHOULD)
 def unfinished(transfer):
     """A transfer is finished when the stream ends (RFC 9174 sections 5.2.2 and 6.1)."""
     return f"length={len(transfer.data)}"
 
 
+@RULES.rule(MUST)
 def length_item(transfer):
     """A transfer has one Transfer Length item at most, of 8 bytes (RFC 9174 section 5.2.5.1)."""
     return "" if tools.is_malformed(tools.length_items(transfer.items)) else None
 
 
+@RULES.rule(MUST)
 def length_differs(transfer):
     """A transfer has the length that it announces (RFC 9174 section 5.2.5.1)."""
     announced, length = tools.announced(transfer.items), len(transfer.data)
     return f"announced={announced} length={length}" if announced not in (None, length) else None
 
 
+@RULES.rule(SHOULD)
 def length_of_one_segment(transfer):
     """A transfer of one segment has no Transfer Length item (RFC 9174 section 5.2.5.1)."""
     flags = transfer.heads[0].it.flags
@@ -69,11 +76,13 @@ def fault(transfer):
     return f"code={code} byte={place}"
 
 
+@RULES.rule(MUST, "bundle")
 def is_bundle(transfer):
     """The data of a transfer is one bundle (RFC 9171 section 4 and RFC 9174 section 5.2)."""
     return fault(transfer) if transfer.judged.fault and not is_limit(transfer) else None
 
 
+@RULES.rule(SHOULD)
 def not_read(transfer):
     """The data of a transfer is within the limits of the toolkit (RFC 9171 section 4.1)."""
     return fault(transfer) if transfer.judged.fault and is_limit(transfer) else None

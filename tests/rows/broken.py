@@ -75,8 +75,14 @@ RECORD = b"\x82\x02\x00"
 # The same with an array of indefinite length
 OPEN_RECORD = b"\x9f\x02\x00\xff"
 
+# Extension types for private use: the first, and the last (RFC 9174 sections 8.3 and 8.4)
+PRIVATE, LAST_TYPE = 0x8000, 0xFFFF
+
 # The greatest transfer ID
 LAST = 2**64 - 1
+
+# An XFER_ACK of a first segment, and a MSG_REJECT that says that a type is unknown
+ACK_0, UNKNOWN = make.xfer_ack(START, 0, 9), make.msg_reject(1, 0x20)
 
 # A SESS_INIT with another interval, with another segment MRU, and with another transfer MRU
 OTHER_INTERVAL = make.sess_init(keepalive=30)
@@ -86,6 +92,11 @@ OTHER_SEGMENT, OTHER_TRANSFER = (INIT[:at] + b"\x01" + INIT[at + 1:] for at in (
 def sent(data, ident=0, *items):
     """A transfer in one segment."""
     return make.xfer_segment(BOTH, ident, data, *items)
+
+
+def of_ids(*idents):
+    """Transfers in one segment each, which have these IDs and 55 bytes."""
+    return b"".join(sent(CLEAN, it) for it in idents)
 
 
 def two(data, at, *items):
@@ -142,21 +153,34 @@ MESSAGES = {
             (CONTACT + make.sess_init(node=node), [f"6 must node-id length={len(node)}"])
             for node in [
                 b"1pn:1.0", b"ipn", b"ip_n:1", b":", b"ipn:1 0", b"ipn:\x7f", b"a:\xc3\xa4", b"\x00", b"//n/", b"+a:",
+                # Bytes that no URI has, and `%` without two hexadecimal digits
+                *[b"a:%c" % byte for byte in b'"<>\\^`{|}'], b"a:%", b"a:%4", b"a:%4g", b"a:%%41",
+                # The syntax of dtn: no slashes, one, no slash after the name, and names that are none
+                b"dtn:", b"dtn:n", b"dtn:/n/", b"dtn://n", b"dtn:none/", b"dtn://n:1/", b"dtn://n@m/", b"dtn://[n]/",
+                b"dtn://n?/", b"DTN:nonE.",
+                # The syntax of ipn: one number, four, none, no decimal ones
+                b"ipn:1", b"ipn:1.2.3.0", b"ipn:.0", b"ipn:1.", b"ipn:1..0", b"ipn:", b"ipn:-1.0", b"ipn:0x1.0", b"IPN:a.0",
             ]
         ],
-        [CONTACT + make.sess_init(node=node) for node in [b"a:", b"", b"Z+-.9:!~", b"dtn://n/", b"a::"]],
+        [
+            CONTACT + make.sess_init(node=node)
+            for node in [
+                b"", b"dtn://n/", b"dtn:///", b"DtN://%4a-._~!$&'()*+,;=/", b"ipn:1.0", b"ipn:0.1.0", b"iPn:01.00", b"ipn:!",
+                b"ipn:!.0",
+            ]
+        ],
     ),
     "item-flags": (
         [
-            (CONTACT + make.sess_init(make.item(1, 2, b""), make.item(3, 2, b""), make.item(4, 2, b"")),
+            (CONTACT + make.sess_init(make.item(1, LAST_TYPE, b""), make.item(3, PRIVATE, b""), make.item(4, PRIVATE, b"")),
              ["6 must item-flags item=1 flags=03"]),
-            (HEAD + sent(CLEAN, 0, make.item(0x80, 2, b"a")), ["38 must item-flags item=0 flags=80"]),
-            (CONTACT + make.sess_init(make.item(0x80, 2, b"")), ["6 must item-flags item=0 flags=80"]),
+            (HEAD + sent(CLEAN, 0, make.item(0x80, PRIVATE, b"a")), ["38 must item-flags item=0 flags=80"]),
+            (CONTACT + make.sess_init(make.item(0x80, PRIVATE, b"")), ["6 must item-flags item=0 flags=80"]),
         ],
         [
-            CONTACT + make.sess_init(make.item(0, 2, b"")),
-            CONTACT + make.sess_init(make.item(1, 2, b""), make.item(0, 3, b"")),
-            HEAD + sent(CLEAN, 0, make.item(1, 2, b"")),
+            CONTACT + make.sess_init(make.item(0, PRIVATE, b"")),
+            CONTACT + make.sess_init(make.item(1, PRIVATE, b""), make.item(0, LAST_TYPE, b"")),
+            HEAD + sent(CLEAN, 0, make.item(1, PRIVATE, b"")),
         ],
     ),
     "order": (
@@ -184,7 +208,7 @@ MESSAGES = {
         ],
         [
             HEAD + KEEPALIVE,
-            HEAD + make.xfer_ack(3, 0, 1) + make.xfer_refuse(0, 0) + KEEPALIVE,
+            HEAD + make.xfer_ack(3, 0, 1) + make.xfer_refuse(0, 1) + KEEPALIVE,
             CONTACT + make.sess_term(0, 4) + make.msg_reject(3, 7),
         ],
     ),
@@ -203,16 +227,15 @@ MESSAGES = {
     "transfer-id": (
         [
             (HEAD + sent(CLEAN) + sent(CLEAN), ["93 must transfer-id id=0"]),
-            # The run is 5, 6, 7
-            (HEAD + b"".join(sent(CLEAN, it) for it in [5, 6, 7, 5]), ["203 must transfer-id id=5"]),
-            (HEAD + sent(CLEAN, LAST) + sent(CLEAN, LAST), [f"93 must transfer-id id={LAST}"]),
+            (HEAD + of_ids(0, 1, 2, 0), ["203 must transfer-id id=0"]),
+            # Runs of one ID, of which the first breaks the order
+            (HEAD + of_ids(5, 7, 5), ["38 should transfer-id-order id=5", "148 must transfer-id id=5"]),
+            (HEAD + of_ids(1, 0, 1), ["38 should transfer-id-order id=1", "148 must transfer-id id=1"]),
+            (HEAD + of_ids(LAST, LAST), [f"38 should transfer-id-order id={LAST}", f"93 must transfer-id id={LAST}"]),
+            # The first of 64 runs, and its last ID
+            (HEAD + of_ids(0, 1, *range(3, 129, 2), 1), ["148 should transfer-id-order id=3", "3613 must transfer-id id=1"]),
         ],
-        [
-            HEAD + sent(CLEAN) + sent(CLEAN, 1),
-            HEAD + b"".join(sent(CLEAN, it) for it in [5, 7, 5]),
-            HEAD + b"".join(sent(CLEAN, it) for it in [1, 0, 1]),
-            HEAD + sent(CLEAN, LAST) + sent(CLEAN),
-        ],
+        [HEAD + of_ids(0, 1)],
     ),
     "peer-segment": (
         [
@@ -240,9 +263,8 @@ MESSAGES = {
         [(HEAD + make.xfer_ack(START, 0, 20) + make.xfer_ack(END, 0, 19), ["56 must ack-length length=19 before=20"])],
         [
             HEAD + make.xfer_ack(START, 0, 20) + make.xfer_ack(END, 0, 20),
-            HEAD + make.xfer_ack(START, 0, 20) + make.xfer_ack(END, 1, 19),
-            HEAD + make.xfer_ack(BOTH, 0, 20) + make.xfer_ack(BOTH, 0, 19),
-            HEAD + make.xfer_ack(0, 0, 20) + make.xfer_ack(0, 1, 5) + make.xfer_ack(0, 0, 19),
+            HEAD + make.xfer_ack(BOTH, 0, 20) + make.xfer_ack(BOTH, 1, 19),
+            HEAD + make.xfer_ack(BOTH, 0, 20) + make.xfer_ack(BOTH, 1, 5) + make.xfer_ack(BOTH, 0, 19),
         ],
     ),
     "keepalive": (
@@ -250,7 +272,7 @@ MESSAGES = {
             (CONTACT + make.sess_init(keepalive=0) + KEEPALIVE, ["38 should keepalive"]),
             (CONTACT + make.sess_init(keepalive=0) + KEEPALIVE + KEEPALIVE, ["38 should keepalive"]),
         ],
-        [CONTACT + make.sess_init(keepalive=1) + KEEPALIVE, CONTACT + make.sess_init(keepalive=0)],
+        [CONTACT + make.sess_init(keepalive=30) + KEEPALIVE, CONTACT + make.sess_init(keepalive=0)],
     ),
     "term-flags": (
         [
@@ -258,6 +280,149 @@ MESSAGES = {
             (CONTACT + make.sess_term(0x02, 0), ["6 must term-flags flags=02"]),
         ],
         [HEAD + make.sess_term(0x00, 0), HEAD + make.sess_term(0x01, 0), HEAD + make.sess_term(0xFF, 0)],
+    ),
+    "node-name": (
+        [
+            *[(CONTACT + make.sess_init(node=node), [f"6 should node-name length={len(node)}"]) for node in [
+                b"dtn:none", b"DTN:NONE", b"dtn://n/a", b"dtn:///a", b"dtn://n/a~", b"dtn://n//", b"ipn:1.1", b"ipn:0.1.10",
+                b"ipn:0.0.01", b"a:", b"Z+-.9:!~", b"a:dtn://n/", b"ipn2:1.0",
+            ]],
+            *[(CONTACT + make.sess_init(node=node), [f"6 must node-name length={len(node)}"]) for node in [
+                b"dtn://n/~", b"DTN:///~a", b"dtn://n/~/~",
+            ]],
+        ],
+        [
+            CONTACT + make.sess_init(node=node)
+            for node in [b"", b"dtn://n/", b"dtn://~n/", b"ipn:1.0", b"ipn:1.2.0", b"ipn:1.00", b"ipn:!.1", b"IPN:!"]
+        ],
+    ),
+    "keepalive-interval": (
+        [
+            (CONTACT + make.sess_init(keepalive=it), [f"6 should keepalive-interval interval={it}"])
+            for it in [1, 29, 601, 65535]
+        ],
+        [CONTACT + make.sess_init(keepalive=it) for it in [0, 30, 600]],
+    ),
+    "item-type": (
+        [
+            *[(CONTACT + make.sess_init(make.item(0, it, b"")), [f"6 should item-type item=0 type={it:04x}"]) for it in
+              [0x0000, 0x0001, 0x0002, 0x7FFF]],
+            *[(HEAD + sent(CLEAN, 0, make.item(0, it, b"")), [f"38 should item-type item=0 type={it:04x}"]) for it in
+              [0x0000, 0x0002, 0x7FFF]],
+            (CONTACT + make.sess_init(make.item(0, PRIVATE, b""), make.item(0, 9, b""), make.item(0, 0, b"")),
+             ["6 should item-type item=1 type=0009"]),
+            (HEAD + two(CLEAN, 9, make.length_item(33), make.item(0, 0x0100, b"")),
+             ["38 should item-type item=1 type=0100"]),
+        ],
+        [
+            CONTACT + make.sess_init(make.item(0, PRIVATE, b""), make.item(0, LAST_TYPE, b"")),
+            HEAD + two(CLEAN, 9, make.length_item(33), make.item(0, PRIVATE, b"")),
+        ],
+    ),
+    "transfer-id-order": (
+        [
+            (HEAD + of_ids(1), ["38 should transfer-id-order id=1"]),
+            (HEAD + of_ids(LAST), [f"38 should transfer-id-order id={LAST}"]),
+            (HEAD + of_ids(0, 2), ["93 should transfer-id-order id=2"]),
+            # Once a recording, also after IDs that count up again
+            (HEAD + of_ids(7, 6, 8, 9), ["38 should transfer-id-order id=7"]),
+            (HEAD + of_ids(LAST, 0), [f"38 should transfer-id-order id={LAST}"]),
+            # Not where an ID comes twice, but after it
+            (HEAD + of_ids(0, 0, 2), ["93 must transfer-id id=0", "148 should transfer-id-order id=2"]),
+            # The first run is forgotten
+            (HEAD + of_ids(0, *range(2, 130, 2), 0), ["93 should transfer-id-order id=2"]),
+            # A START before the SESS_INIT is no case, and counts for the next
+            (CONTACT + sent(CLEAN, 3) + INIT + sent(CLEAN, 5),
+             ["6 must order fault=segment-before-session-initiation", "93 should transfer-id-order id=5"]),
+        ],
+        [HEAD + of_ids(0), HEAD + of_ids(*range(70))],
+    ),
+    "answer-order": (
+        [
+            (HEAD + make.xfer_ack(END, 5, 1), ["38 should answer-order id=5 fault=not-the-last"]),
+            (HEAD + ACK_0 + make.xfer_ack(0, 1, 9), ["56 should answer-order id=1 fault=not-the-last"]),
+            (HEAD + ACK_0 + make.xfer_refuse(0, 1) + make.xfer_ack(0, 2, 9),
+             ["66 should answer-order id=2 fault=not-the-last"]),
+            (HEAD + ACK_0 + make.xfer_ack(START, 0, 9), ["56 should answer-order id=0 fault=start-repeats"]),
+            (HEAD + ACK_0 + make.xfer_ack(END, 0, 9) + make.xfer_ack(BOTH, 0, 9),
+             ["74 should answer-order id=0 fault=start-repeats"]),
+            (HEAD + ACK_0 + make.xfer_ack(END, 0, 9) + make.xfer_ack(END, 0, 9),
+             ["74 should answer-order id=0 fault=after-end"]),
+            (HEAD + ACK_0 + make.xfer_refuse(0, 0) + make.xfer_ack(0, 0, 9),
+             ["66 should answer-order id=0 fault=after-refusal"]),
+            (HEAD + make.xfer_refuse(0, 3) + make.xfer_ack(0, 3, 9),
+             ["48 should answer-order id=3 fault=after-refusal"]),
+            (HEAD + make.xfer_ack(BOTH, 0, 9) + make.xfer_refuse(0, 0),
+             ["56 should answer-order id=0 fault=refused-after-end"]),
+            # The end goes before the refusal
+            (HEAD + make.xfer_ack(BOTH, 0, 9) + make.xfer_refuse(4, 0) + make.xfer_ack(0, 0, 9),
+             ["66 should answer-order id=0 fault=after-end"]),
+        ],
+        [
+            HEAD + ACK_0 + make.xfer_ack(0, 0, 9) + make.xfer_ack(END, 0, 10) + make.xfer_ack(BOTH, 1, 5),
+            HEAD + make.xfer_ack(BOTH, 0, 9) + make.xfer_refuse(4, 0) + make.xfer_refuse(0, 1),
+            # An XFER_ACK with START, and then another, of a transfer that was refused
+            HEAD + make.xfer_refuse(0, 3) + make.xfer_ack(START, 3, 9) + make.xfer_ack(0, 3, 9),
+            HEAD + make.xfer_refuse(0, 3) + make.xfer_ack(START, 3, 9) + make.xfer_ack(START, 4, 9) + make.xfer_ack(0, 3, 9),
+            HEAD + ACK_0 + make.xfer_refuse(0, 0) + make.xfer_refuse(0, 0),
+        ],
+    ),
+    "after-reject": (
+        [
+            (HEAD + UNKNOWN + KEEPALIVE, ["41 should after-reject type=04"]),
+            (HEAD + UNKNOWN + KEEPALIVE + KEEPALIVE + UNKNOWN, ["41 should after-reject type=04"]),
+            (HEAD + UNKNOWN + UNKNOWN, ["41 should after-reject type=06"]),
+            (HEAD + UNKNOWN + make.sess_term(0, 0), ["41 must after-reject type=05"]),
+            (HEAD + UNKNOWN + sent(CLEAN) + KEEPALIVE, ["41 must after-reject type=01"]),
+            (CONTACT + UNKNOWN + INIT, ["9 must after-reject type=07"]),
+            (HEAD + UNKNOWN + KEEPALIVE + sent(CLEAN) + make.sess_term(0, 0),
+             ["41 should after-reject type=04", "42 must after-reject type=01"]),
+            (HEAD + make.xfer_segment(START, 0, b"") + UNKNOWN + make.xfer_segment(END, 0, CLEAN) + make.sess_term(0, 0),
+             ["63 should after-reject type=01", "114 must after-reject type=05"]),
+            (HEAD + UNKNOWN + make.xfer_refuse(0, 1) + make.xfer_ack(BOTH, 2, 9), ["41 should after-reject type=03"]),
+        ],
+        [
+            HEAD + UNKNOWN,
+            HEAD + make.msg_reject(2, 7) + KEEPALIVE,
+            HEAD + make.msg_reject(3, 7) + sent(CLEAN) + make.sess_term(0, 0),
+            HEAD + make.msg_reject(0xF0, 1) + KEEPALIVE,
+        ],
+    ),
+    "term-order": (
+        [
+            (HEAD + make.sess_term(0, 0) + make.sess_term(0, 0), ["41 should term-order type=05"]),
+            (HEAD + make.sess_term(0, 0) + make.sess_term(1, 0) + make.sess_term(1, 0),
+             ["41 should term-order type=05", "44 should term-order type=05"]),
+            (CONTACT + make.sess_term(0, 0) + INIT, ["9 should term-order type=07"]),
+            (CONTACT + make.sess_term(0, 0) + INIT + make.sess_term(0, 0),
+             ["9 should term-order type=07", "41 should term-order type=05"]),
+        ],
+        [HEAD + make.sess_term(0, 0), CONTACT + make.sess_term(0, 2), HEAD + make.sess_term(1, 0) + make.xfer_ack(BOTH, 0, 9)],
+    ),
+    "reject-known": (
+        [
+            *[(HEAD + make.msg_reject(1, it), [f"38 should reject-known reason=01 header={it:02x}"]) for it in (1, 7)],
+            *[(HEAD + make.msg_reject(reason, it), [f"38 should reject-known reason={reason:02x} header={it:02x}"])
+              for reason in (2, 3) for it in (0, 8, 255)],
+        ],
+        [
+            *[HEAD + make.msg_reject(1, it) for it in (0, 8, 255)],
+            *[HEAD + make.msg_reject(reason, it) for reason in (2, 3) for it in (1, 7)],
+            HEAD + make.msg_reject(0xF0, 0),
+        ],
+    ),
+    "reason": (
+        [
+            *[(HEAD + make.msg_reject(it, 7), [f"38 should reason type=06 reason={it:02x}"]) for it in (0, 4, 0xEF)],
+            *[(HEAD + make.xfer_refuse(it, 0), [f"38 should reason type=03 reason={it:02x}"]) for it in (7, 0xEF)],
+            *[(HEAD + make.sess_term(0, it), [f"38 should reason type=05 reason={it:02x}"]) for it in (6, 0xEF)],
+        ],
+        [
+            *[HEAD + make.msg_reject(it, 7) for it in (2, 3, 0xF0, 0xFF)],
+            *[HEAD + make.xfer_refuse(it, 0) for it in (0, 6, 0xF0, 0xFF)],
+            *[HEAD + make.sess_term(0, it) for it in (0, 5, 0xF0, 0xFF)],
+            HEAD + make.sess_term(1, 6),
+        ],
     ),
 }
 
@@ -278,7 +443,7 @@ TRANSFERS = {
             (two(CLEAN, 9, make.item(0, 1, bytes(7))), "must length-item:"),
             (two(CLEAN, 9, make.item(0, 1, b"")), "must length-item:"),
         ],
-        [two(CLEAN, 9, make.length_item(33)), two(CLEAN, 9, make.length_item(33), make.item(0, 2, b""))],
+        [two(CLEAN, 9, make.length_item(33)), two(CLEAN, 9, make.length_item(33), make.item(0, PRIVATE, b""))],
     ),
     "length-differs": (
         [(two(CLEAN, 9, make.length_item(34)), "must length-differs: announced=34 length=33")],
@@ -286,7 +451,7 @@ TRANSFERS = {
     ),
     "length-of-one-segment": (
         [(sent(CLEAN, 0, make.length_item(33)), "should length-of-one-segment:")],
-        [two(CLEAN, 9, make.length_item(33)), sent(CLEAN, 0, make.item(0, 2, bytes(8)))],
+        [two(CLEAN, 9, make.length_item(33)), sent(CLEAN, 0, make.item(0, PRIVATE, bytes(8)))],
     ),
     "bundle": (
         [

@@ -163,8 +163,9 @@ def closed(*messages):
 def of_sessions():
     """The pairs of rules of messages, but those of segments and their limits."""
     yield "contact-flags", b"dtn!\x04\x80", "0 must contact-flags flags=80", closed()
-    node = CONTACT + make.sess_init(node=b":")
+    node, part = (CONTACT + make.sess_init(node=it) for it in (b":", b"dtn:n"))
     yield "node-id", node, "6 must node-id length=1", CONTACT + make.sess_init(node=b"dtn://n/") + TERM
+    yield "node-id", part, "6 must node-id length=5", CONTACT + make.sess_init(node=b"ipn:0.1.0") + TERM, "part"
     wrong, good = (CONTACT + make.sess_init(make.item(flags, PRIVATE, b"")) for flags in (0x80, 0x00))
     yield "item-flags", wrong, "6 must item-flags item=0 flags=80", good + TERM
     early, late = CONTACT + make.xfer_segment(END, 0, b""), make.xfer_segment(START, 0, LIVING[:9])
@@ -180,6 +181,50 @@ def of_sessions():
     none, least = (CONTACT + make.sess_init(keepalive=it) + KEEPALIVE for it in (0, 30))
     yield "keepalive", none, "38 should keepalive", least + TERM
     yield "term-flags", CONTACT + make.sess_term(0x02, 0), "6 must term-flags flags=02", closed()
+    yield from of_names()
+    shorter, longest = (CONTACT + make.sess_init(keepalive=it) for it in (29, 600))
+    yield "keepalive-interval", shorter, "6 should keepalive-interval interval=29", longest + TERM
+    length, private = (CONTACT + make.sess_init(make.item(0, it, b"")) for it in (0x0001, PRIVATE))
+    yield "item-type", length, "6 should item-type item=0 type=0001", private + TERM
+    items = [make.length_item(49), make.item(0, PRIVATE, b"")]
+    other, both = HEAD + sent(LIVING, 0, make.item(0, PRIVATE - 1, b"")), closed(two(LIVING, 9, *items))
+    yield "item-type", other, "38 should item-type item=0 type=7fff", both, "of-a-transfer"
+    yield from of_order()
+    known, unexpected = CONTACT + make.msg_reject(1, 7), make.msg_reject(3, 7)
+    yield "reject-known", known, "6 should reject-known reason=01 header=07", closed(unexpected)
+    unassigned = CONTACT + make.msg_reject(4, 7)
+    yield "reason", unassigned, "6 should reason type=06 reason=04", closed(unexpected)
+    yield "reason", CONTACT + make.sess_term(0, 6), "6 should reason type=05 reason=06", closed(), "of-an-end"
+    yield "term-order", CONTACT + TERM + TERM, "9 should term-order type=05", closed(KEEPALIVE)
+    late = CONTACT + TERM + make.sess_init()
+    yield "term-order", late, "9 should term-order type=07", CONTACT + make.sess_init() + TERM, "of-a-session"
+
+
+def of_order():
+    """The same of rules of the order of IDs, of answers, and of what comes after MSG_REJECT."""
+    yield "transfer-id-order", HEAD + sent(LIVING, 1), "38 should transfer-id-order id=1", closed(sent(LIVING), sent(NEXT, 1))
+    first, end = make.xfer_ack(START, 0, 20), make.xfer_ack(END, 0, 40)
+    refused = [make.xfer_refuse(reason, 0) for reason in (0, 4)]
+    for cause, broken, line, kept in [
+        ("not-the-last", [end], "38", [first, end]),
+        ("start-repeats", [first, first], "56", [first, make.xfer_ack(START, 1, 20)]),
+        ("after-end", [first, end, end], "74", [first, end, make.xfer_ack(BOTH, 1, 20)]),
+        ("after-refusal", [refused[0], end], "48", [refused[0], refused[0]]),
+        ("refused-after-end", [first, end, refused[0]], "74", [first, end, refused[1]]),
+    ]:
+        line = f"{line} should answer-order id=0 fault={cause}"
+        yield "answer-order", HEAD + b"".join(broken), line, closed(*kept), "" if cause == "not-the-last" else cause
+    unknown, unsupported, unexpected = (make.msg_reject(*it) for it in ((1, 0x20), (2, 4), (3, 7)))
+    yield "after-reject", HEAD + unknown + KEEPALIVE, "41 should after-reject type=04", closed(unsupported, KEEPALIVE)
+    yield "after-reject", CONTACT + unknown + TERM, "9 must after-reject type=05", closed(unexpected), "of-an-end"
+
+
+def of_names():
+    """The same of rules of the names of nodes."""
+    named = {it: CONTACT + make.sess_init(node=it) for it in (b"dtn://n/a", b"dtn://n/~a", b"dtn://n/", b"ipn:1.1", b"ipn:1.0")}
+    yield "node-name", named[b"dtn://n/a"], "6 should node-name length=9", named[b"dtn://n/"] + TERM
+    yield "node-name", named[b"ipn:1.1"], "6 should node-name length=7", named[b"ipn:1.0"] + TERM, "of-a-service"
+    yield "node-name", named[b"dtn://n/~a"], "6 must node-name length=10", named[b"dtn://n/"] + TERM, "of-a-group"
 
 
 def of_segments():
@@ -299,7 +344,7 @@ def of_data():
 def pair(rule, breaking, line, keeping, cause="", options=None):
     """A pair of streams from the words of the calls above."""
     name = f"{rule}-{cause}" if cause else rule
-    return Pair(rule, name, breaking, [line], keeping, options or {}, rule == "ack-length")
+    return Pair(rule, name, breaking, [line], keeping, options or {}, rule in ("ack-length", "answer-order"))
 
 
 def of_transfer(rule, breaking, line, keeping, *cause):

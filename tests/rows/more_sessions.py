@@ -19,9 +19,9 @@ HANDSHAKE = b"\x16\x03\x01"
 # refused and left, one that is refused after it was sent, IDs of any order, and an end while both
 # sides send
 LONG = pair(
-    [*THREE, whole(9), first(4), whole(3, OTHER), *ACKED, ALIVE, acked(2**64 - 1), first(5), TERM, last(5), refused(7, 6)],
-    [THREE_ACKED[0], first(), last(), *THREE_ACKED[1:], acked(9), whole(2**64 - 1, OTHER), refused(4), refused(3, 1),
-     acked(5, START, HALF), whole(7), acked(5, END, SIZE), REPLIED],
+    [*THREE, whole(1), first(2), whole(3, OTHER), *ACKED, ALIVE, acked(1), first(4), TERM, last(4), refused(2, 6)],
+    [THREE_ACKED[0], first(), last(), *THREE_ACKED[1:], acked(1), whole(1, OTHER), refused(2), refused(3, 1),
+     acked(4, START, HALF), whole(2), acked(4, END, SIZE), REPLIED],
 )
 
 KEPT = {
@@ -29,7 +29,7 @@ KEPT = {
     "answers that count later segments": pair([*THREE, TERM], [acked(0, START, SIZE), acked(0, 0, 30), acked(0, END, SIZE), REPLIED]),
     "each later segment refused": pair([*THREE, TERM], [THREE_ACKED[0], refused(), refused(), REPLIED]),
     "refused after an acknowledgement": pair([THREE[0], TERM], [THREE_ACKED[0], refused(), REPLIED]),
-    "refused after all was acknowledged": pair([whole(), TERM], [acked(), refused(0, 1), REPLIED]),
+    "refused after all was acknowledged": pair([whole(), TERM], [acked(), refused(0, 4), REPLIED]),
     "both end at once": pair([whole(), TERM, acked()], [acked(), whole(), make.sess_term(0, 1)]),
     "closed amid a transfer": pair([first(), TERM], [ACKED[0], REPLIED]),
     "a new transfer refused at the end": pair([first(), TERM, last()], [ACKED[0], REPLIED, ACKED[1]]),
@@ -99,8 +99,10 @@ BROKEN = {
     "an answer twice in the middle": pair([*THREE, TERM], [THREE_ACKED[0], THREE_ACKED[1], *THREE_ACKED[1:], REPLIED],
                                           "b {b4} must ack-beyond id=0 segments=3"),
     "an answer twice, and then the end": pair([*THREE, TERM], [THREE_ACKED[0], THREE_ACKED[0]],
+                                              "b {b3} should answer-order id=0 fault=start-repeats",
                                               "b {b3} must ack-beyond id=0 segments=3"),
     "the first answer of a transfer is missing": pair([*THREE, TERM], [*THREE_ACKED[1:], REPLIED],
+                                                      "b {b2} should answer-order id=0 fault=not-the-last",
                                                       "b {b2} must ack-missing id=0 peer-at={a2}"),
     "the second answer of a transfer is missing": pair([*THREE, TERM], [THREE_ACKED[0], THREE_ACKED[2], REPLIED],
                                                        "b {b3} must ack-missing id=0 peer-at={a3}"),
@@ -137,7 +139,8 @@ BROKEN = {
         [whole(), whole(1), TERM], [refused(1), refused(0), REPLIED], "b {b2} must refuse-order id=1 unanswered=0"),
     "an acknowledgement of what follows a refusal": pair(
         [first(), acked(), last(), TERM], [refused(), whole(), ACKED[1], REPLIED],
-        "a {a4} must refused-continued id=0 peer-at={b2}", "b {b4} must refused-acknowledged id=0"),
+        "a {a4} must refused-continued id=0 peer-at={b2}", "b {b4} should answer-order id=0 fault=after-refusal",
+        "b {b4} must refused-acknowledged id=0"),
     "a refused transfer goes on, by times": pair(
         [first(), last()], [refused(), refused()], "a {a3} should refused-continued id=0 peer-at={b2}",
         times=([0, 1, 2, 8.000001], [0, 1, 3, 9])),
@@ -199,7 +202,8 @@ BROKEN = {
         [whole(), whole(1), whole(), TERM], [acked(1), REPLIED], "a {a4} must transfer-id id=0"),
     "a START that comes twice": pair(
         [first(), whole(), TERM], [ACKED[0], acked(), REPLIED], "a {a3} must order fault=start-repeats-the-open-transfer",
-        "a {a3} must transfer-id id=0", "b {b3} should taken-out-of-order id=0"),
+        "a {a3} must transfer-id id=0", "b {b3} should answer-order id=0 fault=start-repeats",
+        "b {b3} should taken-out-of-order id=0"),
 }
 
 MORE = {**KEPT, **NOT_WHOLE, **BROKEN}

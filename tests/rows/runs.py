@@ -76,10 +76,12 @@ def of_one_message():
         "6 should before-session type=04",
         "7 must node-id length=1",
         "7 must item-flags item=0 flags=02",
+        "7 should item-type item=0 type=0009",
     ])
     # The run of IDs is 5, 6, of the segments at 38 and 60.
     late = make.xfer_segment(BOTH | 0x08, 5, CLEAN, length(34), make.item(0x10, 1, b""))
     yield stream_row("a START that breaks most rules", [EMPTY, OPENED, TERM, late], [
+        "38 should transfer-id-order id=5",
         "38 must bundle transfer=5 code=B1 byte=0",
         "82 must term-flags flags=02",
         "85 must item-flags item=1 flags=10",
@@ -102,19 +104,22 @@ def of_one_message():
 def of_one_step():
     """As many lines as a step writes, of a START that closes its transfer. Its bundle has 77 bytes."""
     most = make.xfer_segment(BOTH | 0x08, 5, EVERY_RULE, length(9), length(9), make.item(0x10, 2, b""))
-    of_bundle = [line.replace("0 ", "85 ", 1).replace("bundle=0", "transfer=5") for line in EVERY_LINE]
-    yield stream_row("the most lines of a step", [EMPTY, OPENED, TERM, most], [
+    of_bundle = [line.replace("0 ", "88 ", 1).replace("bundle=0", "transfer=5") for line in EVERY_LINE]
+    yield stream_row("the most lines of a step", [EMPTY, OPENED, TERM, make.msg_reject(1, 8), most], [
+        "38 should transfer-id-order id=5",
         "38 must bundle transfer=5 code=B1 byte=0",
         "82 must term-flags flags=02",
-        "85 must item-flags item=2 flags=10",
-        "85 must order fault=start-after-session-termination",
-        "85 should interleaved id=5 open=6",
-        "85 must segment-flags flags=0b",
-        "85 must transfer-id id=5",
-        "85 must peer-segment length=77 limit=76",
-        "85 must peer-transfer length=77 limit=0",
-        "85 must length-item transfer=5",
-        "85 should length-of-one-segment transfer=5",
+        "88 must item-flags item=2 flags=10",
+        "88 must order fault=start-after-session-termination",
+        "88 should interleaved id=5 open=6",
+        "88 must segment-flags flags=0b",
+        "88 must transfer-id id=5",
+        "88 must peer-segment length=77 limit=76",
+        "88 must peer-transfer length=77 limit=0",
+        "88 should item-type item=2 type=0002",
+        "88 must after-reject type=01",
+        "88 must length-item transfer=5",
+        "88 should length-of-one-segment transfer=5",
         *of_bundle,
     ], peer_segment=76, peer_transfer=0)
 
@@ -242,10 +247,12 @@ def transfers():
         "69 must order fault=no-such-open-transfer",
         "69 must segment-flags flags=41",
         "120 should interleaved id=2 open=0",
+        "120 should transfer-id-order id=2",
     ])
     yield stream_row("IDs of transfers that are refused", [TERM, sent(CLEAN, 7), sent(CLEAN, 7)], [
         "38 must term-flags flags=02",
         "41 must order fault=start-after-session-termination",
+        "41 should transfer-id-order id=7",
         "96 must order fault=start-after-session-termination",
         "96 must transfer-id id=7",
     ])
@@ -295,7 +302,7 @@ def faults():
         f"62 must peer-segment length={LAST} limit=2",
         f"62 must peer-transfer length={LAST + 2} limit={LAST}",
     ], ["tcpclkit: byte 62: truncated"], 3, peer_segment=2, peer_transfer=LAST)
-    yield stream_row("open at a fault", [OPENED, b"\x16"], [], ["tcpclkit: byte 60: unknown message type 16"], 3)
+    yield stream_row("open at a fault", [OPENED, b"\x16"], ["38 should transfer-id-order id=6"], ["tcpclkit: byte 60: unknown message type 16"], 3)
     yield stream_row("lines before a fault", [KEEPALIVE, INIT, b"\x16"], [
         "39 should order fault=second-session-initiation",
     ], ["tcpclkit: byte 71: unknown message type 16"], 3)

@@ -147,16 +147,16 @@ RULES = {
         pair([first(), last(), TERM], [*ACKED, REPLIED]),
     ),
     "ack-flags": (
-        pair([whole(5), TERM], [acked(5, 0), REPLIED], "b {b2} must ack-flags id=5 flags=00 segment=03"),
-        pair([whole(5), TERM], [acked(5), REPLIED]),
+        pair([whole(), TERM], [acked(0, START), REPLIED], "b {b2} must ack-flags id=0 flags=02 segment=03"),
+        pair([whole(), TERM], [acked(), REPLIED]),
     ),
     "ack-unknown": (
         pair([whole(), REJECTED(3, 2), TERM], [acked(), acked(7), REPLIED], "b {b3} must ack-unknown id=7"),
-        pair([whole(), whole(7), TERM], [acked(), acked(7), REPLIED]),
+        pair([whole(), whole(1), TERM], [acked(), acked(1), REPLIED]),
     ),
     "refuse-unknown": (
         pair([whole(), REJECTED(3, 3), TERM], [acked(), refused(7), REPLIED], "b {b3} must refuse-unknown id=7"),
-        pair([whole(), whole(7), TERM], [acked(), refused(7), REPLIED]),
+        pair([whole(), whole(1), TERM], [acked(), refused(1), REPLIED]),
     ),
     "ack-missing": (
         pair([whole(), whole(1), TERM], [acked(1), REPLIED], "b {b-end} must ack-missing id=0 peer-at={a2}",
@@ -164,7 +164,8 @@ RULES = {
         pair([whole(), whole(1), TERM], [acked(1), acked(), REPLIED]),
     ),
     "ack-beyond": (
-        pair([whole(), TERM], [acked(), acked(), REPLIED], "b {b3} must ack-beyond id=0"),
+        pair([whole(), TERM], [acked(), acked(), REPLIED], "b {b3} should answer-order id=0 fault=start-repeats",
+             "b {b3} must ack-beyond id=0"),
         pair([whole(), TERM], [acked(), REPLIED]),
     ),
     "refuse-order": (
@@ -178,7 +179,7 @@ RULES = {
     ),
     "refused-acknowledged": (
         pair([first(), last(), TERM], [refused(), ACKED[1], REPLIED],
-             "b {b3} should refused-acknowledged id=0"),
+             "b {b3} should answer-order id=0 fault=after-refusal", "b {b3} should refused-acknowledged id=0"),
         pair([first(), last(), TERM], [ACKED[0], refused(), REPLIED]),
     ),
     "length-not-refused": (
@@ -214,7 +215,8 @@ RULES = {
     ),
     "taken-out-of-order": (
         pair([last(5), TERM], [acked(5, END, SIZE - HALF), REPLIED],
-             "a {a2} must order fault=no-such-open-transfer", "b {b2} should taken-out-of-order id=5"),
+             "a {a2} must order fault=no-such-open-transfer", "b {b2} should answer-order id=5 fault=not-the-last",
+             "b {b2} should taken-out-of-order id=5"),
         pair([last(5), TERM], [REJECTED(3, 1), REPLIED], "a {a2} must order fault=no-such-open-transfer"),
     ),
     "reply-alone": (

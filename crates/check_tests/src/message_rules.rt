@@ -1,7 +1,9 @@
 //! Tests of the rules of messages and of transfers.
 
 mod alone;
+mod assigned;
 mod judging;
 mod lengths;
+mod ordered;
 mod second;
 mod together;

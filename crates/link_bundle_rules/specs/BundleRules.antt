@@ -1,5 +1,5 @@
 -- The rules that a good bundle breaks (RFC 9171 and RFC 9172), and how strictly each rule is meant.
-use Rattle.std.specs.Prelude.{List, [], ◌∷◌, filter_map, Option, option_map}
+use Rattle.std.specs.Prelude.{ℕ, List, [], ◌∷◌, codes, filter_map, Option, option_map}
 use Rattle.link_rules.specs.declared.level.{Level.Level, Level.TheVariants.{Must, Should}}
 use Rattle.link_bundle_rules.specs.Extensions.{age, previous_node, hop_count, hops, block_data, data_not_read, administrative_record}
 use Rattle.link_bundle_rules.specs.Flags.{bundle_flags, anonymous, record_reports, block_reports, block_flags}
@@ -31,6 +31,26 @@ judged_bundle_rules bundle =
 -- the rules that a bundle breaks, in order
 unfoldable pub broken_bundle_rules : ReadBundle → List BundleRule
 broken_bundle_rules bundle = filter_map (λ judged. judged) (judged_bundle_rules bundle)
+
+unfoldable pub bundle_name_of : BundleRule → List ℕ
+bundle_name_of (rule.LongHead byte) = codes "long-head"
+bundle_name_of (rule.BundleFlags flags) = codes "bundle-flags"
+bundle_name_of (rule.PrimaryCheck level) = codes "primary-check"
+bundle_name_of (rule.Anonymous flags) = codes "anonymous"
+bundle_name_of (rule.RecordReports flags) = codes "record-reports"
+bundle_name_of (rule.BlockReports block) = codes "block-reports"
+bundle_name_of (rule.BlockFlags block flags) = codes "block-flags"
+bundle_name_of (rule.DtnName of) = codes "dtn-name"
+bundle_name_of (rule.Fragment offset size total) = codes "fragment"
+bundle_name_of (rule.WholeFragment total) = codes "whole-fragment"
+bundle_name_of (rule.Age blocks level) = codes "age"
+bundle_name_of (rule.PreviousNode blocks) = codes "previous-node"
+bundle_name_of (rule.HopCount blocks limit) = codes "hop-count"
+bundle_name_of (rule.ConfidentialPrimary block) = codes "confidential-primary"
+bundle_name_of (rule.Hops limit count) = codes "hops"
+bundle_name_of (rule.BlockData block byte) = codes "block-data"
+bundle_name_of (rule.DataNotRead block byte) = codes "data-not-read"
+bundle_name_of (rule.Record byte) = codes "record"
 
 unfoldable pub bundle_level_of : BundleRule → Level
 bundle_level_of (rule.LongHead byte) = Must

@@ -1,6 +1,6 @@
 //! The rules that can be broken, with what a line says of each.
 
-use link_rules::Level;
+use link_rules::{Level, NAME_MAX};
 
 /// An endpoint ID of the primary block (RFC 9171 section 4.3.1).
 #[derive(Clone, Copy, Debug, PartialEq, Eq)]
@@ -59,8 +59,36 @@ pub enum BundleRule {
 }
 
 impl BundleRule {
-    ghost use Rattle.std.specs.Prelude.{◌≡◌};
-    ghost use Rattle.link_bundle_rules.specs.BundleRules.{bundle_level_of};
+    ghost use Rattle.std.specs.Prelude.{◌≡◌, ◌≤◌, length};
+    ghost use Rattle.link_bundle_rules.specs.BundleRules.{bundle_level_of, bundle_name_of};
+
+    /// The name of the rule.
+    #[tactic(auto, unfolding(crate::specs::BundleRules::bundle_name_of))]
+    pub fn name(&self) -> &'static str
+        ensures name { result.now ≡ bundle_name_of self.now }
+        ensures short { length result.now ≤ NAME_MAX }
+    {
+        match self {
+            BundleRule::LongHead { .. } => "long-head",
+            BundleRule::BundleFlags { .. } => "bundle-flags",
+            BundleRule::PrimaryCheck { .. } => "primary-check",
+            BundleRule::Anonymous { .. } => "anonymous",
+            BundleRule::RecordReports { .. } => "record-reports",
+            BundleRule::BlockReports { .. } => "block-reports",
+            BundleRule::BlockFlags { .. } => "block-flags",
+            BundleRule::DtnName { .. } => "dtn-name",
+            BundleRule::Fragment { .. } => "fragment",
+            BundleRule::WholeFragment { .. } => "whole-fragment",
+            BundleRule::Age { .. } => "age",
+            BundleRule::PreviousNode { .. } => "previous-node",
+            BundleRule::HopCount { .. } => "hop-count",
+            BundleRule::ConfidentialPrimary { .. } => "confidential-primary",
+            BundleRule::Hops { .. } => "hops",
+            BundleRule::BlockData { .. } => "block-data",
+            BundleRule::DataNotRead { .. } => "data-not-read",
+            BundleRule::Record { .. } => "record",
+        }
+    }
 
     /// How strictly the rule is meant.
     #[tactic(auto, unfolding(crate::specs::BundleRules::bundle_level_of))]

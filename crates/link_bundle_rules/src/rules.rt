@@ -15,7 +15,7 @@ use crate::flags::{
 use crate::history::BundleHistory;
 use crate::rule::BundleRule;
 use arrayvec::ArrayVec;
-use link_rules::{Level, add_if_broken, has_other_flags};
+use link_rules::{Level, broken_of, has_other_flags};
 
 /// The number of rules of a bundle.
 const RULES: usize = 18;
@@ -75,26 +75,26 @@ impl BundleHistory {
     {
         let plain = self.has_plain_blocks();
         let counts = Counts::of(self.blocks.as_slice());
-        let mut broken = BrokenBundleRules::new();
-        add_if_broken(&mut broken, self.long_head(first_long_head));
-        add_if_broken(&mut broken, self.bundle_flags());
-        add_if_broken(&mut broken, self.primary_check());
-        add_if_broken(&mut broken, self.anonymous());
-        add_if_broken(&mut broken, self.record_reports());
-        add_if_broken(&mut broken, self.block_reports(plain));
-        add_if_broken(&mut broken, self.block_flags(plain));
-        add_if_broken(&mut broken, self.dtn_name());
-        add_if_broken(&mut broken, self.fragment(payload_length));
-        add_if_broken(&mut broken, self.whole_fragment(payload_length));
-        add_if_broken(&mut broken, self.age(counts));
-        add_if_broken(&mut broken, self.previous_node(counts));
-        add_if_broken(&mut broken, self.hop_count(plain, counts));
-        add_if_broken(&mut broken, self.confidential_primary());
-        add_if_broken(&mut broken, self.hops(plain));
-        add_if_broken(&mut broken, self.block_data(plain));
-        add_if_broken(&mut broken, self.data_not_read(plain));
-        add_if_broken(&mut broken, self.administrative_record(plain));
-        broken
+        broken_of(&[
+            self.long_head(first_long_head),
+            self.bundle_flags(),
+            self.primary_check(),
+            self.anonymous(),
+            self.record_reports(),
+            self.block_reports(plain),
+            self.block_flags(plain),
+            self.dtn_name(),
+            self.fragment(payload_length),
+            self.whole_fragment(payload_length),
+            self.age(counts),
+            self.previous_node(counts),
+            self.hop_count(plain, counts),
+            self.confidential_primary(),
+            self.hops(plain),
+            self.block_data(plain),
+            self.data_not_read(plain),
+            self.administrative_record(plain),
+        ])
     }
 
     /// The rule of long heads. `byte` is the offset of the first one.

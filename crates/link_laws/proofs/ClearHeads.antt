@@ -1,8 +1,8 @@
 -- The messages of a packed stream break no rule of messages.
-use Rattle.std.specs.{Prelude.IfSome, List.{All, list_any}}
-use Rattle.std.proofs.Common.{◌≡◌, ℕ, suc, ◌+◌, ◌<◌, ◌≤◌, Bool, true, false, ◌==◌, is_some, List, [], ◌∷◌, ◌++◌, reverse, filter_map, Option, Some, None, refl, sym, ◌∙◌, arith}
-use Rattle.std.proofs.{Math.Bool.and-false, lemmas.Bool.{ne_eqb, le-ltb}}
-use Rattle.std.proofs.lemmas.{List.{map-append, reverse-append}, List.Elements.{All-head, All-tail}}
+use Rattle.std.specs.{Prelude.IfSome, List.list_any}
+use Rattle.std.proofs.Common.{◌≡◌, ℕ, zero, suc, ◌+◌, ◌≤◌, Bool, true, false, ◌==◌, is_some, List, [], ◌∷◌, ◌++◌, reverse, take, filter_map, Option, Some, None, refl, sym, ◌∙◌, arith}
+use Rattle.std.proofs.{Math.Bool.and-false, lemmas.Bool.{eq-eqb, ne_eqb, le-ltb}}
+use Rattle.std.proofs.lemmas.List.{map-append, reverse-append}
 use Rattle.link_options.specs.declared.limits.PeerLimits.{PeerLimits}
 use Rattle.link_wire.specs.{Spelling.{segment_with, sess_init_with}, Stream.Entry}
 use Rattle.link_wire.specs.declared.message.{Message.Message, SegmentHead.SegmentHead}
@@ -14,17 +14,46 @@ use Rattle.link_transfer.specs.declared.announcement.Announced.TheVariants.{Abse
 use Rattle.link_transfer.specs.declared.{event.Event.Event, joiner.Joiner.Joiner, joiner.Turn.Turn}
 use Rattle.link_transfer.proofs.Joining.{refusal-at, stray-at, effect-at, IsJoinerAt-then}
 use Rattle.link_transfer.specs.declared.joiner.Turn.TheVariants as turn
+use Rattle.link_message_rules.specs.Answers.{ack_length, answer_order}
+use Rattle.link_message_rules.specs.Endings.{rejects_type, after_reject, term_order}
+use Rattle.link_message_rules.specs.Assigned.{item_type, reject_known, reason}
 use Rattle.link_message_rules.specs.Flags.{item_flags, segment_flags, term_flags}
-use Rattle.link_message_rules.specs.Heads.{JudgedHead, messages_of, start_id}
-use Rattle.link_message_rules.specs.Lengths.{peer_segment, size_of, if_exceeded, peer_transfer, ack_length}
-use Rattle.link_message_rules.specs.{MessageRules.broken_rules, NodeIds.node_id}
-use Rattle.link_message_rules.specs.Session.{order, before_session, keepalive}
-use Rattle.link_message_rules.specs.TransferIds.{abandoned_by, interleaved, descending, transfer_id}
+use Rattle.link_message_rules.specs.Heads.{JudgedHead, messages_of, newest, is_sess_term, start_id}
+use Rattle.link_message_rules.specs.Lengths.{peer_segment, size_of, if_exceeded, peer_transfer}
+use Rattle.link_message_rules.specs.{MessageRules.broken_rules, NodeIds.{node_id, node_name}}
+use Rattle.link_message_rules.specs.Session.{order, before_session, keepalive, keepalive_interval}
+use Rattle.link_message_rules.specs.TransferIds.{abandoned_by, interleaved, is_in, runs_of, skips, transfer_id, transfer_id_order}
+use Rattle.link_message_rules.proofs.Pushes.{newest_then}
 use Rattle.link_run.proofs.Continued.{entry}
 use Rattle.link_walk.specs.Walk.{head_at}
 use Rattle.link_check.specs.Checking.{judged}
 use Rattle.link_pack.specs.Segments.{flags_of}
+use Rattle.link_laws.specs.PackedRules.{KeepsInitRules}
 use Rattle.link_laws.proofs.{InOrder.{not_stray, taken_more}, Sent.starts_as}
+
+-- ---- no end of the session so far
+
+pub record IsOpen (before : List JudgedHead) : Type 0 where
+  pub unrejected : list_any rejects_type (newest before) ≡ false
+  pub unended : list_any is_sess_term (newest before) ≡ false
+
+pub open_then : (before : List JudgedHead) (head : JudgedHead) → IsOpen before
+    → rejects_type head.message ≡ false → is_sess_term head.message ≡ false
+    → IsOpen (before ++ head ∷ [])
+open_then before head is_open rejects ends = record {
+  unrejected = rw (newest_then before head, rejects) is_open.unrejected;
+  unended = rw (newest_then before head, ends) is_open.unended;
+}
+
+not_after : (before : List JudgedHead) (message : Message) → IsOpen before
+    → after_reject before message ≡ None
+unfolding after_reject
+not_after before message is_open = rw is_open.unrejected refl
+
+not_late : (before : List JudgedHead) (message : Message) → IsOpen before
+    → term_order before message ≡ None
+unfolding term_order
+not_late before message is_open = rw (is_open.unended, and-false) refl
 
 -- ---- rules, one by one
 
@@ -37,12 +66,14 @@ module _ (peer : PeerLimits) (before : List JudgedHead) where
     segment_head = record { message = segment; fault = None; turn = Some turn }
 
     -- in order, and it abandons no transfer
-    pub segment_clear : abandoned_by (Some turn) ≡ None → transfer_id before segment ≡ None
+    pub segment_clear : abandoned_by (Some turn) ≡ None → IsOpen before
+        → transfer_id before segment ≡ None → transfer_id_order before segment ≡ None
         → peer_segment peer.segment segment ≡ None
         → peer_transfer peer.transfer before segment_head ≡ None
         → broken_rules peer before segment_head ≡ []
-    unfolding broken_rules node_id item_flags order before_session interleaved segment_flags ack_length keepalive term_flags
-    segment_clear none new short within = grind arith
+    unfolding broken_rules node_id item_flags order before_session interleaved segment_flags ack_length keepalive term_flags node_name keepalive_interval item_type answer_order reject_known reason term_order
+    segment_clear none is_open new next short within =
+        let unrejected = not_after before segment is_open in grind arith
 
   -- ---- messages that are no segments
 
@@ -53,16 +84,22 @@ module _ (peer : PeerLimits) (before : List JudgedHead) where
     abbrev init_head : JudgedHead
     init_head = record { message = init; fault = None; turn = Some turn.Other }
 
-    pub init_clear : node_id init ≡ None → broken_rules peer before init_head ≡ []
-    unfolding broken_rules item_flags order before_session interleaved segment_flags transfer_id peer_segment peer_transfer ack_length keepalive term_flags
-    init_clear keeps = grind arith
+    pub init_clear : IsOpen before → KeepsInitRules init → broken_rules peer before init_head ≡ []
+    unfolding broken_rules item_flags order before_session interleaved segment_flags transfer_id peer_segment peer_transfer ack_length keepalive term_flags item_type transfer_id_order answer_order reject_known reason
+    init_clear is_open keeps =
+        let unrejected = not_after before init is_open in
+        let in_time = not_late before init is_open in
+        grind (arith, keeps.id, keeps.name, keeps.interval)
 
   abbrev term_head : JudgedHead
   term_head = record { message = message.SessTerm 0 0; fault = None; turn = Some turn.Other }
 
-  pub term_clear : broken_rules peer before term_head ≡ []
-  unfolding broken_rules node_id item_flags order before_session interleaved segment_flags transfer_id peer_segment peer_transfer ack_length keepalive term_flags
-  term_clear = grind arith
+  pub term_clear : IsOpen before → broken_rules peer before term_head ≡ []
+  unfolding broken_rules node_id item_flags order before_session interleaved segment_flags transfer_id peer_segment peer_transfer ack_length keepalive term_flags node_name keepalive_interval item_type transfer_id_order answer_order reject_known reason
+  term_clear is_open =
+      let unrejected = not_after before (message.SessTerm 0 0) is_open in
+      let in_time = not_late before (message.SessTerm 0 0) is_open in
+      grind arith
 
 -- ---- transfer IDs
 
@@ -75,36 +112,49 @@ pub ids_then : (before : List JudgedHead) (head : JudgedHead)
     ≡ filter_map start_id (head.message ∷ reverse (messages_of before))
 ids_then before head = grind (arith, map-append, reverse-append)
 
-abbrev pub AreBelow : (next : ℕ) → List ℕ → Type 0
-AreBelow next ids = All (λ id. id < next) ids
+-- the IDs from this one down to 0
+abbrev pub counts : (next : ℕ) → List ℕ
+counts zero = []
+counts (suc next) = next ∷ counts next
 
-pub below_more : (next : ℕ) (ids : List ℕ) → AreBelow next ids → AreBelow (suc next) ids
-below_more next ids below = grind arith
+-- they are one run
+one_run : (next : ℕ) → runs_of (counts (suc next)) ≡ counts (suc next) ∷ []
+one_run zero = refl
+one_run (suc next) = rw (one_run next, eq-eqb (suc next) (next + 1) (omega arith)) refl
 
-not_among : (next : ℕ) (ids : List ℕ) → AreBelow next ids
-    → list_any (λ earlier. earlier == next) (descending ids) ≡ false
-not_among next [] below = refl
-not_among next (id ∷ []) below =
-    let first = All-head (λ id. id < next) id [] below in
-    rw (ne_eqb id next (λ same. absurd (omega arith))) refl
-not_among next (id ∷ second ∷ more) below =
-    let first = All-head (λ id. id < next) id (second ∷ more) below in
-    let differs = ne_eqb id next (λ same. absurd (omega arith)) in
-    let rest =
-    not_among next (second ∷ more) (All-tail (λ id. id < next) id (second ∷ more) below) in
-    grind arith
+all_below : (id next : ℕ) → next ≤ id → list_any (λ earlier. earlier == id) (counts next) ≡ false
+all_below id zero below = refl
+all_below id (suc next) below =
+    rw (ne_eqb next id (λ same. absurd (omega arith)), all_below id next (omega arith)) refl
+
+is_new : (id : ℕ) → is_in (take 64 (runs_of (counts id))) id ≡ false
+is_new zero = refl
+is_new (suc next) = rw (one_run next, all_below (suc next) (suc next) (omega arith)) refl
+
+is_next : (id : ℕ) → skips (counts id) id ≡ false
+is_next zero = refl
+is_next (suc next) = rw (eq-eqb (suc next) (next + 1) (omega arith)) refl
 
 module _ (before : List JudgedHead) (last : Bool) (id size : ℕ) (announce : Option ℕ) where
-  -- a transfer begins whose ID is above those before it
-  pub new_id : AreBelow id (ids_of before)
+  -- a transfer begins whose ID is the next
+  pub new_id : ids_of before ≡ counts id
       → transfer_id before (segment_with (flags_of true last) id size announce) ≡ None
   unfolding transfer_id
-  new_id below =
-      rw (starts_as true last, not_among id (ids_of before) below) refl
+  new_id ids = rw (starts_as true last, ids, is_new id) refl
+
+  pub next_id : ids_of before ≡ counts id
+      → transfer_id_order before (segment_with (flags_of true last) id size announce) ≡ None
+  unfolding transfer_id_order
+  next_id ids = rw (starts_as true last, ids, is_next id, and-false, and-false) refl
 
   pub no_id : transfer_id before (segment_with (flags_of false last) id size announce) ≡ None
   unfolding transfer_id
   no_id = rw (starts_as false last) refl
+
+  pub no_next_id : transfer_id_order before (segment_with (flags_of false last) id size announce)
+      ≡ None
+  unfolding transfer_id_order
+  no_next_id = rw (starts_as false last) refl
 
 -- ---- lengths
 

@@ -2,7 +2,7 @@
 use Rattle.std.specs.Prelude.{IfSome}
 use Rattle.std.proofs.Common.{◌≡◌, ℕ, zero, suc, ◌+◌, ◌*◌, ◌<◌, ◌≤◌, Bool, true, false, ◌==◌, is_some, List, [], ◌∷◌, ◌++◌, length, take, reverse, Option, Some, None, if◌then◌else◌, refl, ap, sym, ◌∙◌, subst, append-nil, append_assoc, length-append, length-take, arith}
 use Rattle.std.proofs.lemmas.{Bool.{eq-eqb, ne_eqb}, List.reverse-append}
-use Rattle.std.proofs.lemmas.List.{Elements.{All-nil, All-cons}, Sums.sum_by-cons}
+use Rattle.std.proofs.lemmas.List.Sums.{sum_by-cons}
 use Rattle.link_options.specs.declared.limits.PeerLimits.{PeerLimits}
 use Rattle.link_options.specs.declared.pack.PackOptions.{PackOptions}
 use Rattle.link_wire.specs.{Codes.is_end, Spelling.{announced, segment_with}, Stream.Entry}
@@ -20,9 +20,9 @@ use Rattle.link_message_rules.specs.Lengths.{segments_back, segments_of, first_s
 use Rattle.link_message_rules.specs.MessageRules.{broken_rules}
 use Rattle.link_run.proofs.Continued.{entry}
 use Rattle.link_bundle_walk.specs.Bundles.{Packed, Divided}
-use Rattle.link_laws.specs.PackedRules.{AllowsLimits, KeepsNodeId}
+use Rattle.link_laws.specs.PackedRules.{AllowsLimits, KeepsRules}
 use Rattle.link_laws.proofs.Carried.{some_chunk}
-use Rattle.link_laws.proofs.ClearHeads.{segment_clear, init_clear, term_clear, ids_of, ids_then, AreBelow, below_more, new_id, no_id, IsAtMost, exceeds_none, short_none, judged_at, AreClear, judged_is, joins_then}
+use Rattle.link_laws.proofs.ClearHeads.{segment_clear, init_clear, term_clear, IsOpen, open_then, ids_of, ids_then, counts, new_id, next_id, no_id, no_next_id, IsAtMost, exceeds_none, short_none, judged_at, AreClear, judged_is, joins_then}
 use Rattle.link_laws.proofs.Divided.{AreBundles}
 use Rattle.link_laws.proofs.Entries.{bundle_entries, due_entries, init_bytes, init_entry, last_entries, packed_entries, term_entries, some_size}
 use Rattle.link_laws.proofs.{Limits.announces, Segments.{chunk_of, message_of, segment_entries}}
@@ -37,16 +37,18 @@ if_some (Some most) step holds = step most holds
 
 -- ---- the segments so far
 
--- no transfer is open, and the IDs of all are below this one
+-- no transfer is open, and their IDs are those below this one
 record Between (next : ℕ) (taken : List Message) (before : List JudgedHead) : Type 0 where
   pub joins : IsJoinerAt (carrying None) taken
-  pub ids : AreBelow next (ids_of before)
+  pub is_open : IsOpen before
+  pub ids : ids_of before ≡ counts next
 
 module _ (id : ℕ) (begun : SegmentHead) where
   -- the transfer with this ID is open, which began with this segment and has `size` bytes
   record Within (size : ℕ) (taken : List Message) (before : List JudgedHead) : Type 0 where
     pub joins : IsJoinerAt (carrying (Some id)) taken
-    pub ids : AreBelow (suc id) (ids_of before)
+    pub is_open : IsOpen before
+    pub ids : ids_of before ≡ counts (suc id)
     pub last : SegmentHead
     pub earlier : List SegmentHead
     pub segments : segments_of before ≡ last ∷ earlier
@@ -114,20 +116,22 @@ module _ (peer : PeerLimits) (id : ℕ) (last : Bool) (offset : ℕ) (chunk : Li
 
     -- with the segments before it
     segment_after : (begun : SegmentHead) (size : ℕ) (earlier : List SegmentHead)
-        → broken_rules peer before (judged_for first) ≡ []
-        → AreBelow (suc id) (ids_of (before ++ judged_for first ∷ []))
+        → broken_rules peer before (judged_for first) ≡ [] → IsOpen before
+        → ids_of (before ++ judged_for first ∷ []) ≡ counts (suc id)
         → segments_back (judged_for first ∷ reverse before) ≡ segment first ∷ earlier
         → size_of (segment first ∷ earlier) ≡ size
         → first_segment (segment first) earlier ≡ begun
         → AfterSegment id begun peer last size taken before (here first)
-    segment_after begun size earlier clear ids segments sized begins = record {
+    segment_after begun size earlier clear is_open ids segments sized begins = record {
       clear = rw is_judged clear;
       ended = λ is. rw is_judged (record {
         joins = rw (ap (open_by id) is) at still_joins;
+        is_open = open_then before (judged_for first) is_open refl refl;
         ids = ids;
       });
       goes = λ is. rw is_judged (record {
         joins = rw (ap (open_by id) is) at still_joins;
+        is_open = open_then before (judged_for first) is_open refl refl;
         ids = ids;
         last = segment first;
         earlier = earlier;
@@ -152,11 +156,12 @@ module _ (peer : PeerLimits) (id : ℕ) (last : Bool) (offset : ℕ) (chunk : Li
     first_after =
         segment_after true at.joins (segment true) (length chunk) []
         (segment_clear peer before true last id (length chunk) announce (turn_for true) refl
-        (new_id before last id (length chunk) announce at.ids)
+        at.is_open (new_id before last id (length chunk) announce at.ids)
+        (next_id before last id (length chunk) announce at.ids)
         (short_none peer.segment (segment true) short) (begin_within peer.transfer most))
+        at.is_open
         (rw (ids_then before (judged_for true), starts_as true last)
-        (All-cons (λ earlier. earlier < suc id) id (ids_of before) (omega arith)
-        (below_more id (ids_of before) at.ids)))
+        (ap (λ (ids : List ℕ). id ∷ ids) at.ids))
         refl
         (omega (arith, sum_by-cons (λ (segment : SegmentHead). segment.length) (segment true) []))
         refl
@@ -189,9 +194,10 @@ module _ (peer : PeerLimits) (id : ℕ) (begun : SegmentHead) (last : Bool) (off
       segment_after peer id last offset chunk None taken before short false at.joins begun size
       (at.last ∷ at.earlier)
       (segment_clear peer before false last id (length chunk) None (turn.Continue _) refl
-      (no_id before last id (length chunk) None) (short_none peer.segment continues short)
+      at.is_open (no_id before last id (length chunk) None)
+      (no_next_id before last id (length chunk) None) (short_none peer.segment continues short)
       (next_within peer.transfer most))
-      (rw (ids_then before continues_judged, starts_as false last) at.ids)
+      at.is_open (rw (ids_then before continues_judged, starts_as false last) at.ids)
       (ap (λ (segments : List SegmentHead). continues ∷ segments) at.segments)
       (omega (arith, at.sized))
       at.first
@@ -300,7 +306,7 @@ module _ (options : PackOptions) (peer : PeerLimits) (allows : AllowsLimits opti
   term_after false offset next taken before at = sym (ap is_some at.joins.transfer)
   term_after true offset next taken before at = (
     cc (judged_is (carrying None) taken offset (message.SessTerm 0 0) [] at.joins refl)
-        ∙ term_clear peer before,
+        ∙ term_clear peer before at.is_open,
     sym (ap is_some (joins_then (carrying None) taken offset (message.SessTerm 0 0) [] at.joins refl
         event.SessTerm refl).transfer),
   )
@@ -321,7 +327,7 @@ module _ (options : PackOptions) (peer : PeerLimits) (allows : AllowsLimits opti
       (bundles_clear (suc number) bundles after more are.1 then_clear) offset are.0.some)
 
   -- the messages of a packed stream whose input has no fault
-  pub packed_clear : KeepsNodeId options → (bundles : List Packed)
+  pub packed_clear : KeepsRules options → (bundles : List Packed)
       → AreBundles options.peer_transfer bundles
       → AreClear peer [] [] (packed_entries options (record { bundles = bundles; rest = None }))
   packed_clear keeps bundles are =
@@ -332,10 +338,11 @@ module _ (options : PackOptions) (peer : PeerLimits) (allows : AllowsLimits opti
       rw (append-nil (bundle_entries options 0 bundles start)) (
         ap (broken_rules peer []) inits
             ∙ init_clear peer [] options.keepalive options.segment_mru options.transfer_mru
-            options.node.items keeps,
+            options.node.items (record { unrejected = refl; unended = refl }) keeps,
         bundles_clear 0 bundles start (last_entries options input) are
             (λ next. term_after options.send_term _ next) _ _ (record {
               joins = joins_then fresh [] 6 sent [] IsJoinerAt-none refl event.SessInit refl;
-              ids = All-nil (λ id. id < 0);
+              is_open = record { unrejected = refl; unended = refl };
+              ids = refl;
             }),
       )

@@ -31,7 +31,7 @@ use Rattle.link_check.specs.Checking.{Begun, begun_by, closed_rules, data_rules,
 use Rattle.link_check.specs.Lines.{at_offset}
 use Rattle.link_bundle_walk.specs.Bundles.{Packed, Divided, divided}
 use Rattle.link_pack.specs.{Packing.sending, Segments.Sending}
-use Rattle.link_laws.specs.{PackedRules.{AllowsLimits, KeepsNodeId, BreaksNoMore}, RoundTrip.all}
+use Rattle.link_laws.specs.{PackedRules.{AllowsLimits, KeepsRules, BreaksNoMore}, RoundTrip.all}
 use Rattle.link_laws.specs.SameRules.{reports}
 use Rattle.link_laws.proofs.{BrokenRules.broken_from, Carried.{onto, packed_transfers, transfer_of}}
 use Rattle.link_laws.proofs.{ClearHeads.{judged_at, AreClear}, ClearStream.packed_clear}
@@ -228,7 +228,7 @@ transfers_none options number (bundle ∷ more) earlier are none =
 
 module _ (options : PackOptions) (bytes : List ℕ) (is_packed : IsPacked options bytes)
     (status : (packed options bytes).status ≡ 0) (peer : PeerLimits)
-    (allows : AllowsLimits options peer) (keeps : KeepsNodeId options) where
+    (allows : AllowsLimits options peer) (keeps : KeepsRules options) where
   abbrev stream : List ℕ
   stream = (packed options bytes).texts.output
 

@@ -3,8 +3,10 @@ use Rattle.std.specs.{Prelude.{◌≡◌, ℕ, ◌≤◌, Bool, List, None, Ok, 
 use Rattle.link_options.specs.declared.limits.PeerLimits.{PeerLimits}
 use Rattle.link_options.specs.declared.pack.PackOptions.{PackOptions}
 use Rattle.link_wire.specs.Spelling.{sess_init_with}
+use Rattle.link_wire.specs.declared.message.Message.{Message}
 use Rattle.link_bundle_blocks.specs.Bundle.{verdict}
-use Rattle.link_message_rules.specs.NodeIds.{node_id}
+use Rattle.link_message_rules.specs.NodeIds.{node_id, node_name}
+use Rattle.link_message_rules.specs.Session.{keepalive_interval}
 use Rattle.link_check.specs.Checking.{check_tool}
 use Rattle.link_laws.specs.SameRules.{Carried, broken_in_transfer, reports}
 
@@ -13,12 +15,17 @@ pub record AllowsLimits (options : PackOptions) (peer : PeerLimits) : Type 0 whe
   pub segment : IfSome peer.segment (λ limit. options.peer_segment ≤ limit)
   pub transfer : IfSome peer.transfer (λ limit. options.peer_transfer ≤ limit)
 
--- the SESS_INIT of the stream keeps `node-id`
-abbrev pub KeepsNodeId : PackOptions → Type 0
-KeepsNodeId options =
-    node_id (sess_init_with options.keepalive options.segment_mru options.transfer_mru
+-- a SESS_INIT keeps the rules of its node ID and of its interval
+pub record KeepsInitRules (init : Message) : Type 0 where
+  pub id : node_id init ≡ None
+  pub name : node_name init ≡ None
+  pub interval : keepalive_interval init ≡ None
+
+-- the SESS_INIT of the stream keeps them
+abbrev pub KeepsRules : PackOptions → Type 0
+KeepsRules options =
+    KeepsInitRules (sess_init_with options.keepalive options.segment_mru options.transfer_mru
     options.node.items)
-    ≡ None
 
 -- The transfers of the stream carry the bundles of the input, one after another. `check` writes the
 -- lines of the rules that these bundles break, and no others.

@@ -21,7 +21,7 @@ ghost use Rattle.link_pack.specs.Packing.{pack_tool};
 ghost use Rattle.link_laws.specs.Checked.{HasOnlyAllowed};
 ghost use Rattle.link_laws.specs.Cuts.{going_on, stopping, HasEveryByte, HasEveryTakenByte, CutsOutput, CutsOutputOn, IsSameInOrder};
 ghost use Rattle.link_laws.specs.Listed.{IsListed};
-ghost use Rattle.link_laws.specs.PackedRules.{AllowsLimits, KeepsNodeId, BreaksNoMore};
+ghost use Rattle.link_laws.specs.PackedRules.{AllowsLimits, KeepsRules, BreaksNoMore};
 ghost use Rattle.link_laws.specs.PackedStream.{KeepsLimits};
 ghost use Rattle.link_laws.specs.Prefix.{IsPrefixed};
 ghost use Rattle.link_laws.specs.Ranges.{OptionsFit, InputFits};
@@ -82,12 +82,13 @@ pub fn unpack_of_pack(options: &PackOptions, bytes: &[u8])
 
 /// A packed stream breaks no rule but those that its bundles break.
 ///
-/// Let the input be packed without a fault, let the node ID be one that `check` accepts, and let
-/// the limits of the peer be no less than those of packing. Then `check` of the stream has a line
-/// for each rule that a bundle of the input breaks, and no other line.
+/// Let the input be packed without a fault, and let the limits of the peer be no less than those of
+/// packing. Let the node ID keep `node-id` and `node-name`, and the interval `keepalive-interval`.
+/// Then `check` of the stream has a line for each rule that a bundle of the input breaks, and no
+/// other line.
 pub fn check_of_pack(options: &PackOptions, bytes: &[u8])
     ensures { (peer : PeerLimits) → ((pack_tool options.now).whole bytes.now).status ≡ 0
-        → AllowsLimits options.now peer → KeepsNodeId options.now
+        → AllowsLimits options.now peer → KeepsRules options.now
         → BreaksNoMore peer bytes.now ((pack_tool options.now).whole bytes.now).texts.output }
 {
     options_fit(options);

@@ -2,8 +2,8 @@
 use Rattle.std.proofs.Common.{◌≡◌, Bool, true, false, not, ◌&&◌, ◌||◌, List, [], ◌∷◌, Option, Some, None, is_some, if◌then◌else◌, refl}
 use Rattle.std.{specs.Option.option_or, specs.List.list_any, proofs.Math.Bool.{and-true, and-false}}
 use Rattle.link_wire.specs.declared.message.Message.{Message}
-use Rattle.link_message_rules.specs.Heads.{parameters_of, is_of_transfer}
-use Rattle.link_message_rules.specs.{Session.{first_parameters, are_other, is_sess_init, after_sess_init, changes_session}, Remembered.session_of}
+use Rattle.link_message_rules.specs.Heads.{is_sess_init, parameters_of, is_of_transfer}
+use Rattle.link_message_rules.specs.{Session.{first_parameters, are_other, after_sess_init, changes_session}, Remembered.session_of}
 use Rattle.link_message_rules.specs.declared.session.{Since.Since, Since.TheVariants.{Neither, First, Both}, Parameters.Parameters}
 
 -- there are first parameters if a SESS_INIT came

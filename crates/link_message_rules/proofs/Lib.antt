@@ -1,9 +1,8 @@
 pub mod Pushes
 pub mod Runs
 pub mod Since
+pub mod Later
 pub mod Changes
 pub mod Joined
-pub mod Tests
 pub mod Kept
-pub mod Unchanged
 pub mod Inner

@@ -3,8 +3,8 @@ use Rattle.std.proofs.Common.{◌≡◌, ℕ, suc, ◌+◌, Bool, true, false, n
 use Rattle.std.specs.{Bool.then_some, List.{list_any, position_or_len}}
 use Rattle.std.proofs.lemmas.List.Recursion.{or_push}
 use Rattle.link_wire.specs.declared.message.Message.{Message}
-use Rattle.link_message_rules.specs.Heads.{JudgedHead, messages_of, is_keepalive, disables_keepalive, is_of_transfer, parameters_of}
-use Rattle.link_message_rules.specs.{Session.{keepalive, is_sess_init}, Remembered.{since_of, next_since, keepalives_of, session_of}}
+use Rattle.link_message_rules.specs.Heads.{JudgedHead, messages_of, is_sess_init, is_keepalive, disables_keepalive, is_of_transfer}
+use Rattle.link_message_rules.specs.{Session.keepalive, Remembered.{since_of, next_since, keepalives_of, session_of}}
 use Rattle.link_message_rules.specs.declared.session.Since.{Since}
 use Rattle.link_message_rules.specs.declared.session.Since.TheVariants.{Neither, First, Both}
 use Rattle.link_message_rules.specs.declared.rule.MessageRule.{MessageRule}
@@ -65,34 +65,22 @@ pub session_of_push : (before : List Message) (message : Message)
     ≡ next_since (session_of before) (is_sess_init message) (is_of_transfer message)
 session_of_push before message = since_of_push is_sess_init is_of_transfer before message
 
+pub next_same : (state : Since) → next_since state false false ≡ state
+next_same Neither = refl
+next_same others = refl
+
 module _ (before : List JudgedHead) (head : JudgedHead) where
-  -- after one of the first kind
-  pub session_of_first : (session : Since) → session ≡ session_of (messages_of before)
-      → is_sess_init head.message ≡ true → is_of_transfer head.message ≡ false
-      → next_since session true false ≡ session_of (messages_of (before ++ head ∷ []))
-  session_of_first session at is other =
-      rw (messages_of-push before head, session_of_push _ head.message, is, other, at) refl
+  pub session_then : (session : Since) → session ≡ session_of (messages_of before)
+      → next_since session (is_sess_init head.message) (is_of_transfer head.message)
+      ≡ session_of (messages_of (before ++ head ∷ []))
+  session_then session at =
+      rw (messages_of-push before head, session_of_push _ head.message, at) refl
 
-  pub keepalives_of_first : (keepalives : Since)
-      → keepalives ≡ keepalives_of (messages_of before)
-      → disables_keepalive head.message ≡ true → is_keepalive head.message ≡ false
-      → next_since keepalives true false ≡ keepalives_of (messages_of (before ++ head ∷ []))
-  keepalives_of_first keepalives at is other =
-      rw (messages_of-push before head, keepalives_of_push _ head.message, is, other, at) refl
-
-  -- after one of the second kind
-  pub session_of_second : (session : Since) → session ≡ session_of (messages_of before)
-      → parameters_of head.message ≡ None → is_of_transfer head.message ≡ true
-      → next_since session false true ≡ session_of (messages_of (before ++ head ∷ []))
-  session_of_second session at none is =
-      rw (messages_of-push before head, session_of_push _ head.message, none, is, at) refl
-
-  pub keepalives_of_second : (keepalives : Since)
-      → keepalives ≡ keepalives_of (messages_of before)
-      → disables_keepalive head.message ≡ false → is_keepalive head.message ≡ true
-      → next_since keepalives false true ≡ keepalives_of (messages_of (before ++ head ∷ []))
-  keepalives_of_second keepalives at disables is =
-      rw (messages_of-push before head, keepalives_of_push _ head.message, disables, is, at) refl
+  pub keepalives_then : (keepalives : Since) → keepalives ≡ keepalives_of (messages_of before)
+      → next_since keepalives (disables_keepalive head.message) (is_keepalive head.message)
+      ≡ keepalives_of (messages_of (before ++ head ∷ []))
+  keepalives_then keepalives at =
+      rw (messages_of-push before head, keepalives_of_push _ head.message, at) refl
 
 -- the rule of KEEPALIVEs, by what holds before the message
 abbrev pub rule_in : Since → (sends : Bool) → Option MessageRule

@@ -1,5 +1,5 @@
 -- Rules of flags (RFC 9174). Only flags that are defined may be set.
-use Rattle.std.specs.Prelude.{ℕ, not, ◌&&◌, ◌==◌, find, option_map, Option, Some, None, if◌then◌else◌, bit_and}
+use Rattle.std.specs.Prelude.{ℕ, Bool, not, ◌&&◌, ◌==◌, find, option_map, Option, Some, None, if◌then◌else◌, bit_and}
 use Rattle.std.specs.List.{enumerate_from}
 use Rattle.link_wire.specs.declared.message.{Contact.Contact, Item.Item, Message.Message}
 use Rattle.link_wire.specs.declared.message.Message.TheVariants.{Segment, SessTerm}
@@ -23,6 +23,10 @@ start_and_end = 3
 abbrev pub reply : ℕ
 reply = 1
 
+-- a SESS_TERM with these flags answers one of the peer, and repeats its flags and its reason
+abbrev pub is_reply : (flags : ℕ) → Bool
+is_reply flags = bit_and flags reply == reply
+
 -- contact-flags: a contact header has no flag but CAN_TLS (section 4.2)
 unfoldable pub contact_flags : Contact → Option MessageRule
 contact_flags contact =
@@ -45,7 +49,7 @@ segment_flags message = None
 -- term-flags: a SESS_TERM has no flag but REPLY (section 6.1). A reply repeats what it answers.
 unfoldable pub term_flags : Message → Option MessageRule
 term_flags (SessTerm flags reason) =
-    if not (bit_and flags reply == reply) && has_other_flags reply flags
+    if not (is_reply flags) && has_other_flags reply flags
     then Some (TermFlags flags)
     else None
 term_flags message = None

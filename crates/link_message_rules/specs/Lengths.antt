@@ -1,16 +1,14 @@
--- Rules of the lengths of segments, transfers and acknowledgements (RFC 9174 sections 4.6 and 5.2).
-use Rattle.std.specs.Prelude.{ℕ, ◌+◌, ◌&&◌, ◌==◌, nat_lt, nat_le, List, [], ◌∷◌, reverse, sum_by, filter_map, Option, Some, None, if◌then◌else◌}
+-- Rules of the lengths of segments and transfers (RFC 9174 sections 4.6 and 5.2).
+use Rattle.std.specs.Prelude.{ℕ, ◌+◌, ◌&&◌, ◌==◌, nat_lt, nat_le, List, [], ◌∷◌, reverse, sum_by, Option, Some, None, if◌then◌else◌}
 use Rattle.std.specs.Option.{option_and_then}
-use Rattle.link_wire.specs.Codes.{is_start}
 use Rattle.link_wire.specs.declared.message.{SegmentHead.SegmentHead, Message.Message}
-use Rattle.link_wire.specs.declared.message.Message.TheVariants as message
 use Rattle.link_transfer.specs.Announced.{announced_of}
 use Rattle.link_transfer.specs.declared.announcement.Announced.{Announced}
 use Rattle.link_transfer.specs.declared.{announcement.Announced.TheVariants.Total, joiner.Turn.Turn}
 use Rattle.link_transfer.specs.declared.joiner.Turn.TheVariants as turn
-use Rattle.link_message_rules.specs.Heads.{JudgedHead, messages_of, segment_of}
-use Rattle.link_message_rules.specs.declared.{lengths.Ack.Ack, rule.MessageRule.MessageRule}
-use Rattle.link_message_rules.specs.declared.rule.MessageRule.TheVariants.{PeerSegment, PeerTransferAnnounced, PeerTransferLength, AckLength}
+use Rattle.link_message_rules.specs.Heads.{JudgedHead, segment_of}
+use Rattle.link_message_rules.specs.declared.rule.MessageRule.{MessageRule}
+use Rattle.link_message_rules.specs.declared.rule.MessageRule.TheVariants.{PeerSegment, PeerTransferAnnounced, PeerTransferLength}
 
 -- ---- peer-segment
 
@@ -98,29 +96,3 @@ unfoldable pub peer_transfer : (limit : Option ℕ) → List JudgedHead → Judg
 peer_transfer None before head = None
 peer_transfer (Some limit) before head =
     option_and_then (exceeded limit before head.turn) (segment_of head.message)
-
--- ---- ack-length
-
-abbrev pub ack_of : Message → Option Ack
-ack_of (message.Ack flags id size) = Some (record { id = id; length = size })
-ack_of _ = None
-
-abbrev pub first_of : List Ack → Option Ack
-first_of [] = None
-first_of (ack ∷ older) = Some ack
-
-abbrev pub last_ack : List Message → Option Ack
-last_ack messages = first_of (filter_map ack_of (reverse messages))
-
-abbrev pub if_less : (id size : ℕ) → Ack → Option MessageRule
-if_less id size last =
-    if (last.id == id) && nat_lt size last.length then Some (AckLength size last.length) else None
-
--- ack-length: within a transfer, the acknowledged length does not decrease (section 5.2.3). It may
--- decrease in an XFER_ACK of the first segment of a transfer, which has START, or of another
--- transfer.
-unfoldable pub ack_length : List JudgedHead → Message → Option MessageRule
-ack_length before (message.Ack flags id size) =
-    if is_start flags then None
-    else option_and_then (if_less id size) (last_ack (messages_of before))
-ack_length before _ = None

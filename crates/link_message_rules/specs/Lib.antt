@@ -1,9 +1,12 @@
 pub mod Heads
 pub mod Flags
 pub mod NodeIds
+pub mod Assigned
 pub mod Session
 pub mod TransferIds
 pub mod Lengths
+pub mod Answers
+pub mod Endings
 pub mod MessageRules
 pub mod TransferRules
 pub mod TransferData

@@ -1,14 +1,14 @@
 -- Rules of a session as a whole (RFC 9174 sections 4 to 6).
-use Rattle.std.specs.Prelude.{ℕ, Bool, false, not, ◌&&◌, ◌==◌, List, [], ◌∷◌, is_some, option_map, Option, Some, None, if◌then◌else◌}
+use Rattle.std.specs.Prelude.{ℕ, Bool, false, not, ◌&&◌, ◌||◌, ◌==◌, nat_le, List, [], ◌∷◌, is_some, option_map, Option, Some, None, if◌then◌else◌}
 use Rattle.std.specs.{List.{list_any, after_first}, Option.option_or}
 use Rattle.link_wire.specs.Codes as codes
 use Rattle.link_wire.specs.declared.message.Message.{Message}
 use Rattle.link_wire.specs.declared.message.Message.TheVariants as message
 use Rattle.link_transfer.specs.declared.fault.{OrderFault.OrderFault, OrderFault.TheVariants.SecondSessInit}
 use Rattle.link_rules.specs.declared.level.{Level.Level, Level.TheVariants.{Must, Should}}
-use Rattle.link_message_rules.specs.Heads.{JudgedHead, messages_of, is_keepalive, disables_keepalive, parameters_of, is_of_transfer}
+use Rattle.link_message_rules.specs.Heads.{JudgedHead, messages_of, is_sess_init, is_keepalive, disables_keepalive, parameters_of, is_of_transfer}
 use Rattle.link_message_rules.specs.declared.{rule.MessageRule.MessageRule, session.Parameters.Parameters}
-use Rattle.link_message_rules.specs.declared.rule.MessageRule.TheVariants.{Order, BeforeSession, Keepalive}
+use Rattle.link_message_rules.specs.declared.rule.MessageRule.TheVariants.{Order, BeforeSession, Keepalive, KeepaliveInterval}
 
 -- ---- the order of messages
 
@@ -25,10 +25,6 @@ are_same first second =
 abbrev pub are_other : Option Parameters → Option Parameters → Bool
 are_other (Some first) (Some second) = not (are_same first second)
 are_other _ _ = false
-
--- whether a message is a SESS_INIT
-abbrev pub is_sess_init : Message → Bool
-is_sess_init message = is_some (parameters_of message)
 
 -- the messages after the first SESS_INIT
 abbrev pub after_sess_init : List Message → List Message
@@ -68,6 +64,22 @@ before_session before message =
     if is_some (first_parameters (messages_of before))
     then None
     else option_map BeforeSession (type_after_sess_init message)
+
+-- ---- KEEPALIVEs
+
+-- the interval of a SESS_INIT, if it is neither 0 nor from 30 seconds to ten minutes
+abbrev pub if_unusual : (interval : ℕ) → Option MessageRule
+if_unusual interval =
+    if (interval == 0) || (nat_le 30 interval && nat_le interval 600)
+    then None
+    else Some (KeepaliveInterval interval)
+
+-- keepalive-interval: the interval of a SESS_INIT is 0, or not shorter than 30 seconds and not
+-- longer than ten minutes (section 5.1.1)
+unfoldable pub keepalive_interval : Message → Option MessageRule
+keepalive_interval (message.SessInit interval segment_mru transfer_mru node items) =
+    if_unusual interval
+keepalive_interval _ = None
 
 -- the messages after the first SESS_INIT whose interval is 0
 abbrev pub after_disabling : List Message → List Message

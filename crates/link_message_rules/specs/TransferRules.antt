@@ -1,6 +1,6 @@
 -- The rules that the length of a closed transfer breaks (RFC 9174 section 5.2.5.1). `first` is the
 -- head of its first segment, and `size` the number of bytes of its data.
-use Rattle.std.specs.Prelude.{ℕ, Bool, true, false, ◌&&◌, ◌==◌, List, [], ◌∷◌, filter_map, Option, Some, None, if◌then◌else◌}
+use Rattle.std.specs.Prelude.{ℕ, Bool, true, false, ◌&&◌, ◌==◌, List, [], ◌∷◌, codes, filter_map, Option, Some, None, if◌then◌else◌}
 use Rattle.link_wire.specs.Codes.{is_start, is_end}
 use Rattle.link_wire.specs.declared.message.SegmentHead.{SegmentHead}
 use Rattle.link_transfer.specs.Announced.{announced_of}
@@ -45,6 +45,14 @@ unfoldable pub broken_transfer_rules : (first : SegmentHead) → (size : ℕ) �
 broken_transfer_rules first size =
     filter_map (λ judged. judged)
     (length_item first ∷ length_differs first size ∷ length_of_one_segment first ∷ [])
+
+unfoldable pub transfer_name_of : TransferRule → List ℕ
+transfer_name_of (rule.Unfinished size) = codes "unfinished"
+transfer_name_of rule.LengthItem = codes "length-item"
+transfer_name_of (rule.LengthDiffers announced size) = codes "length-differs"
+transfer_name_of rule.LengthOfOneSegment = codes "length-of-one-segment"
+transfer_name_of (rule.Bundle fault byte) = codes "bundle"
+transfer_name_of (rule.NotRead fault byte) = codes "not-read"
 
 unfoldable pub transfer_level_of : TransferRule → Level
 transfer_level_of (rule.Unfinished size) = Should

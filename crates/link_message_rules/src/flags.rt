@@ -1,9 +1,9 @@
 //! Rules of flags.
 
-ghost use Rattle.std.specs.Prelude.{◌≡◌, not, ◌&&◌, ◌==◌, bit_and};
+ghost use Rattle.std.specs.Prelude.{◌≡◌};
 ghost use Rattle.link_wire.specs.MessageBuffer.{message_of};
 ghost use Rattle.link_rules.specs.Flags.{has_other_flags};
-ghost use Rattle.link_message_rules.specs.Flags.{reply, contact_flags, item_flags, segment_flags, term_flags};
+ghost use Rattle.link_message_rules.specs.Flags.{is_reply, contact_flags, item_flags, segment_flags, term_flags};
 
 use crate::head::items_of;
 use crate::rule::MessageRule;
@@ -20,7 +20,7 @@ const CRITICAL: u64 = 0x01;
 const START_AND_END: u64 = 0x03;
 
 /// The flag of a SESS_TERM that is defined (RFC 9174 section 6.1).
-const REPLY: u64 = 0x01;
+const REPLY: u8 = 0x01;
 
 /// The rule that a contact header breaks, if it does.
 #[tactic(auto, unfolding(crate::specs::Flags::contact_flags))]
@@ -65,11 +65,12 @@ pub(crate) fn segment_flags(message: &MessageBuffer) -> Option<MessageRule>
     }
 }
 
-/// Whether a SESS_TERM with these flags is no reply, and has a flag that is not defined.
-fn is_wrong_term(flags: u64) -> bool
-    ensures { result ≡ (not (bit_and flags reply == reply) && has_other_flags reply flags) }
+/// Whether a SESS_TERM with these flags is a reply.
+#[inline(always)]
+pub(crate) fn is_reply(flags: u8) -> bool
+    ensures { result ≡ is_reply flags }
 {
-    flags & REPLY != REPLY && has_other_flags(REPLY, flags)
+    flags & REPLY == REPLY
 }
 
 /// The rule of the flags of a SESS_TERM. A reply repeats the flags of what it answers.
@@ -79,8 +80,10 @@ pub(crate) fn term_flags(message: &MessageBuffer) -> Option<MessageRule>
     ensures { result ≡ term_flags (message_of message.now) }
 {
     match message.fields {
-        Fields::SessTerm { flags, .. } if is_wrong_term(u64::from(flags)) => {
-            Some(MessageRule::TermFlags { flags })
+        Fields::SessTerm { flags, .. } if !is_reply(flags) => {
+            has_other_flags(u64::from(REPLY), u64::from(flags)).then_some(MessageRule::TermFlags {
+                flags,
+            })
         }
         _ => None,
     }

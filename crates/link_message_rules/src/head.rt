@@ -5,7 +5,7 @@ ghost use Rattle.link_wire.specs.Codes.{is_start, is_end};
 ghost use Rattle.link_wire.specs.Message.{HasTotals};
 ghost use Rattle.link_wire.specs.MessageBuffer.{message_of, segment_items};
 ghost use Rattle.link_transfer.specs.Announced.{announced_of};
-ghost use Rattle.link_message_rules.specs.Heads.{items_of};
+ghost use Rattle.link_message_rules.specs.Heads.{items_of, type_of};
 
 use link_transfer::{Announced, OrderFault, Turn, announced};
 use link_wire::{END, Fields, Item, MessageBuffer, START};
@@ -32,6 +32,21 @@ pub(crate) fn items_of(message: &MessageBuffer) -> &[Item]
     }
 }
 
+/// The type byte of a message (RFC 9174 section 4.5).
+pub(crate) fn type_of(message: &MessageBuffer) -> u8
+    ensures { result ≡ type_of (message_of message.now) }
+{
+    match message.fields {
+        Fields::Segment { .. } => 1,
+        Fields::Ack { .. } => 2,
+        Fields::Refuse { .. } => 3,
+        Fields::Keepalive => 4,
+        Fields::SessTerm { .. } => 5,
+        Fields::MsgReject { .. } => 6,
+        Fields::SessInit { .. } => 7,
+    }
+}
+
 /// Whether an XFER_SEGMENT or an XFER_ACK with these flags has START.
 #[inline(always)]
 pub(crate) fn is_start(flags: u8) -> bool
@@ -40,7 +55,8 @@ pub(crate) fn is_start(flags: u8) -> bool
     flags & START == START
 }
 
-/// Whether an XFER_SEGMENT with these flags has END.
+/// Whether an XFER_SEGMENT or an XFER_ACK with these flags has END.
+#[inline(always)]
 pub(crate) fn is_end(flags: u8) -> bool
     ensures { result ≡ is_end flags }
 {

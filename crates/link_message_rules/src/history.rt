@@ -1,27 +1,31 @@
 //! The messages so far, as far as the rules for the next one need them.
 
+use crate::answers::Answers;
+use crate::assigned::{item_type, reason, reject_known};
+use crate::endings::Endings;
 use crate::flags::{item_flags, segment_flags, term_flags};
 use crate::head::JudgedHeadView;
-use crate::lengths::{
-    Ack, TransferSoFar, ack_after, ack_length, peer_segment, peer_transfer, so_far_after,
-};
-use crate::node::node_id;
+use crate::lengths::{TransferSoFar, peer_segment, peer_transfer, so_far_after};
+use crate::node::{node_id, node_name};
 use crate::rule::MessageRule;
-use crate::session::{Parameters, Since, before_session, keepalive, order, parameters_after};
-use crate::transfer_ids::{IdRun, interleaved, run_after, transfer_id};
+use crate::session::{
+    Parameters, Since, before_session, keepalive, keepalive_interval, keepalives_after, order,
+    parameters_after, session_after,
+};
+use crate::transfer_ids::{TransferIds, interleaved};
 use arrayvec::ArrayVec;
 use link_options::PeerLimits;
-use link_rules::add_if_broken;
+use link_rules::broken_of;
 use link_wire::{Fields, MessageBuffer};
 
 /// The number of rules of a message.
-const RULES: usize = 12;
+const RULES: usize = 21;
 
 /// The rules that a message breaks, in order.
 pub type BrokenRules = ArrayVec<MessageRule, RULES>;
 
 /// The messages so far, as far as the rules for the next one need them.
-#[derive(Clone, Copy, Debug)]
+#[derive(Debug, Drop)]
 pub struct MessageHistory {
     /// The parameters of the first SESS_INIT.
     parameters: Option<Parameters>,
@@ -30,18 +34,21 @@ pub struct MessageHistory {
     /// Whether KEEPALIVEs are disabled: a SESS_INIT had the interval 0 (RFC 9174 section 4.7). Then
     /// whether one was sent since.
     keepalives: Since,
-    /// The IDs of the last STARTs.
-    run: Option<IdRun>,
-    /// The last XFER_ACK.
-    ack: Option<Ack>,
+    /// The IDs of the transfers that began.
+    ids: TransferIds,
+    /// The last XFER_ACK and the last XFER_REFUSE.
+    answers: Answers,
     /// The transfer that began last.
     transfer: Option<TransferSoFar>,
+    /// The ends of the session.
+    endings: Endings,
 }
 
 impl MessageHistory {
     ghost use Rattle.std.specs.Prelude.{◌≡◌, ℕ, true, false, List, [], ◌∷◌, ◌++◌};
     ghost use Rattle.link_wire.specs.MessageBuffer.{SegmentHasTotals, message_of};
-    ghost use Rattle.link_message_rules.specs.Heads.{JudgedHead, viewed_head};
+    ghost use Rattle.std.specs.List.{list_any};
+    ghost use Rattle.link_message_rules.specs.Heads.{JudgedHead, viewed_head, newest, is_sess_init};
     ghost use Rattle.link_message_rules.specs.MessageRules.{broken_rules};
     ghost use Rattle.link_message_rules.specs.Kept.{KeepsAnswerRules, KeepsSegmentRules, inner_head};
     ghost use Rattle.link_message_rules.specs.Remembered.{Remembers};
@@ -54,16 +61,16 @@ impl MessageHistory {
             parameters: None,
             session: Since::Neither,
             keepalives: Since::Neither,
-            run: None,
-            ack: None,
+            ids: TransferIds::none(),
+            answers: Answers::none(),
             transfer: None,
+            endings: Endings::none(),
         }
     }
 
     /// Whether the next message is known to break no rule. This takes less time than its rules.
     ///
     /// It is never known of a SESS_INIT, a SESS_TERM or a MSG_REJECT, which are rare.
-    #[tactic(auto, using(crate::proofs::Kept::none_if, crate::proofs::Kept::segment_kept, crate::proofs::Kept::answer_kept))]
     #[inline(always)]
     pub fn keeps_rules(&self, limits: &PeerLimits, head: &JudgedHeadView<'_>) -> bool
         requires { SegmentHasTotals head.now.message.now }
@@ -71,6 +78,9 @@ impl MessageHistory {
             → broken_rules limits.now before (viewed_head head.now) ≡ [] }
     {
         if head.fault.is_some() {
+            return false;
+        }
+        if self.endings.is_rejected() {
             return false;
         }
         match head.message.fields {
@@ -82,6 +92,16 @@ impl MessageHistory {
         }
     }
 
+    /// Whether a SESS_INIT came.
+    #[tactic(auto, using(crate::proofs::Pushes::initiated_by))]
+    #[inline(always)]
+    fn is_initiated(&self) -> bool
+        ensures { (before : List JudgedHead) → Remembers self.now before
+            → result ≡ list_any is_sess_init (newest before) }
+    {
+        self.parameters.is_some()
+    }
+
     /// Whether the next message, if it is an XFER_ACK, an XFER_REFUSE or a KEEPALIVE, breaks no
     /// rule of such messages.
     #[inline(always)]
@@ -89,13 +109,20 @@ impl MessageHistory {
         ensures { (before : List JudgedHead) → Remembers self.now before → result ≡ true
             → KeepsAnswerRules before (message_of message.now) }
     {
+        let initiated = self.is_initiated();
         if before_session(&self.parameters, message).is_some() {
             return false;
         }
-        if ack_length(self.ack, message).is_some() {
+        if self.answers.ack_length(message).is_some() {
             return false;
         }
-        keepalive(self.keepalives, message).is_none()
+        if self.answers.answer_order(initiated, message).is_some() {
+            return false;
+        }
+        if keepalive(self.keepalives, message).is_some() {
+            return false;
+        }
+        reason(message).is_none()
     }
 
     /// Whether the next message breaks no rule of segments and of extension items.
@@ -106,13 +133,17 @@ impl MessageHistory {
             → KeepsSegmentRules limits.now before (viewed_head head.now) }
     {
         let message = head.message;
+        let initiated = self.is_initiated();
         if segment_flags(message).is_some() {
             return false;
         }
         if interleaved(head).is_some() {
             return false;
         }
-        if transfer_id(self.run, message).is_some() {
+        if self.ids.transfer_id(message).is_some() {
+            return false;
+        }
+        if self.ids.transfer_id_order(initiated, message).is_some() {
             return false;
         }
         if peer_segment(limits.segment, message).is_some() {
@@ -121,7 +152,10 @@ impl MessageHistory {
         if peer_transfer(limits.transfer, self.transfer, head).is_some() {
             return false;
         }
-        item_flags(message).is_none()
+        if item_flags(message).is_some() {
+            return false;
+        }
+        item_type(message).is_none()
     }
 
     /// The rules that the next message breaks, in order.
@@ -133,23 +167,30 @@ impl MessageHistory {
             → result.items ≡ broken_rules limits.now before (viewed_head head.now) }
     {
         let message = head.message;
-        let mut broken = BrokenRules::new();
-        add_if_broken(&mut broken, node_id(message));
-        add_if_broken(&mut broken, item_flags(message));
-        add_if_broken(&mut broken, order(&self.parameters, self.session, head));
-        add_if_broken(&mut broken, before_session(&self.parameters, message));
-        add_if_broken(&mut broken, interleaved(head));
-        add_if_broken(&mut broken, segment_flags(message));
-        add_if_broken(&mut broken, transfer_id(self.run, message));
-        add_if_broken(&mut broken, peer_segment(limits.segment, message));
-        add_if_broken(
-            &mut broken,
+        let initiated = self.is_initiated();
+        broken_of(&[
+            node_id(message),
+            item_flags(message),
+            order(&self.parameters, self.session, head),
+            before_session(&self.parameters, message),
+            interleaved(head),
+            segment_flags(message),
+            self.ids.transfer_id(message),
+            peer_segment(limits.segment, message),
             peer_transfer(limits.transfer, self.transfer, head),
-        );
-        add_if_broken(&mut broken, ack_length(self.ack, message));
-        add_if_broken(&mut broken, keepalive(self.keepalives, message));
-        add_if_broken(&mut broken, term_flags(message));
-        broken
+            self.answers.ack_length(message),
+            keepalive(self.keepalives, message),
+            term_flags(message),
+            node_name(message),
+            keepalive_interval(message),
+            item_type(message),
+            self.ids.transfer_id_order(initiated, message),
+            self.answers.answer_order(initiated, message),
+            self.endings.after_reject(message),
+            reject_known(message),
+            reason(message),
+            self.endings.term_order(initiated, message),
+        ])
     }
 
     /// Takes an inner segment with `length` bytes of data, if it is known to break no rule, and
@@ -159,8 +200,8 @@ impl MessageHistory {
     #[tactic(auto, using(crate::proofs::Kept::none_if, crate::proofs::Inner::inner_kept))]
     #[inline(always)]
     pub fn take_inner(&mut self, limits: &PeerLimits, length: u64) -> bool
-        ensures kept { (id : ℕ) (before : List JudgedHead) → result ≡ true
-            → broken_rules limits.now before (inner_head id length) ≡ [] }
+        ensures kept { (id : ℕ) (before : List JudgedHead) → Remembers self.old before
+            → result ≡ true → broken_rules limits.now before (inner_head id length) ≡ [] }
         ensures taken { (id : ℕ) (before : List JudgedHead) → Remembers self.old before
             → result ≡ true → Remembers self.new (before ++ inner_head id length ∷ []) }
         ensures same { result ≡ false → self.new ≡ self.old }
@@ -169,6 +210,9 @@ impl MessageHistory {
             return false;
         }
         if limits.transfer.is_some() {
+            return false;
+        }
+        if self.endings.is_rejected() {
             return false;
         }
         match &mut self.transfer {
@@ -189,26 +233,13 @@ impl MessageHistory {
             → Remembers self.new (before ++ viewed_head head.now ∷ []) }
     {
         let message = head.message;
-        match message.fields {
-            Fields::Segment { .. } => {
-                self.run = run_after(self.run, message);
-                self.transfer = so_far_after(self.transfer, head);
-                self.session = self.session.after_second();
-            }
-            Fields::Ack { .. } => {
-                self.ack = ack_after(self.ack, message);
-                self.session = self.session.after_second();
-            }
-            Fields::Refuse { .. } => self.session = self.session.after_second(),
-            Fields::Keepalive => self.keepalives = self.keepalives.after_second(),
-            Fields::SessInit { keepalive, .. } => {
-                self.parameters = parameters_after(self.parameters, message);
-                self.session = self.session.after_first();
-                if keepalive == 0 {
-                    self.keepalives = self.keepalives.after_first();
-                }
-            }
-            Fields::SessTerm { .. } | Fields::MsgReject { .. } => {}
-        }
+        let initiated = self.is_initiated();
+        self.endings.take(message);
+        self.ids.take(initiated, message);
+        self.answers.take(message);
+        self.transfer = so_far_after(self.transfer, head);
+        self.session = session_after(self.session, message);
+        self.keepalives = keepalives_after(self.keepalives, message);
+        self.parameters = parameters_after(self.parameters, message);
     }
 }

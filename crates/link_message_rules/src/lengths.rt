@@ -1,25 +1,17 @@
-//! Rules of the lengths of segments, transfers and acknowledgements.
+//! Rules of the lengths of segments and transfers.
 
 ghost use Rattle.std.specs.Prelude.{◌≡◌, ℕ, ◌+◌, List, [], ◌∷◌, ◌++◌, option_map};
 ghost use Rattle.link_wire.specs.MessageBuffer.{message_of, SegmentHasTotals};
-ghost use Rattle.link_wire.specs.declared.message.Message.{Message};
 ghost use Rattle.link_wire.specs.declared.message.SegmentHead.{SegmentHead};
-ghost use Rattle.link_message_rules.specs.Heads.{JudgedHead, viewed_head, messages_of};
-ghost use Rattle.link_message_rules.specs.Lengths.{peer_segment, if_passed, if_exceeded, earlier_of, segments_of, peer_transfer, last_ack, ack_length};
+ghost use Rattle.link_message_rules.specs.Heads.{JudgedHead, viewed_head};
+ghost use Rattle.link_message_rules.specs.Lengths.{peer_segment, if_passed, if_exceeded, earlier_of, segments_of, peer_transfer};
 ghost use Rattle.link_message_rules.specs.Remembered.{within_64_bits, so_far_of};
 
-use crate::head::{JudgedHeadView, announcement, is_start};
+use crate::head::{JudgedHeadView, announcement};
 use crate::opening::Opening;
 use crate::rule::MessageRule;
 use link_transfer::{Announced, Turn};
 use link_wire::{Fields, MessageBuffer};
-
-/// An XFER_ACK (RFC 9174 section 5.2.3).
-#[derive(Clone, Copy, Debug, PartialEq, Eq)]
-pub(crate) struct Ack {
-    id: u64,
-    length: u64,
-}
 
 /// The segments of one transfer so far.
 #[derive(Clone, Copy, Debug, PartialEq, Eq)]
@@ -188,38 +180,5 @@ pub(crate) fn so_far_after(
             transfer.add(length);
             Some(transfer)
         }
-    }
-}
-
-/// The rule of acknowledged lengths. `last` is the last XFER_ACK.
-#[tactic(auto, unfolding(crate::specs::Lengths::ack_length))]
-#[inline(always)]
-pub(crate) fn ack_length(last: Option<Ack>, message: &MessageBuffer) -> Option<MessageRule>
-    ensures { (before : List JudgedHead) → last ≡ last_ack (messages_of before)
-        → result ≡ ack_length before (message_of message.now) }
-{
-    let Fields::Ack { flags, id, length } = message.fields else {
-        return None;
-    };
-    match last {
-        Some(last) if !is_start(flags) && last.id == id && length < last.length => {
-            Some(MessageRule::AckLength {
-                length,
-                before: last.length,
-            })
-        }
-        _ => None,
-    }
-}
-
-/// The last XFER_ACK after one more message.
-#[inline(always)]
-pub(crate) fn ack_after(last: Option<Ack>, message: &MessageBuffer) -> Option<Ack>
-    ensures { (before : List Message) → last ≡ last_ack before
-        → result ≡ last_ack (before ++ message_of message.now ∷ []) }
-{
-    match message.fields {
-        Fields::Ack { id, length, .. } => Some(Ack { id, length }),
-        _ => last,
     }
 }

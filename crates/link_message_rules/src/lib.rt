@@ -16,6 +16,9 @@
 //! rule of a contact header.
 #![tactic(auto)]
 
+mod answers;
+mod assigned;
+mod endings;
 mod flags;
 mod head;
 mod history;
@@ -33,5 +36,5 @@ pub use history::{BrokenRules, MessageHistory};
 pub use link_options::PeerLimits;
 pub use link_rules::Level;
 pub use opening::{BrokenTransferRules, Opening};
-pub use rule::{MessageRule, TransferRule};
+pub use rule::{AnswerFault, MessageRule, TransferRule};
 pub use transfer_data::data_rule;

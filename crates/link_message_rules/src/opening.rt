@@ -5,7 +5,7 @@ ghost use Rattle.std.specs.Prelude.{◌≡◌};
 use crate::head::{announcement, is_end, is_start};
 use crate::rule::TransferRule;
 use arrayvec::ArrayVec;
-use link_rules::add_if_broken;
+use link_rules::broken_of;
 use link_transfer::Announced;
 use link_wire::MessageBuffer;
 
@@ -47,11 +47,11 @@ impl Opening {
         ensures { (first : SegmentHead) → self.now ≡ opening_of first
             → result.items ≡ broken_transfer_rules first length }
     {
-        let mut broken = BrokenTransferRules::new();
-        add_if_broken(&mut broken, self.length_item());
-        add_if_broken(&mut broken, self.length_differs(length));
-        add_if_broken(&mut broken, self.length_of_one_segment());
-        broken
+        broken_of(&[
+            self.length_item(),
+            self.length_differs(length),
+            self.length_of_one_segment(),
+        ])
     }
 
     /// The rule of malformed Transfer Length items.

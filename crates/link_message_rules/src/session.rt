@@ -3,9 +3,9 @@
 ghost use Rattle.std.specs.Prelude.{◌≡◌, List, [], ◌∷◌, ◌++◌};
 ghost use Rattle.link_wire.specs.MessageBuffer.{message_of};
 ghost use Rattle.link_wire.specs.declared.message.Message.{Message};
-ghost use Rattle.link_message_rules.specs.Heads.{JudgedHead, viewed_head, messages_of, is_keepalive, parameters_of};
-ghost use Rattle.link_message_rules.specs.Remembered.{session_of, keepalives_of};
-ghost use Rattle.link_message_rules.specs.Session.{order, order_level, changes_session, before_session, keepalive, type_after_sess_init, first_parameters, are_other};
+ghost use Rattle.link_message_rules.specs.Heads.{JudgedHead, viewed_head, messages_of, is_sess_init, is_of_transfer, is_keepalive, disables_keepalive, parameters_of};
+ghost use Rattle.link_message_rules.specs.Remembered.{next_since, session_of, keepalives_of};
+ghost use Rattle.link_message_rules.specs.Session.{order, order_level, changes_session, before_session, keepalive, keepalive_interval, type_after_sess_init, first_parameters, are_other};
 
 use crate::head::JudgedHeadView;
 use crate::rule::MessageRule;
@@ -57,6 +57,36 @@ pub(crate) struct Parameters {
     interval: u16,
     segment_mru: u64,
     transfer_mru: u64,
+}
+
+/// Whether a SESS_INIT came, and a transfer or an answer since, after one more message.
+#[tactic(auto, using(crate::proofs::Since::next_same))]
+#[inline(always)]
+pub(crate) fn session_after(session: Since, message: &MessageBuffer) -> Since
+    ensures { result ≡ next_since session (is_sess_init (message_of message.now))
+        (is_of_transfer (message_of message.now)) }
+{
+    match message.fields {
+        Fields::Segment { .. } | Fields::Ack { .. } | Fields::Refuse { .. } => {
+            session.after_second()
+        }
+        Fields::SessInit { .. } => session.after_first(),
+        _ => session,
+    }
+}
+
+/// Whether KEEPALIVEs are disabled, and one was sent since, after one more message.
+#[tactic(auto, using(crate::proofs::Since::next_same))]
+#[inline(always)]
+pub(crate) fn keepalives_after(keepalives: Since, message: &MessageBuffer) -> Since
+    ensures { result ≡ next_since keepalives (disables_keepalive (message_of message.now))
+        (is_keepalive (message_of message.now)) }
+{
+    match message.fields {
+        Fields::Keepalive => keepalives.after_second(),
+        Fields::SessInit { keepalive: 0, .. } => keepalives.after_first(),
+        _ => keepalives,
+    }
 }
 
 /// Whether two SESS_INITs set different parameters.
@@ -117,6 +147,21 @@ pub(crate) fn keepalive(keepalives: Since, message: &MessageBuffer) -> Option<Me
     match keepalives {
         Since::Neither | Since::Both => None,
         Since::First => is_keepalive(message).then_some(MessageRule::Keepalive),
+    }
+}
+
+/// The rule of the interval of KEEPALIVEs.
+#[tactic(auto, unfolding(crate::specs::Session::keepalive_interval))]
+pub(crate) fn keepalive_interval(message: &MessageBuffer) -> Option<MessageRule>
+    ensures { result ≡ keepalive_interval (message_of message.now) }
+{
+    match message.fields {
+        Fields::SessInit { keepalive, .. } if !matches!(keepalive, 0 | 30..=600) => {
+            Some(MessageRule::KeepaliveInterval {
+                interval: keepalive,
+            })
+        }
+        _ => None,
     }
 }
 

@@ -3,7 +3,8 @@
 use Rattle.std.specs.Prelude.{ℕ, ◌==◌, List, [], ◌++◌, map, codes, Option, Some, None, if◌then◌else◌}
 use Rattle.link_bundle_types.specs.declared.fault.BundleFault.{BundleFault}
 use Rattle.link_transfer.specs.declared.fault.OrderFault.{OrderFault}
-use Rattle.link_message_rules.specs.declared.rule.MessageRule.{MessageRule}
+use Rattle.link_message_rules.specs.declared.rule.{AnswerFault.AnswerFault, MessageRule.MessageRule}
+use Rattle.link_message_rules.specs.declared.rule.AnswerFault.TheVariants.{NotTheLast, StartRepeats, AfterEnd, AfterRefusal, RefusedAfterEnd}
 use Rattle.link_message_rules.specs.declared.rule.MessageRule.TheVariants as message
 use Rattle.link_message_rules.specs.declared.rule.TransferRule.{TransferRule}
 use Rattle.link_message_rules.specs.declared.rule.TransferRule.TheVariants as transfer
@@ -14,7 +15,7 @@ use Rattle.link_bundle_rules.specs.declared.rule.Endpoint.TheVariants.{Destinati
 use Rattle.link_report.specs.BundleFault.{code_text}
 use Rattle.link_report.specs.Fault.{order_text}
 use Rattle.link_report.specs.Message.{flags_text}
-use Rattle.link_report.specs.Text.{hex2, number_text}
+use Rattle.link_report.specs.Text.{hex2, hex4, number_text}
 use Rattle.link_block_report.specs.Fields as fields
 use Rattle.link_rule_report.specs.declared.rule.BrokenRule.{BrokenRule}
 use Rattle.link_rule_report.specs.declared.rule.BrokenRule.TheVariants.{Message, Transfer, Bundle}
@@ -26,6 +27,13 @@ hyphenated text = map (λ byte. if byte == 0x20 then 0x2d else byte) text
 -- a fault of the order of messages, as one word
 unfoldable pub order_words : OrderFault → List ℕ
 order_words fault = codes " fault=" ++ hyphenated (order_text fault)
+
+unfoldable pub answer_text : AnswerFault → List ℕ
+answer_text NotTheLast = codes "not-the-last"
+answer_text StartRepeats = codes "start-repeats"
+answer_text AfterEnd = codes "after-end"
+answer_text AfterRefusal = codes "after-refusal"
+answer_text RefusedAfterEnd = codes "refused-after-end"
 
 -- the flags of a message are one byte
 unfoldable pub message_words : MessageRule → List ℕ
@@ -48,6 +56,19 @@ message_words (message.AckLength size before) =
     number_text (codes " length=") size ++ number_text (codes " before=") before
 message_words message.Keepalive = []
 message_words (message.TermFlags flags) = flags_text flags
+message_words (message.NodeName size level) = number_text (codes " length=") size
+message_words (message.KeepaliveInterval interval) = number_text (codes " interval=") interval
+message_words (message.ItemType item type) =
+    number_text (codes " item=") item ++ codes " type=" ++ hex4 type
+message_words (message.TransferIdOrder id) = number_text (codes " id=") id
+message_words (message.AnswerOrder id fault) =
+    number_text (codes " id=") id ++ codes " fault=" ++ answer_text fault
+message_words (message.AfterReject type level) = codes " type=" ++ hex2 type
+message_words (message.RejectKnown reason header) =
+    codes " reason=" ++ hex2 reason ++ codes " header=" ++ hex2 header
+message_words (message.Reason type reason) =
+    codes " type=" ++ hex2 type ++ codes " reason=" ++ hex2 reason
+message_words (message.TermOrder type) = codes " type=" ++ hex2 type
 
 -- the code of a fault of a bundle, and its offset in the bundle
 unfoldable pub fault_words : BundleFault → ℕ → List ℕ

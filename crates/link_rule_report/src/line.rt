@@ -4,10 +4,11 @@ ghost use Rattle.std.specs.Prelude.{◌+◌, ◌≤◌, length};
 ghost use Rattle.link_report.specs.Written.{Wrote};
 ghost use Rattle.link_rule_report.specs.Line.{place_text, subject_text, rule_line};
 
-use crate::names::{LEVEL_MAX, NAME_MAX, level_name, rule_name};
+use crate::names::{LEVEL_MAX, level_name, rule_name};
 use crate::rule::{BrokenRule, BundlePlace};
 use crate::words::{WORDS_MAX, write_words};
 use link_report::{write_bytes, write_decimal, write_number, write_text};
+use link_rules::NAME_MAX;
 use link_wire::Text;
 
 /// The greatest length in bytes of the words for a transfer or a bundle.

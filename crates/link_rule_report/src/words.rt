@@ -2,16 +2,16 @@
 
 ghost use Rattle.std.specs.Prelude.{◌≡◌, ◌+◌, ◌≤◌, ◌++◌, length, take, codes, decimal};
 ghost use Rattle.link_report.specs.Message.{flags_text};
-ghost use Rattle.link_report.specs.Text.{number_text};
+ghost use Rattle.link_report.specs.Text.{hex2, hex4, number_text};
 ghost use Rattle.link_report.specs.Written.{Wrote};
-ghost use Rattle.link_rule_report.specs.Words.{hyphenated, order_words, message_words, fault_words, transfer_words, control_words, endpoint_name, limit_words, bundle_words, rule_words};
+ghost use Rattle.link_rule_report.specs.Words.{answer_text, hyphenated, order_words, message_words, fault_words, transfer_words, control_words, endpoint_name, limit_words, bundle_words, rule_words};
 
 use crate::rule::BrokenRule;
 use itoa::Buffer;
 use link_block_report::write_flags;
 use link_bundle_rules::{BundleRule, Endpoint};
 use link_bundle_types::BundleFault;
-use link_message_rules::{MessageRule, TransferRule};
+use link_message_rules::{AnswerFault, MessageRule, TransferRule};
 use link_report::{code_of, order_words, write_bytes, write_hex2, write_number, write_text};
 use link_transfer::OrderFault;
 
@@ -53,6 +53,61 @@ fn write_byte_flags(page: &mut [u8], at: usize, flags: u8) -> usize
 {
     let at = write_bytes(page, at, *b" flags=");
     write_hex2(page, at, flags)
+}
+
+/// Writes the type byte of a message.
+fn write_type(page: &mut [u8], at: usize, kind: u8) -> usize
+    requires { at + 8 ≤ length page.old }
+    ensures { Wrote page.old page.new at result 8 (codes " type=" ++ hex2 kind) }
+{
+    let at = write_bytes(page, at, *b" type=");
+    write_hex2(page, at, kind)
+}
+
+/// Writes the type of an extension item, which is two bytes.
+#[tactic(auto, unfolding(link_report::specs::Text::hex4))]
+fn write_item_type(page: &mut [u8], at: usize, kind: u16) -> usize
+    requires { at + 10 ≤ length page.old }
+    ensures { Wrote page.old page.new at result 10 (codes " type=" ++ hex4 kind) }
+{
+    let [high, low] = kind.to_be_bytes();
+    let at = write_bytes(page, at, *b" type=");
+    let at = write_hex2(page, at, high);
+    write_hex2(page, at, low)
+}
+
+/// Writes a reason, which is one byte.
+fn write_reason(page: &mut [u8], at: usize, reason: u8) -> usize
+    requires { at + 10 ≤ length page.old }
+    ensures { Wrote page.old page.new at result 10 (codes " reason=" ++ hex2 reason) }
+{
+    let at = write_bytes(page, at, *b" reason=");
+    write_hex2(page, at, reason)
+}
+
+#[tactic(auto, unfolding(crate::specs::Words::answer_text))]
+fn answer_text(fault: AnswerFault) -> &'static str
+    ensures text { result.now ≡ answer_text fault }
+    ensures short { length result.now ≤ 17 }
+{
+    match fault {
+        AnswerFault::NotTheLast => "not-the-last",
+        AnswerFault::StartRepeats => "start-repeats",
+        AnswerFault::AfterEnd => "after-end",
+        AnswerFault::AfterRefusal => "after-refusal",
+        AnswerFault::RefusedAfterEnd => "refused-after-end",
+    }
+}
+
+/// Writes the ID of a transfer, and what is wrong with an answer to it.
+fn write_answer(page: &mut [u8], at: usize, id: u64, fault: AnswerFault) -> usize
+    requires { at + 48 ≤ length page.old }
+    ensures { Wrote page.old page.new at result 48
+        (number_text (codes " id=") id ++ codes " fault=" ++ answer_text fault) }
+{
+    let at = write_number(page, at, *b" id=", id);
+    let at = write_bytes(page, at, *b" fault=");
+    write_text(page, at, answer_text(fault))
 }
 
 /// Writes a text with hyphens for its spaces.
@@ -109,10 +164,7 @@ fn write_message(page: &mut [u8], at: usize, rule: &MessageRule) -> usize
             write_byte_flags(page, at, flags)
         }
         MessageRule::Order { fault, .. } => write_order(page, at, fault),
-        MessageRule::BeforeSession { kind } => {
-            let at = write_bytes(page, at, *b" type=");
-            write_hex2(page, at, kind)
-        }
+        MessageRule::BeforeSession { kind } => write_type(page, at, kind),
         MessageRule::Interleaved { id, open } => {
             write_two(page, at, *b" id=", id, *b" open=", open)
         }
@@ -128,6 +180,27 @@ fn write_message(page: &mut [u8], at: usize, rule: &MessageRule) -> usize
             write_two(page, at, *b" length=", length, *b" before=", before)
         }
         MessageRule::Keepalive => at,
+        MessageRule::NodeName { length, .. } => write_number(page, at, *b" length=", length),
+        MessageRule::KeepaliveInterval { interval } => {
+            write_number(page, at, *b" interval=", u64::from(interval))
+        }
+        MessageRule::ItemType { item, kind } => {
+            let at = write_number(page, at, *b" item=", item);
+            write_item_type(page, at, kind)
+        }
+        MessageRule::TransferIdOrder { id } => write_number(page, at, *b" id=", id),
+        MessageRule::AnswerOrder { id, fault } => write_answer(page, at, id, fault),
+        MessageRule::AfterReject { kind, .. } => write_type(page, at, kind),
+        MessageRule::RejectKnown { reason, header } => {
+            let at = write_reason(page, at, reason);
+            let at = write_bytes(page, at, *b" header=");
+            write_hex2(page, at, header)
+        }
+        MessageRule::Reason { kind, reason } => {
+            let at = write_type(page, at, kind);
+            write_reason(page, at, reason)
+        }
+        MessageRule::TermOrder { kind } => write_type(page, at, kind),
     }
 }
 

@@ -1,5 +1,5 @@
-pub mod Broken
 pub mod Flags
 pub mod Heads
 pub mod HeadWalk
 pub mod Prefix
+pub mod Uri

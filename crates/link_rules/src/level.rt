@@ -1,4 +1,7 @@
-//! How strictly a rule is meant.
+//! How strictly a rule is meant, and how long its name is.
+
+/// The greatest length of a rule's name in bytes.
+pub const NAME_MAX: usize = 21;
 
 /// How strictly a rule is meant (RFC 2119).
 #[derive(Clone, Copy, Debug, PartialEq, Eq)]

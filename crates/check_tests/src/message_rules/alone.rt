@@ -8,7 +8,7 @@ use super::judging::{
 use link_message_rules::{Level, MessageRule as Rule, PeerLimits};
 
 /// Node IDs.
-pub static NODE_IDS: [Row; 15] = [
+pub static NODE_IDS: [Row; 20] = [
     Row {
         name: "node-id, broken 0",
         limits: NO_LIMITS,
@@ -70,6 +70,36 @@ pub static NODE_IDS: [Row; 15] = [
         broken: &[(0, Level::Must, Rule::NodeId { length: 3 })],
     },
     Row {
+        name: "node-id, broken 10",
+        limits: NO_LIMITS,
+        sent: &[Sent::Init(60, b"a:%4g", NONE)],
+        broken: &[(0, Level::Must, Rule::NodeId { length: 5 })],
+    },
+    Row {
+        name: "node-id, broken 11",
+        limits: NO_LIMITS,
+        sent: &[Sent::Init(60, b"a:{", NONE)],
+        broken: &[(0, Level::Must, Rule::NodeId { length: 3 })],
+    },
+    Row {
+        name: "node-id, broken 12",
+        limits: NO_LIMITS,
+        sent: &[Sent::Init(60, b"dtn:/n/", NONE)],
+        broken: &[(0, Level::Must, Rule::NodeId { length: 7 })],
+    },
+    Row {
+        name: "node-id, broken 13",
+        limits: NO_LIMITS,
+        sent: &[Sent::Init(60, b"dtn://n:1/", NONE)],
+        broken: &[(0, Level::Must, Rule::NodeId { length: 10 })],
+    },
+    Row {
+        name: "node-id, broken 14",
+        limits: NO_LIMITS,
+        sent: &[Sent::Init(60, b"ipn:1..0", NONE)],
+        broken: &[(0, Level::Must, Rule::NodeId { length: 8 })],
+    },
+    Row {
         name: "node-id, kept 0",
         limits: NO_LIMITS,
         sent: &[Sent::Init(60, b"", NONE)],
@@ -78,13 +108,13 @@ pub static NODE_IDS: [Row; 15] = [
     Row {
         name: "node-id, kept 1",
         limits: NO_LIMITS,
-        sent: &[Sent::Init(60, b"a:", NONE)],
+        sent: &[Sent::Init(60, b"dtn:///", NONE)],
         broken: &[],
     },
     Row {
         name: "node-id, kept 2",
         limits: NO_LIMITS,
-        sent: &[Sent::Init(60, b"Z+-.9:!~", NONE)],
+        sent: &[Sent::Init(60, b"DtN://%4a-._~!/", NONE)],
         broken: &[],
     },
     Row {
@@ -96,7 +126,7 @@ pub static NODE_IDS: [Row; 15] = [
     Row {
         name: "node-id, kept 4",
         limits: NO_LIMITS,
-        sent: &[Sent::Init(60, b"a::", NONE)],
+        sent: &[Sent::Init(60, b"ipn:0.1.0", NONE)],
         broken: &[],
     },
 ];
@@ -109,7 +139,11 @@ pub static FLAGS: [Row; 11] = [
         sent: &[Sent::Init(
             60,
             NODE,
-            &[(0x01, 2, 0, 0), (0x03, 2, 0, 0), (0x04, 2, 0, 0)],
+            &[
+                (0x01, 0x8000, 0, 0),
+                (0x03, 0x8000, 0, 0),
+                (0x04, 0x8000, 0, 0),
+            ],
         )],
         broken: &[(
             0,
@@ -123,7 +157,7 @@ pub static FLAGS: [Row; 11] = [
     Row {
         name: "item-flags, broken 1",
         limits: NO_LIMITS,
-        sent: &[INIT, Sent::Segment(BOTH, 0, &[(0x80, 2, 1, 0)], 33)],
+        sent: &[INIT, Sent::Segment(BOTH, 0, &[(0x80, 0x8000, 1, 0)], 33)],
         broken: &[(
             1,
             Level::Must,
@@ -136,13 +170,13 @@ pub static FLAGS: [Row; 11] = [
     Row {
         name: "item-flags, kept 0",
         limits: NO_LIMITS,
-        sent: &[Sent::Init(60, NODE, &[(0x01, 2, 0, 0), (0x00, 3, 0, 0)])],
+        sent: &[Sent::Init(60, NODE, &[(0x01, 0x8000, 0, 0), (0x00, 0xffff, 0, 0)])],
         broken: &[],
     },
     Row {
         name: "item-flags, kept 1",
         limits: NO_LIMITS,
-        sent: &[INIT, Sent::Segment(BOTH, 0, &[(0x01, 2, 0, 0)], 33)],
+        sent: &[INIT, Sent::Segment(BOTH, 0, &[(0x01, 0x8000, 0, 0)], 33)],
         broken: &[],
     },
     Row {
@@ -255,7 +289,7 @@ pub static ORDER: [Row; 12] = [
     Row {
         name: "before-session, broken 1",
         limits: NO_LIMITS,
-        sent: &[Sent::Refuse],
+        sent: &[Sent::Refuse(0, 0)],
         broken: &[(0, Level::Should, Rule::BeforeSession { kind: 0x03 })],
     },
     Row {
@@ -270,13 +304,18 @@ pub static ORDER: [Row; 12] = [
     Row {
         name: "before-session, kept 0",
         limits: NO_LIMITS,
-        sent: &[INIT, Sent::Ack(BOTH, 0, 1), Sent::Refuse, Sent::Keepalive],
+        sent: &[
+            INIT,
+            Sent::Ack(BOTH, 0, 1),
+            Sent::Refuse(0, 1),
+            Sent::Keepalive,
+        ],
         broken: &[],
     },
     Row {
         name: "before-session, kept 1",
         limits: NO_LIMITS,
-        sent: &[Sent::Term(0x00), Sent::Reject],
+        sent: &[Sent::Term(0x00), Sent::Reject(3, 7)],
         broken: &[],
     },
 ];
@@ -312,7 +351,7 @@ pub static OPEN: [Row; 5] = [
     Row {
         name: "keepalive, kept 0",
         limits: NO_LIMITS,
-        sent: &[Sent::Init(1, NODE, NONE), Sent::Keepalive],
+        sent: &[Sent::Init(30, NODE, NONE), Sent::Keepalive],
         broken: &[],
     },
     Row {
@@ -324,7 +363,7 @@ pub static OPEN: [Row; 5] = [
 ];
 
 /// Transfer IDs and acknowledged lengths.
-pub static IDS: [Row; 11] = [
+pub static IDS: [Row; 9] = [
     Row {
         name: "transfer-id, broken 0",
         limits: NO_LIMITS,
@@ -340,52 +379,47 @@ pub static IDS: [Row; 11] = [
         limits: NO_LIMITS,
         sent: &[
             INIT,
-            Sent::Segment(BOTH, 5, NONE, 33),
-            Sent::Segment(BOTH, 6, NONE, 33),
-            Sent::Segment(BOTH, 7, NONE, 33),
-            Sent::Segment(BOTH, 5, NONE, 33),
+            Sent::Segment(BOTH, 0, NONE, 33),
+            Sent::Segment(BOTH, 1, NONE, 33),
+            Sent::Segment(BOTH, 2, NONE, 33),
+            Sent::Segment(BOTH, 0, NONE, 33),
         ],
-        broken: &[(4, Level::Must, Rule::TransferId { id: 5 })],
+        broken: &[(4, Level::Must, Rule::TransferId { id: 0 })],
     },
     Row {
         name: "transfer-id, broken 2",
         limits: NO_LIMITS,
         sent: &[
             INIT,
+            Sent::Segment(BOTH, 5, NONE, 33),
+            Sent::Segment(BOTH, 7, NONE, 33),
+            Sent::Segment(BOTH, 5, NONE, 33),
+        ],
+        broken: &[
+            (1, Level::Should, Rule::TransferIdOrder { id: 5 }),
+            (3, Level::Must, Rule::TransferId { id: 5 }),
+        ],
+    },
+    Row {
+        name: "transfer-id, broken 3",
+        limits: NO_LIMITS,
+        sent: &[
+            INIT,
             Sent::Segment(BOTH, u64::MAX, NONE, 33),
             Sent::Segment(BOTH, u64::MAX, NONE, 33),
         ],
-        broken: &[(2, Level::Must, Rule::TransferId { id: u64::MAX })],
+        broken: &[
+            (1, Level::Should, Rule::TransferIdOrder { id: u64::MAX }),
+            (2, Level::Must, Rule::TransferId { id: u64::MAX }),
+        ],
     },
     Row {
         name: "transfer-id, kept 0",
         limits: NO_LIMITS,
         sent: &[
             INIT,
-            Sent::Segment(BOTH, 5, NONE, 33),
-            Sent::Segment(BOTH, 7, NONE, 33),
-            Sent::Segment(BOTH, 5, NONE, 33),
-        ],
-        broken: &[],
-    },
-    Row {
-        name: "transfer-id, kept 1",
-        limits: NO_LIMITS,
-        sent: &[
-            INIT,
-            Sent::Segment(BOTH, 1, NONE, 33),
             Sent::Segment(BOTH, 0, NONE, 33),
             Sent::Segment(BOTH, 1, NONE, 33),
-        ],
-        broken: &[],
-    },
-    Row {
-        name: "transfer-id, kept 2",
-        limits: NO_LIMITS,
-        sent: &[
-            INIT,
-            Sent::Segment(BOTH, u64::MAX, NONE, 33),
-            Sent::Segment(BOTH, 0, NONE, 33),
         ],
         broken: &[],
     },
@@ -411,23 +445,17 @@ pub static IDS: [Row; 11] = [
     Row {
         name: "ack-length, kept 1",
         limits: NO_LIMITS,
-        sent: &[INIT, Sent::Ack(START, 0, 20), Sent::Ack(END, 1, 19)],
+        sent: &[INIT, Sent::Ack(BOTH, 0, 20), Sent::Ack(BOTH, 1, 19)],
         broken: &[],
     },
     Row {
         name: "ack-length, kept 2",
         limits: NO_LIMITS,
-        sent: &[INIT, Sent::Ack(BOTH, 0, 20), Sent::Ack(BOTH, 0, 19)],
-        broken: &[],
-    },
-    Row {
-        name: "ack-length, kept 3",
-        limits: NO_LIMITS,
         sent: &[
             INIT,
-            Sent::Ack(0, 0, 20),
-            Sent::Ack(0, 1, 5),
-            Sent::Ack(0, 0, 19),
+            Sent::Ack(BOTH, 0, 20),
+            Sent::Ack(BOTH, 1, 5),
+            Sent::Ack(BOTH, 0, 19),
         ],
         broken: &[],
     },

@@ -90,11 +90,13 @@ pub enum Sent {
     Segment(u8, u64, &'static [ItemOf], u64),
     /// An XFER_ACK: its flags, ID and length.
     Ack(u8, u64, u64),
-    Refuse,
+    /// An XFER_REFUSE: its reason and its ID.
+    Refuse(u8, u64),
     Keepalive,
     /// A SESS_TERM with these flags.
     Term(u8),
-    Reject,
+    /// A MSG_REJECT: its reason, and the type that it rejects.
+    Reject(u8, u8),
 }
 
 /// The messages of a recording, and the rules that they break.
@@ -160,13 +162,10 @@ fn fields_of(sent: Sent) -> Fields {
         },
         Sent::Segment(flags, id, _, length) => Fields::Segment { flags, id, length },
         Sent::Ack(flags, id, length) => Fields::Ack { flags, id, length },
-        Sent::Refuse => Fields::Refuse { reason: 0, id: 0 },
+        Sent::Refuse(reason, id) => Fields::Refuse { reason, id },
         Sent::Keepalive => Fields::Keepalive,
         Sent::Term(flags) => Fields::SessTerm { flags, reason: 0 },
-        Sent::Reject => Fields::MsgReject {
-            reason: 3,
-            header: 7,
-        },
+        Sent::Reject(reason, header) => Fields::MsgReject { reason, header },
     }
 }
 
@@ -257,6 +256,27 @@ fn judges_open_transfers_and_keepalives(rt: HostRuntime) {
 #[test]
 fn judges_ids(rt: HostRuntime) {
     for row in &super::alone::IDS {
+        judge(&rt, row);
+    }
+}
+
+#[test]
+fn judges_names_and_intervals(rt: HostRuntime) {
+    for row in &super::assigned::NAMES {
+        judge(&rt, row);
+    }
+}
+
+#[test]
+fn judges_types_and_reasons(rt: HostRuntime) {
+    for row in &super::assigned::ASSIGNED {
+        judge(&rt, row);
+    }
+}
+
+#[test]
+fn judges_the_order_of_messages(rt: HostRuntime) {
+    for row in &super::ordered::ORDERED {
         judge(&rt, row);
     }
 }

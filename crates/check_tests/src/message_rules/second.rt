@@ -42,7 +42,7 @@ pub static SECOND: [Row; 20] = [
     Row {
         name: "order, broken 9",
         limits: NO_LIMITS,
-        sent: &[INIT, Sent::Refuse, OTHER_TRANSFER],
+        sent: &[INIT, Sent::Refuse(0, 0), OTHER_TRANSFER],
         broken: &[(2, Level::Must, CHANGED)],
     },
     Row {
@@ -88,7 +88,7 @@ pub static SECOND: [Row; 20] = [
         limits: NO_LIMITS,
         sent: &[
             INIT,
-            Sent::Refuse,
+            Sent::Refuse(0, 0),
             Sent::Init(60, NODE, &[(0x00, 0x8000, 0, 0)]),
         ],
         broken: &[(2, Level::Should, REPEATED)],
@@ -121,7 +121,7 @@ pub static SECOND: [Row; 20] = [
     Row {
         name: "order, broken 21",
         limits: NO_LIMITS,
-        sent: &[INIT, Sent::Reject, OTHER_SEGMENT],
+        sent: &[INIT, Sent::Reject(3, 7), OTHER_SEGMENT],
         broken: &[(2, Level::Should, REPEATED)],
     },
     Row {

@@ -24,6 +24,7 @@ pub static SEVERAL: [Row; 5] = [
                     flags: 0x02,
                 },
             ),
+            (1, Level::Should, Rule::ItemType { item: 0, kind: 9 }),
         ],
     },
     Row {
@@ -40,6 +41,7 @@ pub static SEVERAL: [Row; 5] = [
             Sent::Segment(0x0b, 5, &[(0x00, 1, 8, 34), (0x10, 1, 0, 0)], 33),
         ],
         broken: &[
+            (1, Level::Should, Rule::TransferIdOrder { id: 5 }),
             (3, Level::Must, Rule::TermFlags { flags: 0x02 }),
             (
                 4,
@@ -167,6 +169,7 @@ pub static TRANSFERS: [Row; 5] = [
             (2, Level::Must, STRAY),
             (2, Level::Must, Rule::SegmentFlags { flags: 0x41 }),
             (3, Level::Should, Rule::Interleaved { id: 2, open: 0 }),
+            (3, Level::Should, Rule::TransferIdOrder { id: 2 }),
         ],
     },
     Row {
@@ -181,6 +184,7 @@ pub static TRANSFERS: [Row; 5] = [
         broken: &[
             (1, Level::Must, Rule::TermFlags { flags: 0x02 }),
             (2, Level::Must, LATE),
+            (2, Level::Should, Rule::TransferIdOrder { id: 7 }),
             (3, Level::Must, LATE),
             (3, Level::Must, Rule::TransferId { id: 7 }),
         ],
@@ -367,7 +371,7 @@ pub static FAULTS: [Row; 6] = [
         name: "open at a fault",
         limits: NO_LIMITS,
         sent: &[INIT, Sent::Segment(START, 6, NONE, 0)],
-        broken: &[],
+        broken: &[(1, Level::Should, Rule::TransferIdOrder { id: 6 })],
     },
     Row {
         name: "lines before a fault",

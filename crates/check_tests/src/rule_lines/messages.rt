@@ -1,6 +1,6 @@
 //! The lines of the rules of messages. They are those of tests/rows.
 
-use link_message_rules::{Level, MessageRule as Rule};
+use link_message_rules::{AnswerFault, Level, MessageRule as Rule};
 use link_rule_report::{BrokenRule, RuleText};
 use link_transfer::OrderFault;
 use link_wire::{TEXT_MAX, Text};
@@ -18,7 +18,7 @@ pub(crate) fn expect(rt: &impl Abort, offset: u64, rule: BrokenRule, want: &str)
 /// The offset of a message, a rule that it breaks, and the line.
 type Row = (u64, Rule, &'static str);
 
-static ROWS: [Row; 16] = [
+static ROWS: [Row; 29] = [
     (
         0,
         Rule::ContactFlags { flags: 0x80 },
@@ -113,6 +113,102 @@ static ROWS: [Row; 16] = [
         0,
         Rule::ContactFlags { flags: 0xff },
         "0 must contact-flags flags=ff\n",
+    ),
+    (
+        6,
+        Rule::NodeName {
+            length: 9,
+            level: Level::Should,
+        },
+        "6 should node-name length=9\n",
+    ),
+    (
+        6,
+        Rule::NodeName {
+            length: 1024,
+            level: Level::Must,
+        },
+        "6 must node-name length=1024\n",
+    ),
+    (
+        6,
+        Rule::KeepaliveInterval { interval: 65535 },
+        "6 should keepalive-interval interval=65535\n",
+    ),
+    (
+        38,
+        Rule::ItemType {
+            item: 63,
+            kind: 0x7ffe,
+        },
+        "38 should item-type item=63 type=7ffe\n",
+    ),
+    (
+        38,
+        Rule::TransferIdOrder { id: MAX },
+        "38 should transfer-id-order id=18446744073709551615\n",
+    ),
+    (
+        41,
+        Rule::AfterReject {
+            kind: 0x04,
+            level: Level::Should,
+        },
+        "41 should after-reject type=04\n",
+    ),
+    (
+        41,
+        Rule::AfterReject {
+            kind: 0x07,
+            level: Level::Must,
+        },
+        "41 must after-reject type=07\n",
+    ),
+    (
+        38,
+        Rule::RejectKnown {
+            reason: 0x02,
+            header: 0xff,
+        },
+        "38 should reject-known reason=02 header=ff\n",
+    ),
+    (
+        38,
+        Rule::Reason {
+            kind: 0x06,
+            reason: 0xef,
+        },
+        "38 should reason type=06 reason=ef\n",
+    ),
+    (
+        41,
+        Rule::TermOrder { kind: 0x05 },
+        "41 should term-order type=05\n",
+    ),
+    (
+        56,
+        Rule::AnswerOrder {
+            id: 0,
+            fault: AnswerFault::NotTheLast,
+        },
+        "56 should answer-order id=0 fault=not-the-last\n",
+    ),
+    (
+        56,
+        Rule::AnswerOrder {
+            id: 1,
+            fault: AnswerFault::AfterRefusal,
+        },
+        "56 should answer-order id=1 fault=after-refusal\n",
+    ),
+    (
+        MAX,
+        Rule::AnswerOrder {
+            id: MAX,
+            fault: AnswerFault::RefusedAfterEnd,
+        },
+        "18446744073709551615 should answer-order id=18446744073709551615 \
+        fault=refused-after-end\n",
     ),
 ];
 

@@ -10,7 +10,7 @@ returns-then-take_inner-clause-gives g c = λ id before is at.
     let options = c.args.options.now in
     let none : broken_rules options.peer before (judged (viewed_head c.args.head.now)) ≡ [] =
     ap (λ (head : Head). broken_rules options.peer before (judged head)) is
-    ∙ c.take_inner.ensures.kept id before c.if-take_inner.true in
+    ∙ c.take_inner.ensures.kept id before at c.if-take_inner.true in
     rw none none_written
 
 pub returns-then-take_inner-clause-history : goal.returns-then-take_inner-clause-history

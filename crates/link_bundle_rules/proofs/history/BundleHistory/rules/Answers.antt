@@ -1,4 +1,4 @@
-use Rattle.std.proofs.Common.{[], sym}
+use Rattle.std.proofs.Common.{sym}
 use Rattle.link_bundle_rules.specs.BundleRules.{broken_bundle_rules}
 use Rattle.link_bundle_rules.proofs.history.BundleHistory.rules.Goals as goal
 
@@ -29,13 +29,4 @@ returns c =
       sym (c.data_not_read.ensures byte size plain),
       sym (c.administrative_record.ensures byte size plain),
     )
-    (c.add_if_broken-18.ensures.items _ (c.add_if_broken-17.ensures.items _ (
-    c.add_if_broken-16.ensures.items _ (c.add_if_broken-15.ensures.items _ (
-    c.add_if_broken-14.ensures.items _ (c.add_if_broken-13.ensures.items _ (
-    c.add_if_broken-12.ensures.items _ (c.add_if_broken-11.ensures.items _ (
-    c.add_if_broken-10.ensures.items _ (c.add_if_broken-9.ensures.items _ (
-    c.add_if_broken-8.ensures.items _ (c.add_if_broken-7.ensures.items _ (
-    c.add_if_broken-6.ensures.items _ (c.add_if_broken-5.ensures.items _ (
-    c.add_if_broken-4.ensures.items _ (c.add_if_broken-3.ensures.items _ (
-    c.add_if_broken-2.ensures.items _ (
-    c.add_if_broken.ensures.items [] (record { items = c.new-broken.ensures }))))))))))))))))))).items
+    c.broken_of.ensures

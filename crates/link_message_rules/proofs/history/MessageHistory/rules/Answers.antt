@@ -1,4 +1,4 @@
-use Rattle.std.proofs.Common.{[], sym}
+use Rattle.std.proofs.Common.{sym}
 use Rattle.link_message_rules.specs.MessageRules.{broken_rules}
 use Rattle.link_message_rules.proofs.history.MessageHistory.rules.Goals as goal
 
@@ -12,17 +12,20 @@ returns c before now =
       sym (c.before_session.ensures before now.parameters),
       sym c.interleaved.ensures,
       sym c.segment_flags.ensures,
-      sym (c.transfer_id.ensures before now.run),
+      sym (c.transfer_id.ensures before now.ids),
       sym c.peer_segment.ensures,
       sym (c.peer_transfer.ensures before now.transfer),
-      sym (c.ack_length.ensures before now.ack),
+      sym (c.ack_length.ensures before now.answers),
       sym (c.keepalive.ensures before now.keepalives),
       sym c.term_flags.ensures,
+      sym c.node_name.ensures,
+      sym c.keepalive_interval.ensures,
+      sym c.item_type.ensures,
+      sym (c.transfer_id_order.ensures before (c.is_initiated-initiated.ensures before now) now.ids),
+      sym (c.answer_order.ensures before (c.is_initiated-initiated.ensures before now) now.answers),
+      sym (c.after_reject.ensures before now.endings),
+      sym c.reject_known.ensures,
+      sym c.reason.ensures,
+      sym (c.term_order.ensures before (c.is_initiated-initiated.ensures before now) now.endings),
     )
-    (c.add_if_broken-12.ensures.items _ (c.add_if_broken-11.ensures.items _ (
-    c.add_if_broken-10.ensures.items _ (c.add_if_broken-9.ensures.items _ (
-    c.add_if_broken-8.ensures.items _ (c.add_if_broken-7.ensures.items _ (
-    c.add_if_broken-6.ensures.items _ (c.add_if_broken-5.ensures.items _ (
-    c.add_if_broken-4.ensures.items _ (c.add_if_broken-3.ensures.items _ (
-    c.add_if_broken-2.ensures.items _ (
-    c.add_if_broken.ensures.items [] (record { items = c.new-broken.ensures }))))))))))))).items
+    c.broken_of.ensures

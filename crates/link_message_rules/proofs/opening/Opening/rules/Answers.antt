@@ -1,4 +1,4 @@
-use Rattle.std.proofs.Common.{[], sym}
+use Rattle.std.proofs.Common.{sym}
 use Rattle.link_message_rules.specs.TransferRules.{broken_transfer_rules}
 use Rattle.link_message_rules.proofs.opening.Opening.rules.Goals as goal
 
@@ -10,5 +10,4 @@ returns c first is =
       sym (c.length_differs.ensures first is),
       sym (c.length_of_one_segment.ensures first is),
     )
-    (c.add_if_broken-3.ensures.items _ (c.add_if_broken-2.ensures.items _ (
-    c.add_if_broken.ensures.items [] (record { items = c.new-broken.ensures })))).items
+    c.broken_of.ensures
