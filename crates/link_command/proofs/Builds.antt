@@ -26,14 +26,6 @@ one_more {r} {arg} {old} has adds = record {
   globals = adds.globals ∙ local_more _ _ has.local;
 }
 
-pub adds_two : {r s : Rule} {a b : Arg} {old one new : Command} → HasRule r a → AddsArg old a one
-    → HasRule s b → AddsArg one b new → AddsRules (r ∷ s ∷ []) old new
-adds_two has adds next last = joined (one_more has adds) (one_more next last)
-
-pub after_two : {r s : Rule} {rs : List Rule} {old one new : Command}
-    → AddsRules (r ∷ s ∷ []) old one → AddsRules rs one new → AddsRules (r ∷ s ∷ rs) old new
-after_two first rest = joined first rest
-
 pub after_three : {r s t : Rule} {rs : List Rule} {old one new : Command}
     → AddsRules (r ∷ s ∷ t ∷ []) old one → AddsRules rs one new
     → AddsRules (r ∷ s ∷ t ∷ rs) old new
@@ -84,4 +76,4 @@ whole_tool {name} {rs} {old} bare adds = record {
   local = adds.globals ∙ bare.local;
 }
 
-pub ruleset tools = (whole_tool, one_more, adds_two, after_two, after_three)
+pub ruleset tools = (whole_tool, one_more, after_three)

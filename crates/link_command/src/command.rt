@@ -109,7 +109,7 @@ Example:
   0 end length=34 good";
 
 const CHECK_ABOUT: &str =
-    "Writes a line for each of 37 rules of the RFCs that the sender of a recording breaks";
+    "Writes a line for each judged rule of the RFCs that the sender of a recording breaks";
 
 const CHECK_HELP: &str =
     "A line has an offset, the level (must or should), the rule, and what broke it. The offset is that
@@ -185,7 +185,6 @@ fn list_command<'a>(alloc: Global) -> Result<Command<'a>, AllocError>
 }
 
 /// The tool `unpack`.
-#[tactic(auto, using(crate::proofs::Builds::tools), unfolding(crate::specs::Table::unpack_words))]
 fn unpack_command<'a>(alloc: Global) -> Result<Command<'a>, AllocError>
     ensures { IfOk result (IsTool unpack_words) }
 {
@@ -196,7 +195,6 @@ fn unpack_command<'a>(alloc: Global) -> Result<Command<'a>, AllocError>
 }
 
 /// Adds the options of `unpack` for the data that is written.
-#[tactic(auto, using(crate::proofs::Builds::adds_two))]
 fn with_selection<'a>(alloc: Global, tool: Command<'a>) -> Result<Command<'a>, AllocError>
     ensures { IfOk result (AddsRules (
         number (codes "transfer") any_u64
@@ -213,7 +211,6 @@ fn with_selection<'a>(alloc: Global, tool: Command<'a>) -> Result<Command<'a>, A
 }
 
 /// The tool `blocks`.
-#[tactic(auto, using(crate::proofs::Builds::tools), unfolding(crate::specs::Table::blocks_words))]
 fn blocks_command<'a>(alloc: Global) -> Result<Command<'a>, AllocError>
     ensures { IfOk result (IsTool blocks_words) }
 {
@@ -224,7 +221,6 @@ fn blocks_command<'a>(alloc: Global) -> Result<Command<'a>, AllocError>
 }
 
 /// Adds the options of `blocks` for recordings.
-#[tactic(auto, using(crate::proofs::Builds::adds_two))]
 fn with_shown<'a>(alloc: Global, tool: Command<'a>) -> Result<Command<'a>, AllocError>
     ensures { IfOk result (AddsRules (
         number (codes "transfer") any_u64
@@ -240,7 +236,6 @@ fn with_shown<'a>(alloc: Global, tool: Command<'a>) -> Result<Command<'a>, Alloc
 }
 
 /// The tool `check`.
-#[tactic(auto, using(crate::proofs::Builds::tools), unfolding(crate::specs::Table::check_words))]
 fn check_command<'a>(alloc: Global) -> Result<Command<'a>, AllocError>
     ensures { IfOk result (IsTool check_words) }
 {

@@ -3,7 +3,7 @@
 //! - `tcpclkit list` writes a line for the contact header and for each message of a recording.
 //! - `tcpclkit unpack` writes the data of a recording's transfers, and a line for each transfer.
 //! - `tcpclkit blocks` writes a line for each block of the bundles in a recording.
-//! - `tcpclkit check` writes a line for each of 37 rules of the RFCs that the sender of a recording
+//! - `tcpclkit check` writes a line for each judged rule of the RFCs that the sender of a recording
 //!   breaks.
 //! - `tcpclkit pack` writes bundles as the stream of a sender, and a line for each bundle.
 //!

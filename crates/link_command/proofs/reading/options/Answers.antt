@@ -1,7 +1,7 @@
-use Rattle.std.proofs.Common.{List, Option, Err, map, string_bytes, subst, rules}
+use Rattle.std.proofs.Common.{◌≡◌, true, List, Option, Err, inr, map, string_bytes, subst, sym, rules}
 use Rattle.std.proofs.lemmas.Result.{IfErr-weaker, IfOk-weaker}
 use Rattle.std.specs.Prelude.{IfErr, IfOk}
-use Rattle.clap.specs.Words.{Row, Text, app_of, kind_of}
+use Rattle.clap.specs.Words.{App, Row, Text, app_of, kind_of, takes}
 use Rattle.link_command.specs.{Invoked.IsInvokedByTool, Reading.IsToolFault}
 use Rattle.link_command.proofs.Taken.{clap_fault, failed, parsed, tool_fault}
 use Rattle.link_command.proofs.reading.options.Goals as goal
@@ -37,3 +37,9 @@ returns-in-Err-try_get_matches_from-clause-err c =
     clap_fault words (kind_of error) c.usage_fault.result c.usage_fault.ensures.kind
     (failed (app_of c.in-Ok.command) words (Err error) c.in-Ok.ensures
     c.in-Err-try_get_matches_from.ensures.kinds)
+
+pub returns-in-Err-try_get_matches_from-clause-passes : goal.returns-in-Err-try_get_matches_from-clause-passes
+returns-in-Err-try_get_matches_from-clause-passes c = λ taken.
+    let is : takes (app_of c.in-Ok.command) (map string_bytes c.args.words.now) ≡ true =
+    subst (λ (a : App). takes a (map string_bytes c.args.words.now) ≡ true) (sym c.in-Ok.ensures) taken in
+    inr (inr (inr (c.usage_fault.ensures.memory (c.in-Err-try_get_matches_from.ensures.passes is))))
