@@ -899,7 +899,7 @@ static inline uint32_t tcpclkit_blocks(const uint8_t *bytes, size_t length,
 }
 
 /*
- * `tcpclkit check`: a line for each of 37 rules of the RFCs that the sender of a recording breaks,
+ * `tcpclkit check`: a line for each judged rule of the RFCs that the sender of a recording breaks,
  * or that bundles break.
  *
  * The exit status is 3 after a fault, whose line is the report. Otherwise it is 1 if the output has
