@@ -7,7 +7,7 @@ For list, some 128 MiB each:
 long.tcpcl: one transfer in segments of 64 KiB.
 bundles.tcpcl: transfers of one bundle of 200 bytes, an acknowledgement and a KEEPALIVE after each.
 short.tcpcl: one transfer in segments of 1 to 16 bytes.
-answers.tcpcl: only acknowledgements, refusals and KEEPALIVEs.
+answers.tcpcl: only acknowledgements, refusals and KEEPALIVEs, which break no rule of check.
 
 For unpack, blocks and check, some 256 MiB each, and each transfer is a good bundle:
 plain.tcpcl: bundles of 1 MiB in segments of 64 KiB, without a check.
@@ -163,13 +163,26 @@ def kept_transfers(kept, size):
         length += len(made[-1])
 
 
+def answers(size):
+    """Answers to transfers with IDs from 0 on, which keep all rules, and KEEPALIVEs.
+
+    Each second transfer is acknowledged, and the others are refused.
+    """
+    made, length = [], 0
+    for number in itertools.count(0, 2):
+        if length >= size:
+            return b"".join(made)
+        made.append(ack(START | END, number, 4096) + refuse(1, number + 1) + KEEPALIVE)
+        length += len(made[-1])
+
+
 def recordings(list_size, bundles_size):
     """Yields the name of each recording, and the messages after its SESS_INIT."""
     data = DATA
     yield "long.tcpcl", one_transfer([data], list_size)
     yield "bundles.tcpcl", repeated(segment(START | END, 7, BUNDLE) + ack(START | END, 7, len(BUNDLE)) + KEEPALIVE, list_size)
     yield "short.tcpcl", one_transfer([data[:length] for length in range(1, 17)], list_size)
-    yield "answers.tcpcl", repeated(ack(0, 1, 4096) + refuse(1, 1) + KEEPALIVE, list_size)
+    yield "answers.tcpcl", answers(list_size)
     kinds = dict(bundles())
     for name in ("plain", "crc16", "crc32"):
         yield name + ".tcpcl", repeated(transfer(7, kinds[name][0], [65536]), bundles_size)

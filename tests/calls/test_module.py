@@ -339,8 +339,9 @@ class Tools(unittest.TestCase):
         self.assertEqual(tcpclkit.check(early), (b"6 should before-session type=04\n", b"", 1))
         self.assertEqual(tcpclkit.check(early, must=True), (b"", b"", 0))
         run = tcpclkit.check(2 * SEVERAL, bundles=True)
-        lines = b"0 must primary-check bundle=0\n55 must primary-check bundle=1\n"
-        self.assertEqual(run, (lines, b"", 1))
+        broken = ["must primary-check bundle={}", "should expired bundle={} lifetime=0 age=5"]
+        lines = [f"{55 * n} {rule.format(n)}\n" for n in range(2) for rule in broken]
+        self.assertEqual(run, ("".join(lines).encode(), b"", 1))
         for options in ({"peer_segment": 1}, {"peer_transfer": 0}):
             self.assertRaises(ValueError, tcpclkit.check, SEVERAL, bundles=True, **options)
         run = tcpclkit.check(content, peer_segment=0)

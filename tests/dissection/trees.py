@@ -104,6 +104,7 @@ DATA = {
 SECURITY = {
     "targets": ("bpsec.asb.target_count", shown),
     "context": ("bpsec.asb.ctxid", shown),
+    "context-flags": ("bpsec.asb.flags", flags),
     "source": ("bpsec.asb.secsrc.nodeid bpsec.asb.secsrc.uri", shown),
 }
 RECORD = {"record": ("bpv7.admin_rec.type_code", named)}

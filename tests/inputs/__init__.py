@@ -8,7 +8,9 @@ with its options.
     lengths    each length field of a stream, and each head of a bundle, at hostile values
     block_data the data of blocks, with each head changed and cut at each byte
     limits     counts and sizes at their limits, and past them
-    rules      what the rules of `check` depend on, at its limits and in each combination
+    rules      what the rules of messages depend on, at its limits and in each combination
+    bundle_rules
+               the same of the rules of bundles
     worked     the runs of tests/rows
     randoms    random streams and bundles
 """

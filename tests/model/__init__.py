@@ -13,7 +13,9 @@ return (output, report, status).
     tools           `list`, `unpack` and `pack`, and the walk over transfers
     blocks          `blocks`
     table           the tools that the program has
-    rules           the rules of `check`, which are in `message_rules`, `transfer_rules` and
-                    `bundle_rules`
+    names           the syntax of node IDs and endpoint IDs
+    bundle_facts    what the rules of bundles share
+    rules           the rules of `check`, which are in `message_rules`, `transfer_rules`,
+                    `bundle_rules` and `security_rules`
     checking        `check`
 """

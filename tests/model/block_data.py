@@ -5,6 +5,7 @@ security blocks that of RFC 9172 section 3.6, and of administrative records that
 section 6.1. It is read by the rules that hold for the same items elsewhere in a bundle.
 """
 
+from functools import lru_cache
 from typing import NamedTuple, Optional
 
 from . import bundle
@@ -51,9 +52,13 @@ class HopCount(NamedTuple):
 
 
 class Security(NamedTuple):
-    """The beginning of an abstract security block (RFC 9172 section 3.6), to its source."""
+    """The beginning of an abstract security block (RFC 9172 section 3.6), to its source.
+
+    The flags are those of the context.
+    """
     targets: list
     context: int
+    flags: int
     source: object
 
 
@@ -133,8 +138,8 @@ class DataScan(bundle.Scan):
         array is round them nor is the rest of the block read.
         """
         targets = [self.unsigned() for _ in range(self.array(ANY))]
-        context, _, source = self.integer(), self.unsigned(), self.endpoint()
-        return Security(targets, context, source)
+        context, flags, source = self.integer(), self.unsigned(), self.endpoint()
+        return Security(targets, context, flags, source)
 
     def assertion(self):
         """A status (RFC 9171 section 6.1.1): whether it is asserted, or the time of it.
@@ -188,14 +193,25 @@ def reader_of(kind, bundle_flags):
     return READERS.get(kind)
 
 
-def content_of(block, bundle_flags):
-    """What the data of a block says in a bundle with these flags. None if it is not read."""
+@lru_cache(1024)
+def reading_of(block, bundle_flags):
+    """What the data of a block says, and the offset in the bundle of its first long head, or None.
+
+    A head is long if it is longer than its number needs. Only the heads that are read count, and
+    those of malformed data do not. What the data says is None if it is not read.
+    """
     reader = reader_of(block.kind, bundle_flags)
     if reader is None:
-        return None
+        return None, None
     scan = DataScan(block.data)
     try:
-        return reader(scan)
+        content = reader(scan)
     except bundle.Fault as fault:
         code, place, _ = fault.args
-        return Malformed(block.data_at + place, scan.is_limit(code))
+        return Malformed(block.data_at + place, scan.is_limit(code)), None
+    return content, None if scan.long_head is None else block.data_at + scan.long_head
+
+
+def content_of(block, bundle_flags):
+    """What the data of a block says in a bundle with these flags. None if it is not read."""
+    return reading_of(block, bundle_flags)[0]

@@ -1,16 +1,19 @@
-"""Rules of bundles (RFC 9171, and RFC 9172 section 3.8): a function for each.
+"""Rules of bundles (RFC 9171, and RFC 9172 sections 3.6 and 3.8): a function for each.
 
 It takes the judgement of a good bundle. It returns None if the bundle keeps the rule, and otherwise
 the words of its line.
 """
 
-import re
-
-from . import texts
+from . import bundle_facts, texts
 from .block_data import (
-    ADMINISTRATIVE, BUNDLE_AGE, CONFIDENTIALITY, FRAGMENT, HOP_COUNT, INTEGRITY, PAYLOAD, PREVIOUS_NODE, Malformed,
-    content_of,
+    ADMINISTRATIVE, BUNDLE_AGE, CONFIDENTIALITY, FRAGMENT, HOP_COUNT, INTEGRITY, PREVIOUS_NODE, Malformed, OtherRecord,
+    StatusReport,
 )
+from .bundle_facts import (
+    PAYLOAD_NUMBER, PRIMARY_NUMBER, all_said, content, first_said, has_all_blocks, is_hidden, is_payload_hidden, is_record,
+    of_kind, record_said, targets,
+)
+from .names import demux_of
 from .rules import MUST, SHOULD, Rules
 
 # Flags of a bundle (section 4.2.3): it must not be fragmented; reports are requested of its
@@ -26,69 +29,18 @@ BUNDLE_FLAGS = FRAGMENT | ADMINISTRATIVE | NO_FRAGMENTS | 0x000020 | 0x000040 | 
 BLOCK_REPORT = 0x02
 BLOCK_FLAGS = 0x01 | BLOCK_REPORT | 0x04 | 0x10
 
-# The number of the primary block among the targets of a security block (RFC 9172 section 3.6), and
-# the number of the payload block (section 4.1)
-PRIMARY = 0
-PAYLOAD_NUMBER = 1
+# Block types of other versions, or of none (section 9.1), and the greatest that a bundle may have
+FOREIGN_TYPES, LAST_TYPE = (0, 2, 3, 4, 5, 8, 9), 255
 
-# The most targets of a block confidentiality block that say which data is hidden
-MAX_TARGETS = 64
-
-# A dtn name: `//`, a node name, `/`, and a demux (section 4.2.5.1.1). Either may be empty.
-NAME = re.compile(rb"//[\x21-\x7e]*/[\x21-\x7e]*")
+# The greatest reason of a status report that is assigned (section 9.5, RFC 9172 section 11.2)
+LAST_REASON = 16
 
 RULES = Rules()
-
-
-def of_kind(it, kind):
-    """The blocks of a type."""
-    return [block for block in it.blocks if block.kind == kind]
-
-
-def content(it, block):
-    """What the data of a block of the bundle says."""
-    return content_of(block, it.primary.flags)
-
-
-def targets(it, kind):
-    """The number and the targets of each security block of a type that is not malformed."""
-    contents = [(block.number, content(it, block)) for block in of_kind(it, kind)]
-    return [(number, each.targets) for number, each in contents if not isinstance(each, Malformed)]
-
-
-def hides_all(it):
-    """Whether some block confidentiality block does not say which blocks it hides.
-
-    It is malformed, or has too many targets.
-    """
-    contents = [content(it, block) for block in of_kind(it, CONFIDENTIALITY)]
-    return any(isinstance(each, Malformed) or len(each.targets) > MAX_TARGETS for each in contents)
-
-
-def is_hidden(it, block):
-    """Whether the data of a block may be ciphertext, by the block confidentiality blocks.
-
-    Such a block itself is never ciphertext (RFC 9172 section 3.8). It need not be copied into a
-    later fragment, unless the payload is among its targets (RFC 9171 section 5.8).
-    """
-    is_target = any(block.number in each for _, each in targets(it, CONFIDENTIALITY))
-    may_be_target = not has_all_blocks(it) and block is not it.blocks[-1]
-    return block.kind != CONFIDENTIALITY and (is_target or may_be_target or hides_all(it))
-
-
-def is_payload_hidden(it):
-    """Whether the payload may be ciphertext."""
-    return is_hidden(it, it.blocks[-1])
 
 
 def asks_for_reports(it):
     """Whether some status report is requested."""
     return bool(it.primary.flags & REPORTS)
-
-
-def is_record(it):
-    """Whether the payload is an administrative record."""
-    return bool(it.primary.flags & ADMINISTRATIVE)
 
 
 def is_anonymous(it):
@@ -101,10 +53,25 @@ def flags_of(it):
     return f"flags={texts.hexadecimal(it.primary.flags)}"
 
 
-@RULES.rule(MUST)
+def long_heads(it, *kinds):
+    """The offset of the first long head in the data of each block of these types, if it has one."""
+    return [at for block, _ in all_said(it, *kinds) if (at := bundle_facts.long_head(it, block)) is not None]
+
+
+def long_heads_of_fields(it):
+    """Long heads of the fields of blocks, and of security blocks (RFC 9172 section 3.6)."""
+    own = [] if it.long_head is None else [it.long_head]
+    return own + long_heads(it, INTEGRITY, CONFIDENTIALITY)
+
+
+@RULES.rule(lambda it: bool(long_heads_of_fields(it)))
 def long_head(it):
-    """Each head is the shortest for its number (section 4.1)."""
-    return None if it.long_head is None else f"byte={it.long_head}"
+    """Each head is the shortest for its number (section 4.1, RFC 9172 section 3.6).
+
+    A head in the data of a previous node, bundle age or hop count block is no field of a block.
+    """
+    places = long_heads_of_fields(it) or long_heads(it, PREVIOUS_NODE, BUNDLE_AGE, HOP_COUNT)
+    return f"byte={min(places)}" if places else None
 
 
 @RULES.rule(SHOULD)
@@ -116,15 +83,7 @@ def bundle_flags(it):
 def may_protect(it, block):
     """Whether a block integrity block may have the primary block as a target."""
     said = content(it, block)
-    return is_hidden(it, block) or isinstance(said, Malformed) or PRIMARY in said.targets
-
-
-def has_all_blocks(it):
-    """Whether a bundle has all blocks of the one that was made. A later fragment may lack some.
-
-    (Section 5.8.)
-    """
-    return it.primary.fragment is None or it.primary.fragment[0] == 0
+    return is_hidden(it, block) or isinstance(said, Malformed) or PRIMARY_NUMBER in said.targets
 
 
 @RULES.rule(has_all_blocks)
@@ -167,13 +126,23 @@ def block_flags(it):
     return f"block={wrong[0].number} flags={texts.hexadecimal(wrong[0].flags)}" if wrong else None
 
 
+def names_of(it):
+    """Each endpoint ID of the bundle with the words that say whose it is, in their order."""
+    begin = it.primary
+    yield from (("destination", begin.destination), ("source", begin.source), ("report-to", begin.report_to))
+    for block, content in all_said(it, PREVIOUS_NODE, INTEGRITY, CONFIDENTIALITY):
+        is_node = block.kind == PREVIOUS_NODE
+        of, name = ("previous-node", content.node) if is_node else ("security-source", content.source)
+        yield f"{of} block={block.number}", name
+    if report_of(it):
+        yield "report-source", report_of(it).source
+
+
 @RULES.rule(MUST)
 def dtn_name(it):
     """A dtn endpoint ID that is a text has the form of a dtn name (section 4.2.5.1.1)."""
-    begin = it.primary
-    names = [("destination", begin.destination), ("source", begin.source), ("report-to", begin.report_to)]
-    wrong = [f"of={of}" for of, name in names if isinstance(name, bytes) and not NAME.fullmatch(name)]
-    return wrong[0] if wrong else None
+    wrong = [of for of, name in names_of(it) if isinstance(name, bytes) and demux_of(name) is None]
+    return f"of={wrong[0]}" if wrong else None
 
 
 @RULES.rule(MUST)
@@ -220,22 +189,13 @@ def previous_node(it):
     return f"blocks={blocks}" if blocks > 1 else None
 
 
-def first_hop_count(it):
-    """What the first hop count block says. None if there is none, or it cannot be read."""
-    blocks = of_kind(it, HOP_COUNT)
-    if not blocks or is_hidden(it, blocks[0]):
-        return None
-    first = content(it, blocks[0])
-    return None if isinstance(first, Malformed) else first
-
-
 @RULES.rule(MUST)
 def hop_count(it):
     """A bundle has one hop count block at most, with a limit from 1 to 255 (section 4.4.3).
 
     The limit is that of the first one, and is not shown if that one cannot be read.
     """
-    blocks, first = len(of_kind(it, HOP_COUNT)), first_hop_count(it)
+    blocks, (_, first) = len(of_kind(it, HOP_COUNT)), first_said(it, HOP_COUNT)
     if blocks < 2 and (first is None or 1 <= first.limit <= 255):
         return None
     return f"blocks={blocks}" + (f" limit={first.limit}" if first else "")
@@ -244,27 +204,25 @@ def hop_count(it):
 @RULES.rule(MUST)
 def confidential_primary(it):
     """No block confidentiality block has the primary block as a target (RFC 9172 section 3.8)."""
-    wrong = [number for number, each in targets(it, CONFIDENTIALITY) if PRIMARY in each]
+    wrong = [number for number, each in targets(it, CONFIDENTIALITY) if PRIMARY_NUMBER in each]
     return f"block={wrong[0]}" if wrong else None
 
 
 @RULES.rule(SHOULD)
 def hops(it):
     """The hop count is within its limit (section 4.4.3)."""
-    first = first_hop_count(it)
+    _, first = first_said(it, HOP_COUNT)
     return f"limit={first.limit} count={first.count}" if first and first.count > first.limit else None
 
 
 def malformed(it, is_limit):
     """The number of each block that is malformed, and where, in their order.
 
-    The blocks are those of previous node, bundle age and hop count, and the payload of an
-    administrative record that is no fragment. Data that may be ciphertext is passed over. `is_limit`
-    says whether the blocks are those that the toolkit does not read, or those that the RFC forbids.
+    The blocks are those whose data is read: also the payload of an administrative record that is no
+    fragment. Data that may be ciphertext is passed over. `is_limit` says whether the blocks are
+    those that the toolkit does not read, or those that the RFC forbids.
     """
-    kinds = (PREVIOUS_NODE, BUNDLE_AGE, HOP_COUNT, PAYLOAD)
-    blocks = [block for block in it.blocks if block.kind in kinds and not is_hidden(it, block)]
-    contents = [(block.number, content(it, block)) for block in blocks]
+    contents = [(block.number, content(it, block)) for block in it.blocks if not is_hidden(it, block)]
     return [
         (number, each.at) for number, each in contents
         if isinstance(each, Malformed) and each.is_limit == is_limit
@@ -273,9 +231,9 @@ def malformed(it, is_limit):
 
 @RULES.rule(MUST)
 def block_data(it):
-    """The data of previous node, bundle age and hop count blocks is well formed.
+    """The data of previous node, bundle age, hop count and security blocks is well formed.
 
-    (Sections 4.4.1 to 4.4.3.)
+    (Sections 4.4.1 to 4.4.3, RFC 9172 section 3.6.)
     """
     wrong = [(number, at) for number, at in malformed(it, False) if number != PAYLOAD_NUMBER]
     return f"block={wrong[0][0]} byte={wrong[0][1]}" if wrong else None
@@ -285,7 +243,7 @@ def block_data(it):
 def data_not_read(it):
     """The data of blocks and an administrative record are within the limits of the toolkit.
 
-    (Section 4.1.)
+    (Section 4.1, RFC 9172 section 3.6.)
     """
     wrong = malformed(it, True)
     return f"block={wrong[0][0]} byte={wrong[0][1]}" if wrong else None
@@ -299,3 +257,100 @@ def record(it):
     """
     wrong = [at for number, at in malformed(it, False) if number == PAYLOAD_NUMBER]
     return f"byte={wrong[0]}" if wrong else None
+
+
+def is_group(name):
+    """Whether an endpoint ID is a dtn name of a group of nodes, or of no node (section 4.2.5.1.1)."""
+    return isinstance(name, bytes) and (demux_of(name) or b"").startswith(b"~")
+
+
+@RULES.rule(MUST)
+def source_node(it):
+    """The source is one node, or none (section 5.2, section 4.2.5.1.1)."""
+    return "" if is_group(it.primary.source) else None
+
+
+def is_no_node(it):
+    """Whether the first previous node is none, or a group."""
+    _, first = first_said(it, PREVIOUS_NODE)
+    return first.node is None or is_group(first.node)
+
+
+def is_service(name):
+    """Whether an endpoint ID is not that of a node, but of an application on it.
+
+    (Sections 4.2.5.1.1 and 4.2.5.1.2.)
+    """
+    return bool(demux_of(name)) if isinstance(name, bytes) else name[-1] != 0
+
+
+@RULES.rule(is_no_node)
+def previous_node_id(it):
+    """The previous node is a node ID (section 4.4.1, section 4.2.5.2)."""
+    block, first = first_said(it, PREVIOUS_NODE)
+    return f"block={block.number}" if first and (is_no_node(it) or is_service(first.node)) else None
+
+
+@RULES.rule(SHOULD)
+def expired(it):
+    """The age of a bundle is at most its lifetime (section 4.3.1, section 5.5)."""
+    _, first = first_said(it, BUNDLE_AGE)
+    lifetime = it.primary.lifetime
+    return f"lifetime={lifetime} age={first.age}" if first and first.age > lifetime else None
+
+
+@RULES.rule(SHOULD)
+def block_type(it):
+    """The type of a block is one of this version, or free (section 4.3.2, section 9.1)."""
+    wrong = [block for block in it.blocks if block.kind in FOREIGN_TYPES or block.kind > LAST_TYPE]
+    return f"block={wrong[0].number} type={wrong[0].kind}" if wrong else None
+
+
+@RULES.rule(SHOULD)
+def record_type(it):
+    """An administrative record is a status report (section 6.1)."""
+    record = record_said(it)
+    return f"type={record.kind}" if isinstance(record, OtherRecord) else None
+
+
+def report_of(it):
+    """The status report that the payload is, or None."""
+    record = record_said(it)
+    return record if isinstance(record, StatusReport) else None
+
+
+def asserted(report):
+    """What a status report has of each status that is asserted: True, or a time."""
+    return [each for each in report.assertions if each is not False]
+
+
+@RULES.rule(MUST)
+def report_times(it):
+    """A status report has a time for each status that is asserted, or for none (section 6.1.1)."""
+    report = report_of(it)
+    kinds = {isinstance(each, bool) for each in asserted(report)} if report else set()
+    return "" if len(kinds) > 1 else None
+
+
+@RULES.rule(SHOULD)
+def report_empty(it):
+    """A status report asserts some status (section 5.1, section 6.1.1)."""
+    report = report_of(it)
+    return "" if report and not asserted(report) else None
+
+
+@RULES.rule(SHOULD)
+def report_reason(it):
+    """The reason of a status report is assigned (section 6.1.1, section 9.5)."""
+    report = report_of(it)
+    return f"reason={report.reason}" if report and report.reason > LAST_REASON else None
+
+
+@RULES.rule(SHOULD)
+def report_source(it):
+    """The bundle that a status report is about has a source (section 4.2.3, section 6.1.1).
+
+    A bundle without one asks for no reports.
+    """
+    report = report_of(it)
+    return "" if report and report.source is None else None

@@ -1,19 +1,22 @@
 """The tool `check`: which rules a node breaks in a recording, or in a file of bundles."""
 
-from . import bundle, bundle_rules, message_rules, rules, texts, tools, transfer_rules, wire
+from . import bundle, bundle_rules, message_rules, rules, security_rules, texts, tools, transfer_rules, wire
 
 # The rule of a contact header, and those of messages. A transfer that is not closed when the stream
 # ends breaks the first of transfers, and any other transfer keeps it.
 CONTACT, MESSAGES = message_rules.RULES[:1], message_rules.RULES[1:]
 UNFINISHED, CLOSED = transfer_rules.RULES[:1], transfer_rules.RULES[1:]
 
+# The rules of a bundle
+BUNDLES = [*bundle_rules.RULES, *security_rules.RULES]
+
 # All rules in the order of docs/FORMATS.md
-RULES = [*message_rules.RULES, *transfer_rules.RULES, *bundle_rules.RULES]
+RULES = [*message_rules.RULES, *transfer_rules.RULES, *BUNDLES]
 
 
 def of_bundle(judged, at, of):
     """The levels and lines of the rules that a bundle breaks. Only a good one is judged."""
-    return [] if judged.fault else [*rules.broken(bundle_rules.RULES, judged, at, of)]
+    return [] if judged.fault else [*rules.broken(BUNDLES, judged, at, of)]
 
 
 def of_transfer(transfer):

@@ -3,23 +3,10 @@
 It returns None if the message keeps the rule, and otherwise the words of its line.
 """
 
-import re
 from typing import NamedTuple, Optional
 
-from . import tools, wire
+from . import names, tools, wire
 from .rules import MUST, SHOULD, Rules
-
-# A scheme, a colon, and bytes that a URI may have (RFC 3986 sections 2 and 3.1). A `%` begins an
-# octet in hexadecimal digits (section 2.1).
-URI = re.compile(rb"([A-Za-z][A-Za-z0-9+.-]*):((?:[!#-$&-;=?-Z[\]_a-z~]|%[0-9A-Fa-f]{2})*)")
-
-# What follows `dtn:`: `none`, or the name of a node between slashes, and a demux (RFC 9171 section
-# 4.2.5.1.1). The name is a reg-name (RFC 3986 section 3.2.2).
-DTN_NONE = re.compile(rb"none", re.IGNORECASE)
-DTN_NAME = re.compile(rb"//(?:[A-Za-z0-9._~!$&'()*+,;=-]|%[0-9A-Fa-f]{2})*/([\x21-\x7e]*)")
-
-# What follows `ipn:`: two numbers (RFC 9171 section 4.2.5.1.2), or three
-IPN_NUMBERS = re.compile(rb"[0-9]+\.(?:[0-9]+\.)?([0-9]+)")
 
 # The flags that are defined: of a contact header (section 4.2), of an extension item (sections 4.8
 # and 5.2.5), of XFER_SEGMENT (section 5.2.2) and of SESS_TERM (section 6.1)
@@ -96,13 +83,13 @@ def contact_flags(flags):
 
 def is_name(node):
     """Whether a node ID is a URI, and one of its scheme if this is dtn or ipn."""
-    uri = URI.fullmatch(node)
+    uri = names.URI.fullmatch(node)
     if not uri:
         return False
     scheme, rest = uri[1].lower(), uri[2]
     if scheme == b"dtn":
-        return bool(DTN_NONE.fullmatch(rest) or DTN_NAME.fullmatch(rest))
-    return scheme != b"ipn" or rest.startswith(b"!") or bool(IPN_NUMBERS.fullmatch(rest))
+        return bool(names.DTN_NONE.fullmatch(rest)) or names.demux_of(rest) is not None
+    return scheme != b"ipn" or rest.startswith(b"!") or bool(names.IPN_NUMBERS.fullmatch(rest))
 
 
 @RULES.rule(MUST)
@@ -275,8 +262,7 @@ def term_flags(turn):
 def demux_of(node):
     """The demux of a dtn name (RFC 9171 section 4.2.5.1.1), or None for another node ID."""
     scheme, _, rest = node.partition(b":")
-    named = DTN_NAME.fullmatch(rest) if scheme.lower() == b"dtn" else None
-    return named and named[1]
+    return names.demux_of(rest) if scheme.lower() == b"dtn" else None
 
 
 def names_node(node):
@@ -286,7 +272,7 @@ def names_node(node):
     """
     scheme, _, rest = node.partition(b":")
     if scheme.lower() == b"ipn":
-        return rest.startswith(b"!") or int(IPN_NUMBERS.fullmatch(rest)[1]) == 0
+        return rest.startswith(b"!") or int(names.IPN_NUMBERS.fullmatch(rest)[1]) == 0
     return demux_of(node) == b""
 
 

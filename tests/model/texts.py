@@ -109,7 +109,7 @@ def identity(it):
 
 
 def hexadecimal(number):
-    """H: flags of a bundle or of a block, in as many pairs of digits as the number needs."""
+    """H: flags of a bundle, a block or a security context, in as many pairs of digits as needed."""
     return number.to_bytes(max(1, (number.bit_length() + 7) // 8), "big").hex()
 
 
@@ -135,7 +135,8 @@ def assertion(it):
 
 def security(it):
     """The words of a security block."""
-    return f"targets={len(it.targets)} context={it.context} source={endpoint(it.source)}"
+    flags = hexadecimal(it.flags)
+    return f"targets={len(it.targets)} context={it.context} context-flags={flags} source={endpoint(it.source)}"
 
 
 def status_report(it):

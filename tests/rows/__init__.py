@@ -6,7 +6,9 @@ spelled out in hexadecimal or made by those of tests/inputs.
 
     lines   `blocks`: the lines, where they end, and the options
     words   `blocks`: the words of a type, and each offset of data that is malformed
-    broken  `check`: for each rule, what breaks it alone and what just keeps it
+    messages, bundles, security
+            `check`: for each rule, what breaks it alone and what just keeps it; `broken` has what
+            the three share
     corpus  `check`: for each rule, a stream that breaks it alone and one that keeps all else too
     faults  `check`: each fault, in a stream that has no other
     runs    `check`: several rules at once, the options, and the status

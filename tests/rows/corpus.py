@@ -28,6 +28,7 @@ from .lines import BOTH, END, HEAD, START
 
 # Milliseconds from 2000-01-01 to 2026-01-01, and 20 years of 365.25 days
 MADE, YEARS = 820_540_800_000, 631_152_000_000
+DAY = 86_400_000
 LIVES = {"stamp": (MADE, 0), "lifetime": YEARS}
 
 # The end of a session
@@ -75,6 +76,12 @@ REPORT = status_report([MADE, False, False, False], 0, (2, 1), (MADE, 0))
 RECORD = {"flags": 0x02, "source": (1, 0), "destination": (2, 0), "payload": encoded(REPORT)}
 
 
+def reporting(*statuses, reason=0, source=(2, 1)):
+    """The same with these statuses, this reason, and this source of its bundle."""
+    report = status_report(statuses, reason, source, (MADE, 0))
+    return living(**{**RECORD, "payload": encoded(report)})
+
+
 # ---- blocks of RFC 9172 and RFC 9173
 
 # The initialization vector of RFC 9173 appendix A.2 to A.4, a payload of A.3 and its tag
@@ -100,24 +107,40 @@ def results(codes):
     return [array(len(codes)), *[it for them in each for it in them]]
 
 
-def confidential(number, tags):
-    """A block confidentiality block whose targets have these tags (RFC 9173 section 4).
+def confidential(number, *tags, context=2, flags=None):
+    """A block confidentiality block of targets with their tags (RFC 9173 section 4).
 
     It is in every fragment if the payload is a target (RFC 9172 section 3.8).
     """
-    heads = [*security(list(tags), 2, (1, 1), 1), array(3), array(2), unsigned(1), data(VECTOR)]
-    heads += [array(2), unsigned(2), unsigned(1), array(2), unsigned(4), unsigned(0), *results(tags.values())]
-    return block(12, number, heads, flags=0x01 if 1 in tags else 0)
+    targets, codes = [it for it, _ in tags], [it for _, it in tags]
+    heads = [*security(targets, context, (1, 1), 1), array(3), array(2), unsigned(1), data(VECTOR)]
+    heads += [array(2), unsigned(2), unsigned(1), array(2), unsigned(4), unsigned(0), *results(codes)]
+    return block(12, number, heads, flags=(0x01 if 1 in targets else 0) if flags is None else flags)
 
 
-def protecting(number, codes):
-    """A block integrity block whose targets have these codes (RFC 9173 section 3)."""
-    heads = [*security(list(codes), 1, (1, 1), 1), array(2), array(2), unsigned(1), unsigned(5)]
-    return block(11, number, [*heads, array(2), unsigned(3), unsigned(0), *results(codes.values())])
+def protection(*codes, source=(1, 1), context=1, flags=1):
+    """The heads of a block integrity block's data, of targets with their codes (RFC 9173 section 3)."""
+    targets, codes = [it for it, _ in codes], [it for _, it in codes]
+    heads = [*security(targets, context, source, flags), array(2), array(2), unsigned(1), unsigned(5)]
+    return [*heads, array(2), unsigned(3), unsigned(0), *results(codes)]
 
 
-# The payload is PAYLOAD.
-CONFIDENTIAL = confidential(4, {1: PAYLOAD_TAG})
+def protecting(number, *codes, **fields):
+    """A block integrity block. After an age, its data is at 55."""
+    return block(11, number, protection(*codes, **fields))
+
+
+# The payload is PAYLOAD, or a block 2 is ciphertext. That one is the age 5.
+CONFIDENTIAL, CONFIDENTIAL_2 = confidential(4, (1, PAYLOAD_TAG)), confidential(4, (2, AGE_TAG))
+SECRET_AGE = block(7, 2, HIDDEN_AGE)
+# A block of integrity of the age 5
+CODE = (2, AGE_CODE)
+PROTECTING = protecting(3, CODE)
+PROTECTED = living(AGE, PROTECTING)
+# The same of the payload and of the primary block, which has no check. It is ciphertext itself, as is the payload.
+ENCRYPTED = living(
+    block(11, 3, HIDDEN_INTEGRITY), confidential(4, (3, INTEGRITY_TAG), (1, PAYLOAD_TAG)), kind=0, payload=PAYLOAD,
+)
 
 
 # ---- bundles that are not read, or are none
@@ -273,14 +296,15 @@ def of_faults():
 def of_bundles():
     """The same of rules of bundles. Each bundle is in a transfer of one segment."""
     yield "long-head", long_version(), "must long-head: byte=2", living(payload=bytes(24))
+    long_targets, long_age = living(AGE, block(11, 3, b"\x98\x01" + encoded(protection(CODE))[1:])), block(7, 2, b"\x18\x05")
+    yield "long-head", long_targets, "must long-head: byte=55", PROTECTED, "of-security"
+    yield "long-head", living(long_age), "should long-head: byte=47", living(AGE), "of-data"
     yield "bundle-flags", living(flags=0x08), "should bundle-flags: flags=08", living(flags=0x074064, **REPORTED)
     yield "primary-check", living(kind=0), "must primary-check:", living(kind=2)
     part = {"flags": 0x01, "fragment": (1, 2)}
     yield "primary-check", living(kind=0, **part), "should primary-check:", living(kind=2, **part), "of-a-fragment"
-    known = living(AGE, protecting(3, {2: AGE_CODE}), CONFIDENTIAL, kind=0, payload=PAYLOAD)
-    unknown = confidential(4, {3: INTEGRITY_TAG, 1: PAYLOAD_TAG})
-    hidden = living(block(11, 3, HIDDEN_INTEGRITY), unknown, kind=0, payload=PAYLOAD)
-    yield "primary-check", known, "must primary-check:", hidden, "confidential"
+    known = living(AGE, PROTECTING, CONFIDENTIAL, kind=0, payload=PAYLOAD)
+    yield "primary-check", known, "must primary-check:", ENCRYPTED, "confidential"
     yield "anonymous", living(source=None), "must anonymous: flags=00", living(source=None, flags=0x04)
     asking = living(**{**RECORD, **REPORTED, "flags": 0x4002})
     yield "record-reports", asking, "must record-reports: flags=4002", living(**RECORD)
@@ -290,7 +314,7 @@ def of_bundles():
     yield "block-reports", asking, "must block-reports: block=1", good, "of-a-payload"
     good = living(block(7, 2, b"\x05", flags=0x17), **REPORTED)
     yield "block-flags", living(payload_flags=0x08), "should block-flags: block=1 flags=08", good
-    yield "dtn-name", living(destination=b""), "must dtn-name: of=destination", living(destination=b"//n/")
+    yield from of_dtn_names()
     yield from of_fragments(part)
     clock = {"stamp": (0, 5)}
     yield "age", living(**clock), "must age: blocks=0", living(AGE, **clock)
@@ -299,10 +323,98 @@ def of_bundles():
     yield "previous-node", twice, "must previous-node: blocks=2", living(NODE, **FORWARDED)
     none, most, over, all_of_them = (living(block(10, 2, hop_count(*it))) for it in [(0, 0), (255, 0), (5, 6), (5, 5)])
     yield "hop-count", none, "must hop-count: blocks=1 limit=0", most
-    whole = confidential(2, {0: PAYLOAD_TAG})
+    whole = confidential(2, (0, PAYLOAD_TAG))
     yield "confidential-primary", living(whole), "must confidential-primary: block=2", living(CONFIDENTIAL, payload=PAYLOAD)
     yield "hops", over, "should hops: limit=5 count=6", all_of_them
     yield from of_data()
+    yield from of_nodes()
+    yield from of_reports()
+    yield from of_targets()
+    yield from of_security()
+
+
+def of_dtn_names():
+    """Endpoint IDs that have not the form of a dtn name, in each place that has one, and good ones."""
+    good = living(destination=b"//n/")
+    yield "dtn-name", living(destination=b""), "must dtn-name: of=destination", good
+    yield "dtn-name", living(destination=b"//n:1/"), "must dtn-name: of=destination", good, "reg-name"
+    wrong, right = (living(block(6, 2, endpoint(it)), **FORWARDED) for it in (b"none", (1, 0)))
+    yield "dtn-name", wrong, "must dtn-name: of=previous-node block=2", right, "previous-node"
+    wrong, right = (living(AGE, protecting(3, CODE, source=it)) for it in (b"//n", b"//n/"))
+    yield "dtn-name", wrong, "must dtn-name: of=security-source block=3", right, "security-source"
+    wrong, right = (reporting(MADE, False, False, False, source=it) for it in (b"none", b"//n/"))
+    yield "dtn-name", wrong, "must dtn-name: of=report-source", right, "report-source"
+
+
+def of_nodes():
+    """Sources and previous nodes that are none, ages, and types of blocks."""
+    group, one = (living(source=it) for it in (b"//n/~a", b"//n/a"))
+    yield "source-node", group, "must source-node:", one
+    right = living(NODE, **FORWARDED)
+    for cause, node, level in [
+        ("", None, "must"), ("of-a-group", b"//n/~a", "must"), ("of-a-service", (1, 1), "should"),
+        ("of-an-application", b"//n/a", "should"),
+    ]:
+        wrong = living(block(6, 2, endpoint(node)), **FORWARDED)
+        yield "previous-node-id", wrong, f"{level} previous-node-id: block=2", right, cause
+    late, early = (living(block(7, 2, [unsigned(it)]), stamp=(0, 5)) for it in (YEARS + 1, YEARS - DAY))
+    yield "expired", late, f"should expired: lifetime={YEARS} age={YEARS + 1}", early
+    old, high, private, highest = (living(block(it, 2, b"")) for it in (5, 256, 192, 255))
+    yield "block-type", old, "should block-type: block=2 type=5", private
+    yield "block-type", high, "should block-type: block=2 type=256", highest, "above-255"
+
+
+def of_reports():
+    """Administrative records that say something wrong, and good ones."""
+    right = living(**RECORD)
+    yield "record-type", living(**{**RECORD, "payload": b"\x82\x02\x00"}), "should record-type: type=2", right
+    some, each = reporting(MADE, True, False, False), reporting(MADE, MADE, False, False)
+    yield "report-times", some, "must report-times:", each
+    fifth, least = reporting(MADE, False, False, False, True), reporting(MADE, False, False, False, False)
+    yield "report-times", fifth, "must report-times:", least, "of-a-fifth"
+    yield "report-empty", reporting(False, False, False, False), "should report-empty:", right
+    unassigned, last = (reporting(MADE, False, False, False, reason=it) for it in (17, 16))
+    yield "report-reason", unassigned, "should report-reason: reason=17", last
+    yield "report-source", reporting(MADE, False, False, False, source=None), "should report-source:", right
+
+
+def of_targets():
+    """Security blocks with wrong targets, and good ones."""
+    none, again = living(AGE, protecting(3)), living(AGE, protecting(3, CODE, CODE))
+    yield "security-targets", none, "must security-targets: block=3", PROTECTED
+    yield "security-targets", again, "must security-targets: block=3 target=2", PROTECTED, "twice"
+    removed = living(AGE, protecting(3, CODE, (5, AGE_CODE)))
+    yield "security-targets", removed, "should security-targets: block=3 target=5", PROTECTED, "removed"
+    secret = living(SECRET_AGE, CONFIDENTIAL_2)
+    signed, hidden = living(AGE, PROTECTING, protecting(4, CODE)), living(SECRET_AGE, CONFIDENTIAL_2, confidential(5, (2, AGE_TAG)))
+    yield "security-twice", signed, "must security-twice: block=4 target=2", PROTECTED
+    yield "security-twice", hidden, "must security-twice: block=5 target=2", secret, "confidential"
+    signed, both = living(AGE, PROTECTING, protecting(4, (3, AGE_CODE))), living(AGE, PROTECTING, CONFIDENTIAL, payload=PAYLOAD)
+    yield "integrity-target", signed, "must integrity-target: block=4 target=3", PROTECTED
+    signed = living(SECRET_AGE, CONFIDENTIAL_2, protecting(3, (4, AGE_CODE)))
+    yield "integrity-target", signed, "must integrity-target: block=3 target=4", both, "confidential"
+    # A block of integrity may be ciphertext.
+    other, own = (living(SECRET_AGE, CONFIDENTIAL_2, confidential(5, (it, AGE_TAG))) for it in (4, 5))
+    yield "confidential-target", other, "must confidential-target: block=5 target=4", ENCRYPTED
+    yield "confidential-target", own, "must confidential-target: block=5 target=5", ENCRYPTED, "itself"
+    # It has to be, if what it protects is.
+    shared = living(SECRET_AGE, PROTECTING, CONFIDENTIAL_2)
+    yield "shared-target", shared, "should shared-target: block=3 target=2", ENCRYPTED
+
+
+def of_security():
+    """Security blocks with wrong flags and contexts, and good ones."""
+    yield "security-flags", living(AGE, protecting(3, CODE, flags=3)), "must security-flags: block=3 flags=03", PROTECTED
+    test, local = (living(AGE, protecting(3, CODE, context=it)) for it in (0, -1))
+    yield "security-context", test, "should security-context: block=3 context=0", PROTECTED
+    yield "security-context", local, "should security-context: block=3 context=-1", PROTECTED, "negative"
+    removed, secret = (living(SECRET_AGE, confidential(4, (2, AGE_TAG), flags=it)) for it in (0x10, 0x00))
+    yield "confidential-flags", removed, "must confidential-flags: block=4 flags=10", secret
+    tag = (1, PAYLOAD_TAG)
+    first, every = (living(confidential(4, tag, flags=it), payload=PAYLOAD) for it in (0x00, 0x01))
+    yield "confidential-flags", first, "must confidential-flags: block=4 flags=00", every, "of-a-payload"
+    code = living(confidential(4, tag, context=1), payload=PAYLOAD)
+    yield "confidential-context", code, "must confidential-context: block=4", every
 
 
 def of_fragments(part):
@@ -311,8 +423,8 @@ def of_fragments(part):
     yield "fragment", empty, "must fragment: offset=0 length=0 total=2", living(**part)
     # The ciphertext has the tag at its end, and so the payload is longer than the data by 16 bytes.
     end = {"flags": 0x01, "fragment": (30, 35), "payload": (PAYLOAD + PAYLOAD_TAG)[30:]}
-    known = living(block(7, 2, HIDDEN_AGE), confidential(4, {2: AGE_TAG}), **end)
-    hidden = living(AGE, confidential(4, {1: b""}), **end)
+    known = living(SECRET_AGE, CONFIDENTIAL_2, **end)
+    hidden = living(AGE, confidential(4, (1, b"")), **end)
     yield "fragment", known, "must fragment: offset=30 length=21 total=35", hidden, "confidential"
     whole, begins = (living(flags=0x01, fragment=(0, total)) for total in (1, 2))
     yield "whole-fragment", whole, "should whole-fragment: total=1", begins
@@ -321,9 +433,10 @@ def of_fragments(part):
 def of_data():
     """Blocks and records whose data is wrong, is not read, or is ciphertext, and good ones."""
     yield "block-data", living(block(7, 2, b"")), "must block-data: block=2 byte=47", living(AGE)
-    known = living(block(7, 2, HIDDEN_AGE), CONFIDENTIAL, payload=PAYLOAD)
-    hidden = living(block(7, 2, HIDDEN_AGE), confidential(4, {2: AGE_TAG}))
+    known, hidden = living(SECRET_AGE, CONFIDENTIAL, payload=PAYLOAD), living(SECRET_AGE, CONFIDENTIAL_2)
     yield "block-data", known, "must block-data: block=2 byte=47", hidden, "confidential"
+    around = block(11, 3, [array(6), *protection(CODE)])
+    yield "block-data", living(AGE, around), "must block-data: block=3 byte=56", PROTECTED, "security"
     open_hops = block(10, 2, b"\x9f\x18\x1e\x01\xff")
     yield "data-not-read", living(open_hops), "should data-not-read: block=2 byte=47", living(HOPS)
     scheme = block(6, 2, [array(2), unsigned(PRIVATE_SCHEME), unsigned(0)])
@@ -338,6 +451,8 @@ def of_data():
     part = encoded(status_report([MADE, False, False, False], 0, (2, 1), (MADE, 0), (7, 5)))
     good = living(**{**RECORD, "payload": part})
     yield "data-not-read", report, "should data-not-read: block=1 byte=51", good, "record"
+    open_targets = block(11, 3, b"\x9f\x02\xff" + encoded(protection(CODE))[2:])
+    yield "data-not-read", living(AGE, open_targets), "should data-not-read: block=3 byte=55", PROTECTED, "security"
     yield "record", living(flags=0x02), "must record: byte=48", living(**RECORD)
 
 

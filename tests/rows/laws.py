@@ -9,7 +9,7 @@ import random
 
 import make
 from inputs import block_data, limits, randoms
-from model import blocks, bundle, bundle_rules, checking, tools
+from model import blocks, bundle, checking, tools
 from model.block_data import Malformed, content_of
 
 from .broken import CLEAN, CONTACT, INIT, KEEPALIVE, sent
@@ -19,7 +19,7 @@ SEEDS = range(60)
 # The most bytes of a bundle that is packed in small segments
 MOST = 300
 
-NAMES = {rule.name for rule in bundle_rules.RULES}
+NAMES = {rule.name for rule in checking.BUNDLES}
 EXCUSED = {"B9", "B11", "B16", "B5", "B10", "B3"}
 
 

@@ -81,18 +81,18 @@ def payload(at):
 # The lines of each bundle after that of its primary block
 LINES = {
     "A.1.1.3": payload(29),
-    "A.1.4": [security(2, 29, 93, 11, "00", "targets=1 context=1 source=ipn:2.1"), *payload(122)],
-    "A.2.4": [security(2, 29, 87, 12, "01", "targets=1 context=2 source=ipn:2.1"), *payload(116)],
+    "A.1.4": [security(2, 29, 93, 11, "00", "targets=1 context=1 context-flags=01 source=ipn:2.1"), *payload(122)],
+    "A.2.4": [security(2, 29, 87, 12, "01", "targets=1 context=2 context-flags=01 source=ipn:2.1"), *payload(116)],
     "A.3.1.4": [line(2, 29, 9, "7/bundle-age", "00", 6, "age=300"), *payload(38)],
     "A.3.5": [
-        security(3, 29, 99, 11, "00", "targets=2 context=1 source=ipn:3.0"),
-        security(4, 128, 59, 12, "01", "targets=1 context=2 source=ipn:2.1"),
+        security(3, 29, 99, 11, "00", "targets=2 context=1 context-flags=01 source=ipn:3.0"),
+        security(4, 128, 59, 12, "01", "targets=1 context=2 context-flags=01 source=ipn:2.1"),
         line(2, 187, 9, "7/bundle-age", "00", 6, "age=300"), *payload(196),
     ],
     # The data of the block of integrity is ciphertext, and begins with the head of a byte string.
     "A.4.5": [
         security(3, 29, 77, 11, "00", "malformed-at=36"),
-        security(2, 106, 80, 12, "01", "targets=2 context=2 source=ipn:2.1"), *payload(186),
+        security(2, 106, 80, 12, "01", "targets=2 context=2 context-flags=01 source=ipn:2.1"), *payload(186),
     ],
 }
 

@@ -1,12 +1,12 @@
 """`check`: several rules at once and their order, the options, faults, and the status."""
 
 import make
-from inputs.spelling import head, hop_count, security, spelled
+from inputs.spelling import endpoint, head, hop_count, spelled
 
 from . import Row
 from .broken import (
     AGE, CLEAN, CONTACT, HIDDEN, INIT, INTEGRITY, KEEPALIVE, LAST, OPEN_RECORD, OTHER_INTERVAL, VERSION, block, blocks_of,
-    bundle, hiding, row, sent, two,
+    bundle, hiding, protecting, report, row, sent, two,
 )
 from .lines import BOTH, END, HEAD, START
 
@@ -26,33 +26,51 @@ EMPTY, OPENED = make.xfer_segment(BOTH, 5, b""), make.xfer_segment(START, 6, b""
 TERM = make.sess_term(2, 0)
 
 # A bundle that breaks each rule of bundles that can be broken together, in their order. The primary
-# block has 23 bytes, so the data of the first block is at 30, and that of the second one at 37.
+# block has 21 bytes, so the data of the first block is at 28. The blocks after it are at 31 and 38,
+# and the bundle has 178 bytes.
 EVERY_RULE, _ = spelled(
     blocks_of(
-        block(6, 2, b"\x00"), block(6, 3, b"\x9f"),
-        block(10, 4, hop_count(0, 1), flags=0x0A), block(10, 5, b""), hiding(6, 0),
-        flags=0x400B, kind=0, source=None, destination=b"n", stamp=(0, 0), fragment=(0, 0), payload=b"",
+        block(6, 2, endpoint(None)), block(6, 3, b"\x00"), block(6, 4, b"\x9f"),
+        block(7, 5, b"\x05"), block(7, 6, b"\x06"),
+        block(10, 7, hop_count(0, 1), flags=0x0A), block(10, 8, hop_count(9, 0)), block(9, 9, b""),
+        protecting(10, 9, 11, context_flags=0x02), hiding(11, 0, 9, 11, context=0, flags=0x10),
+        hiding(12, 9, context=1), protecting(13),
+        flags=0x400A, kind=0, source=None, destination=b"n", lifetime=4,
+        payload=report(7, True, False, False, reason=17, source=None),
     ),
     VERSION, head(0, 7, 1),
 )
 EVERY_LINE = [
     "0 must long-head bundle=0 byte=2",
-    "0 should bundle-flags bundle=0 flags=400b",
+    "0 should bundle-flags bundle=0 flags=400a",
     "0 must primary-check bundle=0",
-    "0 must anonymous bundle=0 flags=400b",
-    "0 must record-reports bundle=0 flags=400b",
-    "0 must block-reports bundle=0 block=4",
-    "0 should block-flags bundle=0 block=4 flags=0a",
+    "0 must anonymous bundle=0 flags=400a",
+    "0 must record-reports bundle=0 flags=400a",
+    "0 must block-reports bundle=0 block=7",
+    "0 should block-flags bundle=0 block=7 flags=0a",
     "0 must dtn-name bundle=0 of=destination",
-    "0 must fragment bundle=0 offset=0 length=0 total=0",
-    "0 should whole-fragment bundle=0 total=0",
-    "0 must age bundle=0 blocks=0",
-    "0 must previous-node bundle=0 blocks=2",
+    "0 must age bundle=0 blocks=2",
+    "0 must previous-node bundle=0 blocks=3",
     "0 must hop-count bundle=0 blocks=2 limit=0",
-    "0 must confidential-primary bundle=0 block=6",
+    "0 must confidential-primary bundle=0 block=11",
     "0 should hops bundle=0 limit=0 count=1",
-    "0 must block-data bundle=0 block=2 byte=30",
-    "0 should data-not-read bundle=0 block=3 byte=37",
+    "0 must block-data bundle=0 block=3 byte=37",
+    "0 should data-not-read bundle=0 block=4 byte=44",
+    "0 must previous-node-id bundle=0 block=2",
+    "0 should expired bundle=0 lifetime=4 age=5",
+    "0 should block-type bundle=0 block=9 type=9",
+    "0 must report-times bundle=0",
+    "0 should report-reason bundle=0 reason=17",
+    "0 should report-source bundle=0",
+    "0 must security-targets bundle=0 block=13",
+    "0 must security-twice bundle=0 block=12 target=9",
+    "0 must security-flags bundle=0 block=10 flags=02",
+    "0 should security-context bundle=0 block=11 context=0",
+    "0 must integrity-target bundle=0 block=10 target=11",
+    "0 must confidential-target bundle=0 block=11 target=11",
+    "0 must confidential-flags bundle=0 block=11 flags=10",
+    "0 must confidential-context bundle=0 block=12",
+    "0 should shared-target bundle=0 block=10 target=9",
 ]
 
 
@@ -102,7 +120,7 @@ def of_one_message():
 
 
 def of_one_step():
-    """As many lines as a step writes, of a START that closes its transfer. Its bundle has 77 bytes."""
+    """As many lines as a step writes, of a START that closes its transfer."""
     most = make.xfer_segment(BOTH | 0x08, 5, EVERY_RULE, length(9), length(9), make.item(0x10, 2, b""))
     of_bundle = [line.replace("0 ", "88 ", 1).replace("bundle=0", "transfer=5") for line in EVERY_LINE]
     yield stream_row("the most lines of a step", [EMPTY, OPENED, TERM, make.msg_reject(1, 8), most], [
@@ -114,14 +132,14 @@ def of_one_step():
         "88 should interleaved id=5 open=6",
         "88 must segment-flags flags=0b",
         "88 must transfer-id id=5",
-        "88 must peer-segment length=77 limit=76",
-        "88 must peer-transfer length=77 limit=0",
+        "88 must peer-segment length=178 limit=177",
+        "88 must peer-transfer length=178 limit=0",
         "88 should item-type item=2 type=0002",
         "88 must after-reject type=01",
         "88 must length-item transfer=5",
         "88 should length-of-one-segment transfer=5",
         *of_bundle,
-    ], peer_segment=76, peer_transfer=0)
+    ], peer_segment=177, peer_transfer=0)
 
 
 def of_one_bundle():
@@ -198,10 +216,12 @@ def ciphertext():
         "0 should hops bundle=0 limit=0 count=1",
         "0 must block-data bundle=0 block=4 byte=40",
     ])
-    many = block(12, 9, security([0, *range(1, 65)], 2, (1, 1)))
+    many = hiding(9, *range(65))
     yield bundle_row("too many targets", bundle(hops, cut, age, INTEGRITY, many, kind=0, flags=0x02), [
         "0 must hop-count bundle=0 blocks=2",
         "0 must confidential-primary bundle=0 block=9",
+        "0 should security-targets bundle=0 block=9 target=6",
+        "0 must confidential-target bundle=0 block=9 target=9",
     ])
     yield bundle_row("a fragment without its end", bundle(HIDDEN, flags=0x05, fragment=(0, 0), payload=b""), [
         "0 must fragment bundle=0 offset=0 length=0 total=0",
@@ -226,6 +246,35 @@ def fragments():
     yield bundle_row("a whole fragment that must be none", bundle(flags=0x05, fragment=(0, 1)), [
         "0 must fragment bundle=0 offset=0 length=1 total=1", "0 should whole-fragment bundle=0 total=1",
     ])
+    wrong = {"flags": 0x05, "fragment": (0, 1), "source": b"//n/~", "lifetime": 4}
+    yield bundle_row("a whole fragment of a group", bundle(AGE, block(0, 3, b""), protecting(4, 4, 0), **wrong), [
+        "0 must fragment bundle=0 offset=0 length=1 total=1", "0 should whole-fragment bundle=0 total=1",
+        "0 must source-node bundle=0", "0 should expired bundle=0 lifetime=4 age=5",
+        "0 should block-type bundle=0 block=3 type=0", "0 must integrity-target bundle=0 block=4 target=4",
+    ])
+
+
+def of_two_levels():
+    """Rules whose level depends on the case, with all lines and with those of level must."""
+    group, service = block(6, 2, endpoint(None)), block(6, 2, endpoint((1, 1)))
+    age, hops = block(7, 3, b"\x18\x05"), block(10, 4, b"\x98\x02\x05\x01")
+    # A hop count of 10 bytes is at 25, and the data of the block after it at 41.
+    source = block(11, 5, b"\x81\x01\x01\x00\x82\x01\x18\x00")
+    for name, content, line in [
+        ("a node that is none", bundle(group), "previous-node-id bundle=0 block=2"),
+        ("heads of blocks and of data", bundle(hops, source), "long-head bundle=0 byte=47"),
+        ("a target twice, and one that is not there", bundle(protecting(2, 7), protecting(3, 1, 1)),
+         "security-targets bundle=0 block=3 target=1"),
+    ]:
+        yield bundle_row(name, content, [f"0 must {line}"])
+        yield bundle_row(f"{name}, must", content, [f"0 must {line}"], must=True)
+    for name, content, line in [
+        ("a node that is a service", bundle(service), "previous-node-id bundle=0 block=2"),
+        ("heads of data", bundle(age, hops), "long-head bundle=0 byte=31"),
+        ("a target that is not there", bundle(protecting(2, 7)), "security-targets bundle=0 block=2 target=7"),
+    ]:
+        yield bundle_row(name, content, [f"0 should {line}"])
+        yield bundle_row(f"{name}, must", content, [], must=True)
 
 
 def transfers():
@@ -354,9 +403,25 @@ def files():
     yield bundle_row("a cut bundle", bundle(AGE)[:-1], [], cut, 3, must=True)
 
 
+def of_several_bundles():
+    """Bundles one after another, of which one breaks most rules, and others keep them all."""
+    record = bundle(AGE, flags=0x02, payload=report(True, False, False, False))
+    keeping = bundle(block(7, 3, b"\x05"), protecting(4, 0), block(192, 2, b"", flags=0x01), hiding(9, 1, 2))
+    at = len(EVERY_RULE) + len(keeping) + len(record)
+    later = [line.replace("0 ", f"{at} ", 1).replace("bundle=0", "bundle=3") for line in EVERY_LINE]
+    yield bundle_row("most rules twice", EVERY_RULE + keeping + record + EVERY_RULE, [*EVERY_LINE, *later])
+    yield bundle_row("no rule", keeping + record + CLEAN, [])
+    # Transfers of 200, 93 and 200 bytes
+    lines = [line.replace("0 ", "38 ", 1).replace("bundle=0", "transfer=0") for line in EVERY_LINE]
+    later = [line.replace("38 ", "293 ", 1).replace("transfer=0", "transfer=2") for line in lines]
+    yield stream_row("most rules in transfers", [sent(EVERY_RULE), sent(CLEAN, 1), sent(EVERY_RULE, 2)], lines + later)
+    yield stream_row("most rules in two segments", [two(EVERY_RULE, 90)], lines)
+
+
 def rows():
     """The rows of this file."""
     for part in (
-        of_one_message, of_one_step, of_one_bundle, not_read, ciphertext, fragments, transfers, once, faults, levels, files,
+        of_one_message, of_one_step, of_one_bundle, not_read, ciphertext, fragments, of_two_levels, transfers, once, faults,
+        levels, files, of_several_bundles,
     ):
         yield from part()

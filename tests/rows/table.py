@@ -1,10 +1,10 @@
 """The files of rows and laws by their names. The scripts that try them go by this table."""
 
-from . import broken, corpus, faults, laws, lines, rfc9173, runs, words
+from . import bundles, corpus, faults, laws, lines, messages, rfc9173, runs, security, words
 
 MODULES = {
-    "lines": lines, "words": words, "broken": broken, "corpus": corpus, "faults": faults, "runs": runs,
-    "rfc9173": rfc9173, "laws": laws,
+    "lines": lines, "words": words, "messages": messages, "bundles": bundles, "security": security, "corpus": corpus,
+    "faults": faults, "runs": runs, "rfc9173": rfc9173, "laws": laws,
 }
 
 

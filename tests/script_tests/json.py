@@ -45,6 +45,9 @@ ESCAPES = [
     (r"\xc0\x80", None),
 ]
 
+# Rules of which a type or a reason is decimal in the line
+DECIMAL = ("block-type", "record-type", "report-reason")
+
 # Lines that are of no form
 BAD = [
     *["", " ", "x", "38", "38 ", "38 keepalive ", " 38 keepalive", "38  keepalive"],
@@ -125,11 +128,15 @@ def rows_of(document, head):
 
 
 def each_form():
-    """json.lines has a line of each form of docs/FORMATS.md."""
+    """json.lines has a line of each form of docs/FORMATS.md, in its tables, lists and sentences."""
+    text = read(f"{TOP}/docs/FORMATS.md").decode()
+    judged = text.partition("JUDGEMENT is the first that holds:\n\n")[2].partition("\n\n")[0]
     forms = [cells[1] for cells in rows_of("FORMATS.md", "| For | Line |")]
-    forms += [f"{OVER} {cells[0]}" for cells in rows_of("FORMATS.md", "| JUDGEMENT | |")]
+    forms += [f"{OVER} {judgement}" for judgement in re.findall(r"^- `(.*?)`: ", judged, re.MULTILINE)]
+    forms += re.findall(r"^- .*: (`(?:OFF|bundle|tcpclkit:) .*?`(?: and WORDS)?)$", text, re.MULTILINE)
+    forms += re.findall(r"`transfer ID .*?`", text)
     forms += ["tcpclkit: byte OFF: TEXT"]
-    yield "json: forms of docs/FORMATS.md", True, len(forms) >= 17
+    yield "json: forms of docs/FORMATS.md", 24, len(forms)
     for form in forms:
         form = " ".join(form.replace("`", "").replace(" and ", " ").split())
         pattern = re.sub(r"\b[A-Z]+\b", lambda it: PLACES[it[0]], form)
@@ -139,7 +146,7 @@ def each_form():
 
 def each_rule():
     """json.lines has a line of each rule of docs/FORMATS.md, with each of its words."""
-    heads = ["| Rule | Level | RFC 9174 |", "| Rule | Level | RFC |", "| Rule | Level | RFC 9171 |"]
+    heads = [f"| Rule | Level | {rfc} |" for rfc in ("RFC 9174", "RFC", "RFC 9171", "RFC 9172")]
     rules = [it for head in heads for it in rows_of("FORMATS.md", f"{head} Broken if | WORDS |")]
     yield "json: rules of docs/FORMATS.md", {it.name for it in checking.RULES}, {name.strip("`") for name, *_ in rules}
     lines = [line.split(" ") for line, _ in PAIRS if re.match(r"\d+ (must|should) ", line)]
@@ -295,7 +302,7 @@ def rule_line_of(it):
     fields = dict(it)
     words = [str(fields.pop(name)) for name in ("offset", "level", "rule")]
     for name, value in fields.items():
-        if name in ("flags", "type", "reason", "header"):
+        if name in ("flags", "type", "reason", "header") and it["rule"] not in DECIMAL:
             value = f"{value:04x}" if it["rule"] == "item-type" and name == "type" else texts.hexadecimal(value)
         words.append(f"{name.replace('fragment-', '')}={value}")
     return " ".join(words)

@@ -48,7 +48,7 @@ fn expect_words(
 }
 
 /// Data, and its words.
-static WORDS: [(DataKind, &[u8], &str); 26] = [
+static WORDS: [(DataKind, &[u8], &str); 29] = [
     (
         DataKind::PreviousNode,
         b"\x82\x02\x82\x05\x00",
@@ -82,32 +82,48 @@ static WORDS: [(DataKind, &[u8], &str); 26] = [
     (
         DataKind::Security,
         b"\x81\x00\x01\x00\x82\x02\x82\x01\x01",
-        "targets=1 context=1 source=ipn:1.1",
+        "targets=1 context=1 context-flags=00 source=ipn:1.1",
     ),
     (
         DataKind::Security,
         b"\x82\x00\x01\x01\x01\x82\x01\x63\x2f\x2f\x61\x82\x01\x02",
-        "targets=2 context=1 source=dtn://a",
+        "targets=2 context=1 context-flags=01 source=dtn://a",
     ),
     (
         DataKind::Security,
         b"\x80\x20\x00\x82\x01\x00",
-        "targets=0 context=-1 source=dtn:none",
+        "targets=0 context=-1 context-flags=00 source=dtn:none",
     ),
     (
         DataKind::Security,
         b"\x80\x3b\xff\xff\xff\xff\xff\xff\xff\xff\x00\x82\x01\x00",
-        "targets=0 context=-18446744073709551616 source=dtn:none",
+        "targets=0 context=-18446744073709551616 context-flags=00 source=dtn:none",
     ),
     (
         DataKind::Security,
         b"\x80\x1b\xff\xff\xff\xff\xff\xff\xff\xff\x00\x82\x01\x00",
-        "targets=0 context=18446744073709551615 source=dtn:none",
+        "targets=0 context=18446744073709551615 context-flags=00 source=dtn:none",
     ),
     (
         DataKind::Security,
         b"\x81\x01\x02\x01\x82\x02\x82\x01\x01\x80\x80",
-        "targets=1 context=2 source=ipn:1.1",
+        "targets=1 context=2 context-flags=01 source=ipn:1.1",
+    ),
+    // flags in as many pairs of digits as they need
+    (
+        DataKind::Security,
+        b"\x80\x01\x18\xff\x82\x01\x00",
+        "targets=0 context=1 context-flags=ff source=dtn:none",
+    ),
+    (
+        DataKind::Security,
+        b"\x80\x01\x19\x01\x02\x82\x01\x00",
+        "targets=0 context=1 context-flags=0102 source=dtn:none",
+    ),
+    (
+        DataKind::Security,
+        b"\x80\x01\x1b\xff\xff\xff\xff\xff\xff\xff\xff\x82\x01\x00",
+        "targets=0 context=1 context-flags=ffffffffffffffff source=dtn:none",
     ),
     (DataKind::Record, b"\x82\x02", "record=2/?"),
     (DataKind::Record, b"\x98\x02\x18\xff", "record=255/?"),
@@ -195,6 +211,8 @@ fn report(reason: u64) -> DataView<'static>
         forwarded: Assertion::Yes,
         delivered: Assertion::YesAt(1000),
         deleted: Assertion::YesAt(u64::MAX),
+        timed: true,
+        untimed: true,
         reason,
         time: 0,
         sequence: 9,

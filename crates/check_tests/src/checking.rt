@@ -1,6 +1,8 @@
 //! Tests that check worked inputs, at each pace of the devices and step by step.
 
-use crate::rows::{BETWEEN, BUNDLES, FAULTS, NOT_READ, ONE_BUNDLE, OUT_OF_ORDER, Row, WHOLE};
+use crate::rows::{
+    BETWEEN, BUNDLES, FAULTS, MOST_LINES, NOT_READ, ONE_BUNDLE, OUT_OF_ORDER, Row, WHOLE,
+};
 use std::alloc::Global;
 use std::test::Fail;
 use toolkit_tests::running::{Expected, gives, gives_at_each_pace, gives_in_place};
@@ -36,6 +38,11 @@ fn all_given(alloc: Global, rows: &[Row]) -> Result<(), Fail> {
 #[test]
 fn whole_recordings(rt: HostRuntime) -> Result<(), Fail> {
     all_given(rt.alloc(), &WHOLE)
+}
+
+#[test]
+fn the_most_lines_of_a_step(rt: HostRuntime) -> Result<(), Fail> {
+    all_given(rt.alloc(), &MOST_LINES)
 }
 
 #[test]

@@ -1,6 +1,6 @@
 //! Tests in which each device of `check` fails at each of its calls in turn.
 
-use crate::rows::{BAD_BUNDLE, BEGINNING, BETWEEN, CUT, MOST_RULES, ONE_BUNDLE, Row};
+use crate::rows::{BAD_BUNDLE, BEGINNING, BETWEEN, CUT, MOST_RULES, RECORD, Row};
 use std::alloc::Global;
 use std::test::Fail;
 use toolkit_tests::failures::each_fails_at_each_pace;
@@ -33,8 +33,8 @@ fn cut_segment(rt: HostRuntime) -> Result<(), Fail> {
 }
 
 #[test]
-fn one_bundle(rt: HostRuntime) -> Result<(), Fail> {
-    row_fails(rt.alloc(), &ONE_BUNDLE)
+fn record(rt: HostRuntime) -> Result<(), Fail> {
+    row_fails(rt.alloc(), &RECORD)
 }
 
 #[test]

@@ -61,30 +61,38 @@ const CLEAN_FRONT: &[u8] = b"\x9f\x89\x07\x00\x01\x82\x02\x82\x02";
 
 /// The rest of the bundle.
 const CLEAN_BACK: &[u8] =
-    b"\x01\x82\x02\x82\x01\x01\x82\x01\x00\x82\x01\x00\x00\x42\x1d\x01\x85\x01\x01\x00\x00\x41x\xff";
+    b"\x01\x82\x02\x82\x01\x01\x82\x01\x00\x82\x01\x00\x14\x42\xac\x4c\x85\x01\x01\x00\x00\x41x\xff";
 
 /// The first 9 bytes of a bundle of 33 bytes that breaks two rules, one of each level.
 const WRONG_FRONT: &[u8] = b"\x9f\x89\x07\x08\x01\x82\x02\x82\x02";
 
 /// The rest of the bundle.
 const WRONG_BACK: &[u8] =
-    b"\x01\x82\x02\x82\x01\x01\x82\x01\x00\x82\x00\x00\x00\x42\x7b\x97\x85\x01\x01\x00\x00\x41x\xff";
+    b"\x01\x82\x02\x82\x01\x01\x82\x01\x00\x82\x00\x00\x14\x42\xca\xda\x85\x01\x01\x00\x00\x41x\xff";
 
 /// The bundle of `CLEAN_FRONT` and `CLEAN_BACK` up to its check value, without its first 9 bytes.
-const TO_CHECK: &[u8] = b"\x01\x82\x02\x82\x01\x01\x82\x01\x00\x82\x01\x00\x00";
+const TO_CHECK: &[u8] = b"\x01\x82\x02\x82\x01\x01\x82\x01\x00\x82\x01\x00\x14";
 
 /// The bytes after those, up to the head of the payload.
-const TO_PAYLOAD: &[u8] = b"\x42\x1d\x01\x85\x01\x01\x00\x00";
+const TO_PAYLOAD: &[u8] = b"\x42\xac\x4c\x85\x01\x01\x00\x00";
 
 /// Tag 55799 (RFC 8949 section 3.4.6).
 const TAG: &[u8] = b"\xd9\xd9\xf7";
 
-/// A bundle that breaks 17 rules, which is as many as one bundle can break: 77 bytes.
+/// A bundle that breaks 30 rules, which is as many as one bundle can break: 178 bytes.
 const EVERY_RULE: &[&[u8]] = &[
-    b"\x9f\x8a\x18\x07\x19\x40\x0b\x00\x82\x01\x61n\x82\x01\x00\x82\x01\x00\x82\x00",
-    b"\x00\x00\x00\x00\x85\x06\x02\x00\x00\x41\x00\x85\x06\x03\x00\x00\x41\x9f",
-    b"\x85\x0a\x04\x0a\x00\x43\x82\x00\x01\x85\x0a\x05\x00\x00\x40\x85\x0c\x06\x00\x00",
-    b"\x4b\x81\x00\x02\x00\x82\x02\x82\x01\x01\x81\x80\x85\x01\x01\x00\x00\x40\xff",
+    b"\x9f\x88\x18\x07\x19\x40\x0a\x00\x82\x01\x61\x6e\x82\x01\x00\x82\x01\x00\x82\x01\x00\x04",
+    b"\x85\x06\x02\x00\x00\x43\x82\x01\x00",
+    b"\x85\x06\x03\x00\x00\x41\x00\x85\x06\x04\x00\x00\x41\x9f",
+    b"\x85\x07\x05\x00\x00\x41\x05\x85\x07\x06\x00\x00\x41\x06",
+    b"\x85\x0a\x07\x0a\x00\x43\x82\x00\x01\x85\x0a\x08\x00\x00\x43\x82\x09\x00",
+    b"\x85\x09\x09\x00\x00\x40",
+    b"\x85\x0b\x0a\x00\x00\x4a\x82\x09\x0b\x01\x02\x82\x02\x82\x01\x01",
+    b"\x85\x0c\x0b\x10\x00\x4f\x83\x00\x09\x0b\x00\x00\x82\x02\x82\x01\x01\x83\x80\x80\x80",
+    b"\x85\x0c\x0c\x00\x00\x4b\x81\x09\x01\x00\x82\x02\x82\x01\x01\x81\x80",
+    b"\x85\x0b\x0d\x00\x00\x48\x80\x01\x00\x82\x02\x82\x01\x01",
+    b"\x85\x01\x01\x00\x00\x54\x82\x01\x84\x84\x82\xf5\x07\x81\xf5\x81\xf4\x81\xf4\x11",
+    b"\x82\x01\x00\x82\x01\x00\xff",
 ];
 
 /// A SESS_TERM without flags (RFC 9174 section 6.1).
@@ -181,12 +189,12 @@ pub const BETWEEN: Row = Row {
 };
 
 /// The same START of a bundle that breaks every rule. No step writes more lines.
-const MOST_LINES: Row = Row {
+pub static MOST_LINES: [Row; 1] = [Row {
     name: "the most lines of a step",
     tool: Tool::Check(CheckOptions {
         must: false,
         peer: PeerLimits {
-            segment: Some(76),
+            segment: Some(177),
             transfer: Some(0),
         },
     }),
@@ -200,7 +208,7 @@ const MOST_LINES: Row = Row {
             b"\x01\x0b\x00\x00\x00\x00\x00\x00\x00\x05\x00\x00\x00\x1f",
             b"\x00\x00\x01\x00\x08\x00\x00\x00\x00\x00\x00\x00\x09",
             b"\x00\x00\x01\x00\x08\x00\x00\x00\x00\x00\x00\x00\x09",
-            b"\x10\x00\x02\x00\x00\x00\x00\x00\x00\x00\x00\x00\x4d",
+            b"\x10\x00\x02\x00\x00\x00\x00\x00\x00\x00\x00\x00\xb2",
         ]),
         Part::Bytes(EVERY_RULE),
     ],
@@ -213,33 +221,46 @@ const MOST_LINES: Row = Row {
         b"88 should interleaved id=5 open=6\n",
         b"88 must segment-flags flags=0b\n",
         b"88 must transfer-id id=5\n",
-        b"88 must peer-segment length=77 limit=76\n",
-        b"88 must peer-transfer length=77 limit=0\n",
+        b"88 must peer-segment length=178 limit=177\n",
+        b"88 must peer-transfer length=178 limit=0\n",
         b"88 should item-type item=2 type=0002\n",
         b"88 must after-reject type=01\n",
         b"88 must length-item transfer=5\n",
         b"88 should length-of-one-segment transfer=5\n",
         b"88 must long-head transfer=5 byte=2\n",
-        b"88 should bundle-flags transfer=5 flags=400b\n",
+        b"88 should bundle-flags transfer=5 flags=400a\n",
         b"88 must primary-check transfer=5\n",
-        b"88 must anonymous transfer=5 flags=400b\n",
-        b"88 must record-reports transfer=5 flags=400b\n",
-        b"88 must block-reports transfer=5 block=4\n",
-        b"88 should block-flags transfer=5 block=4 flags=0a\n",
+        b"88 must anonymous transfer=5 flags=400a\n",
+        b"88 must record-reports transfer=5 flags=400a\n",
+        b"88 must block-reports transfer=5 block=7\n",
+        b"88 should block-flags transfer=5 block=7 flags=0a\n",
         b"88 must dtn-name transfer=5 of=destination\n",
-        b"88 must fragment transfer=5 offset=0 length=0 total=0\n",
-        b"88 should whole-fragment transfer=5 total=0\n",
-        b"88 must age transfer=5 blocks=0\n",
-        b"88 must previous-node transfer=5 blocks=2\n",
+        b"88 must age transfer=5 blocks=2\n",
+        b"88 must previous-node transfer=5 blocks=3\n",
         b"88 must hop-count transfer=5 blocks=2 limit=0\n",
-        b"88 must confidential-primary transfer=5 block=6\n",
+        b"88 must confidential-primary transfer=5 block=11\n",
         b"88 should hops transfer=5 limit=0 count=1\n",
-        b"88 must block-data transfer=5 block=2 byte=30\n",
-        b"88 should data-not-read transfer=5 block=3 byte=37\n",
+        b"88 must block-data transfer=5 block=3 byte=37\n",
+        b"88 should data-not-read transfer=5 block=4 byte=44\n",
+        b"88 must previous-node-id transfer=5 block=2\n",
+        b"88 should expired transfer=5 lifetime=4 age=5\n",
+        b"88 should block-type transfer=5 block=9 type=9\n",
+        b"88 must report-times transfer=5\n",
+        b"88 should report-reason transfer=5 reason=17\n",
+        b"88 should report-source transfer=5\n",
+        b"88 must security-targets transfer=5 block=13\n",
+        b"88 must security-twice transfer=5 block=12 target=9\n",
+        b"88 must security-flags transfer=5 block=10 flags=02\n",
+        b"88 should security-context transfer=5 block=11 context=0\n",
+        b"88 must integrity-target transfer=5 block=10 target=11\n",
+        b"88 must confidential-target transfer=5 block=11 target=11\n",
+        b"88 must confidential-flags transfer=5 block=11 flags=10\n",
+        b"88 must confidential-context transfer=5 block=12\n",
+        b"88 should shared-target transfer=5 block=10 target=9\n",
     ],
     report: &[],
     status: 1,
-};
+}];
 
 /// Transfers of data that is no bundle, or that may be one and is not read.
 pub const NOT_READ: Row = Row {
@@ -283,7 +304,7 @@ pub const NOT_READ: Row = Row {
             &[
                 CLEAN_FRONT,
                 TO_CHECK,
-                b"\x42\x1d\x01\x85\x07\x02\x00\x00\x5f",
+                b"\x42\xac\x4c\x85\x07\x02\x00\x00\x5f",
             ],
         ),
         Part::Segment(
@@ -292,7 +313,7 @@ pub const NOT_READ: Row = Row {
             &[
                 CLEAN_FRONT,
                 TO_CHECK,
-                b"\x42\x1d\x01\x86\x07\x02\x00\x01\x41\x05\x5f",
+                b"\x42\xac\x4c\x86\x07\x02\x00\x01\x41\x05\x5f",
             ],
         ),
     ],
@@ -319,7 +340,7 @@ pub const NOT_READ: Row = Row {
 };
 
 /// Recordings that are read to their end.
-pub static WHOLE: [Row; 8] = [
+pub static WHOLE: [Row; 7] = [
     Row {
         name: "order, kept 0",
         tool: ALL,
@@ -335,7 +356,6 @@ pub static WHOLE: [Row; 8] = [
     },
     BEGINNING,
     MOST_RULES,
-    MOST_LINES,
     BETWEEN,
     NOT_READ,
     Row {
@@ -475,7 +495,7 @@ pub const CUT: Row = Row {
             b"\x01\x07\x00\x00\x00\x00\x00\x00\x00\x00\x00\x00\x00\x00",
             b"\x00\x00\x00\x00\x00\x00\x00\x21",
             CLEAN_FRONT,
-            b"\x01\x82\x02\x82\x01\x01\x82\x01\x00\x82\x01\x00\x00\x42\x1d\x01\x85\x01\x01\x00\x00\x41x",
+            b"\x01\x82\x02\x82\x01\x01\x82\x01\x00\x82\x01\x00\x14\x42\xac\x4c\x85\x01\x01\x00\x00\x41x",
         ]),
     ],
     output: &[
@@ -518,22 +538,53 @@ pub const ONE_BUNDLE: Row = Row {
     input: &[Part::Bytes(EVERY_RULE)],
     output: &[
         b"0 must long-head bundle=0 byte=2\n",
-        b"0 should bundle-flags bundle=0 flags=400b\n",
+        b"0 should bundle-flags bundle=0 flags=400a\n",
         b"0 must primary-check bundle=0\n",
-        b"0 must anonymous bundle=0 flags=400b\n",
-        b"0 must record-reports bundle=0 flags=400b\n",
-        b"0 must block-reports bundle=0 block=4\n",
-        b"0 should block-flags bundle=0 block=4 flags=0a\n",
+        b"0 must anonymous bundle=0 flags=400a\n",
+        b"0 must record-reports bundle=0 flags=400a\n",
+        b"0 must block-reports bundle=0 block=7\n",
+        b"0 should block-flags bundle=0 block=7 flags=0a\n",
         b"0 must dtn-name bundle=0 of=destination\n",
-        b"0 must fragment bundle=0 offset=0 length=0 total=0\n",
-        b"0 should whole-fragment bundle=0 total=0\n",
-        b"0 must age bundle=0 blocks=0\n",
-        b"0 must previous-node bundle=0 blocks=2\n",
+        b"0 must age bundle=0 blocks=2\n",
+        b"0 must previous-node bundle=0 blocks=3\n",
         b"0 must hop-count bundle=0 blocks=2 limit=0\n",
-        b"0 must confidential-primary bundle=0 block=6\n",
+        b"0 must confidential-primary bundle=0 block=11\n",
         b"0 should hops bundle=0 limit=0 count=1\n",
-        b"0 must block-data bundle=0 block=2 byte=30\n",
-        b"0 should data-not-read bundle=0 block=3 byte=37\n",
+        b"0 must block-data bundle=0 block=3 byte=37\n",
+        b"0 should data-not-read bundle=0 block=4 byte=44\n",
+        b"0 must previous-node-id bundle=0 block=2\n",
+        b"0 should expired bundle=0 lifetime=4 age=5\n",
+        b"0 should block-type bundle=0 block=9 type=9\n",
+        b"0 must report-times bundle=0\n",
+        b"0 should report-reason bundle=0 reason=17\n",
+        b"0 should report-source bundle=0\n",
+        b"0 must security-targets bundle=0 block=13\n",
+        b"0 must security-twice bundle=0 block=12 target=9\n",
+        b"0 must security-flags bundle=0 block=10 flags=02\n",
+        b"0 should security-context bundle=0 block=11 context=0\n",
+        b"0 must integrity-target bundle=0 block=10 target=11\n",
+        b"0 must confidential-target bundle=0 block=11 target=11\n",
+        b"0 must confidential-flags bundle=0 block=11 flags=10\n",
+        b"0 must confidential-context bundle=0 block=12\n",
+        b"0 should shared-target bundle=0 block=10 target=9\n",
+    ],
+    report: &[],
+    status: 1,
+};
+
+/// A record without a source that breaks four rules.
+pub const RECORD: Row = Row {
+    name: "a record",
+    tool: BUNDLES_ALONE,
+    input: &[Part::Bytes(&[
+        b"\x9f\x89\x07\x19\x40\x02\x01\x82\x02\x82\x02\x01\x82\x01\x00\x82\x01\x00\x82\x00\x00\x14",
+        b"\x42\x05\xc4\x85\x01\x01\x00\x00\x41x\xff",
+    ])],
+    output: &[
+        b"0 must anonymous bundle=0 flags=4002\n",
+        b"0 must record-reports bundle=0 flags=4002\n",
+        b"0 must age bundle=0 blocks=0\n",
+        b"0 must record bundle=0 byte=32\n",
     ],
     report: &[],
     status: 1,
@@ -547,7 +598,7 @@ pub const BAD_BUNDLE: Row = Row {
         WRONG_FRONT,
         WRONG_BACK,
         CLEAN_FRONT,
-        b"\x01\x82\x02\x82\x01\x01\x82\x01\x00\x82\x01\x00\x00\x42\x1d\x01\x85\x01\x01\x00\x00\x41x\x00",
+        b"\x01\x82\x02\x82\x01\x01\x82\x01\x00\x82\x01\x00\x14\x42\xac\x4c\x85\x01\x01\x00\x00\x41x\x00",
         WRONG_FRONT,
         WRONG_BACK,
     ])],
@@ -560,8 +611,9 @@ pub const BAD_BUNDLE: Row = Row {
 };
 
 /// Bundles, one after another.
-pub static BUNDLES: [Row; 6] = [
+pub static BUNDLES: [Row; 7] = [
     ONE_BUNDLE,
+    RECORD,
     BAD_BUNDLE,
     Row {
         name: "three bundles",
@@ -588,11 +640,11 @@ pub static BUNDLES: [Row; 6] = [
         input: &[Part::Bytes(&[
             CLEAN_FRONT,
             TO_CHECK,
-            b"\x42\x1d\x01\x85\x07\x02\x00\x00\x40\x85\x0c\x09\x00\x00\x4b\x81\x02\x02\x00\x82\x02",
+            b"\x42\xac\x4c\x85\x07\x02\x00\x00\x40\x85\x0c\x09\x00\x00\x4b\x81\x02\x02\x00\x82\x02",
             b"\x82\x01\x01\x81\x80\x85\x01\x01\x00\x00\x41x\xff",
             CLEAN_FRONT,
             TO_CHECK,
-            b"\x42\x1d\x01\x85\x07\x02\x00\x00\x40\x85\x01\x01\x00\x00\x41x\xff",
+            b"\x42\xac\x4c\x85\x07\x02\x00\x00\x40\x85\x01\x01\x00\x00\x41x\xff",
         ])],
         output: &[b"56 must block-data bundle=1 block=2 byte=31\n"],
         report: &[],

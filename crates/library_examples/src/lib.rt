@@ -1,4 +1,4 @@
-//! Examples of how the libraries are called, which docs/LIBRARIES.md shows word for word.
+//! Examples of how the libraries are called, to which docs/LIBRARIES.md points.
 #![tactic(auto)]
 
 pub mod counting;

@@ -31,7 +31,7 @@ use Rattle.link_block_data.specs.declared.due.DataStage.TheVariants.{Head as AtH
 use Rattle.link_block_data.specs.declared.draft.Draft.{Draft}
 use Rattle.link_block_data.specs.BlockData.{BlockData, items_at, assertion_at, located}
 use Rattle.link_block_data.specs.DataRows.{integer, assertion, four_or_six, four_or_more, one_or_two}
-use Rattle.link_block_data.specs.Turns.{others_due, targets_due, first_of, first_number, specific, with_assertion, with_targets, with_target, with_context, with_eid, took_assertion, took, took_dtn, took_asserted, judged}
+use Rattle.link_block_data.specs.Turns.{others_due, targets_due, first_of, first_number, specific, with_others, with_times, with_assertion, with_targets, with_target, with_context, with_flags, with_eid, took_assertion, took, took_dtn, took_asserted, judged}
 use Rattle.link_block_data.specs.Left.{ended, after_fragment, sequence_left, time_left, by_eid, reason_left, others_left, received_left, by_assertion, boolean_left, boolean_at, assertions_left, report_left, flags_left, context_left, targets_left, limit_left, type_left, number_left, pair_left, due_left, stage_left, goes_on}
 use Rattle.link_block_data.proofs.Names.{then_then, same_then, owner_ends, by_eid-then, name_begins}
 
@@ -160,7 +160,8 @@ status_turn status.Forwarded assertion draft bytes next = refl
 status_turn status.Delivered assertion draft bytes next = refl
 status_turn status.Deleted assertion draft bytes next =
     others_turn draft.others (with_assertion status.Deleted assertion draft) bytes next
-status_turn (status.Other left) assertion draft bytes next = others_turn left draft bytes next
+status_turn (status.Other left) assertion draft bytes next =
+    others_turn left (with_times draft assertion) bytes next
 
 asserted_turn : (status : Status) (has_time asserted : Bool) (draft : Draft) (bytes : List ℕ)
     (next : ℕ)
@@ -233,7 +234,8 @@ number_turn number.HopLimit value draft bytes next = refl
 number_turn (number.HopCount limit) value draft bytes next = refl
 number_turn (number.Target left) value draft bytes next =
     targets_turn left (with_target draft value) bytes next
-number_turn number.ContextFlags value draft bytes next = eid_turn owner.Security draft bytes next
+number_turn number.ContextFlags value draft bytes next =
+    eid_turn owner.Security (with_flags value draft) bytes next
 number_turn number.RecordType value draft bytes next = type_turn (value == 1) value draft bytes next
 number_turn (number.AssertedTime status) value draft bytes next =
     status_turn status (YesAt value) draft bytes next
@@ -313,10 +315,9 @@ head_turn due.Report draft head bytes offset next whole within =
     (λ count. refl) (λ stop. refl)
 head_turn due.Assertions draft head bytes offset next whole within =
     by_row (λ (reading : ReadAt ℕ). reading >>= λ (count, end).
-    received_left (record draft { others = count - 4 }) bytes (assertion_at bytes end))
-    (λ (count : ℕ).
-    (AtHead (due.Assertion status.Received), record draft { others = count - 4 })) four_or_more
-    bytes offset next head whole
+    received_left (with_others (count - 4) draft) bytes (assertion_at bytes end))
+    (λ (count : ℕ). (AtHead (due.Assertion status.Received), with_others (count - 4) draft))
+    four_or_more bytes offset next head whole
     (λ count. refl) (λ stop. refl)
 head_turn (due.Assertion status) draft head bytes offset next whole within =
     ap (λ (reading : ReadAt Assertion). located bytes (by_assertion status draft bytes reading))

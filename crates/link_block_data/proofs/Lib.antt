@@ -3,4 +3,5 @@ pub mod Names
 pub mod Heads
 pub mod Stops
 pub mod Steps
+pub mod LongHeads
 pub mod Results

@@ -58,7 +58,8 @@ module _ {kind : DataKind} {draft : Draft} {head : HeadScan} {offset count : ℕ
       (ap (λ (at : ℕ). Err (fault_at seen Cut at)) (sym come.counted))
 
   pub result_read : {found : Found} → HasSeen kind (Read found) draft head offset count seen
-      → data_of kind seen ≡ Ok (data_from found draft)
+      → data_of kind seen ≡ Ok (data_from found draft offset)
   unfolding stage_left
   result_read {found = found} come =
-      read_now come ∙ ended_there (may_follow found) (data_from found draft) seen offset come.stands
+      read_now come ∙ ended_there (may_follow found) (data_from found draft offset) seen offset
+      come.stands

@@ -28,7 +28,7 @@ use Rattle.link_block_data.proofs.Stops.{due_left-stopped}
 pub at_stage : {kind : DataKind} (scan : DataScan) {stage : DataStage} {seen : List ℕ}
     → scan.stage ≡ stage → HasScanned kind scan seen
     → HasSeen kind stage scan.draft scan.head scan.offset scan.count seen
-at_stage scan is come = rw is at come
+at_stage scan is come = rw is at come.state
 
 pub fits_at : (scan : DataScan) (stage : DataStage) → scan.stage ≡ stage
     → IsTrue (scan_fits stage scan.head scan.draft)

@@ -67,19 +67,21 @@ hop_count bytes = do
 
 -- The beginning of an abstract security block (RFC 9172 section 3.6): its targets, the ID and the
 -- flags of its security context, and its source. No array encloses these items. What follows the
--- source is not read. Its first 64 targets are kept.
+-- source is not read, so `size` is the offset after it. The first 64 targets are kept.
 unfoldable pub security : List ℕ → Result BlockData Stop
 security bytes = do
   (count, offset) ← row_at array bytes 0
   (targets, offset) ← items_at (row_at unsigned) count bytes offset
   (context, offset) ← row_at integer bytes offset
-  (_, offset) ← row_at unsigned bytes offset
+  (flags, offset) ← row_at unsigned bytes offset
   (source, offset) ← eid_at bytes offset
   Ok (
       Security (record {
         targets = count;
         targets_primary = list_any (λ target. target == 0) targets;
         context = context;
+        flags = flags;
+        size = offset;
       }) (take 64 targets) source
       )
 
@@ -98,9 +100,19 @@ assertion_at bytes offset = do
   (asserted, offset) ← outcome_at start next (assertion (count == 2) (next - start) head)
   if count == 2 then asserted_at bytes offset else Ok (if asserted then Yes else No, offset)
 
--- A status report (RFC 9171 section 6.1.1) that begins at an offset. Assertions after the first
--- four are read and not kept. The timestamp is that of the bundle. The report on a fragment has six
--- elements: the offset and the length of its payload come last.
+-- whether a status is asserted, with and without a time
+
+abbrev pub is_timed : Assertion → Bool
+is_timed (YesAt time) = true
+is_timed _ = false
+
+abbrev pub is_untimed : Assertion → Bool
+is_untimed Yes = true
+is_untimed _ = false
+
+-- A status report (RFC 9171 section 6.1.1) that begins at an offset. Of the assertions after the
+-- first four, only `timed` and `untimed` are kept. The timestamp is that of the bundle. The report
+-- on a fragment has six elements: the offset and the length of its payload come last.
 unfoldable pub report_at : List ℕ → ℕ → Result BlockData Stop
 report_at bytes offset = do
   (elements, offset) ← row_at four_or_six bytes offset
@@ -109,7 +121,7 @@ report_at bytes offset = do
   (forwarded, offset) ← assertion_at bytes offset
   (delivered, offset) ← assertion_at bytes offset
   (deleted, offset) ← assertion_at bytes offset
-  (_, offset) ← items_at assertion_at (assertions - 4) bytes offset
+  (others, offset) ← items_at assertion_at (assertions - 4) bytes offset
   (reason, offset) ← row_at unsigned bytes offset
   (source, offset) ← eid_at bytes offset
   (_, offset) ← row_at pair bytes offset
@@ -122,6 +134,8 @@ report_at bytes offset = do
         forwarded = forwarded;
         delivered = delivered;
         deleted = deleted;
+        timed = list_any is_timed (received ∷ forwarded ∷ delivered ∷ deleted ∷ others);
+        untimed = list_any is_untimed (received ∷ forwarded ∷ delivered ∷ deleted ∷ others);
         reason = reason;
         time = time;
         sequence = sequence;

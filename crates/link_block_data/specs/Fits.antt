@@ -1,6 +1,6 @@
 -- Relations: the bounds of a scan at each stage.
 
-use Rattle.std.specs.Prelude.{ℕ, Bool, true, ◌&&◌, nat_lt, nat_le}
+use Rattle.std.specs.Prelude.{ℕ, Bool, true, ◌&&◌, nat_lt, nat_le, Option, Some, None}
 use Rattle.link_cbor.specs.declared.head_scan.HeadScan.{HeadScan}
 use Rattle.link_cbor.specs.HeadScan.{may_scan_head}
 use Rattle.link_bundle_types.specs.KeptEid.{name_fits}
@@ -25,3 +25,8 @@ scan_fits stage head draft = head_fits stage head && stage_fits stage draft
 abbrev pub failed_within : DataStage → ℕ → Bool
 failed_within (Failed fault) count = nat_le fault.offset count
 failed_within _ count = true
+
+-- a long head begins within the bytes seen
+abbrev pub long_within : Option ℕ → ℕ → Bool
+long_within None count = true
+long_within (Some at) count = nat_le at count

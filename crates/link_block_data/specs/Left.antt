@@ -2,7 +2,7 @@
 -- there on. A draft has the values of the heads before. These definitions join the code to
 -- `data_of`. The promises need none of them.
 
-use Rattle.std.specs.Prelude.{ℕ, ◌-◌, ◌==◌, Bool, true, false, List, Option, Some, Result, Ok, Err, fold, if◌then◌else◌}
+use Rattle.std.specs.Prelude.{ℕ, ◌-◌, ◌==◌, Bool, true, false, List, Option, Some, None, Result, Ok, Err, fold, if◌then◌else◌}
 use Rattle.link_bundle_types.specs.declared.{eid.Eid.Eid, fault.BundleFault.BundleFault}
 use Rattle.link_bundle_types.specs.KeptEid.{name_of}
 use Rattle.link_bundle_heads.specs.declared.endpoint.Scheme.TheVariants.{Dtn, Ipn}
@@ -30,17 +30,19 @@ use Rattle.link_block_data.specs.declared.due.DataStage.TheVariants.{Head, Name,
 use Rattle.link_block_data.specs.declared.draft.Draft.{Draft}
 use Rattle.link_block_data.specs.BlockData.{BlockData, PreviousNode, BundleAge, HopCount, Security, StatusReport, OtherRecord, alone, items_at, asserted_at, assertion_at, fault_at, located}
 use Rattle.link_block_data.specs.DataRows.{integer, assertion, four_or_six, four_or_more}
-use Rattle.link_block_data.specs.Turns.{with_assertion, with_targets, with_target, with_context, with_eid}
+use Rattle.link_block_data.specs.Turns.{with_others, with_times, with_assertion, with_targets, with_target, with_context, with_flags, with_eid}
 
 -- ---- after the item
 
-abbrev pub data_from : Found → Draft → BlockData
-data_from found.PreviousNode draft = PreviousNode draft.eid
-data_from (found.BundleAge age) draft = BundleAge age
-data_from (found.HopCount limit count) draft = HopCount limit count
-data_from found.Security draft = Security draft.security draft.targets.items draft.eid
-data_from found.StatusReport draft = StatusReport draft.report draft.eid
-data_from (found.OtherRecord type) draft = OtherRecord type
+-- what the data says, if its item ends before `offset`
+abbrev pub data_from : Found → Draft → ℕ → BlockData
+data_from found.PreviousNode draft offset = PreviousNode draft.eid
+data_from (found.BundleAge age) draft offset = BundleAge age
+data_from (found.HopCount limit count) draft offset = HopCount limit count
+data_from found.Security draft offset =
+    Security (record draft.security { size = offset }) draft.targets.items draft.eid
+data_from found.StatusReport draft offset = StatusReport draft.report draft.eid
+data_from (found.OtherRecord type) draft offset = OtherRecord type
 
 -- whether bytes may follow what was read
 abbrev pub may_follow : Found → Bool
@@ -48,10 +50,16 @@ may_follow found.Security = true
 may_follow (found.OtherRecord type) = true
 may_follow _ = false
 
+-- the first long head, if the heads of such data are judged
+abbrev pub if_judged : Found → Option ℕ → Option ℕ
+if_judged found.StatusReport long = None
+if_judged (found.OtherRecord type) long = None
+if_judged _ long = long
+
 abbrev pub ended : Found → Draft → List ℕ → ℕ → Result BlockData Stop
 ended found draft bytes offset =
-    if may_follow found then Ok (data_from found draft)
-    else alone bytes offset (data_from found draft)
+    if may_follow found then Ok (data_from found draft offset)
+    else alone bytes offset (data_from found draft offset)
 
 -- ---- a status report, from the end on
 
@@ -99,8 +107,8 @@ reason_left draft bytes offset = do
 
 unfoldable pub others_left : ℕ → Draft → List ℕ → ℕ → Result BlockData Stop
 others_left left draft bytes offset = do
-  (_, offset) ← items_at assertion_at left bytes offset
-  reason_left draft bytes offset
+  (others, offset) ← items_at assertion_at left bytes offset
+  reason_left (fold with_times draft others) bytes offset
 
 -- the rest after the assertion of each status
 
@@ -130,8 +138,8 @@ by_assertion status.Forwarded draft bytes reading = forwarded_left draft bytes r
 by_assertion status.Delivered draft bytes reading = delivered_left draft bytes reading
 by_assertion status.Deleted draft bytes reading = deleted_left draft bytes reading
 by_assertion (status.Other left) draft bytes reading = do
-  (_, offset) ← reading
-  others_left left draft bytes offset
+  (other, offset) ← reading
+  others_left left (with_times draft other) bytes offset
 
 -- the Boolean of a status assertion, and what follows it
 
@@ -148,7 +156,7 @@ boolean_at has_time bytes offset = do
 unfoldable pub assertions_left : Draft → List ℕ → ℕ → Result BlockData Stop
 assertions_left draft bytes offset = do
   (assertions, offset) ← row_at four_or_more bytes offset
-  received_left (record draft { others = assertions - 4 }) bytes (assertion_at bytes offset)
+  received_left (with_others (assertions - 4) draft) bytes (assertion_at bytes offset)
 
 unfoldable pub report_left : Draft → List ℕ → ℕ → Result BlockData Stop
 report_left draft bytes offset = do
@@ -159,8 +167,8 @@ report_left draft bytes offset = do
 
 unfoldable pub flags_left : Draft → List ℕ → ℕ → Result BlockData Stop
 flags_left draft bytes offset = do
-  (_, offset) ← row_at unsigned bytes offset
-  by_eid owner.Security draft bytes (eid_at bytes offset)
+  (flags, offset) ← row_at unsigned bytes offset
+  by_eid owner.Security (with_flags flags draft) bytes (eid_at bytes offset)
 
 unfoldable pub context_left : Draft → List ℕ → ℕ → Result BlockData Stop
 context_left draft bytes offset = do
@@ -200,7 +208,7 @@ number_left (number.HopCount limit) draft count bytes offset =
 number_left (number.Target left) draft target bytes offset =
     targets_left left (with_target draft target) bytes offset
 number_left number.ContextFlags draft flags bytes offset =
-    by_eid owner.Security draft bytes (eid_at bytes offset)
+    by_eid owner.Security (with_flags flags draft) bytes (eid_at bytes offset)
 number_left number.RecordType draft type bytes offset =
     if type == 1 then report_left draft bytes offset
     else ended (found.OtherRecord type) draft bytes offset

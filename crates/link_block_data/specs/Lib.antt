@@ -1,5 +1,6 @@
 pub mod DataRows
 pub mod BlockData
+pub mod LongHeads
 pub mod DataView
 pub mod Turns
 pub mod Fits

@@ -1,13 +1,14 @@
 -- Relations: the bytes that a scan of block data has seen. The promises need only two facts: `new`
 -- and `restart` have seen nothing, and `take` adds its bytes.
 
-use Rattle.std.specs.Prelude.{◌≡◌, ℕ, ◌+◌, ◌≤◌, ◌||◌, ◌==◌, List, ◌++◌, length, drop, IsTrue}
+use Rattle.std.specs.{Prelude.{◌≡◌, ℕ, ◌+◌, ◌≤◌, ◌||◌, ◌==◌, List, ◌++◌, length, take, drop, Option, IsTrue}, Option.option_or}
 use Rattle.link_cbor.specs.declared.head_scan.HeadScan.{HeadScan}
 use Rattle.link_cbor.specs.Head.{AreBytes, Cut, head_front}
 use Rattle.link_cbor.specs.HeadScan.{HasScannedHead}
+use Rattle.link_rules.specs.Heads.{is_long, first_from}
 use Rattle.link_block_data.specs.declared.{kind.DataKind.DataKind, due.Due.Due}
 use Rattle.link_block_data.specs.declared.due.DataStage.{DataStage}
-use Rattle.link_block_data.specs.declared.due.DataStage.TheVariants.{Head, Read}
+use Rattle.link_block_data.specs.declared.due.DataStage.TheVariants.{Head, Name, Read, Failed}
 use Rattle.link_block_data.specs.declared.{draft.Draft.Draft, scan.DataScan.DataScan}
 use Rattle.link_block_data.specs.BlockData.{located, data_of}
 use Rattle.link_block_data.specs.Left.{may_follow, due_left, stage_left}
@@ -23,6 +24,18 @@ abbrev pub IsAtStage : DataStage → HeadScan → ℕ → List ℕ → Type 0
 IsAtStage (Head which) head offset seen = IsInHead head offset seen
 IsAtStage (Read found) head offset seen = IsTrue (may_follow found || (offset == length seen))
 IsAtStage _ head offset seen = Unit {0}
+
+-- Whatever bytes follow, the first long head is `long`, or else the first from this stage on. After
+-- the item it is the first up to there.
+abbrev pub IsLongAt : DataStage → Option ℕ → ℕ → List ℕ → Type 0
+IsLongAt (Head which) long offset seen =
+    (more : List ℕ) → first_from is_long 0 0 (seen ++ more)
+    ≡ option_or long (first_from is_long 0 offset (drop offset (seen ++ more)))
+IsLongAt (Name owner left) long offset seen =
+    (more : List ℕ) → first_from is_long 0 0 (seen ++ more)
+    ≡ option_or long (first_from is_long left (length seen) more)
+IsLongAt (Read found) long offset seen = long ≡ first_from is_long 0 0 (take offset seen)
+IsLongAt (Failed fault) long offset seen = Unit {0}
 
 -- Exactly these bytes were seen of data of this kind. Whatever bytes follow, the data is the rest
 -- that is read from this stage on.
@@ -44,8 +57,9 @@ pub record HasSeenHead (kind : DataKind) (which : Due) (draft : Draft) (offset c
       → data_of kind (seen ++ more)
       ≡ located (seen ++ more) (due_left which draft (seen ++ more) offset)
 
-abbrev pub HasScanned : DataKind → DataScan → List ℕ → Type 0
-HasScanned kind scan seen = HasSeen kind scan.stage scan.draft scan.head scan.offset scan.count seen
+pub record HasScanned (kind : DataKind) (scan : DataScan) (seen : List ℕ) : Type 0 where
+  pub state : HasSeen kind scan.stage scan.draft scan.head scan.offset scan.count seen
+  pub long : IsLongAt scan.stage scan.long scan.offset seen
 
 -- the number of bytes seen
 abbrev pub scan_size : DataScan → ℕ

@@ -28,6 +28,7 @@ use Rattle.link_block_data.specs.declared.due.Found.TheVariants as found
 use Rattle.link_block_data.specs.declared.due.DataStage.{DataStage}
 use Rattle.link_block_data.specs.declared.due.DataStage.TheVariants.{Head, Name, Read}
 use Rattle.link_block_data.specs.declared.draft.Draft.{Draft}
+use Rattle.link_block_data.specs.BlockData.{is_timed, is_untimed}
 use Rattle.link_block_data.specs.DataRows.{integer, assertion, four_or_six, four_or_more, one_or_two}
 
 abbrev pub first_due : DataKind → Due
@@ -78,16 +79,31 @@ first_of pair_.Timestamp = due.Number number.CreationTime
 
 -- the fields that a head sets
 
+-- before the first assertion, if this many follow the first four
+abbrev pub with_others : ℕ → Draft → Draft
+with_others others draft =
+    record draft { others = others; report = record draft.report { timed = false; untimed = false } }
+
+-- whether some asserted status so far has a time, and whether some has none, after one more
+abbrev pub with_times : Draft → Assertion → Draft
+with_times draft assertion =
+    record draft {
+      report = record draft.report {
+        timed = draft.report.timed || is_timed assertion;
+        untimed = draft.report.untimed || is_untimed assertion;
+      };
+    }
+
 abbrev pub with_assertion : Status → Assertion → Draft → Draft
 with_assertion status.Received assertion draft =
-    record draft { report = record draft.report { received = assertion } }
+    with_times (record draft { report = record draft.report { received = assertion } }) assertion
 with_assertion status.Forwarded assertion draft =
-    record draft { report = record draft.report { forwarded = assertion } }
+    with_times (record draft { report = record draft.report { forwarded = assertion } }) assertion
 with_assertion status.Delivered assertion draft =
-    record draft { report = record draft.report { delivered = assertion } }
+    with_times (record draft { report = record draft.report { delivered = assertion } }) assertion
 with_assertion status.Deleted assertion draft =
-    record draft { report = record draft.report { deleted = assertion } }
-with_assertion (status.Other left) assertion draft = draft
+    with_times (record draft { report = record draft.report { deleted = assertion } }) assertion
+with_assertion (status.Other left) assertion draft = with_times draft assertion
 
 abbrev pub with_targets : ℕ → Draft → Draft
 with_targets count draft =
@@ -113,6 +129,9 @@ with_target draft target =
 
 abbrev pub with_context : Integer → Draft → Draft
 with_context context draft = record draft { security = record draft.security { context = context } }
+
+abbrev pub with_flags : ℕ → Draft → Draft
+with_flags flags draft = record draft { security = record draft.security { flags = flags } }
 
 abbrev pub with_eid : Eid → Draft → Draft
 with_eid eid draft = record draft { eid = eid }
@@ -143,7 +162,8 @@ took number.Age age draft = (Read (found.BundleAge age), draft)
 took number.HopLimit limit draft = (Head (due.Number (number.HopCount limit)), draft)
 took (number.HopCount limit) count draft = (Read (found.HopCount limit count), draft)
 took (number.Target left) target draft = (Head (targets_due left), with_target draft target)
-took number.ContextFlags flags draft = (Head (due.Pair (pair_.Eid owner.Security)), draft)
+took number.ContextFlags flags draft =
+    (Head (due.Pair (pair_.Eid owner.Security)), with_flags flags draft)
 took number.RecordType type draft = (after_type type, draft)
 took (number.AssertedTime status) time draft = took_assertion status (YesAt time) draft
 took number.Reason reason draft = (
@@ -203,7 +223,7 @@ judged due.Report size head draft =
     (Head due.Assertions, record draft { is_fragment = count == 6 })
 judged due.Assertions size head draft =
     four_or_more head >>= λ count. Ok
-    (Head (due.Assertion status.Received), record draft { others = count - 4 })
+    (Head (due.Assertion status.Received), with_others (count - 4) draft)
 judged (due.Assertion status) size head draft =
     one_or_two head >>= λ count. Ok (Head (due.Asserted status (count == 2)), draft)
 judged (due.Asserted status has_time) size head draft =

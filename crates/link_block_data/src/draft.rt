@@ -41,6 +41,8 @@ impl Draft {
                     negative: false,
                     argument: 0,
                 },
+                flags: 0,
+                size: 0,
             },
             targets: ArrayVec::new(),
             report: Report {
@@ -48,6 +50,8 @@ impl Draft {
                 forwarded: Assertion::No,
                 delivered: Assertion::No,
                 deleted: Assertion::No,
+                timed: false,
+                untimed: false,
                 reason: 0,
                 time: 0,
                 sequence: 0,
@@ -58,9 +62,9 @@ impl Draft {
         }
     }
 
-    /// What data says whose item was read.
-    pub fn view(&self, found: Found) -> DataView<'_>
-        ensures view { viewed_data result ≡ data_from found self.now }
+    /// What data says whose item was read. The item ends before `offset`.
+    pub fn view(&self, found: Found, offset: u64) -> DataView<'_>
+        ensures view { viewed_data result ≡ data_from found self.now offset }
         ensures short { HasShortName (viewed_data result) }
     {
         match found {
@@ -68,7 +72,11 @@ impl Draft {
             Found::BundleAge(age) => DataView::BundleAge(age),
             Found::HopCount(limit, count) => DataView::HopCount(limit, count),
             Found::Security => {
-                DataView::Security(self.security, self.targets.as_slice(), self.eid.view())
+                let block = SecurityBlock {
+                    size: offset,
+                    ..self.security
+                };
+                DataView::Security(block, self.targets.as_slice(), self.eid.view())
             }
             Found::StatusReport => DataView::StatusReport(self.report, self.eid.view()),
             Found::OtherRecord(code) => DataView::OtherRecord(code),
@@ -111,6 +119,8 @@ impl Draft {
             }
             Due::Assertions => {
                 self.others = row::four_or_more(head)? - 4;
+                self.report.timed = false;
+                self.report.untimed = false;
                 Ok(DataStage::Head(Due::Assertion(Status::Received)))
             }
             Due::Assertion(status) => {
@@ -155,7 +165,10 @@ impl Draft {
             Number::HopLimit => DataStage::Head(Due::Number(Number::HopCount(value))),
             Number::HopCount(limit) => DataStage::Read(Found::HopCount(limit, value)),
             Number::Target(left) => self.target(left, value),
-            Number::ContextFlags => DataStage::Head(Due::Pair(Pair::Eid(Owner::Security))),
+            Number::ContextFlags => {
+                self.security.flags = value;
+                DataStage::Head(Due::Pair(Pair::Eid(Owner::Security)))
+            }
             Number::RecordType => DataStage::after_type(value),
             Number::AssertedTime(status) => self.assertion(status, Assertion::YesAt(value)),
             Number::Reason => {
@@ -223,6 +236,10 @@ impl Draft {
             Status::Deleted => self.report.deleted = assertion,
             Status::Other(_) => {}
         }
+        let is_timed = assertion.is_timed();
+        let is_untimed = assertion.is_untimed();
+        self.report.timed = self.report.timed || is_timed;
+        self.report.untimed = self.report.untimed || is_untimed;
         DataStage::Head(status.next(self.others))
     }
 

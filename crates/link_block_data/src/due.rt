@@ -202,7 +202,7 @@ impl Pair {
 }
 
 impl Found {
-    ghost use Rattle.link_block_data.specs.Left.{may_follow};
+    ghost use Rattle.link_block_data.specs.Left.{may_follow, if_judged};
 
     /// Whether bytes may follow what was read.
     ///
@@ -212,6 +212,16 @@ impl Found {
         ensures { result ≡ may_follow self }
     {
         matches!(self, Found::Security | Found::OtherRecord(_))
+    }
+
+    /// The first long head, or `None` in an administrative record, whose heads are not judged.
+    pub fn if_judged(self, long: Option<u64>) -> Option<u64>
+        ensures { result ≡ if_judged self long }
+    {
+        match self {
+            Found::StatusReport | Found::OtherRecord(_) => None,
+            _ => long,
+        }
     }
 }
 

@@ -15,7 +15,8 @@
 //! ```
 //!
 //! The result depends only on the bytes, however they are cut into pieces. It is the definition
-//! `data_of` of specs/BlockData.antt.
+//! `data_of` of specs/BlockData.antt. The scan also finds the first head that is longer than its
+//! number needs ([`long_head`](DataScan::long_head)).
 #![tactic(auto)]
 
 mod draft;

@@ -1,9 +1,11 @@
 //! The scan of a block's data.
-ghost use Rattle.std.specs.Prelude.{◌≡◌, ℕ, ◌+◌, ◌-◌, ◌^◌, ◌<◌, ◌≤◌, false, Err, IfErr, IfOk, IsTrue, List, ◌∷◌, [], ◌++◌, length, take, drop, min};
+ghost use Rattle.std.specs.Prelude.{◌≡◌, ℕ, ◌+◌, ◌-◌, ◌^◌, ◌<◌, ◌≤◌, false, Err, IfErr, IfOk, IfSome, IsTrue, List, ◌∷◌, [], ◌++◌, length, take, drop, min};
 ghost use Rattle.link_cbor.specs.Head.{Whole, head_front};
 ghost use Rattle.link_cbor.specs.HeadScan.{HasScannedHead};
+ghost use Rattle.std.specs.{Bool.then_some, Option.option_or};
+ghost use Rattle.link_rules.specs.Heads.{is_long};
 ghost use Rattle.link_block_data.specs.BlockData.{is_limit};
-ghost use Rattle.link_block_data.specs.Fits.{scan_fits, failed_within};
+ghost use Rattle.link_block_data.specs.Fits.{scan_fits, failed_within, long_within};
 
 use crate::draft::Draft;
 use crate::due::{DataStage, Due, Found, Owner};
@@ -11,6 +13,7 @@ use crate::kind::DataKind;
 use crate::values::{DataFault, DataView};
 use link_bundle_types::BundleFault;
 use link_cbor::{Head, HeadScan, HeadStep, Piecewise};
+use link_rules::is_long;
 use std::fmt;
 
 /// Reads the data of one block (RFC 9171 section 4.3.2) in pieces of any size.
@@ -25,9 +28,12 @@ pub struct DataScan {
     offset: u64,
     head: HeadScan,
     draft: Draft,
+    /// The offset of the first head that is longer than its number needs, of those before `offset`.
+    long: Option<u64>,
     ghost fits: { IsTrue (scan_fits stage head draft) },
     ghost begun: { offset ≤ count },
     ghost failed: { IsTrue (failed_within stage count) },
+    ghost noted: { IsTrue (long_within long count) },
 }
 
 /// The first bytes of a piece, at most `left` of them.
@@ -60,10 +66,27 @@ fn is_limit(fault: BundleFault, head: Head) -> bool
     }
 }
 
+/// Keeps the offset of a head of `size` bytes, if it is the first that is longer than needed.
+// Most heads are one byte, which is never too long. Such a head should cost no call and no write.
+#[inline(always)]
+fn note(long: &mut Option<u64>, offset: u64, size: u64, head: Head)
+    ensures first { long.new ≡ option_or long.old (then_some (is_long head size) offset) }
+    ensures within { (count : ℕ) → IsTrue (long_within long.old count) → offset ≤ count
+        → IsTrue (long_within long.new count) }
+{
+    if size == 1 {
+        return;
+    }
+    if long.is_none() {
+        *long = is_long(head, size as usize).then_some(offset);
+    }
+}
+
 impl DataScan {
     ghost use Rattle.link_block_data.specs.BlockData.{data_of};
+    ghost use Rattle.link_block_data.specs.LongHeads.{long_head};
     ghost use Rattle.link_block_data.specs.DataView.{viewed_data, viewed_result, HasShortName};
-    ghost use Rattle.link_block_data.specs.Scan.{HasScanned, HasSeenHead, HasTaken, scan_size};
+    ghost use Rattle.link_block_data.specs.Scan.{HasScanned, HasSeenHead, HasTaken, IsLongAt, scan_size};
     ghost use Rattle.link_block_data.specs.declared.kind.DataKind.{DataKind};
 
     /// A scan of data of this kind that has seen no byte.
@@ -77,6 +100,7 @@ impl DataScan {
             offset: 0,
             head: HeadScan::new(),
             draft: Draft::new(),
+            long: None,
         }
     }
 
@@ -89,6 +113,7 @@ impl DataScan {
         self.count = 0;
         self.offset = 0;
         self.head = HeadScan::new();
+        self.long = None;
     }
 
     /// What the bytes seen say if they are all of the data, or why that data is malformed.
@@ -108,9 +133,24 @@ impl DataScan {
         ensures short { IfOk result (λ view. HasShortName (viewed_data view)) }
     {
         match self.stage {
-            DataStage::Read(found) => Ok(self.draft.view(found)),
+            DataStage::Read(found) => Ok(self.draft.view(found, self.offset)),
             DataStage::Failed(fault) => Err(fault),
             DataStage::Head(_) | DataStage::Name(..) => Err(no_limit(self.count)),
+        }
+    }
+
+    /// The offset in the data of the first head that is longer than its number needs.
+    ///
+    /// The bytes seen are taken as all of the data. In a security block, the heads up to the end of
+    /// its source are judged. None is judged in malformed data and in an administrative record.
+    pub fn long_head(&self) -> Option<u64>
+        ensures seen { (kind : DataKind) (seen : List ℕ) → HasScanned kind self.now seen
+            → result ≡ long_head kind seen }
+        ensures within { IfSome result (λ at. at ≤ scan_size self.now) }
+    {
+        match self.stage {
+            DataStage::Read(found) => found.if_judged(self.long),
+            DataStage::Failed(_) | DataStage::Head(_) | DataStage::Name(..) => None,
         }
     }
 
@@ -207,6 +247,7 @@ impl DataScan {
         ensures size { scan_size self.new ≡ scan_size self.old }
         ensures seen { (kind : DataKind) (seen : List ℕ)
             → HasSeenHead kind due self.old.draft self.old.offset self.old.count seen
+            → IsLongAt (DataStage.Head due) self.old.long self.old.offset seen
             → head_front (drop self.old.offset seen) ≡ Whole head (length (drop self.old.offset seen))
             → size ≡ length (drop self.old.offset seen)
             → HasScannedHead self.old.head []
@@ -214,6 +255,7 @@ impl DataScan {
     {
         match self.draft.head(due, size, head) {
             Ok(stage) => {
+                note(&mut self.long, self.offset, size, head);
                 self.stage = stage;
                 self.offset = self.count;
             }

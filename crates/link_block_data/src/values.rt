@@ -1,4 +1,5 @@
 //! What the data of a block says.
+ghost use Rattle.std.specs.Prelude.{◌≡◌};
 
 use link_bundle_types::EidView;
 
@@ -6,7 +7,7 @@ use link_bundle_types::EidView;
 pub const TARGETS_KEPT: usize = 64;
 
 /// A CBOR integer (RFC 8949 section 3.1), from -2^64 to 2^64 - 1.
-#[derive(Clone, Copy, Debug, PartialEq, Eq)]
+#[derive(Clone, Copy, Debug, Default, PartialEq, Eq)]
 pub struct Integer {
     /// Whether the number is -1 - `argument`.
     pub negative: bool,
@@ -23,6 +24,10 @@ pub struct SecurityBlock {
     pub targets_primary: bool,
     /// The ID of the security context.
     pub context: Integer,
+    /// The flags of the security context.
+    pub flags: u64,
+    /// The number of bytes of the data that are read: those up to the end of the security source.
+    pub size: u64,
 }
 
 /// A status assertion (RFC 9171 section 6.1.1).
@@ -36,6 +41,24 @@ pub enum Assertion {
     YesAt(u64),
 }
 
+impl Assertion {
+    ghost use Rattle.link_block_data.specs.BlockData.{is_timed, is_untimed};
+
+    /// Whether the status is asserted and has a time.
+    pub(crate) fn is_timed(self) -> bool
+        ensures { result ≡ is_timed self }
+    {
+        matches!(self, Assertion::YesAt(_))
+    }
+
+    /// Whether the status is asserted and has no time.
+    pub(crate) fn is_untimed(self) -> bool
+        ensures { result ≡ is_untimed self }
+    {
+        matches!(self, Assertion::Yes)
+    }
+}
+
 /// A status report (RFC 9171 section 6.1.1), without the source of the bundle that it is about.
 #[derive(Clone, Copy, Debug, PartialEq, Eq)]
 pub struct Report {
@@ -47,6 +70,11 @@ pub struct Report {
     pub delivered: Assertion,
     /// Whether the bundle was deleted.
     pub deleted: Assertion,
+    /// Whether some asserted status has a time. This and `untimed` are about all assertions, also
+    /// those after the first four.
+    pub timed: bool,
+    /// Whether some asserted status has no time.
+    pub untimed: bool,
     /// The reason code.
     pub reason: u64,
     /// The creation time of the bundle, in milliseconds since 2000-01-01 UTC.

@@ -6,10 +6,11 @@ use Rattle.link_block_data.specs.BlockData.{BlockData, PreviousNode, BundleAge, 
 use Rattle.link_block_data.specs.declared.values.DataFault.{DataFault}
 use Rattle.link_block_data.specs.declared.values.Assertion.{Assertion}
 use Rattle.link_block_data.specs.declared.values.Assertion.TheVariants.{No, Yes, YesAt}
-use Rattle.link_block_data.specs.declared.values.{Integer.Integer, Report.Report}
+use Rattle.link_block_data.specs.declared.values.{Integer.Integer, SecurityBlock.SecurityBlock, Report.Report}
 use Rattle.link_report.specs.Eid.{eid_text}
 use Rattle.link_report.specs.Reason.{name_in}
 use Rattle.link_report.specs.Text.{number_text}
+use Rattle.link_block_report.specs.Fields.{flags_text}
 
 -- the names of the reasons of status reports, from code 0 on (RFC 9171 section 6.1.1, RFC 9172
 -- section 7.1)
@@ -27,6 +28,12 @@ report_names =
 unfoldable pub integer_text : Integer → List ℕ
 integer_text number =
     if number.negative then codes "-" ++ decimal (number.argument + 1) else decimal number.argument
+
+-- the security context of a security block (RFC 9172 section 3.6): its ID and its flags
+unfoldable pub context_text : SecurityBlock → List ℕ
+context_text block =
+    codes " context=" ++ integer_text block.context
+    ++ codes " context-flags=" ++ flags_text block.flags
 
 -- a status: not asserted, asserted, or asserted at a time
 unfoldable pub assertion_text : Assertion → List ℕ
@@ -62,7 +69,7 @@ data_text (BundleAge age) = number_text (codes " age=") age
 data_text (HopCount limit count) =
     number_text (codes " limit=") limit ++ number_text (codes " count=") count
 data_text (Security block targets source) =
-    number_text (codes " targets=") block.targets ++ codes " context=" ++ integer_text block.context
+    number_text (codes " targets=") block.targets ++ context_text block
     ++ codes " source=" ++ eid_text source
 data_text (StatusReport report source) =
     codes " record=1/status-report" ++ statuses_text report ++ subject_text report source

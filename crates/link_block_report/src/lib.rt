@@ -23,3 +23,4 @@ mod words;
 pub use blocks::{BlockText, EndText, PrimaryRestText, PrimaryStartText};
 pub use fields::write_flags;
 pub use kinds::data_kind;
+pub use words::write_integer;

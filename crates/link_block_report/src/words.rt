@@ -8,12 +8,17 @@ ghost use Rattle.link_report.specs.Eid.{eid_text};
 ghost use Rattle.link_report.specs.Reason.{name_in};
 ghost use Rattle.link_report.specs.Text.{number_text};
 ghost use Rattle.link_report.specs.Written.{Wrote};
+ghost use Rattle.link_block_report.specs.Fields.{flags_text};
 ghost use Rattle.link_block_report.specs.Fits.{HasFittingWords};
-ghost use Rattle.link_block_report.specs.Words.{report_names, integer_text, assertion_text, statuses_text, subject_fragment, subject_text, data_text, words_text};
+ghost use Rattle.link_block_report.specs.Words.{report_names, integer_text, context_text, assertion_text, statuses_text, subject_fragment, subject_text, data_text, words_text};
 
+use crate::fields::write_flags;
 use link_block_data::{Assertion, DataFault, DataView, Integer, Report, SecurityBlock};
 use link_bundle_types::EidView;
 use link_report::{EID_MAX, write_bytes, write_decimal, write_eid, write_number, write_text};
+
+/// The greatest length in bytes of the text of a security context.
+const CONTEXT_MAX: usize = 61;
 
 /// The greatest length in bytes of the text of statuses and a reason.
 const STATUSES_MAX: usize = 184;
@@ -72,7 +77,7 @@ fn write_next(page: &mut [u8], at: usize, number: u64) -> usize
 
 /// Writes an integer in decimal.
 #[tactic(auto, unfolding(crate::specs::Words::integer_text))]
-fn write_integer(page: &mut [u8], at: usize, number: Integer) -> usize
+pub fn write_integer(page: &mut [u8], at: usize, number: Integer) -> usize
     requires { at + 21 ≤ length page.old }
     ensures { Wrote page.old page.new at result 21 (integer_text number) }
 {
@@ -81,6 +86,20 @@ fn write_integer(page: &mut [u8], at: usize, number: Integer) -> usize
     }
     let at = write_bytes(page, at, *b"-");
     write_next(page, at, number.argument)
+}
+
+/// Writes the ID and the flags of a security context.
+#[tactic(auto, unfolding(crate::specs::Words::context_text))]
+fn write_context(page: &mut [u8], at: usize, block: &SecurityBlock) -> usize
+    requires { at + CONTEXT_MAX ≤ length page.old }
+    ensures text { take result page.new ≡ take at page.old ++ context_text block.now }
+    ensures fits { result ≤ at + CONTEXT_MAX }
+    ensures size { length page.new ≡ length page.old }
+{
+    let at = write_bytes(page, at, *b" context=");
+    let at = write_integer(page, at, block.context);
+    let at = write_bytes(page, at, *b" context-flags=");
+    write_flags(page, at, block.flags)
 }
 
 /// Writes a label and a status.
@@ -174,12 +193,11 @@ fn write_security(page: &mut [u8], at: usize, block: &SecurityBlock, source: &Ei
     requires short { IsShort (viewed_eid source.now) }
     requires room { at + WORDS_MAX ≤ length page.old }
     ensures { Wrote page.old page.new at result WORDS_MAX
-        (number_text (codes " targets=") block.now.targets ++ codes " context="
-        ++ integer_text block.now.context ++ codes " source=" ++ eid_text (viewed_eid source.now)) }
+        (number_text (codes " targets=") block.now.targets ++ context_text block.now
+        ++ codes " source=" ++ eid_text (viewed_eid source.now)) }
 {
     let at = write_number(page, at, *b" targets=", block.targets);
-    let at = write_bytes(page, at, *b" context=");
-    let at = write_integer(page, at, block.context);
+    let at = write_context(page, at, block);
     let at = write_bytes(page, at, *b" source=");
     write_eid(page, at, source)
 }

@@ -8,7 +8,7 @@ use Rattle.link_run.specs.declared.writers.Writers.{Writers}
 use Rattle.link_run.proofs.Runs.{texts_as, writes_none, outputs_then, part_of_more}
 use Rattle.link_bundle_walk.specs.Bundles.{Packed}
 use Rattle.link_bundle_walk.specs.Telling.{SoFar, none_yet, between, with_run, Tells}
-use Rattle.link_unpack.proofs.Told.{on_ok}
+use Rattle.link_judge.proofs.Counts.{on_ok}
 use Rattle.link_blocks.specs.{BlockLines.block_lines, BundleLister.IsListing}
 use Rattle.link_blocks.specs.Bundles.{whole_lines, bundle_lines, bundle_blocks_telling}
 use Rattle.link_blocks.specs.{Piece.ShowsMore, declared.bundles.BundleLister.BundleLister}

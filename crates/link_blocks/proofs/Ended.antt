@@ -4,10 +4,10 @@ use Rattle.link_wire.specs.{Codes.is_end, Message.data_length, declared.message.
 use Rattle.link_wire.specs.declared.message.SegmentHead.{SegmentHead}
 use Rattle.link_transfer.specs.declared.joiner.Turn.{Turn}
 use Rattle.link_walk.specs.Walk.{abandons, is_last, open_with}
-use Rattle.link_unpack.specs.{Transfers.{Transfer, closes, continued}, TransferJudge.{begun, grown}}
-use Rattle.link_unpack.specs.Unpacking.{is_selected, transfers_at}
-use Rattle.link_unpack.proofs.Effects.{Does, Strays, Passes, Begins, Continues}
-use Rattle.link_unpack.proofs.Heads.{transfers_same, transfer_begins, transfer_continues}
+use Rattle.link_judge.specs.{Transfers.{Transfer, closes, continued}, TransferJudge.{begun, grown}}
+use Rattle.link_judge.specs.Unpacking.{is_selected, transfers_at}
+use Rattle.link_judge.proofs.Effects.{Does, Strays, Passes, Begins, Continues}
+use Rattle.link_judge.proofs.Heads.{transfers_same, transfer_begins, transfer_continues}
 use Rattle.link_blocks.specs.{BlockLines.block_lines, Showing.{end_line, transfer_lines, lines_of}}
 use Rattle.link_blocks.specs.Lister.{end_due}
 use Rattle.link_blocks.proofs.Lines.{no_lines}

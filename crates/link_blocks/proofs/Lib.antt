@@ -1,7 +1,4 @@
 pub mod Lines
-pub mod Reading
-mod Runs
-pub mod Judged
 pub mod Ended
 mod Told
 pub mod BundleTexts

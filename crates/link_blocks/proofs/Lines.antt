@@ -1,34 +1,14 @@
 -- The lines of blocks, when more bytes follow.
-use Rattle.std.proofs.Common.{◌≡◌, ℕ, suc, ◌+◌, ◌≤◌, false, true, List, [], ◌∷◌, ◌++◌, length, drop, Result, Ok, Err, fold, All, refl, ap, sym, ◌∙◌, append-nil, append_assoc, length-drop, arith}
-use Rattle.std.proofs.lemmas.{Bool.false≢true, List.{take-append-le, drop-append-le}}
-use Rattle.link_bundle_types.specs.declared.fault.BundleFault.{BundleFault}
-use Rattle.link_bundle_types.specs.declared.info.BundleInfo.{BundleInfo}
-use Rattle.link_bundle_types.specs.Faults.{lasts}
+use Rattle.std.proofs.Common.{◌≡◌, ℕ, ◌⊎◌, false, List, [], ◌∷◌, ◌++◌, length, fold, All, refl, ap, ◌∙◌, ⊎_elim, append-nil, append_assoc}
 use Rattle.link_bundle_blocks.specs.Blocks.{Block, PrimaryOf, CanonicalOf, LiesWithin}
-use Rattle.link_bundle_blocks.specs.Bundle.{judged_bundle, bundle_at, opening_at, verdict, state_of, is_going, bundle_goes, blocks_in}
-use Rattle.link_bundle_blocks.specs.declared.block.CanonicalBlock.{CanonicalBlock}
-use Rattle.link_bundle_blocks.proofs.Lengths.{FaultLasts-holds, TrailingLasts-holds}
+use Rattle.link_bundle_blocks.specs.Bundle.{bundle_goes, blocks_in}
 use Rattle.link_bundle_blocks.proofs.Lying.{BlocksWithin-holds}
 use Rattle.link_bundle_blocks.proofs.Showing.{BlocksGrow-holds, BlocksEnd-holds}
-use Rattle.link_blocks.specs.BlockLines.{data_in, block_line, flags_after, lines_from, block_lines}
+use Rattle.link_block_reader.specs.Found.{flags_after}
+use Rattle.link_block_reader.proofs.Grown.{all_first, all_rest, data_grown, no_blocks}
+use Rattle.link_blocks.specs.BlockLines.{block_line, lines_from, block_lines}
 
--- ---- the elements of a list
-
-pub all_first : {A : Type 0} (P : A → Type 0) (x : A) (xs : List A) → All P (x ∷ xs) → P x
-all_first P x xs all = all 0 x (omega arith)
-
-pub all_rest : {A : Type 0} (P : A → Type 0) (x : A) (xs : List A) → All P (x ∷ xs) → All P xs
-all_rest P x xs all = λ k d less. all (suc k) d (omega arith)
-
--- ---- the data of whole blocks
-
-pub data_grown : (content more : List ℕ) (block : CanonicalBlock)
-    → block.data_start + block.data_length ≤ length content
-    → data_in (content ++ more) block ≡ data_in content block
-data_grown content more block within =
-    rw (drop-append-le block.data_start content more (omega arith))
-    (take-append-le block.data_length (drop block.data_start content) more
-    (omega (arith, length-drop block.data_start content)))
+-- ---- whole blocks
 
 line_grown : (id flags : ℕ) (content more : List ℕ) (block : Block)
     → LiesWithin (length content) block
@@ -92,28 +72,27 @@ lines_end id content more stops =
     lines_more id content more [] (rw append-nil (BlocksEnd-holds content more stops))
     ∙ append-nil (block_lines id content)
 
-pub no_blocks : blocks_in [] ≡ []
-unfolding blocks_in judged_bundle bundle_at opening_at
-no_blocks = refl
-
 pub no_lines : (id : ℕ) → block_lines id [] ≡ []
 unfolding block_lines
 no_lines id = ap (lines_from id 0 []) no_blocks
 
--- ---- a bundle that does not go on
+-- ---- the rest of a piece
 
-stops_by : (bytes more : List ℕ) (outcome : Result BundleInfo (BundleFault × ℕ))
-    → verdict bytes ≡ outcome → is_going (state_of outcome) ≡ false
-    → bundle_goes (bytes ++ more) ≡ false
-stops_by bytes [] (Ok info) is stops = rw (append-nil bytes, is) refl
-stops_by bytes (byte ∷ more) (Ok info) is stops =
-    rw (TrailingLasts-holds bytes more byte info is) refl
-stops_by bytes more (Err (fault, offset)) is stops = by_lasting (lasts fault) refl
-  where
-    by_lasting : (test : _) → lasts fault ≡ test → bundle_goes (bytes ++ more) ≡ false
-    by_lasting true lasting = rw (FaultLasts-holds bytes more fault offset lasting is, lasting) refl
-    by_lasting false goes = absurd (false≢true (rw goes at (sym stops)))
+pub rest_lines : (id : ℕ) (bytes rest : List ℕ) → (bundle_goes bytes ≡ false) ⊎ (rest ≡ [])
+    → block_lines id (bytes ++ rest) ≡ block_lines id bytes
+rest_lines id bytes rest ends = ⊎_elim
+    (λ stops. lines_end id bytes rest stops)
+    (λ none. rw none (rw (append-nil bytes) refl))
+    ends
 
-pub goes_stops : (bytes more : List ℕ) → bundle_goes bytes ≡ false
-    → bundle_goes (bytes ++ more) ≡ false
-goes_stops bytes more stops = stops_by bytes more (verdict bytes) refl stops
+-- ---- one more block
+
+-- the lines so far, and those of the blocks that a run adds
+pub run_lines : (id flags : ℕ) (content bytes run lines : List ℕ) (new : List Block)
+    → flags ≡ fold flags_after 0 (blocks_in bytes)
+    → blocks_in (bytes ++ run) ≡ blocks_in bytes ++ new
+    → block_lines id bytes ≡ block_lines id content ++ lines
+    → block_lines id (bytes ++ run)
+    ≡ block_lines id content ++ (lines ++ lines_from id flags (bytes ++ run) new)
+run_lines id flags content bytes run lines new is grown are =
+    rw (lines_more id bytes run new grown, are, is, append_assoc) refl

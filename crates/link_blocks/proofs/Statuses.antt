@@ -4,7 +4,7 @@ use Rattle.link_wire.specs.Stream.{reading_of}
 use Rattle.link_run.specs.Made.{StreamStop, Made, whole_by}
 use Rattle.link_walk.specs.Walk.{WalkEvent, ContactHeader, end_events, stop_by, walked, told_of}
 use Rattle.link_walk.specs.declared.consumer.Manner.{Manner}
-use Rattle.link_unpack.specs.Unpacking.{Told, none_told, told_event, told_after}
+use Rattle.link_judge.specs.Unpacking.{Told, none_told, told_event, told_after}
 use Rattle.link_options.specs.declared.wanted.Wanted.{Wanted}
 use Rattle.link_blocks.specs.{Laws.HasStatusOfUnpack, Showing.unpacking_by}
 

@@ -12,13 +12,13 @@ use Rattle.link_run.specs.declared.writers.Writers.{Writers}
 use Rattle.link_run.proofs.Runs.{texts_as}
 use Rattle.link_walk.specs.Walk.{Head, WalkEvent, MessageHead, closes as closes_head, is_last, is_beginning, open_with, open_after_event, data_size, has_open, abandons}
 use Rattle.link_walk.specs.Telling.{ComesAfter, Tells, data_ends}
-use Rattle.link_unpack.specs.{Transfers.{Transfer, closes, continued}, TransferJudge.{begun, grown}}
-use Rattle.link_unpack.specs.Unpacking.{order_line, Told, good_due, transfers_at, told_event, told_after}
-use Rattle.link_unpack.proofs.Effects.{abandons_open, zero_eq, Does, Strays, Passes, Begins, Continues, comes_does}
-use Rattle.link_unpack.proofs.Events.{open_is, told_push, data_after, whole_if}
-use Rattle.link_unpack.proofs.Heads.{transfers_same, transfer_begins, transfer_continues}
-use Rattle.link_unpack.proofs.Told.{size_then, open_then, size_with_data, open_with_data, told_none}
-use Rattle.link_unpack.proofs.Transfers.{judging_same}
+use Rattle.link_judge.specs.{Transfers.{Transfer, closes, continued}, TransferJudge.{begun, grown}}
+use Rattle.link_judge.specs.Unpacking.{order_line, Told, good_due, transfers_at, told_event, told_after}
+use Rattle.link_judge.proofs.Counts.{size_then, open_then, size_with_data, open_with_data}
+use Rattle.link_judge.proofs.Effects.{abandons_open, zero_eq, Does, Strays, Passes, Begins, Continues, comes_does}
+use Rattle.link_judge.proofs.Events.{open_is, told_push, data_after, told_none, whole_if}
+use Rattle.link_judge.proofs.Heads.{transfers_same, transfer_begins, transfer_continues}
+use Rattle.link_judge.proofs.Judging.{judging_same}
 use Rattle.link_blocks.specs.Lister.{IsAtLatest, KnowsShown, end_due}
 use Rattle.link_blocks.specs.Showing.{transfer_lines, lines_of, order_line_of, unpacking_by, blocks_telling}
 use Rattle.link_blocks.specs.{TransferBlocks.IsShowing, declared.lister.BlockLister.BlockLister}

@@ -1,11 +1,11 @@
 -- What `blocks --bundles` writes for an input: the lines of the blocks in its bundles.
-use Rattle.std.specs.Prelude.{ℕ, suc, ◌-◌, ◌^◌, true, List, [], ◌∷◌, ◌++◌, length}
+use Rattle.std.specs.Prelude.{ℕ, suc, true, List, [], ◌∷◌, ◌++◌, length}
 use Rattle.link_report.specs.declared.judgement.Judgement.TheVariants.{Good}
 use Rattle.link_block_report.specs.Blocks.{end_text}
 use Rattle.link_run.specs.Made.{Made, tool_of}
 use Rattle.link_run.specs.Run.{Tool}
 use Rattle.link_run.specs.Writers.{on_output}
-use Rattle.link_bundle_walk.specs.Bundles.{Packed}
+use Rattle.link_bundle_walk.specs.Bundles.{Packed, bundle_limit}
 use Rattle.link_bundle_walk.specs.Telling.{BundleTelling, told_of}
 use Rattle.link_blocks.specs.BlockLines.{block_lines}
 
@@ -18,10 +18,6 @@ whole_lines number bundle =
 unfoldable pub bundle_lines : (number : ℕ) → List Packed → List ℕ
 bundle_lines number [] = []
 bundle_lines number (bundle ∷ more) = whole_lines number bundle ++ bundle_lines (suc number) more
-
--- A bundle may have any number of bytes. No input has as many as this.
-abbrev pub bundle_limit : ℕ
-bundle_limit = 2 ^ 64 - 1
 
 -- What `blocks --bundles` says of bundles, and of the bytes `begun` of the next one. For the bytes
 -- `begun`, the output has the lines of the blocks that are whole in them, even if a fault follows

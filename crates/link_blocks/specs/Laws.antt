@@ -1,6 +1,6 @@
 -- How `blocks` relates to `unpack`, over the definitions alone.
 use Rattle.std.specs.Prelude.{◌≡◌, ℕ, List}
-use Rattle.link_unpack.specs.Unpacking.{unpack_tool}
+use Rattle.link_judge.specs.Unpacking.{unpack_tool}
 use Rattle.link_options.specs.declared.wanted.Wanted.{Wanted}
 use Rattle.link_blocks.specs.Showing.{blocks_tool}
 use Rattle.link_options.specs.declared.blocks.BlockOptions.{BlockOptions}

@@ -1,6 +1,5 @@
 pub mod BlockLines
 pub mod Showing
-pub mod DataReader
 pub mod Piece
 pub mod TransferBlocks
 pub mod Lister

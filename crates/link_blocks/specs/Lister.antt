@@ -1,8 +1,8 @@
 -- Relations: what is kept of the events of a stream.
 use Rattle.std.specs.Prelude.{◌≡◌, ℕ, ◌≤◌, Bool, true, false, not, List, [], ◌∷◌, Option, if◌then◌else◌}
 use Rattle.link_walk.specs.Walk.{WalkEvent, data_size, has_open}
-use Rattle.link_unpack.specs.Transfers.{Transfer}
-use Rattle.link_unpack.specs.Unpacking.{is_selected, told_after}
+use Rattle.link_judge.specs.Transfers.{Transfer}
+use Rattle.link_judge.specs.Unpacking.{is_selected, told_after}
 use Rattle.link_blocks.specs.Showing.{end_line, unpacking_by}
 use Rattle.link_blocks.specs.TransferBlocks.{IsShowing}
 use Rattle.link_blocks.specs.declared.lister.BlockLister.{BlockLister}

@@ -5,8 +5,8 @@ use Rattle.link_block_report.specs.Blocks.{end_text}
 use Rattle.link_run.specs.Made.{Made, tool_of}
 use Rattle.link_run.specs.Run.{Tool}
 use Rattle.link_walk.specs.Walk.{WalkEvent, MessageHead, has_open, Telling, told_of}
-use Rattle.link_unpack.specs.Transfers.{Transfer}
-use Rattle.link_unpack.specs.Unpacking.{is_selected, judgement_of, order_line, told_after, unpack_telling}
+use Rattle.link_judge.specs.Transfers.{Transfer}
+use Rattle.link_judge.specs.Unpacking.{is_selected, judgement_of, order_line, told_after, unpack_telling}
 use Rattle.link_options.specs.declared.wanted.Wanted.{Wanted}
 use Rattle.link_blocks.specs.BlockLines.{block_lines}
 use Rattle.link_options.specs.declared.blocks.BlockOptions.{BlockOptions}

@@ -4,10 +4,10 @@ use Rattle.link_wire.specs.Device.{Output}
 use Rattle.link_wire.specs.declared.IoFault.{IoFault}
 use Rattle.link_run.specs.Writers.{on_output, AfterWrite}
 use Rattle.link_run.specs.declared.writers.Writers.{Writers}
-use Rattle.link_unpack.specs.Transfers.{Transfer}
-use Rattle.link_unpack.specs.TransferJudge.{IsJudging, grown}
-use Rattle.link_unpack.specs.Unpacking.{is_selected}
-use Rattle.link_blocks.specs.DataReader.{IsReading}
+use Rattle.link_judge.specs.Transfers.{Transfer}
+use Rattle.link_judge.specs.TransferJudge.{IsJudging, grown}
+use Rattle.link_judge.specs.Unpacking.{is_selected}
+use Rattle.link_block_reader.specs.DataReader.{IsReading}
 use Rattle.link_blocks.specs.Showing.{transfer_lines}
 use Rattle.link_blocks.specs.declared.transfer.TransferBlocks.{TransferBlocks}
 

@@ -3,11 +3,11 @@
 ghost use Rattle.std.specs.Prelude.{◌≡◌, ◌^◌, ◌<◌, ◌≤◌, false, []};
 ghost use Rattle.link_bundle.specs.Scan.{scan_size};
 ghost use Rattle.link_run.specs.Run.{AfterRun, devices_at, looks};
+ghost use Rattle.link_block_reader.specs.DataReader.{read_size};
 ghost use Rattle.link_blocks.specs.Bundles.{bundle_blocks_tool};
-ghost use Rattle.link_blocks.specs.DataReader.{read_size};
 
-use crate::data::DataReader;
 use crate::piece::show_piece;
+use link_block_reader::DataReader;
 use link_block_report::EndText;
 use link_bundle::BundleScan;
 use link_bundle_walk::{BundleConsumer, BundleWalkRun, WholeView, bundle_walk_run};

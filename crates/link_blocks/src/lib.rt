@@ -13,13 +13,12 @@
 #![tactic(auto)]
 
 mod bundles;
-mod data;
 pub mod laws;
 mod lister;
 mod piece;
 mod transfer;
 
 pub use bundles::{BundleBlocksRun, BundleLister, bundle_blocks, bundle_blocks_run};
-pub use data::DataReader;
+pub use link_block_reader::DataReader;
 pub use link_options::BlockOptions;
 pub use lister::{BlockLister, BlocksRun, blocks, blocks_run};

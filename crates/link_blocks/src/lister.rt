@@ -3,20 +3,20 @@
 ghost use Rattle.std.specs.Prelude.{◌≡◌, ◌&&◌, true, false, [], List, if◌then◌else◌};
 ghost use Rattle.link_run.specs.Run.{AfterRun, devices_at, looks};
 ghost use Rattle.link_run.specs.Writers.{AfterWrite, on_output};
-ghost use Rattle.link_unpack.specs.Transfers.{Transfer};
+ghost use Rattle.link_judge.specs.Transfers.{Transfer};
 ghost use Rattle.link_report.specs.Judgement.{viewed_judgement};
 ghost use Rattle.link_block_report.specs.Blocks.{end_text};
-ghost use Rattle.link_unpack.specs.Unpacking.{good_due, is_selected};
+ghost use Rattle.link_judge.specs.Unpacking.{good_due, is_selected};
 ghost use Rattle.link_blocks.specs.Lister.{IsAtLatest, KnowsShown, end_due};
 ghost use Rattle.link_blocks.specs.Showing.{blocks_telling, blocks_tool};
 ghost use Rattle.link_options.specs.declared.blocks.BlockOptions.{BlockOptions};
 
 use crate::transfer::TransferBlocks;
 use link_block_report::EndText;
+use link_judge::{TransferJudge, is_bundle, tell_order};
 use link_options::BlockOptions;
 use link_report::JudgementView;
 use link_run::{Run, RunEnd, Writers};
-use link_unpack::{TransferJudge, is_bundle, tell_order};
 use link_walk::{Consumer, EventView, Manner, WalkRun, walk_run};
 use link_wire::{InDevice, IoFault, OutDevice};
 

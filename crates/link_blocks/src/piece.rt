@@ -5,12 +5,13 @@ ghost use Rattle.link_bundle_blocks.specs.Bundle.{blocks_in, bundle_goes};
 ghost use Rattle.link_bundle_blocks.specs.Blocks.{viewed_primary, HasShortEids};
 ghost use Rattle.link_bundle.specs.Scan.{HasScanned, HasJudged, ending, scan_size};
 ghost use Rattle.link_block_report.specs.Blocks.{primary_text, block_text};
+ghost use Rattle.link_block_reader.specs.DataReader.{IsReading, IsReadingBlock, read_size};
+ghost use Rattle.link_block_reader.specs.Found.{found_in};
 ghost use Rattle.link_run.specs.Writers.{AfterWrite, on_output};
-ghost use Rattle.link_blocks.specs.BlockLines.{found_in, lines_from};
-ghost use Rattle.link_blocks.specs.DataReader.{IsReading, IsReadingBlock, read_size};
+ghost use Rattle.link_blocks.specs.BlockLines.{lines_from};
 ghost use Rattle.link_blocks.specs.Piece.{ShowsMore};
 
-use crate::data::DataReader;
+use link_block_reader::DataReader;
 use link_block_report::{BlockText, PrimaryRestText, PrimaryStartText};
 use link_bundle::{BlockView, BundleScan, CanonicalBlock, PrimaryBlock};
 use link_cbor::Piecewise;

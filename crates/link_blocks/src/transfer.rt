@@ -1,13 +1,13 @@
 //! The latest transfer of a stream, and the lines of its blocks.
 
 ghost use Rattle.std.specs.Prelude.{◌≡◌, ◌+◌, ◌^◌, ◌≤◌, ◌<◌, true, length};
-ghost use Rattle.link_blocks.specs.DataReader.{read_size};
+ghost use Rattle.link_block_reader.specs.DataReader.{read_size};
 
-use crate::data::DataReader;
 use crate::piece::show_piece;
+use link_block_reader::DataReader;
+use link_judge::TransferJudge;
 use link_options::BlockOptions;
 use link_run::Writers;
-use link_unpack::TransferJudge;
 use link_wire::{INPUT_LIMIT, IoFault, MessageBuffer, OutDevice};
 
 /// Judges one transfer after another, and shows the blocks of those that are selected.
@@ -24,8 +24,8 @@ impl TransferBlocks {
     ghost use Rattle.link_wire.specs.MessageBuffer.{SegmentHasTotals, message_of};
     ghost use Rattle.link_wire.specs.declared.message.Message.{Message};
     ghost use Rattle.link_wire.specs.declared.message.SegmentHead.{SegmentHead};
-    ghost use Rattle.link_unpack.specs.Transfers.{Transfer};
-    ghost use Rattle.link_unpack.specs.TransferJudge.{begun, grown};
+    ghost use Rattle.link_judge.specs.Transfers.{Transfer};
+    ghost use Rattle.link_judge.specs.TransferJudge.{begun, grown};
     ghost use Rattle.link_blocks.specs.TransferBlocks.{IsShowing, Shows};
 
     /// What is known before the first transfer of a stream.

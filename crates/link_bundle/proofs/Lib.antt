@@ -14,4 +14,5 @@ pub mod Endings
 pub mod Alone
 pub mod Judgings
 pub mod Pieces
+pub mod Parts
 pub mod Wholes

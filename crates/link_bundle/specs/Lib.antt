@@ -5,4 +5,5 @@ pub mod Covers
 pub mod Moves
 pub mod Stages
 pub mod Scan
+pub mod Part
 pub mod Judged

@@ -35,6 +35,7 @@ mod checks;
 mod cursor;
 mod draft;
 mod judging;
+mod part;
 mod scan;
 mod stage;
 mod whole;
@@ -43,4 +44,5 @@ pub use link_bundle_blocks::{BlockView, CanonicalBlock, PrimaryBlock};
 pub use link_bundle_types::{
     BLOCK_LIMIT, BundleFault, BundleInfo, BundleView, EID_LIMIT, Eid, EidView, State,
 };
+pub use part::part_in;
 pub use scan::BundleScan;

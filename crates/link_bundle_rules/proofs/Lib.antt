@@ -1,2 +1,1 @@
-pub mod DtnNames
 pub mod Plain

@@ -1,17 +1,22 @@
 -- Bundles that are known to keep all rules, by cheap tests, break none.
-use Rattle.std.proofs.Common.{◌≡◌, ◌≤◌, Bool, true, false, cond, List, [], ◌∷◌, Option, Some, None, refl, arith}
-use Rattle.std.specs.{Prelude.is_none, List.{find, list_all}, Option.option_and_then}
+use Rattle.std.proofs.Common.{◌≡◌, ◌≤◌, ◌==◌, ℕ, Bool, true, false, cond, List, [], ◌∷◌, length, Option, Some, None, option_map, refl, arith}
+use Rattle.std.specs.{Prelude.{is_none, IfSome}, List.{find, list_all}, Option.option_and_then}
 use Rattle.std.proofs.lemmas.{Bool.and_parts, Bool.Decides.nat_tests}
-use Rattle.link_bundle_rules.specs.BundleRules.{long_head, dtn_name, broken_bundle_rules}
-use Rattle.link_bundle_rules.specs.Extensions.{age, previous_node, hops_of, first_hops, has_bad_limit, hop_count, if_exceeded, hops, if_malformed_extension, block_data, if_unread, data_not_read, if_malformed_record, administrative_record}
+use Rattle.link_bundle_rules.specs.BundleRules.{broken_bundle_rules}
+use Rattle.link_bundle_rules.specs.Endpoints.{bad_name_of, dtn_name, source_node}
+use Rattle.link_bundle_rules.specs.Extensions.{age, previous_node, if_no_node_id, previous_node_id, if_expired, expired, hops_of, first_hops, has_bad_limit, hop_count, if_exceeded, hops, if_reserved, block_type, malformed_rule, if_malformed_extension, block_data, unread_rule, if_unread, data_not_read}
 use Rattle.link_bundle_rules.specs.Flags.{bundle_flags, anonymous, record_reports, if_reporting, block_reports, if_other_block_flags, block_flags}
 use Rattle.link_bundle_rules.specs.Fragments.{fragment, whole_fragment}
-use Rattle.link_bundle_rules.specs.Kept.{is_plain_block, is_plain_primary, has_plain_counts, is_plain}
+use Rattle.link_bundle_rules.specs.Heads.{data_head, long_head}
+use Rattle.link_bundle_rules.specs.Hidden.{is_hidden_block, unless_hidden, first_readable}
+use Rattle.link_bundle_rules.specs.Kept.{is_plain_data, is_plain_block, is_plain_primary, has_plain_counts, is_plain}
 use Rattle.link_bundle_rules.specs.ReadBundle as block
-use Rattle.link_bundle_rules.specs.ReadBundle.{ReadBundle, count_of_type, is_of_type, find_map}
-use Rattle.link_bundle_rules.specs.Security.{primary_check, confidential_primary}
-use Rattle.link_bundle_rules.specs.declared.block.BlockFacts.{BlockFacts}
-use Rattle.link_bundle_rules.specs.declared.{extensions.Hops.Hops, rule.BundleRule.BundleRule}
+use Rattle.link_bundle_rules.specs.ReadBundle.{ReadBundle, is_of_type, is_extension, is_security_block, count_of_type, find_map}
+use Rattle.link_bundle_rules.specs.Records.{administrative_record, record_type, report_of, report_times, report_empty, report_reason, report_source}
+use Rattle.link_bundle_rules.specs.Security.{primary_check, confidential_primary, security_flags, security_context, confidential_flags, confidential_context}
+use Rattle.link_bundle_rules.specs.Targets.{if_counted, first_counted, first_target, if_bad_targets, missing_target, security_targets, security_twice, integrity_target, confidential_target, shared_target}
+use Rattle.link_bundle_rules.specs.declared.block.{BlockFacts.BlockFacts, DataFacts.DataFacts}
+use Rattle.link_bundle_rules.specs.declared.{extensions.Hops.Hops, rule.BundleRule.BundleRule, security.SecurityFacts.SecurityFacts}
 
 -- ---- the primary block
 
@@ -20,13 +25,14 @@ record KeepsPrimary (bundle : ReadBundle) : Type 0 where
   check : primary_check bundle ≡ None
   anonymous : anonymous bundle ≡ None
   reports : record_reports bundle ≡ None
-  name : dtn_name bundle ≡ None
+  name : bundle.primary.bad_name ≡ None
   fragment : fragment bundle ≡ None
   whole : whole_fragment bundle ≡ None
+  source : source_node bundle ≡ None
 
 primary_keeps : (bundle : ReadBundle) → is_plain_primary bundle.primary ≡ true
     → KeepsPrimary bundle
-unfolding bundle_flags primary_check anonymous record_reports dtn_name fragment whole_fragment
+unfolding bundle_flags primary_check anonymous record_reports fragment whole_fragment source_node
 primary_keeps bundle plain = record {
   flags = grind (arith, nat_tests);
   check = grind (arith, nat_tests);
@@ -35,40 +41,93 @@ primary_keeps bundle plain = record {
   name = grind (arith, nat_tests);
   fragment = grind (arith, nat_tests);
   whole = grind (arith, nat_tests);
+  source = grind (arith, nat_tests);
 }
 
 -- ---- single blocks
 
-none_found : (f : BlockFacts → Option BundleRule)
-    → ((read : BlockFacts) → is_plain_block read ≡ true → f read ≡ None)
-    → (blocks : List BlockFacts) → list_all is_plain_block blocks ≡ true → find_map f blocks ≡ None
-none_found f none [] all = refl
-none_found f none (read ∷ more) all =
-    let both = and_parts (is_plain_block read) (list_all is_plain_block more) all in
-    rw (none read both.0) (none_found f none more both.1)
+abbrev ArePlain : ReadBundle → Type 0
+ArePlain bundle = list_all (is_plain_block bundle.primary.lifetime) bundle.blocks ≡ true
+
+none_found : {A : Type 0} (lifetime : ℕ) (f : BlockFacts → Option A)
+    → ((read : BlockFacts) → is_plain_block lifetime read ≡ true → f read ≡ None)
+    → (blocks : List BlockFacts) → list_all (is_plain_block lifetime) blocks ≡ true
+    → find_map f blocks ≡ None
+none_found lifetime f none [] all = refl
+none_found lifetime f none (read ∷ more) all =
+    let both = and_parts (is_plain_block lifetime read) (list_all (is_plain_block lifetime) more) all in
+    rw (none read both.0) (none_found lifetime f none more both.1)
+
+-- the first readable block of a type, if there is one, is plain
+abbrev FirstPlain : (lifetime : ℕ) → Option BlockFacts → Type 0
+FirstPlain lifetime found = IfSome found (λ read. is_plain_block lifetime read ≡ true)
+
+unless_keeps : (bundle : ReadBundle) (read : BlockFacts)
+    → is_plain_block bundle.primary.lifetime read ≡ true
+    → FirstPlain bundle.primary.lifetime (unless_hidden bundle read)
+unless_keeps bundle read plain =
+    elim (is_hidden_block bundle read.block_type read.number) as (λ hidden.
+    FirstPlain bundle.primary.lifetime (cond hidden None (Some read))) [
+      | true ↦ tt
+      | false ↦ plain
+    ]
+
+first_keeps : (bundle : ReadBundle) (test : BlockFacts → Bool) (blocks : List BlockFacts)
+    → list_all (is_plain_block bundle.primary.lifetime) blocks ≡ true
+    → FirstPlain bundle.primary.lifetime (option_and_then (unless_hidden bundle) (find test blocks))
+first_keeps bundle test [] all = tt
+first_keeps bundle test (read ∷ more) all =
+    let plain = is_plain_block bundle.primary.lifetime in
+    let both = and_parts (plain read) (list_all plain more) all in
+    let first = find test more in
+    elim (test read) as (λ here. FirstPlain bundle.primary.lifetime
+    (option_and_then (unless_hidden bundle) (cond here (Some read) first))) [
+      | true ↦ unless_keeps bundle read both.0
+      | false ↦ first_keeps bundle test more both.1
+    ]
+
+readable_keeps : (bundle : ReadBundle) (type : ℕ) → ArePlain bundle
+    → FirstPlain bundle.primary.lifetime (first_readable type bundle)
+unfolding first_readable
+readable_keeps bundle type all = first_keeps bundle (is_of_type type) bundle.blocks all
+
+-- nothing is found of it
+none_first : {A : Type 0} (lifetime : ℕ) (f : BlockFacts → Option A)
+    → ((read : BlockFacts) → is_plain_block lifetime read ≡ true → f read ≡ None)
+    → (found : Option BlockFacts) → FirstPlain lifetime found → option_and_then f found ≡ None
+none_first lifetime f none None plain = refl
+none_first lifetime f none (Some read) plain = none read plain
 
 record KeepsHops (said : Option Hops) : Type 0 where
   limit : has_bad_limit said ≡ false
   count : option_and_then if_exceeded said ≡ None
 
-hops_keep : (bundle : ReadBundle) (read : BlockFacts) → is_plain_block read ≡ true
-    → KeepsHops (hops_of bundle read)
-hops_keep bundle read plain = record {
+hops_keep : (lifetime : ℕ) (found : Option BlockFacts) → FirstPlain lifetime found
+    → KeepsHops (option_and_then hops_of found)
+hops_keep lifetime None plain = record { limit = refl; count = refl }
+hops_keep lifetime (Some read) plain = record {
   limit = grind (arith, nat_tests);
   count = grind (arith, nat_tests);
 }
 
-first_keeps : (bundle : ReadBundle) (test : BlockFacts → Bool) (blocks : List BlockFacts)
-    → list_all is_plain_block blocks ≡ true
-    → KeepsHops (option_and_then (hops_of bundle) (find test blocks))
-first_keeps bundle test [] all = record { limit = refl; count = refl }
-first_keeps bundle test (read ∷ more) all =
-    let both = and_parts (is_plain_block read) (list_all is_plain_block more) all in
-    let first = find test more in
-    elim (test read) as (λ here. KeepsHops (option_and_then (hops_of bundle) (cond here (Some read) first))) [
-      | true ↦ hops_keep bundle read both.0
-      | false ↦ first_keeps bundle test more both.1
-    ]
+-- ---- rules of blocks
+
+data_plain : (lifetime : ℕ) (read : BlockFacts) → is_plain_block lifetime read ≡ true
+    → is_plain_data lifetime read.data ≡ true
+data_plain lifetime read plain = grind (arith, nat_tests)
+
+not_malformed : (lifetime number : ℕ) (said : DataFacts) → is_plain_data lifetime said ≡ true
+    → malformed_rule number said ≡ None
+not_malformed lifetime number said plain = grind (arith, nat_tests)
+
+is_read : (lifetime number : ℕ) (said : DataFacts) → is_plain_data lifetime said ≡ true
+    → unread_rule number said ≡ None
+is_read lifetime number said plain = grind (arith, nat_tests)
+
+none_if : (test : Bool) (broken : Option BundleRule) → broken ≡ None
+    → cond test broken None ≡ None
+none_if true broken none = none
+none_if false broken none = refl
 
 pub record KeepsBlocks (bundle : ReadBundle) : Type 0 where
   pub reports : block_reports bundle ≡ None
@@ -77,29 +136,77 @@ pub record KeepsBlocks (bundle : ReadBundle) : Type 0 where
   pub hops : hops bundle ≡ None
   pub malformed : block_data bundle ≡ None
   pub unread : data_not_read bundle ≡ None
-  pub records : administrative_record bundle ≡ None
+  pub types : block_type bundle ≡ None
 
-pub blocks_keep : (bundle : ReadBundle) → list_all is_plain_block bundle.blocks ≡ true
-    → KeepsBlocks bundle
-unfolding block_reports block_flags first_hops hops block_data data_not_read administrative_record
+pub blocks_keep : (bundle : ReadBundle) → ArePlain bundle → KeepsBlocks bundle
+unfolding block_reports block_flags first_hops hops block_data data_not_read block_type
 blocks_keep bundle all =
     let blocks = bundle.blocks in
-    let first = first_keeps bundle (is_of_type block.hop_count) blocks all in
+    let lifetime = bundle.primary.lifetime in
+    let first = hops_keep lifetime _ (readable_keeps bundle block.hop_count all) in
     let requested : find_map if_reporting blocks ≡ None =
-    none_found if_reporting (λ read plain. grind (arith, nat_tests)) blocks all in
+    none_found lifetime if_reporting (λ read plain. grind (arith, nat_tests)) blocks all in
     record {
       reports = grind (arith, nat_tests);
-      flags =
-          none_found if_other_block_flags (λ read plain. grind (arith, nat_tests)) blocks all;
+      flags = none_found lifetime if_other_block_flags (λ read plain. grind (arith, nat_tests))
+          blocks all;
       limit = first.limit;
       hops = first.count;
-      malformed = none_found (if_malformed_extension bundle)
-          (λ read plain. grind (arith, nat_tests)) blocks all;
-      unread =
-          none_found (if_unread bundle) (λ read plain. grind (arith, nat_tests)) blocks all;
-      records = none_found (if_malformed_record bundle)
-          (λ read plain. grind (arith, nat_tests)) blocks all;
+      malformed = none_found lifetime (if_malformed_extension bundle)
+          (λ read plain. none_if _ _
+          (not_malformed lifetime read.number read.data (data_plain lifetime read plain))) blocks all;
+      unread = none_found lifetime (if_unread bundle)
+          (λ read plain. none_if _ _
+          (is_read lifetime read.number read.data (data_plain lifetime read plain))) blocks all;
+      types = none_found lifetime if_reserved (λ read plain. grind (arith, nat_tests)) blocks all;
     }
+
+-- ---- rules of the data of blocks
+
+record KeepsData (bundle : ReadBundle) : Type 0 where
+  names : find_map (bad_name_of bundle) bundle.blocks ≡ None
+  security_heads : data_head is_security_block bundle ≡ None
+  extension_heads : data_head is_extension bundle ≡ None
+  node : previous_node_id bundle ≡ None
+  age : expired bundle ≡ None
+  record_data : administrative_record bundle ≡ None
+  record_types : record_type bundle ≡ None
+  report : report_of bundle ≡ None
+
+data_keeps : (bundle : ReadBundle) → ArePlain bundle → KeepsData bundle
+unfolding previous_node_id expired administrative_record record_type report_of
+data_keeps bundle all =
+    let blocks = bundle.blocks in
+    let lifetime = bundle.primary.lifetime in
+    let payload = readable_keeps bundle block.payload all in
+    record {
+      names = none_found lifetime (bad_name_of bundle) (λ read plain. grind (arith, nat_tests))
+          blocks all;
+      security_heads = none_found lifetime _ (λ read plain. grind (arith, nat_tests)) blocks all;
+      extension_heads = none_found lifetime _ (λ read plain. grind (arith, nat_tests)) blocks all;
+      node = none_first lifetime if_no_node_id (λ read plain. grind (arith, nat_tests)) _
+          (readable_keeps bundle block.previous_node all);
+      age = none_first lifetime (if_expired lifetime) (λ read plain. grind (arith, nat_tests)) _
+          (readable_keeps bundle block.bundle_age all);
+      record_data = none_first lifetime _ (λ read plain. grind (arith, nat_tests)) _ payload;
+      record_types = none_first lifetime _ (λ read plain. grind (arith, nat_tests)) _ payload;
+      report = none_first lifetime _ (λ read plain. grind (arith, nat_tests)) _ payload;
+    }
+
+record KeepsReport (bundle : ReadBundle) : Type 0 where
+  times : report_times bundle ≡ None
+  empty : report_empty bundle ≡ None
+  reason : report_reason bundle ≡ None
+  source : report_source bundle ≡ None
+
+report_keeps : (bundle : ReadBundle) → report_of bundle ≡ None → KeepsReport bundle
+unfolding report_times report_empty report_reason report_source
+report_keeps bundle none = record {
+  times = rw none refl;
+  empty = rw none refl;
+  reason = rw none refl;
+  source = rw none refl;
+}
 
 -- ---- the numbers of blocks
 
@@ -122,42 +229,116 @@ counts_keep bundle plain = record {
   hop_counts = λ limit. grind (arith, nat_tests);
 }
 
+-- ---- no security blocks
+
+record KeepsSecurity (bundle : ReadBundle) : Type 0 where
+  primary : confidential_primary bundle ≡ None
+  targets : security_targets bundle ≡ None
+  twice : security_twice bundle ≡ None
+  flags : security_flags bundle ≡ None
+  context : security_context bundle ≡ None
+  integrity : integrity_target bundle ≡ None
+  confidential : confidential_target bundle ≡ None
+  lost : confidential_flags bundle ≡ None
+  cipher : confidential_context bundle ≡ None
+  shared : shared_target bundle ≡ None
+
+-- nothing is found in an empty list
+none_in : {A B : Type 0} (f : A → Option B) (elements : List A) → elements ≡ []
+    → find_map f elements ≡ None
+none_in f elements empty = rw empty refl
+
+none_asked : (bundle : ReadBundle) (test : SecurityFacts → ℕ → Bool) (broken : ℕ × ℕ → BundleRule)
+    → bundle.security ≡ [] → option_map broken (first_counted bundle (first_target test)) ≡ None
+none_asked bundle test broken empty =
+    let none : first_counted bundle (first_target test) ≡ None =
+    none_in (if_counted bundle (first_target test)) bundle.security empty in
+    rw none refl
+
+none_missing : (bundle : ReadBundle) → bundle.security ≡ [] → missing_target bundle ≡ None
+none_missing bundle empty = none_if (is_none bundle.primary.fragment) _ (none_asked bundle _ _ empty)
+
+security_keeps : (bundle : ReadBundle) → bundle.security ≡ [] → KeepsSecurity bundle
+unfolding confidential_primary security_targets security_twice security_flags security_context integrity_target confidential_target confidential_flags confidential_context shared_target
+security_keeps bundle empty =
+    let bad : first_counted bundle if_bad_targets ≡ None = none_in _ bundle.security empty in
+    record {
+      primary = none_in _ bundle.security empty;
+      targets = rw (bad, none_missing bundle empty) refl;
+      twice = none_asked bundle _ _ empty;
+      flags = none_in _ bundle.security empty;
+      context = none_in _ bundle.security empty;
+      integrity = none_asked bundle _ _ empty;
+      confidential = none_asked bundle _ _ empty;
+      lost = none_in _ bundle.security empty;
+      cipher = none_in _ bundle.security empty;
+      shared = none_asked bundle _ _ empty;
+    }
+
 -- ---- the bundle
 
-no_long_head : (bundle : ReadBundle) → bundle.long_head ≡ None → long_head bundle ≡ None
+no_long_head : (bundle : ReadBundle) → bundle.long_head ≡ None → KeepsData bundle
+    → long_head bundle ≡ None
 unfolding long_head
-no_long_head bundle none = rw none refl
+no_long_head bundle none kept = rw (none, kept.security_heads, kept.extension_heads) refl
 
-none_from : {A : Type 0} (value : Option A) → is_none value ≡ true → value ≡ None
-none_from value is = grind (arith, nat_tests)
+no_bad_name : (bundle : ReadBundle) → bundle.primary.bad_name ≡ None → KeepsData bundle
+    → dtn_name bundle ≡ None
+unfolding dtn_name
+no_bad_name bundle none kept = rw (none, kept.names) refl
+
+none_left : {A : Type 0} (elements : List A) → (length elements == 0) ≡ true → elements ≡ []
+none_left [] none = refl
+none_left (element ∷ more) none = grind (arith, nat_tests)
 
 pub none_broken : (bundle : ReadBundle) → bundle.long_head ≡ None → is_plain bundle ≡ true
     → broken_bundle_rules bundle ≡ []
 unfolding broken_bundle_rules
 none_broken bundle head plain =
     let both = and_parts (is_plain_primary bundle.primary) _ plain in
-    let more = and_parts (list_all is_plain_block bundle.blocks) _ both.1 in
-    let last = and_parts (has_plain_counts bundle) (is_none (confidential_primary bundle)) more.1 in
+    let more = and_parts (list_all (is_plain_block bundle.primary.lifetime) bundle.blocks) _ both.1 in
+    let last = and_parts (has_plain_counts bundle) (length bundle.security == 0) more.1 in
     let primary = primary_keeps bundle both.0 in
     let blocks = blocks_keep bundle more.0 in
+    let said = data_keeps bundle more.0 in
+    let report = report_keeps bundle said.report in
     let counts = counts_keep bundle last.0 in
+    let security = security_keeps bundle (none_left bundle.security last.1) in
     rw (
-      no_long_head bundle head,
+      no_long_head bundle head said,
       primary.flags,
       primary.check,
       primary.anonymous,
       primary.reports,
       blocks.reports,
       blocks.flags,
-      primary.name,
+      no_bad_name bundle primary.name said,
       primary.fragment,
       primary.whole,
       counts.ages,
       counts.previous_nodes,
       counts.hop_counts blocks.limit,
-      none_from (confidential_primary bundle) last.1,
+      security.primary,
       blocks.hops,
       blocks.malformed,
       blocks.unread,
-      blocks.records,
+      said.record_data,
+      primary.source,
+      said.node,
+      said.age,
+      blocks.types,
+      said.record_types,
+      report.times,
+      report.empty,
+      report.reason,
+      report.source,
+      security.targets,
+      security.twice,
+      security.flags,
+      security.context,
+      security.integrity,
+      security.confidential,
+      security.lost,
+      security.cipher,
+      security.shared,
     ) refl

@@ -1,14 +1,14 @@
--- Rules of extension blocks and of administrative records (RFC 9171 sections 4.4 and 6.1).
-use Rattle.std.specs.Prelude.{ℕ, Bool, false, not, ◌&&◌, ◌||◌, ◌==◌, nat_lt, Option, Some, None, option_map, if◌then◌else◌}
-use Rattle.std.specs.{List.find, Option.option_and_then}
+-- Rules of extension blocks (RFC 9171 sections 4.3.2 and 4.4), and of data that is not read.
+use Rattle.std.specs.Prelude.{ℕ, Bool, false, not, ◌&&◌, ◌||◌, ◌==◌, nat_le, nat_lt, Option, Some, None, option_map, if◌then◌else◌}
+use Rattle.std.specs.Option.{option_and_then}
 use Rattle.link_rules.specs.declared.level.Level.TheVariants.{Must}
 use Rattle.link_bundle_rules.specs.Fragments.{level_in}
-use Rattle.link_bundle_rules.specs.Hidden.{is_hidden}
+use Rattle.link_bundle_rules.specs.Hidden.{is_hidden_block, first_readable}
 use Rattle.link_bundle_rules.specs.ReadBundle as block
-use Rattle.link_bundle_rules.specs.ReadBundle.{ReadBundle, is_of_type, count_of_type, find_map}
+use Rattle.link_bundle_rules.specs.ReadBundle.{ReadBundle, is_of_type, is_extension, is_security_block, count_of_type, find_map}
 use Rattle.link_bundle_rules.specs.declared.block.BlockFacts.{BlockFacts}
 use Rattle.link_bundle_rules.specs.declared.block.DataFacts.{DataFacts}
-use Rattle.link_bundle_rules.specs.declared.block.DataFacts.TheVariants.{HopCount, Malformed, NotRead}
+use Rattle.link_bundle_rules.specs.declared.block.DataFacts.TheVariants.{PreviousNode, BundleAge, HopCount, Malformed, NotRead}
 use Rattle.link_bundle_rules.specs.declared.{extensions.Hops.Hops, rule.BundleRule.BundleRule}
 use Rattle.link_bundle_rules.specs.declared.rule.BundleRule.TheVariants as rule
 
@@ -28,19 +28,48 @@ previous_node bundle =
     let blocks = count_of_type block.previous_node bundle.blocks in
     if nat_lt 1 blocks then Some (rule.PreviousNode blocks) else None
 
+-- ---- the previous node and the age
+
+abbrev pub node_rule : (number : ℕ) → DataFacts → Option BundleRule
+node_rule number (PreviousNode node) = option_map (λ level. rule.PreviousNodeId number level) node.level
+node_rule number _ = None
+
+abbrev pub if_no_node_id : BlockFacts → Option BundleRule
+if_no_node_id read = node_rule read.number read.data
+
+-- previous-node-id: the first previous node block has a node ID (section 4.4.1): the endpoint ID of
+-- a singleton (section 4.2.5.2), and so neither dtn:none nor a dtn name whose demux begins with `~`
+-- (must). Another demux that is not empty, or a service number other than 0, names no node
+-- (should).
+unfoldable pub previous_node_id : ReadBundle → Option BundleRule
+previous_node_id bundle = option_and_then if_no_node_id (first_readable block.previous_node bundle)
+
+abbrev pub age_rule : (lifetime : ℕ) → DataFacts → Option BundleRule
+age_rule lifetime (BundleAge age) =
+    if nat_lt lifetime age then Some (rule.Expired lifetime age) else None
+age_rule lifetime _ = None
+
+abbrev pub if_expired : (lifetime : ℕ) → BlockFacts → Option BundleRule
+if_expired lifetime read = age_rule lifetime read.data
+
+-- expired: the age of the first bundle age block does not exceed the lifetime (sections 4.3.1 and
+-- 5.5)
+unfoldable pub expired : ReadBundle → Option BundleRule
+expired bundle =
+    option_and_then (if_expired bundle.primary.lifetime) (first_readable block.bundle_age bundle)
+
 -- ---- the hop limit and the hop count (section 4.4.3)
 
 abbrev pub hops_in : DataFacts → Option Hops
 hops_in (HopCount limit count) = Some (record { limit = limit; count = count })
 hops_in _ = None
 
-abbrev pub hops_of : ReadBundle → BlockFacts → Option Hops
-hops_of bundle read = if is_hidden bundle read.number then None else hops_in read.data
+abbrev pub hops_of : BlockFacts → Option Hops
+hops_of read = hops_in read.data
 
 -- what the first hop count block says, unless its data is malformed or may be ciphertext
 unfoldable pub first_hops : ReadBundle → Option Hops
-first_hops bundle =
-    option_and_then (hops_of bundle) (find (is_of_type block.hop_count) bundle.blocks)
+first_hops bundle = option_and_then hops_of (first_readable block.hop_count bundle)
 
 -- a hop limit is from 1 to 255
 abbrev pub has_bad_limit : Option Hops → Bool
@@ -65,12 +94,28 @@ if_exceeded hops =
 unfoldable pub hops : ReadBundle → Option BundleRule
 hops bundle = option_and_then if_exceeded (first_hops bundle)
 
--- ---- malformed data, if it cannot be ciphertext
+-- ---- block types
 
-abbrev pub is_extension : BlockFacts → Bool
-is_extension read =
-    is_of_type block.previous_node read
-    || (is_of_type block.bundle_age read || is_of_type block.hop_count read)
+-- reserved: 0, those of version 6 of the protocol alone (section 9.1), and those above 255
+abbrev pub is_reserved : (type : ℕ) → Bool
+is_reserved type =
+    (type == 0) || ((nat_le 2 type && nat_le type 5)
+    || ((type == 8) || ((type == 9) || nat_lt 255 type)))
+
+abbrev pub if_reserved : BlockFacts → Option BundleRule
+if_reserved read =
+    if is_reserved read.block_type then Some (rule.BlockType read.number read.block_type) else None
+
+-- block-type: a block has no type that is reserved (sections 4.3.2 and 9.1). The first one that has
+-- one counts.
+unfoldable pub block_type : ReadBundle → Option BundleRule
+block_type bundle = find_map if_reserved bundle.blocks
+
+-- ---- data that is malformed or not read, if it cannot be ciphertext
+
+-- a block that is no payload, and whose data is read
+abbrev pub has_read_data : BlockFacts → Bool
+has_read_data read = is_extension read || is_security_block read
 
 abbrev pub malformed_rule : (number : ℕ) → DataFacts → Option BundleRule
 malformed_rule number (Malformed byte) = Some (rule.BlockData number byte)
@@ -78,12 +123,13 @@ malformed_rule number _ = None
 
 abbrev pub if_malformed_extension : ReadBundle → BlockFacts → Option BundleRule
 if_malformed_extension bundle read =
-    if is_extension read && not (is_hidden bundle read.number)
+    if has_read_data read && not (is_hidden_block bundle read.block_type read.number)
     then malformed_rule read.number read.data
     else None
 
--- block-data: the data of previous node, bundle age and hop count blocks is well formed (sections
--- 4.4.1, 4.4.2 and 4.4.3). The first block whose data is not counts.
+-- block-data: the data of previous node, bundle age, hop count and security blocks is well formed
+-- (sections 4.4.1, 4.4.2 and 4.4.3, RFC 9172 section 3.6), as far as it is read. The first block
+-- whose data is not counts.
 unfoldable pub block_data : ReadBundle → Option BundleRule
 block_data bundle = find_map (if_malformed_extension bundle) bundle.blocks
 
@@ -93,28 +139,12 @@ unread_rule number _ = None
 
 abbrev pub if_unread : ReadBundle → BlockFacts → Option BundleRule
 if_unread bundle read =
-    if (is_extension read || is_of_type block.payload read)
-    && not (is_hidden bundle read.number)
+    if (has_read_data read || is_of_type block.payload read)
+    && not (is_hidden_block bundle read.block_type read.number)
     then unread_rule read.number read.data
     else None
 
--- data-not-read: this toolkit reads the data of previous node, bundle age and hop count blocks, and
--- administrative records. RFC 9171 permits data that exceeds its limits (section 4.1). The first
--- block with such data counts.
+-- data-not-read: this toolkit reads the data of these blocks, and administrative records. RFC 9171
+-- permits data that exceeds its limits (section 4.1). The first block with such data counts.
 unfoldable pub data_not_read : ReadBundle → Option BundleRule
 data_not_read bundle = find_map (if_unread bundle) bundle.blocks
-
-abbrev pub record_rule : DataFacts → Option BundleRule
-record_rule (Malformed byte) = Some (rule.Record byte)
-record_rule _ = None
-
-abbrev pub if_malformed_record : ReadBundle → BlockFacts → Option BundleRule
-if_malformed_record bundle read =
-    if is_of_type block.payload read && not (is_hidden bundle read.number)
-    then record_rule read.data
-    else None
-
--- record: an administrative record is well formed (sections 6.1 and 6.1.1). The record of a
--- fragment is not read.
-unfoldable pub administrative_record : ReadBundle → Option BundleRule
-administrative_record bundle = find_map (if_malformed_record bundle) bundle.blocks

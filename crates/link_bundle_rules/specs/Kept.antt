@@ -1,33 +1,40 @@
 -- Relations: bundles that are known to keep all rules, by cheap tests. The promises need only that
 -- such a bundle breaks no rule.
-use Rattle.std.specs.Prelude.{Bool, true, false, not, ◌&&◌, ◌||◌, ◌==◌, nat_lt, nat_le, is_none, List}
+use Rattle.std.specs.Prelude.{ℕ, Bool, true, false, not, ◌&&◌, ◌||◌, ◌==◌, nat_lt, nat_le, is_none, List, length}
 use Rattle.std.specs.List.{list_all}
 use Rattle.link_rules.specs.Flags.{has_other_flags}
+use Rattle.link_bundle_rules.specs.Extensions.{if_reserved}
 use Rattle.link_bundle_rules.specs.Flags.{bundle_flags_defined, record_flag, is_set, requests_reports, if_reporting, if_other_block_flags}
 use Rattle.link_bundle_rules.specs.ReadBundle as block
 use Rattle.link_bundle_rules.specs.ReadBundle.{ReadBundle, count_of_type}
-use Rattle.link_bundle_rules.specs.Security.{confidential_primary}
 use Rattle.link_bundle_rules.specs.declared.block.{BlockFacts.BlockFacts, Counts.Counts, DataFacts.DataFacts}
-use Rattle.link_bundle_rules.specs.declared.block.DataFacts.TheVariants.{Nothing, HopCount}
+use Rattle.link_bundle_rules.specs.declared.block.DataFacts.TheVariants.{Nothing, PreviousNode, BundleAge, HopCount}
 use Rattle.link_bundle_rules.specs.declared.primary.PrimaryFacts.{PrimaryFacts}
 
-abbrev pub is_plain_data : DataFacts → Bool
-is_plain_data Nothing = true
-is_plain_data (HopCount limit count) = nat_lt 0 limit && (nat_lt limit 256 && nat_le count limit)
-is_plain_data _ = false
+abbrev pub is_plain_data : (lifetime : ℕ) → DataFacts → Bool
+is_plain_data lifetime Nothing = true
+is_plain_data lifetime (PreviousNode node) = not node.has_bad_name && is_none node.level
+is_plain_data lifetime (BundleAge age) = nat_le age lifetime
+is_plain_data lifetime (HopCount limit count) =
+    nat_lt 0 limit && (nat_lt limit 256 && nat_le count limit)
+is_plain_data lifetime _ = false
 
-abbrev pub is_plain_block : BlockFacts → Bool
-is_plain_block read =
-    is_none (if_reporting read) && (is_none (if_other_block_flags read) && is_plain_data read.data)
+abbrev pub is_plain_block : (lifetime : ℕ) → BlockFacts → Bool
+is_plain_block lifetime read =
+    is_none (if_reporting read)
+    && (is_none (if_other_block_flags read)
+    && (is_none (if_reserved read)
+    && (is_none read.long_head && is_plain_data lifetime read.data)))
 
 abbrev pub is_plain_primary : PrimaryFacts → Bool
 is_plain_primary primary =
     primary.has_check
     && (not primary.is_anonymous
     && (is_none primary.bad_name
+    && (not primary.has_group_source
     && (is_none primary.fragment
     && (not (has_other_flags bundle_flags_defined primary.flags)
-    && not (is_set record_flag primary.flags && requests_reports primary.flags)))))
+    && not (is_set record_flag primary.flags && requests_reports primary.flags))))))
 
 abbrev pub counts_of : List BlockFacts → Counts
 counts_of blocks = record {
@@ -43,9 +50,9 @@ has_plain_counts bundle =
     && (nat_le (count_of_type block.hop_count bundle.blocks) 1
     && ((ages == 1) || ((ages == 0) && not bundle.primary.has_zero_time)))
 
--- whether no rule but that of long heads can be broken
+-- whether no rule can be broken but that of long heads outside the data of blocks
 abbrev pub is_plain : ReadBundle → Bool
 is_plain bundle =
     is_plain_primary bundle.primary
-    && (list_all is_plain_block bundle.blocks
-    && (has_plain_counts bundle && is_none (confidential_primary bundle)))
+    && (list_all (is_plain_block bundle.primary.lifetime) bundle.blocks
+    && (has_plain_counts bundle && (length bundle.security == 0)))

@@ -3,7 +3,11 @@ pub mod ReadBundle
 pub mod Flags
 pub mod Hidden
 pub mod Fragments
+pub mod Heads
+pub mod Endpoints
 pub mod Extensions
+pub mod Records
+pub mod Targets
 pub mod Security
 pub mod BundleRules
 pub mod History

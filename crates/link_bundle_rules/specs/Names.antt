@@ -1,22 +1,13 @@
--- Dtn names (RFC 9171 section 4.2.5.1.1).
-use Rattle.std.specs.Prelude.{ℕ, Bool, false, not, ◌&&◌, ◌==◌, List, ◌∷◌, Option, Some, None, if◌then◌else◌}
-use Rattle.std.specs.{Char.is_ascii_graphic, List.{list_any, list_all}}
+-- Names of endpoints and of nodes (RFC 9171 sections 4.2.5.1.1, 4.2.5.1.2 and 4.2.5.2).
+use Rattle.std.specs.Prelude.{ℕ, Bool, false, not, ◌&&◌, ◌==◌, nat_eq, List, codes, Option, Some, None, if◌then◌else◌}
+use Rattle.std.specs.List.{starts_with}
+use Rattle.link_rules.specs.DtnNames.{is_dtn_name, demux_level, demux_of}
+use Rattle.link_rules.specs.declared.level.{Level.Level, Level.TheVariants.{Must, Should}}
 use Rattle.link_bundle_types.specs.declared.eid.Eid.{Eid}
 use Rattle.link_bundle_types.specs.declared.eid.Eid.TheVariants as eid
 use Rattle.link_bundle_blocks.specs.Blocks.{Primary}
 use Rattle.link_bundle_rules.specs.declared.rule.Endpoint.{Endpoint}
 use Rattle.link_bundle_rules.specs.declared.rule.Endpoint.TheVariants.{Destination, Source, ReportTo}
-
-abbrev pub is_slash : ℕ → Bool
-is_slash byte = byte == 0x2f
-
--- What follows `dtn:` in a URI: `//`, a node name, `/`, and a demux, with no byte outside 21 to 7e.
--- The name and the demux may be empty.
-unfoldable pub is_dtn_name : List ℕ → Bool
-is_dtn_name (first ∷ second ∷ rest) =
-    is_slash first
-    && (is_slash second && (list_any is_slash rest && list_all is_ascii_graphic rest))
-is_dtn_name shorter = false
 
 -- dtn:none as the number 0 is no text
 abbrev pub has_bad_name : Eid → Bool
@@ -29,3 +20,25 @@ bad_name primary =
     if has_bad_name primary.destination then Some Destination
     else (if has_bad_name primary.source then Some Source
     else (if has_bad_name primary.report_to then Some ReportTo else None))
+
+-- How strictly the demux of a dtn name is forbidden in a node ID (section 4.2.5.1.1). A name that
+-- is no dtn name is not judged.
+abbrev pub dtn_level : (name : List ℕ) → Option Level
+dtn_level name = if is_dtn_name name then demux_level (demux_of name) else None
+
+-- a dtn name whose demux begins with `~`: its endpoint is no singleton (section 4.2.5.1.1)
+abbrev pub is_group : Eid → Bool
+is_group (eid.Dtn name) =
+    starts_with nat_eq (demux_of name.items) (codes "~") && is_dtn_name name.items
+is_group _ = false
+
+-- an ipn name whose service number is not 0 names no node (section 4.2.5.1.2)
+abbrev pub service_level : (service : ℕ) → Option Level
+service_level service = if service == 0 then None else Some Should
+
+-- how strictly an endpoint ID is forbidden as a node ID; dtn:none names no node
+abbrev pub node_level : Eid → Option Level
+node_level eid.DtnNone = Some Must
+node_level (eid.Dtn name) = dtn_level name.items
+node_level (eid.Ipn node service) = service_level service
+node_level (eid.Ipn3 allocator node service) = service_level service

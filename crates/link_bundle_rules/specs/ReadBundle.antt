@@ -1,17 +1,19 @@
 -- What the rules need of a good bundle (RFC 9171 section 4).
-use Rattle.std.specs.Prelude.{ℕ, ◌+◌, ◌||◌, ◌==◌, Bool, true, false, List, [], ◌∷◌, ◌++◌, take, count_by, is_some, Option, Some, None, Result, Ok, Err, if◌then◌else◌, nat_lt}
+use Rattle.std.specs.Prelude.{ℕ, ◌+◌, ◌||◌, ◌==◌, Bool, true, false, List, [], ◌∷◌, ◌++◌, take, count_by, is_some, Option, Some, None, option_map, Result, Ok, Err, if◌then◌else◌, nat_lt}
 use Rattle.std.specs.Option.{option_or}
 use Rattle.link_cbor.specs.declared.check.CheckKind.{CheckKind}
 use Rattle.link_bundle_types.specs.declared.eid.Eid.{Eid}
 use Rattle.link_bundle_types.specs.declared.eid.Eid.TheVariants as eid
 use Rattle.link_bundle_blocks.specs.Blocks.{Primary}
 use Rattle.link_bundle_blocks.specs.declared.block.CanonicalBlock.{CanonicalBlock}
-use Rattle.link_block_data.specs.BlockData.{BlockData, HopCount, Security}
+use Rattle.link_block_data.specs.BlockData.{BlockData, PreviousNode, BundleAge, HopCount, Security, StatusReport, OtherRecord}
+use Rattle.link_block_data.specs.declared.values.Report.{Report}
 use Rattle.link_block_data.specs.declared.values.DataFault.{DataFault}
-use Rattle.link_bundle_rules.specs.Names.{bad_name}
+use Rattle.link_bundle_rules.specs.Names.{has_bad_name, bad_name, is_group, node_level}
 use Rattle.link_bundle_rules.specs.declared.block.BlockFacts.{BlockFacts}
 use Rattle.link_bundle_rules.specs.declared.block.DataFacts.{DataFacts}
 use Rattle.link_bundle_rules.specs.declared.block.DataFacts.TheVariants as facts
+use Rattle.link_bundle_rules.specs.declared.block.{NodeFacts.NodeFacts, ReportFacts.ReportFacts}
 use Rattle.link_bundle_rules.specs.declared.primary.PrimaryFacts.{PrimaryFacts}
 use Rattle.link_bundle_rules.specs.declared.security.SecurityFacts.{SecurityFacts}
 
@@ -21,7 +23,7 @@ pub record ReadBundle : Type 0 where
   pub blocks : List BlockFacts
   -- the security blocks among them, in order
   pub security : List SecurityFacts
-  -- the offset of the first head that is longer than its number needs
+  -- the offset of the first head that is longer than its number needs, outside the data of blocks
   pub long_head : Option ℕ
   -- the number of bytes of the payload
   pub payload_length : ℕ
@@ -49,6 +51,17 @@ block_confidentiality = 12
 abbrev pub is_of_type : (type : ℕ) → BlockFacts → Bool
 is_of_type type block = block.block_type == type
 
+-- a previous node, bundle age or hop count block
+abbrev pub is_extension : BlockFacts → Bool
+is_extension block =
+    is_of_type previous_node block || (is_of_type bundle_age block || is_of_type hop_count block)
+
+abbrev pub is_security : (type : ℕ) → Bool
+is_security type = (type == block_integrity) || (type == block_confidentiality)
+
+abbrev pub is_security_block : BlockFacts → Bool
+is_security_block block = is_security block.block_type
+
 abbrev pub count_of_type : (type : ℕ) → List BlockFacts → ℕ
 count_of_type type blocks = count_by (is_of_type type) blocks
 
@@ -71,6 +84,8 @@ primary_facts primary check = record {
   is_anonymous = is_none_eid primary.source;
   has_zero_time = primary.time == 0;
   bad_name = bad_name primary;
+  has_group_source = is_group primary.source;
+  lifetime = primary.lifetime;
   fragment = primary.fragment;
 }
 
@@ -89,51 +104,82 @@ fault_facts data_start fault =
     then facts.NotRead (data_start + fault.offset)
     else facts.Malformed (data_start + fault.offset)
 
+-- a name that breaks dtn-name, and how strictly it is forbidden as a node ID
+abbrev pub node_facts : Eid → NodeFacts
+node_facts node = record { has_bad_name = has_bad_name node; level = node_level node }
+
+-- which asserted statuses have a time and which have none, the reason, and the source of the bundle
+-- that the status report is about (section 6.1.1)
+abbrev pub report_facts : Report → Eid → ReportFacts
+report_facts report source = record {
+  timed = report.timed;
+  untimed = report.untimed;
+  reason = report.reason;
+  has_no_source = is_none_eid source;
+  has_bad_source = has_bad_name source;
+}
+
+abbrev pub said_facts : BlockData → DataFacts
+said_facts (PreviousNode node) = facts.PreviousNode (node_facts node)
+said_facts (BundleAge age) = facts.BundleAge age
+said_facts (HopCount limit count) = facts.HopCount limit count
+said_facts (Security block targets source) = facts.Security (has_bad_name source)
+said_facts (StatusReport report source) = facts.StatusReport (report_facts report source)
+said_facts (OtherRecord type) = facts.OtherRecord type
+
 -- What the rules need of the data of a block, if data of its type is read. The payload is read if
 -- it is an administrative record and the bundle is no fragment.
 abbrev pub data_facts : (data_start : ℕ) → Option (Result BlockData DataFault) → DataFacts
-data_facts data_start (Some (Ok (HopCount limit count))) = facts.HopCount limit count
+data_facts data_start (Some (Ok said)) = said_facts said
 data_facts data_start (Some (Err fault)) = fault_facts data_start fault
-data_facts data_start _ = facts.Nothing
+data_facts data_start None = facts.Nothing
 
-abbrev pub block_facts : CanonicalBlock → Option (Result BlockData DataFault) → BlockFacts
-block_facts block found = record {
+-- The offset in the bundle of the first head in the data of a block that is longer than its number
+-- needs, by its offset in the data.
+abbrev pub long_head_at : CanonicalBlock → (long_head : Option ℕ) → Option ℕ
+long_head_at block long_head = option_map (λ offset. block.data_start + offset) long_head
+
+abbrev pub block_facts : CanonicalBlock → Option (Result BlockData DataFault)
+    → (long_head : Option ℕ) → BlockFacts
+block_facts block found long_head = record {
   number = block.number;
   block_type = block.block_type;
   flags = block.flags;
   «data» = data_facts block.data_start found;
+  long_head = long_head_at block long_head;
 }
 
 -- ---- a security block
 
-abbrev pub is_security : (type : ℕ) → Bool
-is_security type = (type == block_integrity) || (type == block_confidentiality)
-
--- The targets of a security block (RFC 9172 section 3.6). The first 64 are kept. Those of a
--- malformed block are not known.
-abbrev pub security_facts : (number type : ℕ) → Option (Result BlockData DataFault) → SecurityFacts
-security_facts number type (Some (Ok (Security block targets source))) = record {
-  number = number;
-  block_type = type;
+-- What the rules need of a security block (RFC 9172 section 3.6). The first 64 targets are kept.
+-- What a block says whose data is malformed, or is not read, is not known.
+abbrev pub security_facts : CanonicalBlock → Option (Result BlockData DataFault) → SecurityFacts
+security_facts read (Some (Ok (Security block targets source))) = record {
+  number = read.number;
+  block_type = read.block_type;
+  flags = read.flags;
   is_malformed = false;
   targets_primary = block.targets_primary;
   count = block.targets;
   targets = record { items = take 64 targets };
+  context = block.context;
+  context_flags = block.flags;
 }
-security_facts number type _ = record {
-  number = number;
-  block_type = type;
+security_facts read _ = record {
+  number = read.number;
+  block_type = read.block_type;
+  flags = read.flags;
   is_malformed = true;
   targets_primary = false;
   count = 0;
   targets = record { items = [] };
+  context = record { negative = false; argument = 0 };
+  context_flags = 0;
 }
 
 abbrev pub if_security : CanonicalBlock → Option (Result BlockData DataFault) → List SecurityFacts
 if_security block found =
-    if is_security block.block_type
-    then security_facts block.number block.block_type found ∷ []
-    else []
+    if is_security block.block_type then security_facts block found ∷ [] else []
 
 -- ---- a bundle, block by block
 
@@ -147,11 +193,12 @@ begun primary check = record {
   payload_length = 0;
 }
 
--- a bundle with another block after its blocks
+-- A bundle with another block after its blocks. `long_head` is the offset in the block's data of
+-- the first head that is longer than its number needs, of the heads that are read.
 abbrev pub with_block : ReadBundle → CanonicalBlock → Option (Result BlockData DataFault)
-    → ReadBundle
-with_block bundle block found = record bundle {
-  blocks = bundle.blocks ++ block_facts block found ∷ [];
+    → (long_head : Option ℕ) → ReadBundle
+with_block bundle block found long_head = record bundle {
+  blocks = bundle.blocks ++ block_facts block found long_head ∷ [];
   security = bundle.security ++ if_security block found;
 }
 

@@ -1,11 +1,14 @@
--- Rules of security blocks (RFC 9171 section 4.3.1, RFC 9172 sections 3.7 and 3.8).
-use Rattle.std.specs.Prelude.{Bool, ◌&&◌, ◌||◌, ◌==◌, Option, Some, None, if◌then◌else◌}
+-- Rules of single security blocks (RFC 9171 section 4.3.1, RFC 9172).
+use Rattle.std.specs.Prelude.{ℕ, Bool, not, ◌&&◌, ◌||◌, ◌==◌, Option, Some, None, if◌then◌else◌}
 use Rattle.std.specs.List.{list_any}
+use Rattle.link_rules.specs.Flags.{has_other_flags}
+use Rattle.link_bundle_rules.specs.Flags.{is_set}
 use Rattle.link_bundle_rules.specs.Fragments.{level_in}
 use Rattle.link_bundle_rules.specs.Hidden.{is_hidden}
 use Rattle.link_bundle_rules.specs.ReadBundle.{ReadBundle, block_integrity, block_confidentiality, find_map}
+use Rattle.link_bundle_rules.specs.Targets.{is_confidentiality, has_target, first_counted}
 use Rattle.link_bundle_rules.specs.declared.rule.BundleRule.{BundleRule}
-use Rattle.link_bundle_rules.specs.declared.rule.BundleRule.TheVariants.{PrimaryCheck, ConfidentialPrimary}
+use Rattle.link_bundle_rules.specs.declared.rule.BundleRule.TheVariants.{PrimaryCheck, ConfidentialPrimary, SecurityFlags, SecurityContext, ConfidentialFlags, ConfidentialContext}
 use Rattle.link_bundle_rules.specs.declared.security.SecurityFacts.{SecurityFacts}
 
 -- Whether a block integrity block may have the primary block as a target. The targets of one that
@@ -33,3 +36,71 @@ if_confidential_primary block =
 -- section 3.8). The first one that does counts.
 unfoldable pub confidential_primary : ReadBundle → Option BundleRule
 confidential_primary bundle = find_map if_confidential_primary bundle.security
+
+-- ---- flags and contexts of security blocks that count
+
+-- security context parameters are present (RFC 9172 section 3.6)
+abbrev pub context_flags_defined : ℕ
+context_flags_defined = 0x01
+
+abbrev pub if_other_context_flags : SecurityFacts → Option BundleRule
+if_other_context_flags block =
+    if has_other_flags context_flags_defined block.context_flags
+    then Some (SecurityFlags block.number block.context_flags)
+    else None
+
+-- security-flags: a security context has no flag but the one that is defined (RFC 9172 section 3.6)
+unfoldable pub security_flags : ReadBundle → Option BundleRule
+security_flags bundle = first_counted bundle if_other_context_flags
+
+abbrev pub if_reserved_context : SecurityFacts → Option BundleRule
+if_reserved_context block =
+    if block.context.negative || (block.context.argument == 0)
+    then Some (SecurityContext block.number block.context)
+    else None
+
+-- security-context: the ID of a security context is above 0, since the others are reserved (RFC
+-- 9172 sections 3.6 and 11.3)
+unfoldable pub security_context : ReadBundle → Option BundleRule
+security_context bundle = first_counted bundle if_reserved_context
+
+-- the block is copied into every fragment (RFC 9171 section 4.2.4)
+abbrev pub copied : ℕ
+copied = 0x01
+
+-- the block is discarded if it cannot be processed
+abbrev pub discarded : ℕ
+discarded = 0x10
+
+-- a block confidentiality block may be discarded, or has the payload as a target and is not copied
+abbrev pub may_be_lost : SecurityFacts → Bool
+may_be_lost block =
+    is_set discarded block.flags
+    || (has_target 1 block && not (is_set copied block.flags))
+
+abbrev pub if_may_be_lost : SecurityFacts → Option BundleRule
+if_may_be_lost block =
+    if is_confidentiality block && may_be_lost block
+    then Some (ConfidentialFlags block.number block.flags)
+    else None
+
+-- confidential-flags: a block confidentiality block is not discarded if it cannot be processed, and
+-- is copied into every fragment if it has the payload as a target (RFC 9172 section 3.8)
+unfoldable pub confidential_flags : ReadBundle → Option BundleRule
+confidential_flags bundle = first_counted bundle if_may_be_lost
+
+-- the context BIB-HMAC-SHA2 (RFC 9173 section 5.1), which has no cipher (section 3.1)
+abbrev pub hmac_sha2 : ℕ
+hmac_sha2 = 1
+
+abbrev pub if_no_cipher : SecurityFacts → Option BundleRule
+if_no_cipher block =
+    if is_confidentiality block
+    && (not block.context.negative && (block.context.argument == hmac_sha2))
+    then Some (ConfidentialContext block.number)
+    else None
+
+-- confidential-context: the context of a block confidentiality block has a cipher (RFC 9172 section
+-- 3.8, RFC 9173 sections 3.1 and 5.1)
+unfoldable pub confidential_context : ReadBundle → Option BundleRule
+confidential_context bundle = first_counted bundle if_no_cipher

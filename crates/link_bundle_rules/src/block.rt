@@ -2,11 +2,16 @@
 
 ghost use Rattle.std.specs.Prelude.{◌≡◌, ◌+◌, ◌^◌, ◌<◌, IfSome, option_map};
 ghost use Rattle.std.specs.List.{find};
-ghost use Rattle.link_block_data.specs.DataView.{viewed_result};
-ghost use Rattle.link_bundle_rules.specs.ReadBundle.{block_facts, data_facts, fault_facts, malformed_at, is_of_type};
+ghost use Rattle.link_block_data.specs.DataView.{viewed_data, viewed_result};
+ghost use Rattle.link_bundle_rules.specs.ReadBundle.{block_facts, data_facts, said_facts, fault_facts, node_facts, report_facts, long_head_at, malformed_at, is_of_type, is_extension, is_security, is_security_block};
+ghost use Rattle.link_bundle_types.specs.EidView.{viewed_eid};
 
-use link_block_data::{DataFault, DataView};
+use crate::names::{has_bad_name, node_level};
+use crate::primary::is_none_eid;
+use link_block_data::{DataFault, DataView, Report};
 use link_bundle_blocks::CanonicalBlock;
+use link_bundle_types::EidView;
+use link_rules::Level;
 
 /// The block type codes of the rules (RFC 9171 sections 4.3.2 and 4.4, RFC 9172 section 3).
 pub(crate) const PAYLOAD: u64 = 1;
@@ -30,6 +35,57 @@ pub struct ReadBlockView<'a> {
     /// It is `None` if data of this type is not read. The payload is read if it is an
     /// administrative record and the bundle is no fragment.
     pub found: Option<Result<DataView<'a>, DataFault>>,
+    /// The offset in the data of the first head that is longer than its number needs, of the heads
+    /// that are read.
+    pub long_head: Option<u64>,
+}
+
+/// What the rules need of the node of a previous node block.
+#[derive(Clone, Copy, Debug, PartialEq, Eq)]
+pub(crate) struct NodeFacts {
+    /// Whether it is a text of scheme dtn, and no dtn name.
+    pub(crate) has_bad_name: bool,
+    /// How strictly it is forbidden as a node ID.
+    pub(crate) level: Option<Level>,
+}
+
+impl NodeFacts {
+    fn of(node: &EidView<'_>) -> NodeFacts
+        ensures { result ≡ node_facts (viewed_eid node.now) }
+    {
+        NodeFacts {
+            has_bad_name: has_bad_name(node),
+            level: node_level(node),
+        }
+    }
+}
+
+/// What the rules need of a status report.
+#[derive(Clone, Copy, Debug, PartialEq, Eq)]
+pub(crate) struct ReportFacts {
+    /// Whether some status that is asserted has a time.
+    pub(crate) timed: bool,
+    /// Whether some status that is asserted has no time.
+    pub(crate) untimed: bool,
+    pub(crate) reason: u64,
+    /// Whether the bundle that it is about has no source.
+    pub(crate) has_no_source: bool,
+    /// Whether the source of that bundle is a text of scheme dtn, and no dtn name.
+    pub(crate) has_bad_source: bool,
+}
+
+impl ReportFacts {
+    fn of(report: &Report, source: &EidView<'_>) -> ReportFacts
+        ensures { result ≡ report_facts report.now (viewed_eid source.now) }
+    {
+        ReportFacts {
+            timed: report.timed,
+            untimed: report.untimed,
+            reason: report.reason,
+            has_no_source: is_none_eid(source),
+            has_bad_source: has_bad_name(source),
+        }
+    }
 }
 
 /// What the rules need of the data of a block. Each offset is one in the bundle.
@@ -38,8 +94,17 @@ pub(crate) enum DataFacts {
     /// No rule needs anything of it.
     #[default]
     Nothing,
+    /// The node that forwarded the bundle (RFC 9171 section 4.4.1).
+    PreviousNode(NodeFacts),
+    /// The age in milliseconds (RFC 9171 section 4.4.2).
+    BundleAge(u64),
     /// A hop limit and a hop count (RFC 9171 section 4.4.3).
     HopCount(u64, u64),
+    /// Whether the security source is a text of scheme dtn, and no dtn name (RFC 9172 section 3.6).
+    Security(bool),
+    StatusReport(ReportFacts),
+    /// An administrative record of another type, by its type code (RFC 9171 section 6.1).
+    OtherRecord(u64),
     /// The data is malformed at this offset.
     Malformed(u64),
     /// At this offset, an item exceeds a limit of this toolkit.
@@ -54,6 +119,8 @@ pub(crate) struct BlockFacts {
     /// The block processing control flags (RFC 9171 section 4.2.4).
     pub(crate) flags: u64,
     pub(crate) data: DataFacts,
+    /// The offset in the bundle of the first head in the data that is longer than its number needs.
+    pub(crate) long_head: Option<u64>,
 }
 
 /// Why data is malformed that begins at this offset in the bundle.
@@ -68,6 +135,23 @@ fn fault_facts(data_start: u64, fault: DataFault) -> DataFacts
     }
 }
 
+/// What the rules need of well-formed data.
+#[inline(always)]
+fn said_facts(view: &DataView<'_>) -> DataFacts
+    ensures { result ≡ said_facts (viewed_data view.now) }
+{
+    match view {
+        DataView::PreviousNode(node) => DataFacts::PreviousNode(NodeFacts::of(node)),
+        DataView::BundleAge(age) => DataFacts::BundleAge(*age),
+        DataView::HopCount(limit, count) => DataFacts::HopCount(*limit, *count),
+        DataView::Security(_, _, source) => DataFacts::Security(has_bad_name(source)),
+        DataView::StatusReport(report, source) => {
+            DataFacts::StatusReport(ReportFacts::of(report, source))
+        }
+        DataView::OtherRecord(kind) => DataFacts::OtherRecord(*kind),
+    }
+}
+
 /// What the rules need of the data of a block.
 #[inline(always)]
 fn data_facts(read: &ReadBlockView<'_>) -> DataFacts
@@ -75,11 +159,21 @@ fn data_facts(read: &ReadBlockView<'_>) -> DataFacts
         (λ byte. byte < 2 ^ 64)
         → result ≡ data_facts read.now.block.now.data_start (option_map viewed_result read.now.found) }
 {
-    match read.found {
-        Some(Ok(DataView::HopCount(limit, count))) => DataFacts::HopCount(limit, count),
-        Some(Err(fault)) => fault_facts(read.block.data_start, fault),
-        _ => DataFacts::Nothing,
+    match &read.found {
+        Some(Ok(view)) => said_facts(view),
+        Some(Err(fault)) => fault_facts(read.block.data_start, *fault),
+        None => DataFacts::Nothing,
     }
+}
+
+/// The offset in the bundle of the first long head in the data of a block.
+#[inline(always)]
+fn long_head_at(read: &ReadBlockView<'_>) -> Option<u64>
+    ensures { IfSome (long_head_at read.now.block.now read.now.long_head) (λ byte. byte < 2 ^ 64)
+        → result ≡ long_head_at read.now.block.now read.now.long_head }
+{
+    let offset = read.long_head?;
+    Some(read.block.data_start.saturating_add(offset))
 }
 
 impl BlockFacts {
@@ -88,13 +182,16 @@ impl BlockFacts {
     pub(crate) fn of(read: &ReadBlockView<'_>) -> BlockFacts
         ensures { IfSome (malformed_at read.now.block.now (option_map viewed_result read.now.found))
             (λ byte. byte < 2 ^ 64)
-            → result ≡ block_facts read.now.block.now (option_map viewed_result read.now.found) }
+            → IfSome (long_head_at read.now.block.now read.now.long_head) (λ byte. byte < 2 ^ 64)
+            → result ≡ block_facts read.now.block.now (option_map viewed_result read.now.found)
+            read.now.long_head }
     {
         BlockFacts {
             number: read.block.number,
             block_type: read.block.block_type,
             flags: read.block.flags,
             data: data_facts(read),
+            long_head: long_head_at(read),
         }
     }
 }
@@ -104,6 +201,28 @@ pub(crate) fn is_of_type(block_type: u64, block: &BlockFacts) -> bool
     ensures { result ≡ is_of_type block_type block.now }
 {
     block.block_type == block_type
+}
+
+/// Whether a block is a previous node, bundle age or hop count block.
+pub(crate) fn is_extension(block: &BlockFacts) -> bool
+    ensures { result ≡ is_extension block.now }
+{
+    is_of_type(PREVIOUS_NODE, block)
+        || is_of_type(BUNDLE_AGE, block)
+        || is_of_type(HOP_COUNT, block)
+}
+
+/// Whether a block of this type is a security block.
+pub(crate) fn is_security(block_type: u64) -> bool
+    ensures { result ≡ is_security block_type }
+{
+    block_type == BLOCK_INTEGRITY || block_type == BLOCK_CONFIDENTIALITY
+}
+
+pub(crate) fn is_security_block(block: &BlockFacts) -> bool
+    ensures { result ≡ is_security_block block.now }
+{
+    is_security(block.block_type)
 }
 
 /// The first block of a type.

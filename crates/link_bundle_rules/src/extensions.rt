@@ -1,14 +1,18 @@
-//! Rules of extension blocks and of administrative records (RFC 9171 sections 4.4 and 6.1).
+//! Rules of extension blocks (RFC 9171 sections 4.3.2 and 4.4), and of data that is not read.
 
 ghost use Rattle.std.specs.Prelude.{◌≡◌, None};
 ghost use Rattle.link_bundle_rules.specs.History.{bundle_of};
-ghost use Rattle.link_bundle_rules.specs.Extensions.{hops_in, hops_of, has_bad_limit, if_exceeded, is_extension, if_malformed_extension, if_unread, if_malformed_record};
+ghost use Rattle.link_bundle_rules.specs.Extensions.{hops_in, has_bad_limit, if_exceeded, if_no_node_id, if_expired, is_reserved, if_reserved, has_read_data, if_malformed_extension, if_unread};
+ghost use Rattle.link_bundle_rules.specs.Hidden.{is_hidden_block};
 
 use crate::block::{
-    BUNDLE_AGE, BlockFacts, DataFacts, HOP_COUNT, PAYLOAD, PREVIOUS_NODE, is_of_type,
+    BUNDLE_AGE, BlockFacts, Counts, DataFacts, HOP_COUNT, PAYLOAD, PREVIOUS_NODE, is_extension,
+    is_of_type, is_security_block,
 };
 use crate::history::BundleHistory;
 use crate::rule::BundleRule;
+use crate::rules::first_found;
+use link_rules::Level;
 
 /// A hop limit and a hop count (RFC 9171 section 4.4.3).
 #[derive(Clone, Copy, Debug, PartialEq, Eq)]
@@ -47,26 +51,64 @@ impl Hops {
     }
 }
 
-/// What a hop count block says, unless its data is malformed or may be ciphertext.
-pub(crate) fn hops_of(history: &BundleHistory, block: &BlockFacts) -> Option<Hops>
-    ensures { result ≡ hops_of (bundle_of history.now None 0) block.now }
+/// The rule that a previous node block breaks by a node that is forbidden.
+fn if_no_node_id(block: &BlockFacts) -> Option<BundleRule>
+    ensures { result ≡ if_no_node_id block.now }
 {
-    if history.is_hidden(block.number) {
+    let DataFacts::PreviousNode(node) = block.data else {
         return None;
-    }
-    Hops::of(block.data)
+    };
+    let level = node.level?;
+    Some(BundleRule::PreviousNodeId {
+        block: block.number,
+        level,
+    })
 }
 
-/// Whether a block is a previous node, bundle age or hop count block.
-fn is_extension(block: &BlockFacts) -> bool
-    ensures { result ≡ is_extension block.now }
+/// The rule that a bundle age block breaks by an age above the lifetime.
+fn if_expired(lifetime: u64, block: &BlockFacts) -> Option<BundleRule>
+    ensures { result ≡ if_expired lifetime block.now }
 {
-    is_of_type(PREVIOUS_NODE, block)
-        || is_of_type(BUNDLE_AGE, block)
-        || is_of_type(HOP_COUNT, block)
+    match block.data {
+        DataFacts::BundleAge(age) if lifetime < age => Some(BundleRule::Expired { lifetime, age }),
+        _ => None,
+    }
 }
 
-/// The rule that an extension block breaks by malformed data, if that cannot be ciphertext.
+/// Whether a block type is reserved, or of version 6 of the protocol alone.
+fn is_reserved(block_type: u64) -> bool
+    ensures { result ≡ is_reserved block_type }
+{
+    matches!(block_type, 0 | 2..=5 | 8 | 9) || block_type > 255
+}
+
+/// The rule that a block breaks by a type that is reserved.
+pub(crate) fn if_reserved(block: &BlockFacts) -> Option<BundleRule>
+    ensures { result ≡ if_reserved block.now }
+{
+    is_reserved(block.block_type).then_some(BundleRule::BlockType {
+        block: block.number,
+        block_type: block.block_type,
+    })
+}
+
+/// Whether the data of a block is read, if it is no payload.
+fn has_read_data(block: &BlockFacts) -> bool
+    ensures { result ≡ has_read_data block.now }
+{
+    is_extension(block) || is_security_block(block)
+}
+
+/// Whether the data of a block may be ciphertext.
+fn is_hidden(history: &BundleHistory, block: &BlockFacts) -> bool
+    ensures { result ≡ is_hidden_block (bundle_of history.now None 0) block.now.block_type
+        block.now.number }
+{
+    history.is_hidden_block(block.block_type, block.number)
+}
+
+/// The rule that an extension block or a security block breaks by malformed data, if that cannot be
+/// ciphertext.
 pub(crate) fn if_malformed_extension(
     history: &BundleHistory,
     block: &BlockFacts,
@@ -74,7 +116,7 @@ pub(crate) fn if_malformed_extension(
     ensures { result ≡ if_malformed_extension (bundle_of history.now None 0) block.now }
 {
     match block.data {
-        DataFacts::Malformed(byte) if is_extension(block) && !history.is_hidden(block.number) => {
+        DataFacts::Malformed(byte) if has_read_data(block) && !is_hidden(history, block) => {
             Some(BundleRule::BlockData {
                 block: block.number,
                 byte,
@@ -89,9 +131,9 @@ pub(crate) fn if_malformed_extension(
 pub(crate) fn if_unread(history: &BundleHistory, block: &BlockFacts) -> Option<BundleRule>
     ensures { result ≡ if_unread (bundle_of history.now None 0) block.now }
 {
-    let is_judged = is_extension(block) || is_of_type(PAYLOAD, block);
+    let is_judged = has_read_data(block) || is_of_type(PAYLOAD, block);
     match block.data {
-        DataFacts::NotRead(byte) if is_judged && !history.is_hidden(block.number) => {
+        DataFacts::NotRead(byte) if is_judged && !is_hidden(history, block) => {
             Some(BundleRule::DataNotRead {
                 block: block.number,
                 byte,
@@ -101,15 +143,136 @@ pub(crate) fn if_unread(history: &BundleHistory, block: &BlockFacts) -> Option<B
     }
 }
 
-/// The rule that the payload block breaks by a malformed record, if that cannot be ciphertext.
-pub(crate) fn if_malformed_record(history: &BundleHistory, block: &BlockFacts) -> Option<BundleRule>
-    ensures { result ≡ if_malformed_record (bundle_of history.now None 0) block.now }
-{
-    match block.data {
-        DataFacts::Malformed(byte)
-            if is_of_type(PAYLOAD, block) && !history.is_hidden(block.number) => {
-            Some(BundleRule::Record { byte })
+impl BundleHistory {
+    ghost use Rattle.std.specs.Prelude.{◌≡◌, ℕ, Option, None};
+    ghost use Rattle.std.specs.List.{list_all};
+    ghost use Rattle.link_bundle_rules.specs.Extensions.{age, previous_node, previous_node_id, expired, first_hops, hop_count, hops, block_type, block_data, data_not_read};
+    ghost use Rattle.link_bundle_rules.specs.History.{bundle_of};
+    ghost use Rattle.link_bundle_rules.specs.Kept.{is_plain_block, counts_of};
+
+    /// The rule of bundle age blocks.
+    #[tactic(auto, unfolding(crate::specs::Extensions::age))]
+    pub(crate) fn age(&self, counts: Counts) -> Option<BundleRule>
+        ensures { (byte : Option ℕ) (size : ℕ)
+            → counts ≡ counts_of self.now.blocks.items
+            → result ≡ age (bundle_of self.now byte size) }
+    {
+        let blocks = counts.ages;
+        if blocks > 1 {
+            let level = Level::Must;
+            return Some(BundleRule::Age { blocks, level });
         }
-        _ => None,
+        if blocks == 0 && self.primary.has_zero_time {
+            let level = self.primary.level();
+            return Some(BundleRule::Age { blocks, level });
+        }
+        None
+    }
+
+    /// The rule of previous node blocks.
+    #[tactic(auto, unfolding(crate::specs::Extensions::previous_node))]
+    pub(crate) fn previous_node(&self, counts: Counts) -> Option<BundleRule>
+        ensures { (byte : Option ℕ) (size : ℕ)
+            → counts ≡ counts_of self.now.blocks.items
+            → result ≡ previous_node (bundle_of self.now byte size) }
+    {
+        let blocks = counts.previous_nodes;
+        (blocks > 1).then_some(BundleRule::PreviousNode { blocks })
+    }
+
+    /// The rule of the node of the first previous node block.
+    #[tactic(auto, unfolding(crate::specs::Extensions::previous_node_id))]
+    pub(crate) fn previous_node_id(&self) -> Option<BundleRule>
+        ensures { (byte : Option ℕ) (size : ℕ)
+            → result ≡ previous_node_id (bundle_of self.now byte size) }
+    {
+        if_no_node_id(&self.first_readable(PREVIOUS_NODE)?)
+    }
+
+    /// The rule of the age of the first bundle age block.
+    #[tactic(auto, unfolding(crate::specs::Extensions::expired))]
+    pub(crate) fn expired(&self) -> Option<BundleRule>
+        ensures { (byte : Option ℕ) (size : ℕ)
+            → result ≡ expired (bundle_of self.now byte size) }
+    {
+        if_expired(self.primary.lifetime, &self.first_readable(BUNDLE_AGE)?)
+    }
+
+    /// What the first hop count block says, unless it is malformed or may be ciphertext.
+    #[tactic(auto, unfolding(crate::specs::Extensions::first_hops))]
+    fn first_hops(&self) -> Option<Hops>
+        ensures { (byte : Option ℕ) (size : ℕ)
+            → result ≡ first_hops (bundle_of self.now byte size) }
+    {
+        Hops::of(self.first_readable(HOP_COUNT)?.data)
+    }
+
+    /// The rule of hop count blocks.
+    #[tactic(auto, unfolding(crate::specs::Extensions::hop_count))]
+    pub(crate) fn hop_count(&self, plain: bool, counts: Counts) -> Option<BundleRule>
+        ensures { (byte : Option ℕ) (size : ℕ)
+            → plain ≡ list_all (is_plain_block self.now.primary.lifetime) self.now.blocks.items
+            → counts ≡ counts_of self.now.blocks.items
+            → result ≡ hop_count (bundle_of self.now byte size) }
+    {
+        let blocks = counts.hop_counts;
+        if plain && blocks <= 1 {
+            return None;
+        }
+        let first = self.first_hops();
+        let is_wrong = blocks > 1 || has_bad_limit(&first);
+        let limit = first.map(|hops| hops.limit);
+        is_wrong.then_some(BundleRule::HopCount { blocks, limit })
+    }
+
+    /// The rule of the first hop count.
+    #[tactic(auto, unfolding(crate::specs::Extensions::hops))]
+    pub(crate) fn hops(&self, plain: bool) -> Option<BundleRule>
+        ensures { (byte : Option ℕ) (size : ℕ)
+            → plain ≡ list_all (is_plain_block self.now.primary.lifetime) self.now.blocks.items
+            → result ≡ hops (bundle_of self.now byte size) }
+    {
+        if plain {
+            return None;
+        }
+        self.first_hops()?.if_exceeded()
+    }
+
+    /// The rule of block types.
+    #[tactic(auto, unfolding(crate::specs::Extensions::block_type))]
+    pub(crate) fn block_type(&self) -> Option<BundleRule>
+        ensures { (byte : Option ℕ) (size : ℕ)
+            → result ≡ block_type (bundle_of self.now byte size) }
+    {
+        first_found(self.blocks.as_slice(), |block| if_reserved(block))
+    }
+
+    /// The rule of the data of extension blocks.
+    #[tactic(auto, unfolding(crate::specs::Extensions::block_data))]
+    pub(crate) fn block_data(&self, plain: bool) -> Option<BundleRule>
+        ensures { (byte : Option ℕ) (size : ℕ)
+            → plain ≡ list_all (is_plain_block self.now.primary.lifetime) self.now.blocks.items
+            → result ≡ block_data (bundle_of self.now byte size) }
+    {
+        if plain {
+            return None;
+        }
+        first_found(
+            self.blocks.as_slice(),
+            |block| if_malformed_extension(self, block),
+        )
+    }
+
+    /// The rule of data that this toolkit does not read.
+    #[tactic(auto, unfolding(crate::specs::Extensions::data_not_read))]
+    pub(crate) fn data_not_read(&self, plain: bool) -> Option<BundleRule>
+        ensures { (byte : Option ℕ) (size : ℕ)
+            → plain ≡ list_all (is_plain_block self.now.primary.lifetime) self.now.blocks.items
+            → result ≡ data_not_read (bundle_of self.now byte size) }
+    {
+        if plain {
+            return None;
+        }
+        first_found(self.blocks.as_slice(), |block| if_unread(self, block))
     }
 }

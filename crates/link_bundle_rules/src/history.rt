@@ -3,9 +3,9 @@
 ghost use Rattle.std.specs.Prelude.{◌≤◌};
 ghost use Rattle.arrayvec.specs.ArrayVec.{array_vec_len};
 
-use crate::block::{BlockFacts, ReadBlockView};
+use crate::block::{BlockFacts, ReadBlockView, is_security};
 use crate::primary::{NO_PRIMARY, PrimaryFacts};
-use crate::security::{SecurityFacts, is_security};
+use crate::security::SecurityFacts;
 use arrayvec::ArrayVec;
 use link_bundle_blocks::PrimaryBlock;
 use link_bundle_types::BLOCK_LIMIT;
@@ -25,7 +25,7 @@ impl BundleHistory {
     ghost use Rattle.link_block_data.specs.DataView.{viewed_result};
     ghost use Rattle.link_bundle_blocks.specs.Blocks.{viewed_primary};
     ghost use Rattle.link_bundle_rules.specs.History.{bundle_of};
-    ghost use Rattle.link_bundle_rules.specs.ReadBundle.{begun, security_facts, with_block, malformed_at};
+    ghost use Rattle.link_bundle_rules.specs.ReadBundle.{begun, security_facts, with_block, malformed_at, long_head_at};
 
     /// A history for one bundle after another. [`BundleHistory::begin`] begins each.
     pub fn new() -> BundleHistory {
@@ -55,8 +55,9 @@ impl BundleHistory {
         ensures { array_vec_len self.old.blocks < 64
             → IfSome (malformed_at read.now.block.now (option_map viewed_result read.now.found))
             (λ byte. byte < 2 ^ 64)
+            → IfSome (long_head_at read.now.block.now read.now.long_head) (λ byte. byte < 2 ^ 64)
             → bundle_of self.new None 0 ≡ with_block (bundle_of self.old None 0)
-            read.now.block.now (option_map viewed_result read.now.found) }
+            read.now.block.now (option_map viewed_result read.now.found) read.now.long_head }
     {
         if self.blocks.is_full() {
             return;
@@ -74,8 +75,8 @@ impl BundleHistory {
         requires room { array_vec_len self.old.security < 64 }
         requires few { array_vec_len self.old.security < array_vec_len self.old.blocks }
         ensures { bundle_of self.new None 0 ≡ record (bundle_of self.old None 0) {
-          security = self.old.security.items ++ security_facts read.now.block.now.number
-              read.now.block.now.block_type (option_map viewed_result read.now.found) ∷ [];
+          security = self.old.security.items ++ security_facts read.now.block.now
+              (option_map viewed_result read.now.found) ∷ [];
         } }
     {
         self.security.push(SecurityFacts::of(read));

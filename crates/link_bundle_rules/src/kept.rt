@@ -4,6 +4,7 @@ ghost use Rattle.std.specs.Prelude.{◌≡◌};
 ghost use Rattle.link_bundle_rules.specs.Kept.{is_plain_data, is_plain_block, is_plain_primary};
 
 use crate::block::{BlockFacts, Counts, DataFacts};
+use crate::extensions::if_reserved;
 use crate::flags::{
     BUNDLE_FLAGS, RECORD, if_other_block_flags, if_reporting, is_set, requests_reports,
 };
@@ -13,24 +14,32 @@ use link_rules::has_other_flags;
 
 /// Whether no rule of the data of blocks can be broken by this data.
 #[inline(always)]
-fn is_plain_data(found: DataFacts) -> bool
-    ensures { result ≡ is_plain_data found }
+fn is_plain_data(lifetime: u64, found: DataFacts) -> bool
+    ensures { result ≡ is_plain_data lifetime found }
 {
     match found {
         DataFacts::Nothing => true,
+        DataFacts::PreviousNode(node) => !node.has_bad_name && node.level.is_none(),
+        DataFacts::BundleAge(age) => age <= lifetime,
         DataFacts::HopCount(limit, count) => limit > 0 && limit < 256 && count <= limit,
-        DataFacts::Malformed(_) | DataFacts::NotRead(_) => false,
+        DataFacts::Security(_)
+        | DataFacts::StatusReport(_)
+        | DataFacts::OtherRecord(_)
+        | DataFacts::Malformed(_)
+        | DataFacts::NotRead(_) => false,
     }
 }
 
 /// Whether no rule of single blocks can be broken by this block.
 #[inline(always)]
-fn is_plain_block(block: &BlockFacts) -> bool
-    ensures { result ≡ is_plain_block block.now }
+fn is_plain_block(lifetime: u64, block: &BlockFacts) -> bool
+    ensures { result ≡ is_plain_block lifetime block.now }
 {
     if_reporting(block).is_none()
         && if_other_block_flags(block).is_none()
-        && is_plain_data(block.data)
+        && if_reserved(block).is_none()
+        && block.long_head.is_none()
+        && is_plain_data(lifetime, block.data)
 }
 
 /// Whether no rule of the primary block can be broken by this one, whatever the other blocks are.
@@ -41,6 +50,7 @@ fn is_plain_primary(primary: &PrimaryFacts) -> bool
     primary.has_check
         && !primary.is_anonymous
         && primary.bad_name.is_none()
+        && !primary.has_group_source
         && primary.fragment.is_none()
         && !has_other_flags(BUNDLE_FLAGS, primary.flags)
         && !(is_set(RECORD, primary.flags) && requests_reports(primary.flags))
@@ -56,10 +66,10 @@ impl BundleHistory {
     /// Whether the bundle is known to break no rule, if it is good and all its blocks came.
     ///
     /// This takes less time than its rules. It is never known of a fragment, nor of a bundle
-    /// without a source or without a check of its primary block.
+    /// without a source, without a check of its primary block, with an administrative record that
+    /// is read or with a security block.
     ///
     /// `first_long_head` is as for [`BundleHistory::rules`].
-    #[tactic(auto, using(crate::proofs::Plain::none_broken))]
     #[inline(always)]
     pub fn keeps_rules(&self, first_long_head: Option<u64>) -> bool
         ensures { (payload_length : ℕ) → result ≡ true
@@ -68,7 +78,7 @@ impl BundleHistory {
         first_long_head.is_none() && self.is_plain()
     }
 
-    /// Whether no rule but that of long heads can be broken.
+    /// Whether no rule can be broken but that of long heads outside the data of blocks.
     #[inline(always)]
     fn is_plain(&self) -> bool
         ensures { (byte : Option ℕ) (size : ℕ) → result ≡ is_plain (bundle_of self.now byte size) }
@@ -76,18 +86,20 @@ impl BundleHistory {
         is_plain_primary(&self.primary)
             && self.has_plain_blocks()
             && self.has_plain_counts()
-            && self.confidential_primary().is_none()
+            && self.security.is_empty()
     }
 
     /// Whether no rule of single blocks is broken.
     #[inline(always)]
     pub(crate) fn has_plain_blocks(&self) -> bool
-        ensures { result ≡ list_all is_plain_block self.now.blocks.items }
+        ensures { result
+            ≡ list_all (is_plain_block self.now.primary.lifetime) self.now.blocks.items }
     {
+        let lifetime = self.primary.lifetime;
         self.blocks
             .as_slice()
             .iter()
-            .all(|block| is_plain_block(block))
+            .all(|block| is_plain_block(lifetime, block))
     }
 
     /// Whether no rule of the numbers of blocks is broken.

@@ -1,44 +1,17 @@
-//! The rule of dtn names (RFC 9171 section 4.2.5.1.1).
+//! Names of endpoints and of nodes (RFC 9171 sections 4.2.5.1.1, 4.2.5.1.2 and 4.2.5.2).
 
 ghost use Rattle.std.specs.Prelude.{◌≡◌};
-ghost use Rattle.std.specs.Char.{is_ascii_graphic};
-ghost use Rattle.std.specs.List.{list_any, list_all};
 ghost use Rattle.link_bundle_blocks.specs.Blocks.{viewed_primary};
 ghost use Rattle.link_bundle_types.specs.EidView.{viewed_eid};
-ghost use Rattle.link_bundle_rules.specs.Names.{is_slash, is_dtn_name, has_bad_name, bad_name};
+ghost use Rattle.link_bundle_rules.specs.Names.{has_bad_name, bad_name, dtn_level, is_group, service_level, node_level};
 
 use crate::rule::Endpoint;
 use link_bundle_blocks::PrimaryBlock;
 use link_bundle_types::EidView;
-
-fn has_slash(bytes: &[u8]) -> bool
-    ensures { result ≡ list_any is_slash bytes.now }
-{
-    bytes.iter().any(|byte| *byte == b'/')
-}
-
-/// Whether all bytes are from 21 to 7e.
-fn is_visible(bytes: &[u8]) -> bool
-    ensures { result ≡ list_all is_ascii_graphic bytes.now }
-{
-    bytes.iter().all(|byte| byte.is_ascii_graphic())
-}
-
-/// Whether the text after `dtn:` is a dtn name.
-#[tactic(auto, using(crate::proofs::DtnNames::text_parts, crate::proofs::DtnNames::short_text))]
-fn is_dtn_name(text: &[u8]) -> bool
-    ensures { result ≡ is_dtn_name text.now }
-{
-    match text {
-        [first, second, rest @ ..] => {
-            *first == b'/' && *second == b'/' && has_slash(rest) && is_visible(rest)
-        }
-        _ => false,
-    }
-}
+use link_rules::{Level, demux_level, demux_of, is_dtn_name};
 
 /// Whether an endpoint ID is a text of scheme dtn, and no dtn name.
-fn has_bad_name(eid: &EidView<'_>) -> bool
+pub(crate) fn has_bad_name(eid: &EidView<'_>) -> bool
     ensures { result ≡ has_bad_name (viewed_eid eid.now) }
 {
     match eid {
@@ -61,4 +34,47 @@ pub(crate) fn bad_name(primary: &PrimaryBlock<'_>) -> Option<Endpoint>
         return Some(Endpoint::ReportTo);
     }
     None
+}
+
+/// Whether an endpoint ID is a dtn name of an endpoint that is no singleton.
+pub(crate) fn is_group(eid: &EidView<'_>) -> bool
+    ensures { result ≡ is_group (viewed_eid eid.now) }
+{
+    match eid {
+        EidView::Dtn(text) => demux_of(text).starts_with(b"~") && is_dtn_name(text),
+        _ => false,
+    }
+}
+
+/// How strictly the demux of a dtn name is forbidden in a node ID.
+fn dtn_level(text: &[u8]) -> Option<Level>
+    ensures { result ≡ dtn_level text.now }
+{
+    if is_dtn_name(text) {
+        demux_level(demux_of(text))
+    } else {
+        None
+    }
+}
+
+/// How strictly the service number of an ipn name is forbidden in a node ID.
+fn service_level(service: u64) -> Option<Level>
+    ensures { result ≡ service_level service }
+{
+    if service == 0 {
+        None
+    } else {
+        Some(Level::Should)
+    }
+}
+
+/// How strictly an endpoint ID is forbidden as a node ID.
+pub(crate) fn node_level(eid: &EidView<'_>) -> Option<Level>
+    ensures { result ≡ node_level (viewed_eid eid.now) }
+{
+    match *eid {
+        EidView::DtnNone => Some(Level::Must),
+        EidView::Dtn(text) => dtn_level(text),
+        EidView::Ipn(_, service) | EidView::Ipn3(_, _, service) => service_level(service),
+    }
 }

@@ -5,7 +5,7 @@ ghost use Rattle.link_bundle_types.specs.EidView.{viewed_eid};
 ghost use Rattle.link_bundle_rules.specs.ReadBundle.{is_none_eid};
 
 use crate::flags::{RECORD, is_set};
-use crate::names::bad_name;
+use crate::names::{bad_name, is_group};
 use crate::rule::Endpoint;
 use link_bundle_blocks::PrimaryBlock;
 use link_bundle_types::EidView;
@@ -23,6 +23,10 @@ pub(crate) struct PrimaryFacts {
     pub(crate) has_zero_time: bool,
     /// The first endpoint ID that is a text and no dtn name.
     pub(crate) bad_name: Option<Endpoint>,
+    /// Whether the source is a dtn name of an endpoint that is no singleton.
+    pub(crate) has_group_source: bool,
+    /// The lifetime in milliseconds.
+    pub(crate) lifetime: u64,
     /// The offset and the total length of a fragment.
     pub(crate) fragment: Option<(u64, u64)>,
 }
@@ -34,11 +38,13 @@ pub(crate) const NO_PRIMARY: PrimaryFacts = PrimaryFacts {
     is_anonymous: false,
     has_zero_time: false,
     bad_name: None,
+    has_group_source: false,
+    lifetime: 0,
     fragment: None,
 };
 
 /// Whether an endpoint ID is dtn:none.
-fn is_none_eid(eid: &EidView<'_>) -> bool
+pub(crate) fn is_none_eid(eid: &EidView<'_>) -> bool
     ensures { result ≡ is_none_eid (viewed_eid eid.now) }
 {
     matches!(eid, EidView::DtnNone)
@@ -61,6 +67,8 @@ impl PrimaryFacts {
             is_anonymous: is_none_eid(&primary.source),
             has_zero_time: primary.time == 0,
             bad_name: bad_name(primary),
+            has_group_source: is_group(&primary.source),
+            lifetime: primary.lifetime,
             fragment: primary.fragment,
         }
     }

@@ -1,40 +1,63 @@
-//! What the rules need of a security block, and the rules of security blocks (RFC 9171 section
-//! 4.3.1, RFC 9172 sections 3.7 and 3.8).
+//! What the rules need of a security block, and the rules of single security blocks (RFC 9171
+//! section 4.3.1, RFC 9172).
 
 ghost use Rattle.std.specs.Prelude.{◌≡◌, ◌==◌, option_map, take, None};
 ghost use Rattle.std.specs.List.{list_any};
 ghost use Rattle.link_block_data.specs.DataView.{viewed_result};
 ghost use Rattle.link_bundle_rules.specs.Hidden.{has_known_targets, may_hide};
 ghost use Rattle.link_bundle_rules.specs.History.{bundle_of};
-ghost use Rattle.link_bundle_rules.specs.ReadBundle.{is_security, security_facts};
-ghost use Rattle.link_bundle_rules.specs.Security.{may_protect_primary, if_confidential_primary};
+ghost use Rattle.link_bundle_rules.specs.ReadBundle.{security_facts};
+ghost use Rattle.link_bundle_rules.specs.Security.{may_protect_primary, if_confidential_primary, if_other_context_flags, if_reserved_context, may_be_lost, if_may_be_lost, if_no_cipher};
+ghost use Rattle.link_bundle_rules.specs.Targets.{has_target, is_integrity, is_confidentiality};
 
 use crate::block::{BLOCK_CONFIDENTIALITY, BLOCK_INTEGRITY, ReadBlockView};
+use crate::flags::is_set;
+use crate::hidden::PAYLOAD_NUMBER;
 use crate::history::BundleHistory;
 use crate::rule::BundleRule;
 use arrayvec::ArrayVec;
-use link_block_data::{DataView, TARGETS_KEPT};
+use link_block_data::{DataView, Integer, TARGETS_KEPT};
+use link_bundle_blocks::CanonicalBlock;
+use link_rules::has_other_flags;
+
+/// The flags of a security context that are defined (RFC 9172 section 3.6).
+const CONTEXT_FLAGS: u64 = 0x01;
+
+/// The block is copied into every fragment (RFC 9171 section 4.2.4).
+const COPIED: u64 = 0x01;
+
+/// The block is discarded if it cannot be processed (RFC 9171 section 4.2.4).
+const DISCARDED: u64 = 0x10;
+
+/// The security context BIB-HMAC-SHA2 (RFC 9173 section 5.1).
+const HMAC_SHA2: u64 = 1;
 
 /// What the rules need of a security block (RFC 9172 section 3.6).
 #[derive(Default, Drop)]
 pub(crate) struct SecurityFacts {
-    number: u64,
-    block_type: u64,
-    /// Whether its data is malformed. Then its targets are not known.
-    is_malformed: bool,
+    pub(crate) number: u64,
+    pub(crate) block_type: u64,
+    /// The block processing control flags (RFC 9171 section 4.2.4).
+    flags: u64,
+    /// Whether its data is malformed or not read. Then what it says is not known.
+    pub(crate) is_malformed: bool,
     /// Whether the primary block is among its targets.
     targets_primary: bool,
     /// The number of its targets.
-    count: u64,
+    pub(crate) count: u64,
     /// The first of its targets.
-    targets: ArrayVec<u64, TARGETS_KEPT>,
+    pub(crate) targets: ArrayVec<u64, TARGETS_KEPT>,
+    /// The ID of its security context.
+    context: Integer,
+    /// The flags of its security context.
+    context_flags: u64,
 }
 
-/// Whether a block of this type is a security block.
-pub(crate) fn is_security(block_type: u64) -> bool
-    ensures { result ≡ is_security block_type }
+/// Whether a number is among these.
+pub(crate) fn has_number(number: u64, numbers: &[u64]) -> bool
+    ensures { result ≡ list_any (λ other. other == number) numbers.now }
 {
-    block_type == BLOCK_INTEGRITY || block_type == BLOCK_CONFIDENTIALITY
+    numbers.iter().any(|&other| other == number)
 }
 
 /// The first targets of a security block.
@@ -50,27 +73,40 @@ fn kept_targets(targets: &[u64]) -> ArrayVec<u64, TARGETS_KEPT>
 impl SecurityFacts {
     /// What the rules need of a security block.
     pub(crate) fn of(read: &ReadBlockView<'_>) -> SecurityFacts
-        ensures { result ≡ security_facts read.now.block.now.number read.now.block.now.block_type
+        ensures { result ≡ security_facts read.now.block.now
             (option_map viewed_result read.now.found) }
     {
-        let number = read.block.number;
-        let block_type = read.block.block_type;
+        let CanonicalBlock {
+            number,
+            block_type,
+            flags,
+            ..
+        } = *read.block;
         match &read.found {
             Some(Ok(DataView::Security(block, targets, _))) => SecurityFacts {
                 number,
                 block_type,
+                flags,
                 is_malformed: false,
                 targets_primary: block.targets_primary,
                 count: block.targets,
                 targets: kept_targets(targets),
+                context: block.context,
+                context_flags: block.flags,
             },
             _ => SecurityFacts {
                 number,
                 block_type,
+                flags,
                 is_malformed: true,
                 targets_primary: false,
                 count: 0,
                 targets: ArrayVec::new(),
+                context: Integer {
+                    negative: false,
+                    argument: 0,
+                },
+                context_flags: 0,
             },
         }
     }
@@ -83,11 +119,22 @@ impl SecurityFacts {
     }
 
     /// Whether the block with this number is among its targets.
-    fn has_target(&self, number: u64) -> bool
-        ensures { result ≡ list_any (λ target. target == number) self.now.targets.items }
+    pub(crate) fn has_target(&self, number: u64) -> bool
+        ensures { result ≡ has_target number self.now }
     {
-        let targets = self.targets.as_slice();
-        targets.iter().any(|&target| target == number)
+        has_number(number, self.targets.as_slice())
+    }
+
+    pub(crate) fn is_integrity(&self) -> bool
+        ensures { result ≡ is_integrity self.now }
+    {
+        self.block_type == BLOCK_INTEGRITY
+    }
+
+    pub(crate) fn is_confidentiality(&self) -> bool
+        ensures { result ≡ is_confidentiality self.now }
+    {
+        self.block_type == BLOCK_CONFIDENTIALITY
     }
 
     /// Whether the block with this number is, or may be, one that it encrypts.
@@ -114,5 +161,57 @@ impl SecurityFacts {
     {
         let is_wrong = self.block_type == BLOCK_CONFIDENTIALITY && self.targets_primary;
         is_wrong.then_some(BundleRule::ConfidentialPrimary { block: self.number })
+    }
+
+    /// The rule that it breaks by a flag of its context that is not defined.
+    pub(crate) fn if_other_context_flags(&self) -> Option<BundleRule>
+        ensures { result ≡ if_other_context_flags self.now }
+    {
+        let flags = self.context_flags;
+        has_other_flags(CONTEXT_FLAGS, flags).then_some(BundleRule::SecurityFlags {
+            block: self.number,
+            flags,
+        })
+    }
+
+    /// The rule that it breaks by a context that is reserved.
+    pub(crate) fn if_reserved_context(&self) -> Option<BundleRule>
+        ensures { result ≡ if_reserved_context self.now }
+    {
+        let context = self.context;
+        let is_reserved = context.negative || context.argument == 0;
+        is_reserved.then_some(BundleRule::SecurityContext {
+            block: self.number,
+            context,
+        })
+    }
+
+    /// Whether its flags permit to discard it, or to leave it out of a fragment that it encrypts.
+    fn may_be_lost(&self) -> bool
+        ensures { result ≡ may_be_lost self.now }
+    {
+        is_set(DISCARDED, self.flags)
+            || (self.has_target(PAYLOAD_NUMBER) && !is_set(COPIED, self.flags))
+    }
+
+    /// The rule that a block confidentiality block breaks by its flags.
+    pub(crate) fn if_may_be_lost(&self) -> Option<BundleRule>
+        ensures { result ≡ if_may_be_lost self.now }
+    {
+        let is_wrong = self.is_confidentiality() && self.may_be_lost();
+        is_wrong.then_some(BundleRule::ConfidentialFlags {
+            block: self.number,
+            flags: self.flags,
+        })
+    }
+
+    /// The rule that a block confidentiality block breaks by a context without a cipher.
+    pub(crate) fn if_no_cipher(&self) -> Option<BundleRule>
+        ensures { result ≡ if_no_cipher self.now }
+    {
+        let is_hmac = !self.context.negative && self.context.argument == HMAC_SHA2;
+        (self.is_confidentiality() && is_hmac).then_some(BundleRule::ConfidentialContext {
+            block: self.number,
+        })
     }
 }

@@ -1,5 +1,5 @@
 -- The bundles of an input: one bundle (RFC 9171 section 4.1) after another, with nothing between.
-use Rattle.std.specs.Prelude.{◌≡◌, ℕ, zero, suc, ◌-◌, ◌≤◌, nat_lt, true, List, [], ◌∷◌, ◌++◌, length, take, drop, sum_by, Option, Some, None, Result, Ok, Err, if◌then◌else◌}
+use Rattle.std.specs.Prelude.{◌≡◌, ℕ, zero, suc, ◌-◌, ◌^◌, ◌≤◌, nat_lt, true, List, [], ◌∷◌, ◌++◌, length, take, drop, sum_by, Option, Some, None, Result, Ok, Err, if◌then◌else◌}
 use Rattle.link_cbor.specs.Pieces.{taken}
 use Rattle.link_bundle_types.specs.Faults.{lasts}
 use Rattle.link_bundle_types.specs.declared.fault.BundleFault.{BundleFault}
@@ -87,3 +87,7 @@ divided limit bytes = divided_in (length bytes) limit bytes
 -- these bundles, and then those of `more`
 abbrev pub with_bundles : List Packed → Divided → Divided
 with_bundles bundles more = record { bundles = bundles ++ more.bundles; rest = more.rest }
+
+-- A bundle may have any number of bytes. No input has as many as this.
+abbrev pub bundle_limit : ℕ
+bundle_limit = 2 ^ 64 - 1

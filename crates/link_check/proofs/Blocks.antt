@@ -7,8 +7,8 @@ use Rattle.link_bundle_blocks.specs.Blocks.{Primary, Block, PrimaryOf, Canonical
 use Rattle.link_bundle_blocks.specs.Bundle.{blocks_in, bundle_goes}
 use Rattle.link_bundle_blocks.specs.declared.block.CanonicalBlock.{CanonicalBlock}
 use Rattle.link_bundle_blocks.proofs.{Few.few_blocks, Lying.BlocksWithin-holds, Showing.BlocksEnd-holds}
-use Rattle.link_blocks.specs.BlockLines.{flags_after, found_in}
-use Rattle.link_blocks.proofs.{Lines.{all_first, all_rest, data_grown, no_blocks}, Judged.rest_read}
+use Rattle.link_block_reader.specs.Found.{flags_after, found_in, long_head_in}
+use Rattle.link_block_reader.proofs.{Grown.{all_first, all_rest, data_grown, no_blocks}, Judged.rest_read}
 use Rattle.link_rules.specs.Heads.{first_long}
 use Rattle.link_bundle_rules.specs.BundleRules.{broken_bundle_rules}
 use Rattle.link_bundle_rules.specs.{History.bundle_of, ReadBundle.{ReadBundle, begun, block_facts, with_block}}
@@ -109,6 +109,7 @@ module _ (content more : List ℕ) where
     Adds old new = length old.blocks.items < 64 → bundle_of new None 0
         ≡ with_block (bundle_of old None 0) block
         (found_in (fold flags_after 0 (blocks_in (content ++ more))) (content ++ more) block)
+        (long_head_in (fold flags_after 0 (blocks_in (content ++ more))) (content ++ more) block)
 
     adds_by : (begins : Bool) (old new : BundleHistory) (read : Option ReadBundle)
         → HasHistory begins old read content → Adds old new
@@ -128,15 +129,18 @@ module _ (content more : List ℕ) where
         record {
           same = added
               ∙ ap (λ (bundle : ReadBundle). with_block bundle block
-              (found_in (fold flags_after 0 (blocks_in now)) now block)) was.same
-              ∙ ap (λ (flags : ℕ). with_block bundle block (found_in flags now block)) (sym flags);
+              (found_in (fold flags_after 0 (blocks_in now)) now block)
+              (long_head_in (fold flags_after 0 (blocks_in now)) now block)) was.same
+              ∙ ap (λ (flags : ℕ). with_block bundle block (found_in flags now block)
+              (long_head_in flags now block)) (sym flags);
           flags = flags;
           few = omega (
             arith,
             was.few,
             one_more,
             length-append bundle.blocks
-                (block_facts block (found_in bundle.primary.flags now block) ∷ []),
+                (block_facts block (found_in bundle.primary.flags now block)
+                (long_head_in bundle.primary.flags now block) ∷ []),
           );
         }
 

@@ -11,8 +11,8 @@ use Rattle.link_run.proofs.Runs.{then_none}
 use Rattle.link_walk.specs.Saying.{kept_after, said_from, keeps_telling}
 use Rattle.link_walk.specs.Telling.{ComesAfter, Tells, data_ends}
 use Rattle.link_walk.specs.Walk.{Head, WalkEvent, MessageHead, Data, closes, is_beginning, open_after_event, data_size, has_open}
-use Rattle.link_unpack.proofs.Effects.{Does, Strays, Passes, Begins, Continues, comes_does}
-use Rattle.link_unpack.proofs.Told.{size_then, open_then, size_with_data}
+use Rattle.link_judge.proofs.Counts.{size_then, open_then, size_with_data}
+use Rattle.link_judge.proofs.Effects.{Does, Strays, Passes, Begins, Continues, comes_does}
 use Rattle.link_message_rules.specs.Remembered.{Remembers}
 use Rattle.link_rule_report.specs.declared.line.RuleText.{RuleText}
 use Rattle.link_check.specs.Checker.{IsAtLatest, IsChecking, KnowsChecked, closed_due, kept_of}

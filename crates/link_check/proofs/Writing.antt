@@ -6,7 +6,7 @@ use Rattle.std.proofs.lemmas.List.{map-append, map_more, take-append-drop}
 use Rattle.link_wire.specs.{Device.Output, declared.IoFault.IoFault}
 use Rattle.link_run.specs.{Writers.{AfterWrite, on_output}, declared.writers.Writers.Writers}
 use Rattle.link_run.proofs.Runs.{outputs_then, part_of_more, writes_none}
-use Rattle.link_unpack.proofs.Told.{on_ok}
+use Rattle.link_judge.proofs.Counts.{on_ok}
 use Rattle.link_rule_report.specs.declared.{line.RuleText.RuleText, rule.BrokenRule.BrokenRule}
 use Rattle.link_check.specs.Lines.{at_offset, counts, line_of, lines_of}
 use Rattle.link_check.specs.Writing.{WritesRules}

@@ -3,7 +3,7 @@ use Rattle.std.specs.Prelude.{ℕ, List, [], Option, Some, None, option_map, fol
 use Rattle.link_bundle_types.specs.declared.info.BundleInfo.{BundleInfo}
 use Rattle.link_bundle_blocks.specs.Blocks.{Block, PrimaryOf, CanonicalOf}
 use Rattle.link_bundle_blocks.specs.Bundle.{blocks_in}
-use Rattle.link_blocks.specs.BlockLines.{found_in}
+use Rattle.link_block_reader.specs.Found.{found_in, long_head_in}
 use Rattle.link_rules.specs.Heads.{first_long}
 use Rattle.link_bundle_rules.specs.BundleRules.{broken_bundle_rules}
 use Rattle.link_bundle_rules.specs.ReadBundle.{ReadBundle, begun, with_block}
@@ -13,7 +13,8 @@ use Rattle.link_bundle_rules.specs.declared.rule.BundleRule.{BundleRule}
 abbrev pub with_next : (content : List ℕ) → Option ReadBundle → Block → Option ReadBundle
 with_next content before (PrimaryOf primary check end) = Some (begun primary check)
 with_next content before (CanonicalOf block) = option_map
-    (λ bundle. with_block bundle block (found_in bundle.primary.flags content block))
+    (λ bundle. with_block bundle block (found_in bundle.primary.flags content block)
+    (long_head_in bundle.primary.flags content block))
     before
 
 -- the whole blocks of a bundle, with what their data says

@@ -3,12 +3,11 @@ use Rattle.std.specs.Prelude.{ℕ, suc, ◌+◌, Bool, List, [], ◌∷◌, ◌+
 use Rattle.link_run.specs.Made.{Made, tool_of}
 use Rattle.link_run.specs.Run.{Tool}
 use Rattle.link_run.specs.Writers.{on_output}
-use Rattle.link_bundle_walk.specs.Bundles.{Packed}
+use Rattle.link_bundle_walk.specs.Bundles.{Packed, bundle_limit}
 use Rattle.link_bundle_walk.specs.Telling.{BundleTelling, told_of}
 use Rattle.link_rule_report.specs.declared.line.RuleText.{RuleText}
 use Rattle.link_rule_report.specs.declared.rule.BrokenRule.TheVariants.{Bundle}
 use Rattle.link_rule_report.specs.declared.rule.BundlePlace.TheVariants as place
-use Rattle.link_blocks.specs.Bundles.{bundle_limit}
 use Rattle.link_check.specs.BundleRules.{bundle_rules}
 use Rattle.link_check.specs.Lines.{lines_of, none_counts, at_offset}
 

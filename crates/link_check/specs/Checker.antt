@@ -2,8 +2,8 @@
 use Rattle.std.specs.Prelude.{◌≡◌, ◌≤◌, Bool, true, false, List, [], Option, Some, if◌then◌else◌}
 use Rattle.link_walk.specs.Saying.{kept_after}
 use Rattle.link_walk.specs.Walk.{WalkEvent, data_size, has_open}
-use Rattle.link_unpack.specs.TransferJudge.{IsJudging}
-use Rattle.link_unpack.specs.Transfers.{Transfer}
+use Rattle.link_judge.specs.TransferJudge.{IsJudging}
+use Rattle.link_judge.specs.Transfers.{Transfer}
 use Rattle.link_message_rules.specs.TransferRules.{opening_of}
 use Rattle.link_message_rules.specs.Remembered.{Remembers}
 use Rattle.link_rule_report.specs.declared.line.RuleText.{RuleText}

@@ -1,13 +1,13 @@
 //! What the rules for a bundle need of its bytes.
 
 ghost use Rattle.std.specs.Prelude.{◌≡◌, ◌+◌, ◌^◌, ◌≤◌, ◌<◌, ◌++◌, true, List, [], ℕ, length, map};
-ghost use Rattle.link_blocks.specs.BlockLines.{found_in};
-ghost use Rattle.link_blocks.specs.DataReader.{IsReadingBlock, read_size};
+ghost use Rattle.link_block_reader.specs.DataReader.{IsReadingBlock, read_size};
+ghost use Rattle.link_block_reader.specs.Found.{found_in, long_head_in};
 ghost use Rattle.link_bundle_rules.specs.History.{bundle_of};
 ghost use Rattle.link_bundle_rules.specs.ReadBundle.{with_block};
 
 use crate::lines::write_rules;
-use link_blocks::DataReader;
+use link_block_reader::DataReader;
 use link_bundle::{BlockView, BundleScan, CanonicalBlock};
 use link_bundle_rules::{BrokenBundleRules, BundleHistory, ReadBlockView};
 use link_cbor::Piecewise;
@@ -37,10 +37,15 @@ fn add<'a>(history: &mut BundleHistory, block: &'a CanonicalBlock, reader: &'a D
         → block.now.data_start < 2 ^ 63
         → IsReadingBlock reader.now seen block.now
         → bundle_of history.new None 0 ≡ with_block (bundle_of history.old None 0) block.now
-        (found_in reader.now.flags seen block.now) }
+        (found_in reader.now.flags seen block.now) (long_head_in reader.now.flags seen block.now) }
 {
     let found = reader.found();
-    history.take(&ReadBlockView { block, found });
+    let long_head = reader.long_head();
+    history.take(&ReadBlockView {
+        block,
+        found,
+        long_head,
+    });
 }
 
 impl BundleReader {

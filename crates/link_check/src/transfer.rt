@@ -9,11 +9,11 @@ ghost use Rattle.link_check.specs.BundleReader.{data_size};
 
 use crate::bundle::BundleReader;
 use crate::lines::write_rules;
+use link_judge::TransferJudge;
 use link_message_rules::{Opening, TransferRule, data_rule};
 use link_rule_report::BundlePlace;
 use link_run::Writers;
 use link_transfer::Announced;
-use link_unpack::TransferJudge;
 use link_walk::HeadView;
 use link_wire::{Fields, INPUT_LIMIT, IoFault, MessageBuffer, OutDevice};
 

@@ -33,8 +33,8 @@ pub trait InDevice {
             (λ _. (state self.new).failed ≡ (state self.old).failed)
             (λ _. (state self.new).failed ≡ true) };
 
-    /// Reads as [`InDevice::read`] does. A device that holds bytes may give one of them, and hold
-    /// the others, which a caller then sees in place.
+    /// Reads as [`InDevice::read`] does. A device with a buffer may return one byte only. It then
+    /// holds the others, which a caller sees in place.
     fn read_first(&mut self, buffer: &mut [u8]) -> Result<usize, DeviceFault>
         ensures bound { IfOk result (λ n. n ≤ length buffer.new) }
         ensures bytes { ReadConsumes (state self.old).left (state self.new).left result buffer.new }

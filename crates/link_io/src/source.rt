@@ -1,8 +1,10 @@
 //! The input of a session: the bytes of a reader in order, up to the end or the first fault.
 //!
-//! A source *takes* bytes from its reader into its window, up to [`WINDOW`] of them with each read.
-//! It *gives* each byte once. [`Source::some`] and [`Source::fill`] copy the bytes that they give.
-//! [`Source::window`] shows the bytes of the window in place, and [`Source::give`] gives them.
+//! A source *gives* each byte of its reader once. It *takes* bytes into its window, at most
+//! [`WINDOW`] of them with each read. [`Source::some`] and [`Source::fill`] copy the bytes that
+//! they give. [`Source::window`] shows the bytes of the window in place, and [`Source::give`] gives
+//! them. [`Source::front`] also shows bytes that the reader holds, and [`Source::give_front`] gives
+//! those without taking them into the window.
 
 ghost use Rattle.std.specs.Prelude.{◌≡◌, ◌+◌, ◌-◌, ◌^◌, ◌<◌, ◌≤◌, true, length, take, slice_range, IfOk, MatchResult};
 ghost use Rattle.link_io.specs.Bytes.{AreBytes};
@@ -16,7 +18,7 @@ use crate::text::copy_into;
 /// The most bytes that a source takes from its reader: offsets are counted in 63 bits.
 pub const INPUT_LIMIT: u64 = (1 << 63) - 1;
 
-/// The number of bytes that each read asks for.
+/// The size of the window, and the most bytes that one read brings.
 pub const WINDOW: usize = 8192;
 
 /// How much of its buffer a [`Source::fill`] has filled.
@@ -256,8 +258,8 @@ impl<R: InDevice> Source<R> {
 
     /// Reads once if nothing is at hand, and returns how many bytes then are.
     ///
-    /// This is [`Source::ready`] for a caller that looks at [`Source::front`]. From a reader that
-    /// holds bytes, it takes only the first.
+    /// This is [`Source::ready`] for a caller that looks at [`Source::front`]. A reader with a
+    /// buffer may give one byte only, and hold the others.
     #[inline(always)]
     pub fn ready_front(&mut self) -> Result<usize, IoFault>
         ensures size { IfOk result (λ n. n ≡ length (front_of R.state self.new)) }
@@ -294,7 +296,7 @@ impl<R: InDevice> Source<R> {
         }
     }
 
-    /// Reads once, into an empty window. With `first`, a reader that holds bytes may give only one.
+    /// Reads once, into an empty window. With `first`, a reader with a buffer may give one byte.
     fn read(&mut self, first: bool) -> Result<usize, IoFault>
         requires open { self.old.flow ≡ Flow.Open }
         requires empty { self.old.start ≡ self.old.end }
@@ -443,7 +445,7 @@ fn up_to(bytes: &[u8], most: u64) -> &[u8]
     part(bytes, 0, most.min(bytes.len() as u64) as usize)
 }
 
-/// One read that asks for a whole window. With `first`, it may give only the first byte.
+/// One read, for a whole window. With `first`, a reader with a buffer may give one byte only.
 fn read_ahead<R: InDevice>(
     reader: &mut R,
     window: &mut [u8],

@@ -14,12 +14,13 @@ const PAGE: usize = 64 << 10;
 /// A [`TextWriter`] does not copy as many bytes as these into its page.
 const LARGE: usize = 16 << 10;
 
-/// An output device that makes texts in a page of its own, without copying them.
+/// An output device that makes texts in a page of its own.
 ///
-/// A text is copied only if the page has less room than [`TEXT_MAX`]. When the page has no room for
-/// more, it is handed on to the device below. Bytes that wait in the page count as written. So a
-/// writer cannot be dropped: [`TextWriter::into_device`] hands on what waits. A large slice is
-/// written to the device below from where it lies, after what waits.
+/// A text is made elsewhere and copied only if the page has less room than [`TEXT_MAX`]. If bytes
+/// do not fit into the page, what waits there is first written to the device below. Bytes that wait
+/// in the page count as written. So a writer cannot be dropped: [`TextWriter::into_device`] hands
+/// on what waits. A large slice is written to the device below from where it lies, after what
+/// waits.
 pub struct TextWriter<D> {
     device: D,
     page: Vec<u8>,

@@ -5,9 +5,9 @@ use Rattle.link_options.specs.declared.blocks.BlockOptions.{BlockOptions}
 use Rattle.link_run.specs.Writers.{on_output}
 use Rattle.link_walk.specs.Walk.{WalkEvent, ContactHeader, MessageHead, Data, Whole, LeftOpen, open_after_event, has_open}
 use Rattle.link_walk.proofs.Heads.{has_open-append}
-use Rattle.link_unpack.specs.{Transfers.{Transfer, continued}, TransferJudge.grown}
-use Rattle.link_unpack.specs.Unpacking.{is_selected, Told, told_event, told_after}
-use Rattle.link_unpack.proofs.{Effects.comes_does, Events.told_push}
+use Rattle.link_judge.specs.{Transfers.{Transfer, continued}, TransferJudge.grown}
+use Rattle.link_judge.specs.Unpacking.{is_selected, Told, told_event, told_after}
+use Rattle.link_judge.proofs.{Effects.comes_does, Events.told_push}
 use Rattle.link_blocks.specs.BlockLines.{block_lines}
 use Rattle.link_blocks.specs.{Bundles.{bundle_blocks_telling, bundle_blocks_tool}, Lister.end_due}
 use Rattle.link_blocks.specs.Showing.{transfer_lines, lines_of, order_line_of, unpacking_by, blocks_telling, blocks_tool}

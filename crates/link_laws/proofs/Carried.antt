@@ -7,7 +7,7 @@ use Rattle.link_wire.specs.Stream.{Entry}
 use Rattle.link_transfer.specs.{Chunks.chunk_count, Cutting.{due, due_of}}
 use Rattle.link_transfer.specs.declared.event.Event.TheVariants.{SessInit, SessTerm}
 use Rattle.link_transfer.proofs.Due.{chunk_left, given_within, fits_back}
-use Rattle.link_unpack.specs.Transfers.{Transfer}
+use Rattle.link_judge.specs.Transfers.{Transfer}
 use Rattle.link_laws.specs.Transfers.{transfers_of}
 use Rattle.link_laws.proofs.{Orders.AreInOrder, Divided.AreBundles}
 use Rattle.link_laws.proofs.Entries.{due_entries, init_bytes, init_entry, bundle_entries, rest_entries, term_entries, end_entries, packed_entries, some_size}

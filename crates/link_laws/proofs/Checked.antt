@@ -19,7 +19,7 @@ use Rattle.link_rule_report.specs.{Names.rule_level, declared.line.RuleText.Rule
 use Rattle.link_rule_report.specs.declared.rule.BrokenRule.TheVariants as rule
 use Rattle.link_run.specs.Made.{StreamStop, stop_of}
 use Rattle.link_walk.specs.Walk.{head_at, WalkEvent, MessageHead, content_events, Walked, none_walked, with_next, walked_of, end_events, stop_by, told_of}
-use Rattle.link_unpack.specs.{Transfers.Transfer, Unpacking.Told}
+use Rattle.link_judge.specs.{Transfers.Transfer, Unpacking.Told}
 use Rattle.link_check.specs.Checking.{Begun, heads_with, judged, latest_with, check_tool}
 use Rattle.link_check.specs.Lines.{none_counts, at_offset}
 use Rattle.link_laws.specs.Checked.{IsAllowed, IsSecondInit, MayStop, HasOnlyAllowed}

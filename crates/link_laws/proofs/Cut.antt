@@ -6,7 +6,7 @@ use Rattle.link_run.specs.Made.{StreamStop, Made, whole_by}
 use Rattle.link_laws.specs.Transfers.{transfers_of, by_transfers}
 use Rattle.link_laws.specs.Cuts.{order_of, entries_of, Follow, total_written, stream_stop, lined, reported, Divides, CutsOutput, stopping}
 use Rattle.link_laws.proofs.{Prefixes.whole_output, Due.lines_are, Same.whole_is}
-use Rattle.link_unpack.specs.{Transfers.Transfer, Unpacking.{part_of, parts_of, entry_of}}
+use Rattle.link_judge.specs.{Transfers.Transfer, Unpacking.{part_of, parts_of, entry_of}}
 
 -- ---- one more entry
 

@@ -5,8 +5,8 @@ use Rattle.std.proofs.{Math.Bool.{and-true, and_comm}, lemmas.List.flat_map_more
 use Rattle.std.proofs.lemmas.List.Folds.{list_all-append}
 use Rattle.link_options.specs.declared.wanted.Wanted.{Wanted}
 use Rattle.link_report.specs.{Transfer.transfer_text, declared.transfer.TransferEntry.TransferEntry}
-use Rattle.link_unpack.specs.Transfers.{Transfer}
-use Rattle.link_unpack.specs.Unpacking.{parts_of, entry_of, line_of, is_good, line_due, good_due}
+use Rattle.link_judge.specs.Transfers.{Transfer}
+use Rattle.link_judge.specs.Unpacking.{parts_of, entry_of, line_of, is_good, line_due, good_due}
 use Rattle.link_laws.specs.Cuts.{entries_of}
 use Rattle.link_laws.specs.Transfers.{settled, lines_of, are_good, abandoned_line}
 

@@ -9,10 +9,10 @@ use Rattle.link_transfer.specs.declared.joiner.Turn.{Turn}
 use Rattle.link_transfer.specs.declared.joiner.Turn.TheVariants as turn
 use Rattle.link_run.specs.Run.{Outcome}
 use Rattle.link_walk.proofs.Heads.{other_has_none}
-use Rattle.link_unpack.specs.{Transfers.Transfer, Unpacking.parts_of}
-use Rattle.link_unpack.proofs.Effects.{Does}
-use Rattle.link_unpack.proofs.Heads.{transfers_same, transfer_begins, transfer_continues}
-use Rattle.link_unpack.proofs.Texts.{parts_more}
+use Rattle.link_judge.specs.{Transfers.Transfer, Unpacking.parts_of}
+use Rattle.link_judge.proofs.Effects.{Does}
+use Rattle.link_judge.proofs.Heads.{transfers_same, transfer_begins, transfer_continues}
+use Rattle.link_judge.proofs.Texts.{parts_more}
 use Rattle.link_laws.specs.Cuts.{data_of, prepended_unless, taken_after, HasEveryByte, HasEveryTakenByte}
 use Rattle.link_laws.specs.RoundTrip.{all}
 use Rattle.link_laws.specs.Transfers.{ordered_after, ordered, transfers_of, Unpacked, transfers_with, with_head, unpacked_of, by_transfers}

@@ -10,8 +10,8 @@ use Rattle.link_laws.specs.RoundTrip.{all, good_lines, GivesBack}
 use Rattle.link_laws.proofs.{Carried.{onto, transfer_of}, Divided.{AreBundles, contents}}
 use Rattle.link_laws.proofs.{Limits.announces, Same.whole_is}
 use Rattle.link_laws.proofs.Readings.{packed, nothing_left, IsPacked}
-use Rattle.link_unpack.specs.{Transfers.Transfer, Unpacking.{parts_of, judgement_of, unpack_tool}}
-use Rattle.link_unpack.proofs.Texts.{parts_more}
+use Rattle.link_judge.specs.{Transfers.Transfer, Unpacking.{parts_of, judgement_of, unpack_tool}}
+use Rattle.link_judge.proofs.Texts.{parts_more}
 use Rattle.link_bundle_walk.specs.Bundles.{Packed, divided}
 
 -- ---- a bundle

@@ -11,11 +11,11 @@ use Rattle.link_bundle_blocks.specs.Bundle.{verdict, state_of, is_going, bundle_
 use Rattle.link_bundle_blocks.proofs.Lengths.{FaultLasts-holds, TrailingLasts-holds}
 use Rattle.link_report.specs.declared.judgement.Judgement.TheVariants.{Good}
 use Rattle.link_run.specs.Writers.{on_output}
-use Rattle.link_unpack.specs.{Transfers.Transfer, Unpacking.{parts_of, judgement_of, is_good}}
-use Rattle.link_bundle_walk.specs.Bundles.{Packed, bundle_prefix, divided}
+use Rattle.link_judge.specs.{Transfers.Transfer, Unpacking.{parts_of, judgement_of, is_good}}
+use Rattle.link_bundle_walk.specs.Bundles.{Packed, bundle_limit, bundle_prefix, divided}
 use Rattle.link_bundle_walk.proofs.{Dividing.{divided_none, divided_whole}, Divisions.stopped_lasts}
 use Rattle.link_bundle_walk.proofs.Outcomes.{told_as}
-use Rattle.link_blocks.specs.Bundles.{whole_lines, bundle_lines, bundle_limit, bundle_blocks_telling, bundle_blocks_tool}
+use Rattle.link_blocks.specs.Bundles.{whole_lines, bundle_lines, bundle_blocks_telling, bundle_blocks_tool}
 use Rattle.link_blocks.specs.Showing.{lines_of}
 use Rattle.link_laws.specs.{RoundTrip.all, SameLines.{lines_under, renumbered}, Transfers.are_good}
 

@@ -8,7 +8,7 @@ use Rattle.link_transfer.specs.Event.{event_of}
 use Rattle.link_transfer.specs.Order.{is_stray, has_sess_init, has_sess_term, open_of, refusal, appended_unless, with_taken}
 use Rattle.link_transfer.specs.declared.event.Event.{Event}
 use Rattle.link_transfer.proofs.Joining.{not_stray as never_stray}
-use Rattle.link_unpack.specs.Transfers.{Transfer, after_message}
+use Rattle.link_judge.specs.Transfers.{Transfer, after_message}
 use Rattle.link_laws.specs.Transfers.{ordered_after, ordered, transfers_of, settled, lines_of, abandoned_line, unpacking_by, Unpacked, with_head, unpacked_of, going_on_by}
 use Rattle.link_laws.proofs.Due.{lines_due, abandoned_due, settled_all, lines_are}
 use Rattle.link_laws.proofs.OneHead.{KnowsWhole, added, through}

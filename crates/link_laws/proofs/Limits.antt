@@ -8,7 +8,7 @@ use Rattle.link_list.specs.Listing.{listing_of}
 use Rattle.link_transfer.specs.{Announced.announced_of, Chunks.chunk_count}
 use Rattle.link_transfer.specs.Cutting.{Cutting, announcement, due}
 use Rattle.link_transfer.specs.declared.announcement.Announced.TheVariants.{Absent, Total}
-use Rattle.link_unpack.specs.Transfers.{Transfer}
+use Rattle.link_judge.specs.Transfers.{Transfer}
 use Rattle.link_bundle_walk.specs.Bundles.{Packed, Rest, Divided}
 use Rattle.link_pack.specs.{Packing.{segment_size, sending}, Segments.{cutting_of, segments_of}}
 use Rattle.link_laws.specs.PackedStream.{SegmentFits, TransferFits, KeepsLimits}

@@ -15,10 +15,10 @@ use Rattle.link_transfer.specs.declared.joiner.Turn.TheVariants as turn
 use Rattle.link_report.specs.{Transfer.transfer_text, declared.transfer.TransferEntry.TransferEntry}
 use Rattle.link_walk.specs.Walk.{is_last, open_with}
 use Rattle.link_walk.proofs.Heads.{open_then}
-use Rattle.link_unpack.specs.{Transfers.{Transfer, closes}, TransferJudge.grown}
-use Rattle.link_unpack.specs.Unpacking.{order_line, line_due, good_due}
-use Rattle.link_unpack.proofs.Effects.{zero_eq, Does, Strays, Passes, Begins, Continues, what_does}
-use Rattle.link_unpack.proofs.Heads.{transfers_same, transfer_begins, transfer_continues}
+use Rattle.link_judge.specs.{Transfers.{Transfer, closes}, TransferJudge.grown}
+use Rattle.link_judge.specs.Unpacking.{order_line, line_due, good_due}
+use Rattle.link_judge.proofs.Effects.{zero_eq, Does, Strays, Passes, Begins, Continues, what_does}
+use Rattle.link_judge.proofs.Heads.{transfers_same, transfer_begins, transfer_continues}
 use Rattle.link_laws.specs.Cuts.{entries_of}
 use Rattle.link_laws.specs.Transfers.{settled, Unpacked, none_unpacked, transfers_with, transfer_lines, with_head, unpacked_of}
 use Rattle.link_laws.proofs.Due.{latest_open, all_good, entries_due, lines_due, goods_due, settled_all, closed_last}

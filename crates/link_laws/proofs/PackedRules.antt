@@ -25,7 +25,7 @@ use Rattle.link_rule_report.specs.declared.rule.BundlePlace.{BundlePlace}
 use Rattle.link_rule_report.specs.declared.rule.BrokenRule.TheVariants as rule
 use Rattle.link_rule_report.specs.declared.rule.BundlePlace.TheVariants as place
 use Rattle.link_walk.specs.Walk.{head_at, WalkEvent, Data, Whole, data_events, content_events, walked_of, end_events}
-use Rattle.link_unpack.specs.Transfers.{Transfer}
+use Rattle.link_judge.specs.Transfers.{Transfer}
 use Rattle.link_check.specs.BundleRules.{bundle_rules}
 use Rattle.link_check.specs.Checking.{Begun, begun_by, closed_rules, data_rules, latest_with, rules_at}
 use Rattle.link_check.specs.Lines.{at_offset}

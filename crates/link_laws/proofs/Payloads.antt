@@ -2,7 +2,7 @@
 use Rattle.std.proofs.Common.{◌≡◌, ℕ, List, [], ◌++◌, take, drop, Option, Some, None, refl, sym, ◌∙◌, subst}
 use Rattle.link_bundle_blocks.specs.Bundle.{judged_bundle, payload_of, bytes_of, payload_in}
 use Rattle.link_bundle_blocks.proofs.Payloads.{PayloadLasts-holds, PayloadPlaced-holds}
-use Rattle.link_unpack.proofs.Parts.{part_more}
+use Rattle.link_bundle.proofs.Parts.{part_more}
 use Rattle.link_laws.specs.Prefix.{IsFrontOf}
 use Rattle.link_laws.proofs.Fronts.{front_none}
 

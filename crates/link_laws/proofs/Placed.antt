@@ -11,10 +11,10 @@ use Rattle.link_transfer.specs.declared.{fault.OrderFault.OrderFault, joiner.Tur
 use Rattle.link_transfer.specs.declared.joiner.Turn.TheVariants as turn
 use Rattle.link_walk.specs.Walk.{Head, open_after_event, has_open, WalkEvent, ContactHeader, MessageHead, Data, Whole, LeftOpen}
 use Rattle.link_walk.proofs.Heads.{has_open-append}
-use Rattle.link_unpack.specs.Transfers.{Transfer, continued}
-use Rattle.link_unpack.specs.Unpacking.{Told, transfers_at, told_event, told_after, none_told}
-use Rattle.link_unpack.proofs.Effects.{zero_eq, Does, Strays, Passes, Begins, Continues, comes_does}
-use Rattle.link_unpack.proofs.Heads.{transfers_same, transfer_begins, transfer_continues}
+use Rattle.link_judge.specs.Transfers.{Transfer, continued}
+use Rattle.link_judge.specs.Unpacking.{Told, transfers_at, told_event, told_after, none_told}
+use Rattle.link_judge.proofs.Effects.{zero_eq, Does, Strays, Passes, Begins, Continues, comes_does}
+use Rattle.link_judge.proofs.Heads.{transfers_same, transfer_begins, transfer_continues}
 use Rattle.link_message_rules.specs.Heads.{JudgedHead}
 use Rattle.link_message_rules.specs.declared.rule.MessageRule.{MessageRule}
 use Rattle.link_message_rules.specs.declared.rule.TransferRule.TheVariants.{Unfinished}

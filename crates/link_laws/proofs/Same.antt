@@ -19,9 +19,9 @@ use Rattle.link_laws.proofs.InOrder.{not_stray, taken_more, unpacked_in_order, m
 use Rattle.link_laws.proofs.OneHead.{KnowsWhole, added, through, heads_whole}
 use Rattle.link_laws.proofs.PlainHeads.{judged_taken, events_at}
 use Rattle.link_laws.proofs.Whole.{FitsData, AreRead, ReadingReads, reading_read}
-use Rattle.link_unpack.specs.Transfers.{Transfer}
-use Rattle.link_unpack.specs.Unpacking.{parts_of, unpack_tool, Told, told_after, unpack_telling, with_line}
-use Rattle.link_unpack.proofs.Events.{told_then, told_push}
+use Rattle.link_judge.specs.Transfers.{Transfer}
+use Rattle.link_judge.specs.Unpacking.{parts_of, unpack_tool, Told, told_after, unpack_telling, with_line}
+use Rattle.link_judge.proofs.Events.{told_then, told_push}
 
 -- ---- heads that are taken, whether or not they are in order
 

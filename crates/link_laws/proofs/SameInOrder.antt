@@ -3,8 +3,8 @@ use Rattle.std.proofs.{Common.{◌≡◌, ℕ, Bool, List, refl, arith}, Math.Pa
 use Rattle.link_options.specs.declared.wanted.Wanted.{Wanted}
 use Rattle.link_wire.specs.Stream.{End}
 use Rattle.link_walk.specs.Walk.{WalkEvent, MessageHead, Whole, LeftOpen, Walked, told_by, told_of}
-use Rattle.link_unpack.specs.Transfers.{Transfer}
-use Rattle.link_unpack.specs.Unpacking.{parts_of, line_due, Told, told_event, told_after, unpack_telling}
+use Rattle.link_judge.specs.Transfers.{Transfer}
+use Rattle.link_judge.specs.Unpacking.{parts_of, line_due, Told, told_event, told_after, unpack_telling}
 use Rattle.link_laws.specs.Cuts.{going_on, stopping, IsSameInOrder}
 use Rattle.link_laws.proofs.{Same.walked_same, Whole.reading_read}
 

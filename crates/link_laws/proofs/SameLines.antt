@@ -9,9 +9,10 @@ use Rattle.link_run.specs.{Made.{StreamStop, Made, whole_by, stop_of}, Writers.o
 use Rattle.link_run.proofs.Runs.{texts_as}
 use Rattle.link_walk.specs.Walk.{WalkEvent, Walked, with_next, none_walked, walked_of, walked, end_events, has_open, stop_by, told_of}
 use Rattle.link_walk.specs.declared.consumer.Manner.{Manner}
-use Rattle.link_unpack.specs.Transfers.{Transfer}
-use Rattle.link_unpack.specs.Unpacking.{Told, told_after, unpack_tool, parts_of}
-use Rattle.link_blocks.specs.{Bundles.bundle_limit, Showing.{order_line_of, lines_of, blocks_tool}}
+use Rattle.link_bundle_walk.specs.Bundles.{bundle_limit}
+use Rattle.link_judge.specs.Transfers.{Transfer}
+use Rattle.link_judge.specs.Unpacking.{Told, told_after, unpack_tool, parts_of}
+use Rattle.link_blocks.specs.Showing.{order_line_of, lines_of, blocks_tool}
 use Rattle.link_laws.specs.{Ranges.InputFits, RoundTrip.all}
 use Rattle.link_laws.specs.SameLines.{shown, unpacked, HasSameLines}
 use Rattle.link_laws.specs.Transfers.{are_good, unpacked_of}

@@ -17,10 +17,9 @@ use Rattle.link_wire.specs.{Bytes.AreBytes, SpelledStream.IsReading}
 use Rattle.link_wire.specs.Stream.{Reading, reading_of, heads_of}
 use Rattle.link_run.specs.Made.{Made, whole_by}
 use Rattle.link_walk.specs.Walk.{Walked, WalkEvent, walked, end_events, told_of}
-use Rattle.link_unpack.specs.Unpacking.{unpack_tool, parts_of}
-use Rattle.link_bundle_walk.specs.Bundles.{divided}
+use Rattle.link_judge.specs.Unpacking.{unpack_tool, parts_of}
+use Rattle.link_bundle_walk.specs.Bundles.{bundle_limit, divided}
 use Rattle.link_bundle_walk.proofs.Outcomes.{told_as}
-use Rattle.link_blocks.specs.Bundles.{bundle_limit}
 use Rattle.link_check.specs.BundleRules.{bundle_rules}
 use Rattle.link_check.specs.Bundles.{broken_bundles, bundle_check_telling, bundle_check_tool}
 use Rattle.link_check.specs.{Checking.check_tool, Lines.at_offset}

@@ -6,7 +6,7 @@ use Rattle.link_options.specs.declared.pack.PackOptions.{PackOptions}
 use Rattle.link_wire.specs.Stream.{Entry}
 use Rattle.link_transfer.specs.Chunks.{chunk_count}
 use Rattle.link_transfer.proofs.Due.{byte_left}
-use Rattle.link_unpack.specs.Transfers.{Transfer}
+use Rattle.link_judge.specs.Transfers.{Transfer}
 use Rattle.link_pack.specs.Segments.{Sending, cut_at, segment_bytes}
 use Rattle.link_laws.specs.PackedStream.{SegmentFits}
 use Rattle.link_laws.proofs.Segments.{chunk_of, segment_entries}

@@ -6,8 +6,8 @@ use Rattle.link_wire.specs.{Codes.{is_start, is_end}, Stream.Entry, Spelling.ann
 use Rattle.link_wire.specs.declared.message.SegmentHead.{SegmentHead}
 use Rattle.link_transfer.specs.{Chunks.chunk_at, Order.{refusal_by, open_after}}
 use Rattle.link_transfer.specs.declared.event.Event.TheVariants.{Segment}
-use Rattle.link_unpack.specs.Transfers.{Transfer, after_message}
-use Rattle.link_unpack.proofs.Heads.{transfer_begins, transfer_continues}
+use Rattle.link_judge.specs.Transfers.{Transfer, after_message}
+use Rattle.link_judge.proofs.Heads.{transfer_begins, transfer_continues}
 use Rattle.link_run.proofs.Continued.{entry}
 use Rattle.link_pack.specs.Segments.{Sending, cut_at, flags_of}
 use Rattle.link_laws.proofs.Segments.{chunk_of, message_of}

@@ -5,7 +5,7 @@ use Rattle.link_wire.specs.Stream.{Entry}
 use Rattle.link_transfer.specs.{Event.event_of, Joiner.{IsJoinerAt, joiner_after}, Order.refusal_by}
 use Rattle.link_transfer.specs.declared.{event.Event.Event, joiner.Joiner.Joiner}
 use Rattle.link_transfer.proofs.Joining.{refusal-at, IsJoinerAt-none, IsJoinerAt-then}
-use Rattle.link_unpack.specs.Transfers.{Transfer, after_message}
+use Rattle.link_judge.specs.Transfers.{Transfer, after_message}
 use Rattle.link_laws.specs.Transfers.{ordered, ordered_after, transfers_of}
 use Rattle.link_laws.proofs.Orders.{messages_of, AreInOrder, in_order_more}
 

@@ -6,9 +6,9 @@ use Rattle.link_wire.specs.{Message.data_length, declared.message.Message.Messag
 use Rattle.link_wire.specs.declared.message.SegmentHead.{SegmentHead}
 use Rattle.link_transfer.specs.declared.{fault.OrderFault.OrderFault, joiner.Turn.Turn}
 use Rattle.link_walk.specs.Walk.{Head, WalkEvent, Whole, is_plain, content_events, data_events, head_events}
-use Rattle.link_unpack.specs.Transfers.{Transfer}
-use Rattle.link_unpack.specs.Unpacking.{Told, transfers_at, told_head}
-use Rattle.link_unpack.proofs.Events.{told_then, told_both, data_told, whole_if, whole_told}
+use Rattle.link_judge.specs.Transfers.{Transfer}
+use Rattle.link_judge.specs.Unpacking.{Told, transfers_at, told_head}
+use Rattle.link_judge.proofs.Events.{told_then, told_both, data_told, whole_if, whole_told}
 
 module _ (wanted : Wanted) where
   -- ---- the data of a segment

@@ -7,11 +7,11 @@ use Rattle.link_bundle_blocks.specs.Bundle.{payload_in}
 use Rattle.link_transfer.specs.declared.joiner.Turn.{Turn}
 use Rattle.link_run.specs.Run.{Texts}
 use Rattle.link_walk.specs.Walk.{WalkEvent, ContactHeader, MessageHead, Data, Whole, LeftOpen}
-use Rattle.link_unpack.specs.{TransferJudge.grown, Transfers.{Transfer, continued, after_message}}
-use Rattle.link_unpack.specs.Unpacking.{is_selected, parts_of, Told, transfers_at, told_event, told_after, unpack_telling, unpack_tool}
-use Rattle.link_unpack.proofs.Events.{told_push}
-use Rattle.link_unpack.proofs.Heads.{kind_of, transfers_same, transfer_begins, transfer_continues}
-use Rattle.link_unpack.proofs.Texts.{parts_more}
+use Rattle.link_judge.specs.{TransferJudge.grown, Transfers.{Transfer, continued, after_message}}
+use Rattle.link_judge.specs.Unpacking.{is_selected, parts_of, Told, transfers_at, told_event, told_after, unpack_telling, unpack_tool}
+use Rattle.link_judge.proofs.Events.{told_push}
+use Rattle.link_judge.proofs.Heads.{kind_of, transfers_same, transfer_begins, transfer_continues}
+use Rattle.link_judge.proofs.Texts.{parts_more}
 use Rattle.link_laws.specs.Prefix.{IsFrontOf, IsPrefixed}
 use Rattle.link_laws.proofs.Fronts.{front_same, front_first, front_then, front_after, front_none, AreFronts, fronts_same}
 use Rattle.link_laws.proofs.{Payloads.payload_front, Walks.{Adds, told_prefix}}

@@ -9,8 +9,8 @@ use Rattle.link_message_rules.specs.TransferData.{may_be_bundle}
 use Rattle.link_report.specs.declared.{fault.Fault.TheVariants.Order, judgement.Judgement.Judgement}
 use Rattle.link_report.specs.declared.judgement.Judgement.TheVariants.{Abandoned, BadLengthItem, LengthDiffers, Bad, Good}
 use Rattle.link_run.specs.Made.{StreamStop, stop_of}
-use Rattle.link_unpack.specs.Transfers.{Transfer}
-use Rattle.link_unpack.specs.Unpacking.{judgement_of}
+use Rattle.link_judge.specs.Transfers.{Transfer}
+use Rattle.link_judge.specs.Unpacking.{judgement_of}
 use Rattle.link_laws.specs.Cuts.{faults_after, reported, reported_on, stream_stop}
 
 -- A transfer with this data is good or abandoned, or its data may be a bundle that this toolkit

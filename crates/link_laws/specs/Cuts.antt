@@ -13,10 +13,10 @@ use Rattle.link_report.specs.declared.fault.Fault.TheVariants.{Order}
 use Rattle.link_report.specs.Transfer.{transfer_text}
 use Rattle.link_report.specs.declared.transfer.TransferEntry.{TransferEntry}
 use Rattle.link_run.specs.Made.{StreamStop, stop_of}
-use Rattle.link_unpack.specs.Transfers.{Transfer}
+use Rattle.link_judge.specs.Transfers.{Transfer}
 use Rattle.link_walk.specs.Walk.{stop_by}
 use Rattle.link_laws.specs.Transfers.{Ordered, ordered, transfers_of, settled, unpacked_of}
-use Rattle.link_unpack.specs.Unpacking.{parts_of, entry_of, unpacking_of, unpack_tool}
+use Rattle.link_judge.specs.Unpacking.{parts_of, entry_of, unpacking_of, unpack_tool}
 use Rattle.link_laws.specs.RoundTrip.{all}
 
 -- the same of the transfers is wanted, and a fault of the order does not end the run

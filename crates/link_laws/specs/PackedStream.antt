@@ -6,7 +6,7 @@ use Rattle.link_wire.specs.declared.message.{Message.Message, Message.TheVariant
 use Rattle.link_transfer.specs.Announced.{announced_of}
 use Rattle.link_transfer.specs.declared.announcement.Announced.TheVariants.{Absent, Total}
 use Rattle.link_list.specs.Listing.{list_tool}
-use Rattle.link_unpack.specs.Transfers.{Transfer}
+use Rattle.link_judge.specs.Transfers.{Transfer}
 use Rattle.link_laws.specs.Transfers.{ordered, transfers_of}
 
 -- A segment has some data. It has no more than the peer takes (RFC 9174 section 4.6), and no more

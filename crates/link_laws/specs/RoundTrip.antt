@@ -4,7 +4,7 @@ use Rattle.link_options.specs.declared.wanted.Wanted.{Wanted}
 use Rattle.link_options.specs.declared.pack.PackOptions.{PackOptions}
 use Rattle.link_report.specs.Transfer.{transfer_text}
 use Rattle.link_report.specs.declared.judgement.Judgement.TheVariants.{Good}
-use Rattle.link_unpack.specs.Unpacking.{unpack_tool}
+use Rattle.link_judge.specs.Unpacking.{unpack_tool}
 use Rattle.link_bundle_walk.specs.Bundles.{Packed, divided}
 
 -- `unpack` without options: all data of all transfers

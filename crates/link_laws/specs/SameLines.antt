@@ -4,7 +4,7 @@ use Rattle.std.specs.{Prelude.{◌≡◌, ℕ, suc, false, List, [], ◌∷◌, 
 use Rattle.link_options.specs.declared.blocks.BlockOptions.{BlockOptions}
 use Rattle.link_bundle_blocks.specs.Bundle.{verdict}
 use Rattle.link_run.specs.Writers.{on_output}
-use Rattle.link_unpack.specs.Unpacking.{unpack_tool}
+use Rattle.link_judge.specs.Unpacking.{unpack_tool}
 use Rattle.link_bundle_walk.specs.Bundles.{Packed}
 use Rattle.link_blocks.specs.Bundles.{whole_lines, bundle_blocks_tool}
 use Rattle.link_blocks.specs.Showing.{blocks_tool}

@@ -10,8 +10,8 @@ use Rattle.link_transfer.specs.Order.{begins, is_segment, is_stray, refusal, wit
 use Rattle.link_transfer.specs.declared.{event.Event.Event, fault.OrderFault.OrderFault}
 use Rattle.link_run.specs.Made.{Made, stop_of}
 use Rattle.link_walk.specs.Walk.{stop_by}
-use Rattle.link_unpack.specs.Transfers.{Transfer, after_message}
-use Rattle.link_unpack.specs.Unpacking.{parts_of, judgement_of, line_of, is_good, order_line}
+use Rattle.link_judge.specs.Transfers.{Transfer, after_message}
+use Rattle.link_judge.specs.Unpacking.{parts_of, judgement_of, line_of, is_good, order_line}
 
 -- ---- order
 

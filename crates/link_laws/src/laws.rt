@@ -12,7 +12,7 @@ ghost use Rattle.link_options.specs.declared.limits.PeerLimits.{PeerLimits};
 ghost use Rattle.link_wire.specs.Bytes.{AreBytes};
 ghost use Rattle.link_list.specs.Listing.{list_tool};
 ghost use Rattle.link_run.specs.Made.{tool_of};
-ghost use Rattle.link_unpack.specs.Unpacking.{unpack_tool};
+ghost use Rattle.link_judge.specs.Unpacking.{unpack_tool};
 ghost use Rattle.link_blocks.specs.Bundles.{bundle_blocks_tool};
 ghost use Rattle.link_blocks.specs.Showing.{blocks_tool};
 ghost use Rattle.link_check.specs.Bundles.{bundle_check_tool};

@@ -3,8 +3,9 @@ use Rattle.std.specs.Prelude.{ℕ, Bool, true, false, not, ◌+◌, ◌&&◌, �
 use Rattle.std.specs.Char.{is_ascii_alphabetic, is_ascii_alphanumeric, is_ascii_digit}
 use Rattle.std.specs.List.{list_all, starts_with}
 use Rattle.link_wire.specs.declared.message.{Message.Message, Message.TheVariants.SessInit}
-use Rattle.link_rules.specs.Uri.{first_of, after_mark, is_word, are_uri_bytes, is_reg_name}
-use Rattle.link_rules.specs.declared.level.{Level.Level, Level.TheVariants.{Must, Should}}
+use Rattle.link_rules.specs.DtnNames.{is_dtn_name, demux_of, demux_level}
+use Rattle.link_rules.specs.Uri.{first_of, after_mark, is_word, are_uri_bytes}
+use Rattle.link_rules.specs.declared.level.{Level.Level, Level.TheVariants.{Should}}
 use Rattle.link_message_rules.specs.declared.rule.MessageRule.{MessageRule}
 use Rattle.link_message_rules.specs.declared.rule.MessageRule.TheVariants.{NodeId, NodeName}
 
@@ -17,16 +18,10 @@ abbrev pub is_scheme : List ℕ → Bool
 is_scheme [] = false
 is_scheme (first ∷ rest) = is_ascii_alphabetic first && list_all is_scheme_byte rest
 
--- ---- what follows `dtn:` (RFC 9171 section 4.2.5.1.1): `none`, or `//`, a node name, `/`, a demux
-
-abbrev pub is_named_at : Option ℕ → List ℕ → Bool
-is_named_at None name = false
-is_named_at (Some slash) name = is_reg_name (take slash name)
+-- ---- what follows `dtn:` (RFC 9171 section 4.2.5.1.1): `none`, or a dtn name
 
 unfoldable pub is_dtn_part : List ℕ → Bool
-is_dtn_part part =
-    is_word (codes "none") part
-    || (starts_with nat_eq part (codes "//") && is_named_at (first_of 0x2f (drop 2 part)) (drop 2 part))
+is_dtn_part part = is_word (codes "none") part || is_dtn_name part
 
 -- ---- what follows `ipn:` (section 4.2.5.1.2): two decimal numbers with a point between, or three.
 -- What begins with `!` is not judged.
@@ -79,16 +74,6 @@ node_id (SessInit interval segment_mru transfer_mru node items) =
 node_id message = None
 
 -- ---- node-name
-
--- a demux that begins with `~` names a group, and any other that is not empty names a service (RFC
--- 9171 section 4.2.5.1.1)
-abbrev pub demux_level : List ℕ → Option Level
-demux_level [] = None
-demux_level (first ∷ rest) = if first == 0x7e then Some Must else Some Should
-
--- what follows the third slash
-abbrev pub demux_of : List ℕ → List ℕ
-demux_of part = after_mark 0x2f (after_mark 0x2f (after_mark 0x2f part))
 
 -- the last of two or three numbers is 0 (section 4.2.5.1.2)
 abbrev pub ends_in_zero : List ℕ → Bool

@@ -3,11 +3,13 @@
 ghost use Rattle.std.specs.Prelude.{◌≡◌};
 ghost use Rattle.std.specs.{Char.is_ascii_digit, List.list_all};
 ghost use Rattle.link_wire.specs.MessageBuffer.{message_of};
-ghost use Rattle.link_message_rules.specs.NodeIds.{is_scheme_byte, is_scheme, is_dtn_part, is_number, are_two, are_three_at, is_unjudged, is_ipn_part, is_of_scheme, is_uri, node_id, demux_level, demux_of, ends_in_zero, name_level, node_name};
+ghost use Rattle.link_message_rules.specs.NodeIds.{is_scheme_byte, is_scheme, is_dtn_part, is_number, are_two, are_three_at, is_unjudged, is_ipn_part, is_of_scheme, is_uri, node_id, ends_in_zero, name_level, node_name};
 ghost use Rattle.link_rules.specs.Uri.{first_of};
 
 use crate::rule::MessageRule;
-use link_rules::{Level, after_mark, are_uri_bytes, first_of, is_reg_name, is_word};
+use link_rules::{
+    Level, after_mark, are_uri_bytes, demux_level, demux_of, first_of, is_dtn_name, is_word,
+};
 use link_wire::{Fields, MessageBuffer};
 
 /// Whether a byte may be in a scheme after its first (RFC 3986 section 3.1).
@@ -39,16 +41,7 @@ fn is_scheme(bytes: &[u8]) -> bool
 fn is_dtn_part(part: &[u8]) -> bool
     ensures { result ≡ is_dtn_part part.now }
 {
-    if is_word(b"none", part) {
-        return true;
-    }
-    let Some(name) = part.strip_prefix(b"//") else {
-        return false;
-    };
-    match first_of(b'/', name) {
-        Some(slash) => is_reg_name(&name[..slash]),
-        None => false,
-    }
+    is_word(b"none", part) || is_dtn_name(part)
 }
 
 fn are_digits(bytes: &[u8]) -> bool
@@ -144,30 +137,12 @@ pub(crate) fn node_id(message: &MessageBuffer) -> Option<MessageRule>
     })
 }
 
-/// How strictly a demux is forbidden in the name of a node (RFC 9171 section 4.2.5.1.1).
-fn demux_level(demux: &[u8]) -> Option<Level>
-    ensures { result ≡ demux_level demux.now }
-{
-    match demux {
-        [] => None,
-        [b'~', ..] => Some(Level::Must),
-        _ => Some(Level::Should),
-    }
-}
-
 /// Whether the last of two or three numbers is 0.
 fn ends_in_zero(part: &[u8]) -> bool
     ensures { result ≡ ends_in_zero part.now }
 {
     let last = after_mark(b'.', after_mark(b'.', part));
     last.iter().all(|digit| *digit == b'0')
-}
-
-/// What follows the third slash.
-fn demux_of(part: &[u8]) -> &[u8]
-    ensures { result.now ≡ demux_of part.now }
-{
-    after_mark(b'/', after_mark(b'/', after_mark(b'/', part)))
 }
 
 /// How strictly a node ID that has the syntax of its scheme is forbidden.

@@ -14,7 +14,8 @@ use Rattle.link_numbers.specs.Fault.{no_fault, wire_status, wire_fault}
 use Rattle.link_numbers.specs.declared.{fault.Fault.Fault, recording.Contact.Contact}
 use Rattle.link_numbers.specs.declared.recording.{Item.Item, Message.Message}
 
--- Each field that a status, or a kind of message, does not have is 0.
+-- A field that does not apply to a status, or to a kind of message, is 0. tcpclkit.h names the
+-- kinds of each field.
 
 -- the contact header, or its fault
 abbrev pub contact_shown : (flags : ℕ) → Contact

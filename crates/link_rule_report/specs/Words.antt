@@ -11,12 +11,13 @@ use Rattle.link_message_rules.specs.declared.rule.TransferRule.TheVariants as tr
 use Rattle.link_bundle_rules.specs.declared.rule.BundleRule.{BundleRule}
 use Rattle.link_bundle_rules.specs.declared.rule.BundleRule.TheVariants as bundle
 use Rattle.link_bundle_rules.specs.declared.rule.Endpoint.{Endpoint}
-use Rattle.link_bundle_rules.specs.declared.rule.Endpoint.TheVariants.{Destination, Source, ReportTo}
+use Rattle.link_bundle_rules.specs.declared.rule.Endpoint.TheVariants.{Destination, Source, ReportTo, PreviousNode, SecuritySource, ReportSource}
 use Rattle.link_report.specs.BundleFault.{code_text}
 use Rattle.link_report.specs.Fault.{order_text}
 use Rattle.link_report.specs.Message.{flags_text}
 use Rattle.link_report.specs.Text.{hex2, hex4, number_text}
 use Rattle.link_block_report.specs.Fields as fields
+use Rattle.link_block_report.specs.Words.{integer_text}
 use Rattle.link_rule_report.specs.declared.rule.BrokenRule.{BrokenRule}
 use Rattle.link_rule_report.specs.declared.rule.BrokenRule.TheVariants.{Message, Transfer, Bundle}
 
@@ -91,14 +92,28 @@ unfoldable pub endpoint_name : Endpoint → List ℕ
 endpoint_name Destination = codes "destination"
 endpoint_name Source = codes "source"
 endpoint_name ReportTo = codes "report-to"
+endpoint_name (PreviousNode block) = codes "previous-node"
+endpoint_name (SecuritySource block) = codes "security-source"
+endpoint_name ReportSource = codes "report-source"
+
+-- the number of the block that has the endpoint ID, if more than one may have it
+unfoldable pub endpoint_block : Endpoint → List ℕ
+endpoint_block (PreviousNode block) = number_text (codes " block=") block
+endpoint_block (SecuritySource block) = number_text (codes " block=") block
+endpoint_block _ = []
 
 -- a hop limit, if the data of the block says one
 unfoldable pub limit_words : Option ℕ → List ℕ
 limit_words None = []
 limit_words (Some limit) = number_text (codes " limit=") limit
 
+-- a target, if there is one
+unfoldable pub target_words : Option ℕ → List ℕ
+target_words None = []
+target_words (Some target) = number_text (codes " target=") target
+
 unfoldable pub bundle_words : BundleRule → List ℕ
-bundle_words (bundle.LongHead byte) = number_text (codes " byte=") byte
+bundle_words (bundle.LongHead byte level) = number_text (codes " byte=") byte
 bundle_words (bundle.BundleFlags flags) = control_words flags
 bundle_words (bundle.PrimaryCheck level) = []
 bundle_words (bundle.Anonymous flags) = control_words flags
@@ -106,7 +121,7 @@ bundle_words (bundle.RecordReports flags) = control_words flags
 bundle_words (bundle.BlockReports block) = number_text (codes " block=") block
 bundle_words (bundle.BlockFlags block flags) =
     number_text (codes " block=") block ++ control_words flags
-bundle_words (bundle.DtnName of) = codes " of=" ++ endpoint_name of
+bundle_words (bundle.DtnName of) = codes " of=" ++ endpoint_name of ++ endpoint_block of
 bundle_words (bundle.Fragment offset size total) =
     number_text (codes " offset=") offset ++ number_text (codes " length=") size
     ++ number_text (codes " total=") total
@@ -123,6 +138,34 @@ bundle_words (bundle.BlockData block byte) =
 bundle_words (bundle.DataNotRead block byte) =
     number_text (codes " block=") block ++ number_text (codes " byte=") byte
 bundle_words (bundle.Record byte) = number_text (codes " byte=") byte
+bundle_words bundle.SourceNode = []
+bundle_words (bundle.PreviousNodeId block level) = number_text (codes " block=") block
+bundle_words (bundle.Expired lifetime age) =
+    number_text (codes " lifetime=") lifetime ++ number_text (codes " age=") age
+bundle_words (bundle.BlockType block type) =
+    number_text (codes " block=") block ++ number_text (codes " type=") type
+bundle_words (bundle.RecordType type) = number_text (codes " type=") type
+bundle_words bundle.ReportTimes = []
+bundle_words bundle.ReportEmpty = []
+bundle_words (bundle.ReportReason reason) = number_text (codes " reason=") reason
+bundle_words bundle.ReportSource = []
+bundle_words (bundle.SecurityTargets block target level) =
+    number_text (codes " block=") block ++ target_words target
+bundle_words (bundle.SecurityTwice block target) =
+    number_text (codes " block=") block ++ number_text (codes " target=") target
+bundle_words (bundle.SecurityFlags block flags) =
+    number_text (codes " block=") block ++ control_words flags
+bundle_words (bundle.SecurityContext block context) =
+    number_text (codes " block=") block ++ codes " context=" ++ integer_text context
+bundle_words (bundle.IntegrityTarget block target) =
+    number_text (codes " block=") block ++ number_text (codes " target=") target
+bundle_words (bundle.ConfidentialTarget block target) =
+    number_text (codes " block=") block ++ number_text (codes " target=") target
+bundle_words (bundle.ConfidentialFlags block flags) =
+    number_text (codes " block=") block ++ control_words flags
+bundle_words (bundle.ConfidentialContext block) = number_text (codes " block=") block
+bundle_words (bundle.SharedTarget block target) =
+    number_text (codes " block=") block ++ number_text (codes " target=") target
 
 unfoldable pub rule_words : BrokenRule → List ℕ
 rule_words (Message rule) = message_words rule

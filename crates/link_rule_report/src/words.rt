@@ -1,14 +1,16 @@
 //! The words of rules: what broke a rule.
 
 ghost use Rattle.std.specs.Prelude.{◌≡◌, ◌+◌, ◌≤◌, ◌++◌, length, take, codes, decimal};
+ghost use Rattle.link_block_report.specs.Words.{integer_text};
 ghost use Rattle.link_report.specs.Message.{flags_text};
 ghost use Rattle.link_report.specs.Text.{hex2, hex4, number_text};
 ghost use Rattle.link_report.specs.Written.{Wrote};
-ghost use Rattle.link_rule_report.specs.Words.{answer_text, hyphenated, order_words, message_words, fault_words, transfer_words, control_words, endpoint_name, limit_words, bundle_words, rule_words};
+ghost use Rattle.link_rule_report.specs.Words.{answer_text, hyphenated, order_words, message_words, fault_words, transfer_words, control_words, endpoint_name, endpoint_block, limit_words, target_words, bundle_words, rule_words};
 
 use crate::rule::BrokenRule;
 use itoa::Buffer;
-use link_block_report::write_flags;
+use link_block_data::Integer;
+use link_block_report::{write_flags, write_integer};
 use link_bundle_rules::{BundleRule, Endpoint};
 use link_bundle_types::BundleFault;
 use link_message_rules::{AnswerFault, MessageRule, TransferRule};
@@ -243,17 +245,79 @@ fn write_control(page: &mut [u8], at: usize, flags: u64) -> usize
     write_flags(page, at, flags)
 }
 
-/// Writes which endpoint ID of the primary block it is.
 #[tactic(auto, unfolding(crate::specs::Words::endpoint_name))]
-fn write_endpoint(page: &mut [u8], at: usize, endpoint: Endpoint) -> usize
-    requires { at + WORDS_MAX ≤ length page.old }
-    ensures { Wrote page.old page.new at result WORDS_MAX (codes " of=" ++ endpoint_name endpoint) }
+fn endpoint_name(endpoint: Endpoint) -> &'static str
+    ensures text { result.now ≡ endpoint_name endpoint }
+    ensures short { length result.now ≤ 15 }
 {
     match endpoint {
-        Endpoint::Destination => write_bytes(page, at, *b" of=destination"),
-        Endpoint::Source => write_bytes(page, at, *b" of=source"),
-        Endpoint::ReportTo => write_bytes(page, at, *b" of=report-to"),
+        Endpoint::Destination => "destination",
+        Endpoint::Source => "source",
+        Endpoint::ReportTo => "report-to",
+        Endpoint::PreviousNode(_) => "previous-node",
+        Endpoint::SecuritySource(_) => "security-source",
+        Endpoint::ReportSource => "report-source",
     }
+}
+
+/// Writes the number of the block that has an endpoint ID, if more than one may have it.
+#[tactic(auto, unfolding(crate::specs::Words::endpoint_block))]
+fn write_endpoint_block(page: &mut [u8], at: usize, endpoint: Endpoint) -> usize
+    requires { at + 27 ≤ length page.old }
+    ensures { Wrote page.old page.new at result 27 (endpoint_block endpoint) }
+{
+    match endpoint {
+        Endpoint::PreviousNode(block) | Endpoint::SecuritySource(block) => {
+            write_number(page, at, *b" block=", block)
+        }
+        _ => at,
+    }
+}
+
+/// Writes which endpoint ID it is.
+fn write_endpoint(page: &mut [u8], at: usize, endpoint: Endpoint) -> usize
+    requires { at + WORDS_MAX ≤ length page.old }
+    ensures { Wrote page.old page.new at result WORDS_MAX
+        (codes " of=" ++ endpoint_name endpoint ++ endpoint_block endpoint) }
+{
+    let at = write_bytes(page, at, *b" of=");
+    let at = write_text(page, at, endpoint_name(endpoint));
+    write_endpoint_block(page, at, endpoint)
+}
+
+/// Writes the number of a block and its flags, or the flags of its security context.
+fn write_block_flags(page: &mut [u8], at: usize, block: u64, flags: u64) -> usize
+    requires { at + WORDS_MAX ≤ length page.old }
+    ensures { Wrote page.old page.new at result WORDS_MAX
+        (number_text (codes " block=") block ++ control_words flags) }
+{
+    let at = write_number(page, at, *b" block=", block);
+    write_control(page, at, flags)
+}
+
+/// Writes the number of a security block, and a target of it if there is one.
+#[tactic(auto, unfolding(crate::specs::Words::target_words))]
+fn write_target(page: &mut [u8], at: usize, block: u64, target: Option<u64>) -> usize
+    requires { at + WORDS_MAX ≤ length page.old }
+    ensures { Wrote page.old page.new at result WORDS_MAX
+        (number_text (codes " block=") block ++ target_words target) }
+{
+    let at = write_number(page, at, *b" block=", block);
+    match target {
+        Some(target) => write_number(page, at, *b" target=", target),
+        None => at,
+    }
+}
+
+/// Writes the number of a security block, and the ID of its security context.
+fn write_context(page: &mut [u8], at: usize, block: u64, context: Integer) -> usize
+    requires { at + WORDS_MAX ≤ length page.old }
+    ensures { Wrote page.old page.new at result WORDS_MAX
+        (number_text (codes " block=") block ++ codes " context=" ++ integer_text context) }
+{
+    let at = write_number(page, at, *b" block=", block);
+    let at = write_bytes(page, at, *b" context=");
+    write_integer(page, at, context)
 }
 
 /// Writes the offset, the length and the total length of a fragment.
@@ -288,19 +352,25 @@ fn write_bundle(page: &mut [u8], at: usize, rule: &BundleRule) -> usize
     ensures { Wrote page.old page.new at result WORDS_MAX (bundle_words rule.now) }
 {
     match *rule {
-        BundleRule::PrimaryCheck { .. } => at,
-        BundleRule::LongHead { byte } | BundleRule::Record { byte } => {
+        BundleRule::PrimaryCheck { .. }
+        | BundleRule::SourceNode
+        | BundleRule::ReportTimes
+        | BundleRule::ReportEmpty
+        | BundleRule::ReportSource => at,
+        BundleRule::LongHead { byte, .. } | BundleRule::Record { byte } => {
             write_number(page, at, *b" byte=", byte)
         }
         BundleRule::BundleFlags { flags }
         | BundleRule::Anonymous { flags }
         | BundleRule::RecordReports { flags } => write_control(page, at, flags),
-        BundleRule::BlockReports { block } | BundleRule::ConfidentialPrimary { block } => {
-            write_number(page, at, *b" block=", block)
-        }
-        BundleRule::BlockFlags { block, flags } => {
-            let at = write_number(page, at, *b" block=", block);
-            write_control(page, at, flags)
+        BundleRule::BlockReports { block }
+        | BundleRule::ConfidentialPrimary { block }
+        | BundleRule::PreviousNodeId { block, .. }
+        | BundleRule::ConfidentialContext { block } => write_number(page, at, *b" block=", block),
+        BundleRule::BlockFlags { block, flags }
+        | BundleRule::SecurityFlags { block, flags }
+        | BundleRule::ConfidentialFlags { block, flags } => {
+            write_block_flags(page, at, block, flags)
         }
         BundleRule::DtnName { of } => write_endpoint(page, at, of),
         BundleRule::Fragment {
@@ -319,6 +389,22 @@ fn write_bundle(page: &mut [u8], at: usize, rule: &BundleRule) -> usize
         BundleRule::BlockData { block, byte } | BundleRule::DataNotRead { block, byte } => {
             write_two(page, at, *b" block=", block, *b" byte=", byte)
         }
+        BundleRule::Expired { lifetime, age } => {
+            write_two(page, at, *b" lifetime=", lifetime, *b" age=", age)
+        }
+        BundleRule::BlockType { block, block_type } => {
+            write_two(page, at, *b" block=", block, *b" type=", block_type)
+        }
+        BundleRule::RecordType { record_type } => write_number(page, at, *b" type=", record_type),
+        BundleRule::ReportReason { reason } => write_number(page, at, *b" reason=", reason),
+        BundleRule::SecurityTargets { block, target, .. } => write_target(page, at, block, target),
+        BundleRule::SecurityTwice { block, target }
+        | BundleRule::IntegrityTarget { block, target }
+        | BundleRule::ConfidentialTarget { block, target }
+        | BundleRule::SharedTarget { block, target } => {
+            write_two(page, at, *b" block=", block, *b" target=", target)
+        }
+        BundleRule::SecurityContext { block, context } => write_context(page, at, block, context),
     }
 }
 

@@ -1,1 +1,2 @@
+pub mod SmallHeads
 pub mod Walks

@@ -16,7 +16,7 @@ use Rattle.link_rules.specs.HeadWalk.{first_left, HasSought, HasFound, HasNoted,
 -- ---- the definition, step by step
 
 -- bytes of the last head and of its string
-inside : (sought : HeadItem → ℕ → Bool) (left offset : ℕ) (run more : List ℕ) → length run ≤ left
+pub inside : (sought : HeadItem → ℕ → Bool) (left offset : ℕ) (run more : List ℕ) → length run ≤ left
     → first_from sought left offset (run ++ more)
     ≡ first_from sought (left - length run) (offset + length run) more
 unfolding first_from
@@ -35,7 +35,7 @@ unfolding head_front
 empty_is_cut = refl
 
 -- a whole head
-at_head : (sought : HeadItem → ℕ → Bool) (offset : ℕ) (run more : List ℕ) (head : HeadItem)
+pub at_head : (sought : HeadItem → ℕ → Bool) (offset : ℕ) (run more : List ℕ) (head : HeadItem)
     → head_front run ≡ Whole head (length run)
     → first_from sought 0 offset (run ++ more)
     ≡ (if sought head (length run) then Some offset
@@ -66,7 +66,7 @@ at_cut sought offset (byte ∷ rest) cut = rw (cut, first_from) refl
 -- ---- what is found and what is left
 
 -- a head that is the first, if none was found before it
-first_or : (found : Option ℕ) (is_sought : Bool) (offset : ℕ) (rest : Option ℕ)
+pub first_or : (found : Option ℕ) (is_sought : Bool) (offset : ℕ) (rest : Option ℕ)
     → option_or found (if is_sought then Some offset else rest)
     ≡ option_or (option_or found (then_some is_sought offset)) rest
 first_or (Some at) is_sought offset rest = refl
@@ -311,7 +311,7 @@ none_left sought (Head offset) head seen stands =
     rw (append-nil (drop offset seen)) (at_cut sought offset (drop offset seen) stands.cut)
 none_left sought Ended head seen stands = refl
 
-or_none : (found : Option ℕ) → option_or found None ≡ found
+pub or_none : (found : Option ℕ) → option_or found None ≡ found
 or_none None = refl
 or_none (Some at) = refl
 

@@ -3,3 +3,4 @@ pub mod Heads
 pub mod HeadWalk
 pub mod Prefix
 pub mod Uri
+pub mod DtnNames

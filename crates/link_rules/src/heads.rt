@@ -1,7 +1,7 @@
 //! A walk over the heads of CBOR items that follow one another.
-ghost use Rattle.std.specs.Prelude.{◌≡◌, ℕ, ◌^◌, ◌<◌, ◌≤◌, List, ◌∷◌, [], ◌++◌, length, take, IsTrue};
+ghost use Rattle.std.specs.Prelude.{◌≡◌, ℕ, ◌/◌, ◌%◌, ◌^◌, ◌<◌, ◌≤◌, not, ◌&&◌, ◌||◌, ◌==◌, nat_lt, Some, List, ◌∷◌, [], ◌++◌, length, take, IsTrue};
 ghost use Rattle.link_cbor.specs.HeadScan.{may_scan_head};
-ghost use Rattle.link_rules.specs.Heads.{content_size, shortest_size, is_long, is_open_string, is_open_item, is_encoded, first_long, unread_of, is_tagged};
+ghost use Rattle.link_rules.specs.Heads.{content_size, is_long, is_open_string, is_open_item, is_encoded, first_long, unread_of, is_tagged};
 
 use crate::unread::Unread;
 use link_cbor::{Head, HeadScan, HeadStep, Piecewise};
@@ -18,18 +18,8 @@ const TAG: u8 = 6;
 /// The tag of a byte string with encoded CBOR (RFC 8949 section 3.4.5.1).
 const ENCODED: u64 = 24;
 
-/// The fewest bytes of a head with this value (RFC 8949 sections 4.1 and 4.2.1).
-fn shortest_size(value: Option<u64>) -> usize
-    ensures { result ≡ shortest_size value }
-{
-    match value {
-        None | Some(0..=23) => 1,
-        Some(24..=0xff) => 2,
-        Some(0x100..=0xffff) => 3,
-        Some(0x1_0000..=0xffff_ffff) => 5,
-        Some(_) => 9,
-    }
-}
+/// Which bytes are small heads, by their top five bits. Bit N is for the eight bytes from 8 N on.
+const SMALL_HEADS: u32 = 0x7777_0077;
 
 /// The number of bytes of a string, which follow its head. Other items have none.
 #[inline(always)]
@@ -42,14 +32,38 @@ fn content_size(head: Head) -> u64
     }
 }
 
-/// Whether a head of `size` bytes is longer than its number needs.
-fn is_long(head: Head, size: usize) -> bool
+/// Whether a byte is a small head: a whole head with a number, and not that of a string.
+///
+/// Its additional information is below 24, and its major type is neither 2 nor 3.
+#[inline(always)]
+#[tactic(auto, using(crate::proofs::SmallHeads::by_bits))]
+fn is_small_head(byte: u8) -> bool
+    ensures { result ≡ (nat_lt (byte % 32) 24 && not ((byte / 32 == 2) || (byte / 32 == 3))) }
+{
+    SMALL_HEADS >> (byte >> 3) & 1 == 1
+}
+
+/// Whether a head of `size` bytes is longer than its number needs (RFC 8949 sections 4.1 and
+/// 4.2.1).
+///
+/// A head of 2, 3, 5 or 9 bytes is long if its number fits in the next smaller size.
+pub fn is_long(head: Head, size: usize) -> bool
     ensures { result ≡ is_long head size }
 {
-    shortest_size(head.value) < size
+    let number = head.value.unwrap_or(0);
+    match size {
+        0 | 1 => false,
+        2 => number < 24,
+        3 => number < 0x100,
+        4 | 5 => number < 0x1_0000,
+        6..=9 => number < 0x1_0000_0000,
+        _ => true,
+    }
 }
 
 /// Whether a head is that of a byte string of indefinite length.
+// Inlined, as the next two: then callers need not store the head in memory.
+#[inline(always)]
 fn is_open_string(head: Head) -> bool
     ensures { (size : ℕ) → result ≡ is_open_string head size }
 {
@@ -57,6 +71,7 @@ fn is_open_string(head: Head) -> bool
 }
 
 /// Whether a head is that of a text, an array or a map of indefinite length.
+#[inline(always)]
 fn is_open_item(head: Head) -> bool
     ensures { (size : ℕ) → result ≡ is_open_item head size }
 {
@@ -64,6 +79,7 @@ fn is_open_item(head: Head) -> bool
 }
 
 /// Whether a head of `size` bytes is tag 24 in two bytes.
+#[inline(always)]
 fn is_encoded(head: Head, size: usize) -> bool
     ensures { result ≡ is_encoded head size }
 {
@@ -92,11 +108,12 @@ const NONE_FOUND: Found = Found {
 };
 
 impl Found {
-    ghost use Rattle.link_rules.specs.HeadWalk.{HasFound, HasNoted, noted};
+    ghost use Rattle.std.specs.{Bool.then_some, Option.option_or};
+    ghost use Rattle.link_rules.specs.HeadWalk.{HasFound, HasNoted};
     ghost use Rattle.link_rules.specs.declared.heads.WalkStage.TheVariants.{Inside};
 
     /// Keeps the offset of a head of `size` bytes, if it is the first of its kind.
-    // Inlined: most heads are one byte with a number, and such a head should cost no call.
+    // Inlined: the head of a short string is one byte, and it should cost no call.
     #[inline(always)]
     fn note(&mut self, offset: u64, head: Head, size: usize)
         ensures { HasNoted self.old self.new offset head size }
@@ -111,25 +128,42 @@ impl Found {
     fn note_any(&mut self, offset: u64, head: Head, size: usize)
         ensures { HasNoted self.old self.new offset head size }
     {
-        self.long = self.long.or(is_long(head, size).then_some(offset));
+        if is_long(head, size) {
+            self.note_long(offset);
+        }
         if head.is_indefinite() || head.major == TAG {
-            self.note_unread(offset, head, size);
+            let encoded = is_encoded(head, size);
+            self.note_unread(offset, is_open_string(head), is_open_item(head), encoded);
         }
     }
 
-    /// Keeps the offset of a head of indefinite length or of a tag, if it is the first of its kind.
+    /// Keeps the offset of a long head, if it is the first.
     #[cold]
     #[inline(never)]
-    fn note_unread(&mut self, offset: u64, head: Head, size: usize)
-        ensures long { self.new.long ≡ self.old.long }
-        ensures string { self.new.string ≡ noted is_open_string self.old.string offset head size }
-        ensures item { self.new.item ≡ noted is_open_item self.old.item offset head size }
-        ensures encoded { self.new.encoded
-            ≡ noted is_encoded self.old.encoded offset head size }
+    fn note_long(&mut self, offset: u64)
+        ensures long { self.new.long ≡ option_or self.old.long (Some offset) }
+        ensures string { self.new.string ≡ self.old.string }
+        ensures item { self.new.item ≡ self.old.item }
+        ensures encoded { self.new.encoded ≡ self.old.encoded }
     {
-        self.string = self.string.or(is_open_string(head).then_some(offset));
-        self.item = self.item.or(is_open_item(head).then_some(offset));
-        self.encoded = self.encoded.or(is_encoded(head, size).then_some(offset));
+        self.long = self.long.or(Some(offset));
+    }
+
+    /// Keeps the offset of a head that is of these kinds, if it is the first of its kind.
+    // It takes no head, so that callers need not store the head in memory.
+    #[cold]
+    #[inline(never)]
+    fn note_unread(&mut self, offset: u64, string: bool, item: bool, encoded: bool)
+        ensures long { self.new.long ≡ self.old.long }
+        ensures string { self.new.string
+            ≡ option_or self.old.string (then_some string offset) }
+        ensures item { self.new.item ≡ option_or self.old.item (then_some item offset) }
+        ensures encoded { self.new.encoded
+            ≡ option_or self.old.encoded (then_some encoded offset) }
+    {
+        self.string = self.string.or(string.then_some(offset));
+        self.item = self.item.or(item.then_some(offset));
+        self.encoded = self.encoded.or(encoded.then_some(offset));
     }
 
     /// Takes the heads that a piece begins with, and their strings. The first is at `offset`.
@@ -147,14 +181,18 @@ impl Found {
             → HasFound self.new (Inside result.1) (seen ++ take result.0 piece.now) }
     {
         let mut taken = 0;
-        while let Some((head, size)) = Head::front(&piece[taken..]) {
+        while taken < piece.len() {
+            // Most heads are small, and this way they take few instructions.
+            if is_small_head(piece[taken]) {
+                taken += 1;
+                continue;
+            }
+            let Some((head, size)) = Head::front(&piece[taken..]) else {
+                break;
+            };
             self.note(offset.wrapping_add(taken as u64), head, size);
             taken += size;
             let content = content_size(head);
-            // Most items are no strings, and this way the loop is shorter for them.
-            if content == 0 {
-                continue;
-            }
             let left = (piece.len() - taken) as u64;
             if content > left {
                 return (piece.len(), content - left);

@@ -36,8 +36,9 @@ impl Cutter {
 
     /// A cutter for segments of at most `segment` bytes, that announces up to `hold` bytes.
     ///
-    /// `segment` is 1 to 65,536, and `hold` is 0 to 1,048,576. The cutter allocates once, for the
-    /// greater of `segment` and `hold + 1` bytes. `AllocError` means that the allocation failed.
+    /// `segment` is 1 to 65,536, and `hold` is 0 to 1,048,576. This call requests memory once, for
+    /// the greater of `segment` and `hold + 1` bytes, and no later call requests any. `AllocError`
+    /// means that the request was refused.
     pub fn new(alloc: Global, segment: usize, hold: usize) -> Result<Cutter, AllocError>
         requires positive { 0 < segment }
         requires segment_within { segment ≤ 65536 }

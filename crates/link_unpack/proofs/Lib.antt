@@ -1,9 +1,4 @@
-pub mod Parts
 mod Payloads
-pub mod Transfers
-pub mod Heads
-pub mod Texts
-pub mod Effects
-pub mod Events
+mod Transfers
 mod Reports
-pub mod Told
+mod Told

@@ -1,11 +1,9 @@
 -- The payload's bytes of a piece of a transfer's data, which a scan has judged.
 use Rattle.std.proofs.Common.{◌≡◌, ℕ, ◌+◌, ◌<◌, List, [], ◌++◌, length, take, drop, Option, Some, None, sym, ap, ◌∙◌, append-nil, refl}
 use Rattle.link_bundle_blocks.specs.Bundle.{judged_bundle, payload_of, bytes_of, payload_in, spanned, payload_seen}
-use Rattle.link_bundle.specs.{Scan.{HasScanned, HasJudged}, declared.scan.BundleScan.BundleScan}
+use Rattle.link_bundle.specs.{Part.part_in, Scan.{HasScanned, HasJudged}, declared.scan.BundleScan.BundleScan}
 use Rattle.link_bundle_blocks.proofs.Payloads.{PayloadLasts-holds, PayloadPlaced-holds}
-use Rattle.link_bundle.proofs.Pieces.{payload_judged}
-use Rattle.link_unpack.specs.Pieces.{part_in}
-use Rattle.link_unpack.proofs.Parts.{part_more, part_fits, no_part}
+use Rattle.link_bundle.proofs.{Parts.{part_more, part_fits, no_part}, Pieces.payload_judged}
 
 -- the payload's offset and size are known; `count` bytes of it are there
 record IsKnown (known : Option (ℕ × ℕ)) (place count there : ℕ) : Type 0 where

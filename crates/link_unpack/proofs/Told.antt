@@ -1,7 +1,6 @@
 -- What is kept after one more event, and what is written for it.
-use Rattle.std.proofs.Common.{◌≡◌, ℕ, ◌+◌, ◌≤◌, Bool, true, false, not, ◌&&◌, ◌==◌, is_some, List, [], ◌∷◌, ◌++◌, length, Option, Result, Ok, Err, OnOk, refl, ap, sym, ◌∙◌, append-nil, append_assoc, arith}
-use Rattle.std.specs.List.{fold}
-use Rattle.std.proofs.{Math.Bool.and-true, lemmas.Grind.fold-append}
+use Rattle.std.proofs.Common.{◌≡◌, ℕ, ◌+◌, ◌≤◌, Bool, true, false, not, ◌&&◌, ◌==◌, is_some, List, [], ◌∷◌, ◌++◌, length, Option, Result, OnOk, refl, ap, sym, ◌∙◌, append-nil, append_assoc, arith}
+use Rattle.std.proofs.Math.Bool.{and-true}
 use Rattle.link_wire.specs.{Codes.{is_start, is_end}, Device.Output, Message.data_length}
 use Rattle.link_wire.specs.declared.{IoFault.IoFault, message.Message.Message}
 use Rattle.link_wire.specs.declared.message.Message.TheVariants as message
@@ -10,59 +9,21 @@ use Rattle.link_transfer.specs.declared.joiner.Turn.{Turn}
 use Rattle.link_run.specs.{Run.{no_texts, ◌then◌}, Writers.{on_output, on_report, AfterWrite}}
 use Rattle.link_run.specs.declared.writers.Writers.{Writers}
 use Rattle.link_run.proofs.Runs.{texts_as}
-use Rattle.link_walk.specs.Walk.{Head, WalkEvent, MessageHead, closes as closes_head, is_last, is_beginning, open_with, open_after_event, data_size_of, data_size, has_open, abandons}
+use Rattle.link_walk.specs.Walk.{Head, WalkEvent, MessageHead, closes as closes_head, is_last, is_beginning, open_with, open_after_event, data_size, has_open, abandons}
 use Rattle.link_walk.specs.Telling.{ComesAfter, Tells, data_ends}
-use Rattle.link_walk.proofs.Heads.{has_open-append}
-use Rattle.link_unpack.specs.Transfers.{Transfer, closes, continued}
-use Rattle.link_unpack.specs.Unpacking.{part_of, parts_of, order_line, Told, line_due, good_due, transfers_at, told_event, told_after, unpack_telling}
-use Rattle.link_unpack.specs.{TransferJudge.{begun, grown}, TransferScan.IsAtTransfer}
+use Rattle.link_judge.specs.{Transfers.{Transfer, closes, continued}, TransferJudge.{begun, grown}}
+use Rattle.link_judge.specs.Unpacking.{part_of, parts_of, order_line, Told, line_due, good_due, transfers_at, told_event, told_after, unpack_telling}
+use Rattle.link_judge.proofs.Counts.{size_then, open_then, size_with_data, open_with_data}
+use Rattle.link_judge.proofs.Effects.{zero_eq, Does, Strays, Passes, Begins, Continues, comes_does}
+use Rattle.link_judge.proofs.Events.{open_is, told_push, data_after, told_none, whole_if}
+use Rattle.link_judge.proofs.Heads.{transfers_same, transfer_begins, transfer_continues}
+use Rattle.link_judge.proofs.Texts.{parts_more, parts_sum}
+use Rattle.link_unpack.specs.TransferScan.{IsAtTransfer}
 use Rattle.link_unpack.specs.Unpacker.{IsAtLatest, KnowsTold}
 use Rattle.link_unpack.specs.declared.transfer.TransferScan.{TransferScan}
 use Rattle.link_unpack.specs.declared.unpacker.Unpacker.{Unpacker}
 use Rattle.link_options.specs.declared.wanted.Wanted.{Wanted}
-use Rattle.link_unpack.proofs.Events.{open_is, told_push, data_after, whole_if}
-use Rattle.link_unpack.proofs.Heads.{transfers_same, transfer_begins, transfer_continues}
-use Rattle.link_unpack.proofs.Effects.{zero_eq, Does, Strays, Passes, Begins, Continues, comes_does}
-use Rattle.link_unpack.proofs.Texts.{parts_more, parts_sum}
 use Rattle.link_unpack.proofs.Transfers.{part_of-begun, follows_same, same_parts}
-
-pub on_ok : {P : Type 0} → (result : Result (Unit {0}) IoFault) → P → OnOk result P
-on_ok (Ok done) holds = holds
-on_ok (Err fault) holds = tt
-
--- ---- what is counted
-
-module _ (before : List WalkEvent) where
-  pub size_then : (event : WalkEvent)
-      → data_size (before ++ event ∷ []) ≡ data_size before + data_size_of event
-  unfolding data_size
-  size_then event = fold-append (λ size e. size + data_size_of e) 0 before (event ∷ [])
-
-  pub open_then : (event : WalkEvent)
-      → has_open (before ++ event ∷ []) ≡ open_after_event (has_open before) event
-  open_then event = has_open-append before (event ∷ [])
-
-size_of_data : (bytes : List ℕ) (whole : Bool) (size : ℕ)
-    → fold (λ total e. total + data_size_of e) size (data_ends bytes whole) ≡ size + length bytes
-size_of_data [] true size = omega arith
-size_of_data [] false size = omega arith
-size_of_data (byte ∷ bytes) whole size = size_of_data bytes whole (size + 1) ∙ omega arith
-
-open_of_data : (bytes : List ℕ) (whole opened : Bool)
-    → fold open_after_event opened (data_ends bytes whole) ≡ (not whole && opened)
-open_of_data [] true opened = refl
-open_of_data [] false opened = refl
-open_of_data (byte ∷ bytes) whole opened = open_of_data bytes whole opened
-
-module _ (before : List WalkEvent) (bytes : List ℕ) (whole : Bool) where
-  pub size_with_data : data_size (before ++ data_ends bytes whole) ≡ data_size before + length bytes
-  unfolding data_size
-  size_with_data =
-      fold-append (λ size e. size + data_size_of e) 0 before (data_ends bytes whole)
-      ∙ size_of_data bytes whole _
-
-  pub open_with_data : has_open (before ++ data_ends bytes whole) ≡ (not whole && has_open before)
-  open_with_data = has_open-append before (data_ends bytes whole) ∙ open_of_data bytes whole _
 
 -- ---- the latest transfer
 
@@ -285,11 +246,6 @@ module _ (wanted : Wanted) where
       (goes ∙ ap (λ b. not (is_end first.flags && b)) (sym (zero_eq _))) (at also)))
 
 -- ---- before the first event
-
-pub told_none : (wanted : Wanted)
-    → told_after wanted [] ≡ record { transfers = []; report = []; good = true }
-unfolding told_after
-told_none wanted = refl
 
 -- `unpack` says nothing of no event
 pub says_nothing : (wanted : Wanted) → (unpack_telling wanted).texts [] ≡ no_texts

@@ -1,24 +1,16 @@
 -- What is written and reported for the latest transfer.
-use Rattle.std.proofs.Common.{◌≡◌, ℕ, Bool, true, false, not, List, [], ◌∷◌, ◌++◌, length, Result, refl, ap, sym, ◌∙◌, append-nil}
+use Rattle.std.proofs.Common.{◌≡◌, ℕ, Bool, true, false, List, [], ◌∷◌, ◌++◌, length, refl, ap, sym, ◌∙◌, append-nil}
 use Rattle.std.specs.Prelude.{if◌then◌else◌}
-use Rattle.link_bundle_types.specs.declared.fault.BundleFault.{BundleFault}
-use Rattle.link_bundle_types.specs.declared.info.BundleInfo.{BundleInfo}
-use Rattle.link_bundle_blocks.specs.Bundle.{judged_bundle as judged_bytes, bundle_at, opening_at, verdict, payload_in}
-use Rattle.link_bundle.specs.Scan.{HasScanned}
-use Rattle.link_bundle.proofs.Pieces.{verdict_judged}
-use Rattle.link_report.specs.{Judgement.judged_transfer, Transfer.transfer_text}
+use Rattle.link_bundle_blocks.specs.Bundle.{judged_bundle as judged_bytes, bundle_at, opening_at, payload_in}
+use Rattle.link_report.specs.Transfer.{transfer_text}
 use Rattle.link_report.specs.declared.judgement.Judgement.{Judgement}
-use Rattle.link_wire.specs.{Codes.is_start, MessageBuffer.{message_of, segment_items}}
-use Rattle.link_wire.specs.declared.message.Fields.TheVariants as fields
-use Rattle.link_wire.specs.declared.message.Message.TheVariants.{Segment}
-use Rattle.link_wire.specs.declared.message.{MessageBuffer.MessageBuffer, SegmentHead.SegmentHead}
-use Rattle.link_unpack.specs.{Transfers.Transfer, TransferJudge.{IsJudging, begun, grown}}
+use Rattle.link_wire.specs.declared.message.SegmentHead.{SegmentHead}
+use Rattle.link_judge.specs.{Transfers.Transfer, TransferJudge.{begun, grown}}
+use Rattle.link_judge.specs.Unpacking.{is_selected, part_of, parts_of, judgement_of, entry_of}
+use Rattle.link_judge.proofs.{Texts.parts_more, Judging.judging_same}
 use Rattle.link_unpack.specs.TransferScan.{IsAtTransfer}
-use Rattle.link_unpack.specs.Unpacking.{is_selected, part_of, parts_of, judgement_of, entry_of}
-use Rattle.link_unpack.specs.declared.judge.TransferJudge.{TransferJudge}
 use Rattle.link_unpack.specs.declared.transfer.TransferScan.{TransferScan}
 use Rattle.link_options.specs.declared.wanted.Wanted.{Wanted}
-use Rattle.link_unpack.proofs.Texts.{parts_more}
 
 -- ---- a transfer begins
 
@@ -47,21 +39,6 @@ part_of-payload wanted transfer piece more closed selected payload is = rw (sele
 
 -- ---- the line of a transfer
 
--- the judge's judgement is that on the transfer
-pub judgement_is : (now : TransferJudge) (transfer : Transfer) → IsJudging now transfer
-    → (abandoned : Bool) → abandoned ≡ not transfer.closed
-    → (outcome : Result BundleInfo (BundleFault × ℕ))
-    → ((seen : List ℕ) → HasScanned now.scan seen → outcome ≡ verdict seen)
-    → judged_transfer abandoned now.announced now.size outcome ≡ judgement_of transfer
-judgement_is now transfer judging abandoned over outcome seen =
-    rw (
-      over,
-      judging.announced,
-      judging.size,
-      seen judging.judged.seen judging.judged.scanned,
-      verdict_judged now.scan transfer.content judging.judged,
-    ) refl
-
 pub line_is : (wanted : Wanted) (now : TransferScan) (transfer : Transfer) (earlier : List Transfer)
     → IsAtTransfer wanted now transfer earlier → (judgement : Judgement)
     → judgement ≡ judgement_of transfer
@@ -84,15 +61,6 @@ same_part : (wanted : Wanted) (transfer : Transfer) (closed : Bool)
     → part_of wanted (grown transfer [] closed) ≡ part_of wanted transfer
 same_part wanted transfer closed = rw (append-nil transfer.content) refl
 
-pub judging_same : (now : TransferJudge) (transfer : Transfer) (closed : Bool)
-    → IsJudging now transfer → IsJudging now (grown transfer [] closed)
-judging_same now transfer closed judging = record {
-  id = judging.id;
-  announced = judging.announced;
-  size = judging.size ∙ ap length (sym (append-nil transfer.content));
-  judged = rw append-nil judging.judged;
-}
-
 pub follows_same : (wanted : Wanted) (now : TransferScan) (transfer : Transfer) (closed : Bool)
     (earlier : List Transfer) → IsAtTransfer wanted now transfer earlier
     → IsAtTransfer wanted now (grown transfer [] closed) earlier
@@ -107,16 +75,3 @@ pub same_parts : (wanted : Wanted) (transfer : Transfer) (closed : Bool) (earlie
 same_parts wanted transfer closed earlier =
     rw (parts_more wanted transfer earlier, parts_more wanted (grown transfer [] closed) earlier)
     (rw (append-nil transfer.content) refl)
-
--- ---- the head of a first segment
-
-pub first_head : (buffer : MessageBuffer) (flags id size : ℕ) (head : SegmentHead)
-    → buffer.fields ≡ fields.Segment flags id size → message_of buffer ≡ Segment head
-    → is_start head.flags ≡ true → (head.id ≡ id) × (head.items ≡ buffer.items)
-first_head buffer flags id size head kind is starts =
-    let whole : SegmentHead =
-    record { flags = flags; id = id; items = segment_items flags buffer.items; length = size } in
-    let sent = rw kind at is in
-    let same : head ≡ whole = cc in
-    let start = rw same at starts in
-    (rw same refl, rw (same, start) refl)

@@ -1,6 +1,3 @@
-pub mod Transfers
-pub mod Unpacking
-pub mod Pieces
-pub mod TransferJudge
+pub use Rattle.link_judge.specs.Unpacking
 pub mod TransferScan
 pub mod Unpacker

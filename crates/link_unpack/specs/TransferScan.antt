@@ -1,8 +1,8 @@
 -- Relations: what is known about the latest transfer.
 use Rattle.std.specs.Prelude.{◌≡◌, List, length}
-use Rattle.link_unpack.specs.Transfers.{Transfer}
-use Rattle.link_unpack.specs.TransferJudge.{IsJudging}
-use Rattle.link_unpack.specs.Unpacking.{part_of, parts_of}
+use Rattle.link_judge.specs.Transfers.{Transfer}
+use Rattle.link_judge.specs.TransferJudge.{IsJudging}
+use Rattle.link_judge.specs.Unpacking.{part_of, parts_of}
 use Rattle.link_unpack.specs.declared.transfer.TransferScan.{TransferScan}
 use Rattle.link_options.specs.declared.wanted.Wanted.{Wanted}
 

@@ -3,8 +3,8 @@
 ghost use Rattle.std.specs.Prelude.{◌≡◌, ◌+◌, ◌^◌, ◌≤◌, ◌<◌, length};
 ghost use Rattle.link_report.specs.Judgement.{viewed_judgement};
 
-use crate::judge::TransferJudge;
-use crate::pieces::part_in;
+use link_bundle::part_in;
+use link_judge::TransferJudge;
 use link_options::Wanted;
 use link_report::{TransferText, TransferView};
 use link_wire::{INPUT_LIMIT, MessageBuffer};
@@ -32,9 +32,9 @@ impl TransferScan {
     ghost use Rattle.link_wire.specs.declared.message.Message.{Message};
     ghost use Rattle.link_wire.specs.declared.message.SegmentHead.{SegmentHead};
     ghost use Rattle.link_bundle.specs.Scan.{HasJudged};
-    ghost use Rattle.link_unpack.specs.Transfers.{Transfer};
-    ghost use Rattle.link_unpack.specs.Unpacking.{parts_of, part_of, line_of, judgement_of, is_good};
-    ghost use Rattle.link_unpack.specs.TransferJudge.{IsJudging, begun, grown};
+    ghost use Rattle.link_judge.specs.Transfers.{Transfer};
+    ghost use Rattle.link_judge.specs.Unpacking.{parts_of, part_of, line_of, judgement_of, is_good};
+    ghost use Rattle.link_judge.specs.TransferJudge.{IsJudging, begun, grown};
     ghost use Rattle.link_unpack.specs.TransferScan.{IsAtTransfer};
     ghost use Rattle.link_options.specs.declared.wanted.Wanted.{Wanted};
 

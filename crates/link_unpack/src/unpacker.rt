@@ -1,21 +1,18 @@
 //! `unpack`: the data of the transfers of a recorded stream, and a line for each transfer.
 
-ghost use Rattle.std.specs.Prelude.{◌≡◌, ◌&&◌, true, false, not, [], is_some, List, Option};
-ghost use Rattle.link_report.specs.Fault.{fault_text};
+ghost use Rattle.std.specs.Prelude.{◌≡◌, ◌&&◌, true, false, not, [], List};
 ghost use Rattle.link_run.specs.Run.{AfterRun, devices_at, looks};
 ghost use Rattle.link_run.specs.Writers.{AfterWrite, on_report};
-ghost use Rattle.link_unpack.specs.Transfers.{Transfer};
-ghost use Rattle.link_unpack.specs.Unpacking.{order_line, line_of, is_good, judgement_of, unpack_telling, unpack_tool, line_due, good_due};
+ghost use Rattle.link_judge.specs.Transfers.{Transfer};
+ghost use Rattle.link_judge.specs.Unpacking.{line_of, is_good, judgement_of, unpack_telling, unpack_tool, line_due, good_due};
 ghost use Rattle.link_unpack.specs.TransferScan.{IsAtTransfer};
 ghost use Rattle.link_unpack.specs.Unpacker.{IsAtLatest, KnowsTold};
 ghost use Rattle.link_options.specs.declared.wanted.Wanted.{Wanted};
 
-use crate::judge::is_bundle;
 use crate::transfer::TransferScan;
+use link_judge::{is_bundle, tell_order};
 use link_options::Wanted;
-use link_report::Fault;
 use link_run::{Run, RunEnd, Writers};
-use link_transfer::OrderFault;
 use link_walk::{Consumer, EventView, Manner, WalkRun, walk_run};
 use link_wire::{InDevice, IoFault, OutDevice};
 
@@ -92,43 +89,6 @@ impl Consumer for Unpacker {
     #[inline(always)]
     fn is_good(&self, _options: &Wanted) -> bool {
         self.good
-    }
-}
-
-/// Writes the line of a head's fault to the report, if it has one. Then `good` becomes false.
-#[inline(always)]
-pub fn tell_order<W: OutDevice, E: OutDevice>(
-    offset: u64,
-    fault: Option<OrderFault>,
-    writers: &mut Writers<W, E>,
-    good: &mut bool,
-) -> Result<(), IoFault>
-    ensures gives { AfterWrite W.state E.state writers.old writers.new (on_report (order_line
-        offset fault)) result }
-    ensures good { good.new ≡ (good.old && not (is_some fault)) }
-{
-    match fault {
-        Some(fault) => {
-            *good = false;
-            report_order(&Fault::Order(offset, fault), writers)
-        }
-        None => Ok(()),
-    }
-}
-
-/// Writes the line of a fault.
-#[cold]
-#[inline(never)]
-fn report_order<W: OutDevice, E: OutDevice>(
-    fault: &Fault,
-    writers: &mut Writers<W, E>,
-) -> Result<(), IoFault>
-    ensures { AfterWrite W.state E.state writers.old writers.new (on_report (fault_text fault.now))
-        result }
-{
-    match writers.report_fault(fault) {
-        Ok(_) => Ok(()),
-        Err(fault) => Err(fault),
     }
 }
 

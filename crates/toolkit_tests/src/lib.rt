@@ -1,8 +1,8 @@
 //! Test devices, worked streams, and checks of runs of the tools over test devices.
 //!
-//! The devices move bytes in small pieces, hold some of them, and fail at a chosen call. The crates
-//! `list_tests`, `unpack_tests` and `pack_tests` have the tests of each tool. A check of this crate
-//! returns a [`std::test::Fail`] that says what differs.
+//! The devices move bytes in small pieces, hold some of them, and fail at a chosen call. The tests
+//! of each tool are in a crate of their own, such as `list_tests`. A check of this crate returns a
+//! [`std::test::Fail`] that says what differs.
 #![tactic(auto)]
 
 pub mod checks;

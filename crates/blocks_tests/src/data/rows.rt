@@ -16,7 +16,7 @@ pub(crate) struct Row {
     pub data: DataView<'static>,
 }
 
-pub(crate) static GOOD: [Row; 23] = [
+pub(crate) static GOOD: [Row; 26] = [
     // an ipn endpoint ID of two numbers
     Row {
         kind: DataKind::PreviousNode,
@@ -135,6 +135,8 @@ pub(crate) static GOOD: [Row; 23] = [
                     negative: false,
                     argument: 1,
                 },
+                flags: 0,
+                size: 9,
             },
             &[1],
             EidView::Ipn(1, 1),
@@ -155,6 +157,8 @@ pub(crate) static GOOD: [Row; 23] = [
                     negative: false,
                     argument: 2,
                 },
+                flags: 1,
+                size: 8,
             },
             &[0, 2],
             EidView::DtnNone,
@@ -175,6 +179,8 @@ pub(crate) static GOOD: [Row; 23] = [
                     negative: true,
                     argument: 0,
                 },
+                flags: 0,
+                size: 13,
             },
             &[2, 3, 0],
             EidView::Dtn(b"//a"),
@@ -195,6 +201,8 @@ pub(crate) static GOOD: [Row; 23] = [
                     negative: true,
                     argument: u64::MAX,
                 },
+                flags: 0,
+                size: 15,
             },
             &[],
             EidView::DtnNone,
@@ -215,9 +223,33 @@ pub(crate) static GOOD: [Row; 23] = [
                     negative: false,
                     argument: 1,
                 },
+                flags: 1,
+                size: 9,
             },
             &[1],
             EidView::Ipn(2, 1),
+        ),
+    },
+    // flags of the context in three bytes, and a name longer than 23 bytes
+    Row {
+        kind: DataKind::Security,
+        bytes: b"\x81\x01\x02\x19\x01\x02\x82\x01\x78\x18//abcdefghijklmnopqrstu/",
+        heads: &[0, 1, 2, 3, 6, 7, 8],
+        end: 34,
+        may_follow: true,
+        data: DataView::Security(
+            SecurityBlock {
+                targets: 1,
+                targets_primary: false,
+                context: Integer {
+                    negative: false,
+                    argument: 2,
+                },
+                flags: 258,
+                size: 34,
+            },
+            &[1],
+            EidView::Dtn(b"//abcdefghijklmnopqrstu/"),
         ),
     },
     // a status report without times
@@ -235,6 +267,8 @@ pub(crate) static GOOD: [Row; 23] = [
                 forwarded: Assertion::No,
                 delivered: Assertion::Yes,
                 deleted: Assertion::No,
+                timed: false,
+                untimed: true,
                 reason: 0,
                 time: 1000,
                 sequence: 5,
@@ -259,6 +293,8 @@ pub(crate) static GOOD: [Row; 23] = [
                 forwarded: Assertion::YesAt(8),
                 delivered: Assertion::YesAt(9),
                 deleted: Assertion::YesAt(10),
+                timed: true,
+                untimed: false,
                 reason: 1,
                 time: 1,
                 sequence: 2,
@@ -283,9 +319,61 @@ pub(crate) static GOOD: [Row; 23] = [
                 forwarded: Assertion::YesAt(3),
                 delivered: Assertion::No,
                 deleted: Assertion::Yes,
+                timed: true,
+                untimed: true,
                 reason: 17,
                 time: 0,
                 sequence: 7,
+                fragment: None,
+            },
+            EidView::DtnNone,
+        ),
+    },
+    // no status is asserted
+    Row {
+        kind: DataKind::Record,
+        bytes: b"\x82\x01\x84\x84\x81\xf4\x81\xf4\x81\xf4\x81\xf4\x00\x82\x01\x00\x82\x00\x00",
+        heads: &[
+            0, 1, 2, 3, 4, 5, 6, 7, 8, 9, 10, 11, 12, 13, 14, 15, 16, 17, 18,
+        ],
+        end: 19,
+        may_follow: false,
+        data: DataView::StatusReport(
+            Report {
+                received: Assertion::No,
+                forwarded: Assertion::No,
+                delivered: Assertion::No,
+                deleted: Assertion::No,
+                timed: false,
+                untimed: false,
+                reason: 0,
+                time: 0,
+                sequence: 0,
+                fragment: None,
+            },
+            EidView::DtnNone,
+        ),
+    },
+    // only a status after the first four has a time, and one without a time follows it
+    Row {
+        kind: DataKind::Record,
+        bytes: b"\x82\x01\x84\x86\x81\xf4\x81\xf4\x81\xf4\x81\xf4\x82\xf5\x00\x81\xf5\x00\x82\x01\x00\x82\x00\x00",
+        heads: &[
+            0, 1, 2, 3, 4, 5, 6, 7, 8, 9, 10, 11, 12, 13, 14, 15, 16, 17, 18, 19, 20, 21, 22, 23,
+        ],
+        end: 24,
+        may_follow: false,
+        data: DataView::StatusReport(
+            Report {
+                received: Assertion::No,
+                forwarded: Assertion::No,
+                delivered: Assertion::No,
+                deleted: Assertion::No,
+                timed: true,
+                untimed: true,
+                reason: 0,
+                time: 0,
+                sequence: 0,
                 fragment: None,
             },
             EidView::DtnNone,
@@ -555,4 +643,97 @@ pub(crate) static TARGETS: [u64; 64] = [
     32, 33, 34, 35, 36, 37, 38, 39, 40, 41, 42, 43, 44, 45, 46, 47, 48, 49, 50, 51, 52, 53, 54, 55,
     56, 57, 58, 59, 60, 61, 62, 63, 64, 65, 66, 67, 68, 69, 70, 71, 72, 73, 74, 75, 76, 77, 78, 79,
     80, 81, 82, 83, 84, 85, 86, 87, 88, 89, 90, 91, 92, 93, 94, 95,
+];
+
+/// Data, and the offset of its first head that is longer than its number needs.
+pub(crate) static LONG: [(DataKind, &[u8], Option<u64>); 29] = [
+    // each head is as short as can be
+    (DataKind::PreviousNode, b"\x82\x02\x82\x01\x01", None),
+    (DataKind::BundleAge, b"\x18\x18", None),
+    (DataKind::BundleAge, b"\x19\x01\x00", None),
+    (DataKind::BundleAge, b"\x1a\x00\x01\x00\x00", None),
+    (
+        DataKind::BundleAge,
+        b"\x1b\x00\x00\x00\x01\x00\x00\x00\x00",
+        None,
+    ),
+    (DataKind::HopCount, b"\x82\x18\x20\x01", None),
+    // the greatest number that a shorter head can have
+    (DataKind::BundleAge, b"\x18\x17", Some(0)),
+    (DataKind::BundleAge, b"\x19\x00\xff", Some(0)),
+    (DataKind::BundleAge, b"\x1a\x00\x00\xff\xff", Some(0)),
+    (
+        DataKind::BundleAge,
+        b"\x1b\x00\x00\x00\x00\xff\xff\xff\xff",
+        Some(0),
+    ),
+    // each head of a hop count, and two of them
+    (DataKind::HopCount, b"\x98\x02\x01\x02", Some(0)),
+    (DataKind::HopCount, b"\x82\x18\x01\x02", Some(1)),
+    (DataKind::HopCount, b"\x82\x01\x18\x02", Some(2)),
+    (DataKind::HopCount, b"\x82\x18\x01\x18\x02", Some(1)),
+    // the bytes of a name are no heads
+    (
+        DataKind::PreviousNode,
+        b"\x82\x01\x65\x18\x01\x18\x01\x18",
+        None,
+    ),
+    (
+        DataKind::PreviousNode,
+        b"\x82\x01\x78\x05\x2f\x2f\x61\x2f\x2f",
+        Some(2),
+    ),
+    // each part of a security block
+    (
+        DataKind::Security,
+        b"\x98\x01\x01\x01\x00\x82\x01\x00",
+        Some(0),
+    ),
+    (
+        DataKind::Security,
+        b"\x82\x01\x18\x02\x01\x00\x82\x01\x00",
+        Some(2),
+    ),
+    (
+        DataKind::Security,
+        b"\x81\x01\x38\x00\x00\x82\x01\x00",
+        Some(2),
+    ),
+    (
+        DataKind::Security,
+        b"\x81\x01\x01\x18\x01\x82\x01\x00",
+        Some(3),
+    ),
+    (
+        DataKind::Security,
+        b"\x81\x01\x01\x00\x82\x01\x18\x00",
+        Some(6),
+    ),
+    (
+        DataKind::Security,
+        b"\x81\x01\x01\x00\x82\x01\x63\x18\x00\x18",
+        None,
+    ),
+    // what follows its source is not read
+    (
+        DataKind::Security,
+        b"\x81\x01\x01\x00\x82\x01\x00\x18\x00",
+        None,
+    ),
+    (
+        DataKind::Security,
+        b"\x81\x01\x01\x00\x82\x01\x61\x2f\x18\x00",
+        None,
+    ),
+    // no head of malformed data is judged
+    (DataKind::BundleAge, b"\x18\x01\x00", None),
+    (DataKind::HopCount, b"\x98\x02\x01", None),
+    (DataKind::PreviousNode, b"\x98\x02\x01\x62\x2f", None),
+    // nor one of an administrative record
+    (DataKind::Record, b"\x98\x02\x02", None),
+    (
+        DataKind::Record,
+        b"\x98\x02\x01\x84\x84\x81\xf4\x81\xf4\x81\xf4\x81\xf4\x00\x82\x01\x00\x82\x00\x00",
+        None,
+    ),
 ];

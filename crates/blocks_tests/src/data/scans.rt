@@ -4,7 +4,7 @@
 ghost use Rattle.std.specs.Prelude.{◌+◌, ◌-◌, ◌^◌, ◌<◌, ◌≤◌, length};
 ghost use Rattle.link_block_data.specs.Scan.{scan_size};
 
-use super::rows::{GOOD, MALFORMED, NOT_READ, Row, TARGETS};
+use super::rows::{GOOD, LONG, MALFORMED, NOT_READ, Row, TARGETS};
 use link_block_data::{DataFault, DataKind, DataScan, DataView, Integer, SecurityBlock};
 use link_bundle_types::EidView;
 use std::process::Abort;
@@ -207,6 +207,31 @@ fn data_that_is_not_read(rt: HostRuntime) {
     }
 }
 
+/// Checks the offset of the first long head of these bytes, in each of their cuttings.
+fn expect_long(
+    rt: &impl Abort,
+    scan: &mut DataScan,
+    kind: DataKind,
+    bytes: &[u8],
+    long: Option<u64>,
+) {
+    assert!(rt; bytes.len() < 100_000);
+    by_bytes(scan, kind, bytes);
+    assert_eq!(rt; scan.long_head(), long, "{bytes:?}");
+    for cut in 0..bytes.len() {
+        in_two(scan, kind, bytes, cut);
+        assert_eq!(rt; scan.long_head(), long, "{bytes:?}");
+    }
+}
+
+#[test]
+fn long_heads(rt: HostRuntime) {
+    let mut scan = DataScan::new(DataKind::BundleAge);
+    for &(kind, bytes, long) in &LONG {
+        expect_long(&rt, &mut scan, kind, bytes, long);
+    }
+}
+
 /// A security block with this many targets, from 32 on.
 fn with_targets(rt: &(impl Abort + AllocGlobal), count: u8) -> Vec<u8> {
     let mut bytes = [0x98, count].to_vec(rt.alloc()).expect(rt, "memory");
@@ -232,6 +257,8 @@ fn expect_targets(rt: &(impl Abort + AllocGlobal), count: u8, kept: &[u64]) {
             negative: false,
             argument: 1,
         },
+        flags: 0,
+        size: bytes.len() as u64,
     };
     let mut scan = DataScan::new(DataKind::Security);
     let view = DataView::Security(block, kept, EidView::Ipn(1, 1));

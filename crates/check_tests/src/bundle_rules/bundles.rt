@@ -42,6 +42,15 @@ fn found(kind: Option<DataKind>, scan: &DataScan) -> Option<Result<DataView<'_>,
     }
 }
 
+/// The offset in the data of the first head that is longer than its number needs, if data of this
+/// kind is read.
+fn long_head(kind: Option<DataKind>, scan: &DataScan) -> Option<u64> {
+    match kind {
+        Some(_) => scan.long_head(),
+        None => None,
+    }
+}
+
 /// Takes a canonical block whose data was scanned, if it is read.
 fn take_scanned(
     block: &CanonicalBlock,
@@ -52,6 +61,7 @@ fn take_scanned(
     history.take(&ReadBlockView {
         block,
         found: found(kind, scan),
+        long_head: long_head(kind, scan),
     });
 }
 

@@ -1,13 +1,13 @@
 //! Bundles, with the rules that each breaks.
 //!
-//! They are those of tests/rows, but for the targets of blocks with 64 or more.
+//! Most are rows of tests/rows, which has more of them.
 
 pub(super) mod blocks;
 pub(super) mod data;
 pub(super) mod primary;
 pub(super) mod together;
 
-use link_bundle_rules::BundleRule;
+use link_bundle_rules::{BundleRule, Level};
 
 /// The parts of a good bundle, and the rules that it breaks.
 pub(crate) type Row = (&'static [&'static [u8]], &'static [BundleRule]);
@@ -15,36 +15,38 @@ pub(crate) type Row = (&'static [&'static [u8]], &'static [BundleRule]);
 /// The beginning of a bundle that breaks no rule, up to its primary block: 25 bytes.
 pub(crate) const CLEAN: &[u8] =
     b"\x9f\x89\x07\x00\x01\x82\x02\x82\x02\x01\x82\x02\x82\x01\x01\x82\x01\x00\x82\x01\
-    \x00\x00\x42\x1d\x01";
+    \x00\x14\x42\xac\x4c";
 
 /// The same for a bundle without a check of its primary block.
 pub(crate) const UNCHECKED: &[u8] =
     b"\x9f\x88\x07\x00\x00\x82\x02\x82\x02\x01\x82\x02\x82\x01\x01\x82\x01\x00\x82\x01\
-    \x00\x00";
+    \x00\x14";
 
 /// The same for a bundle without a source that must not be fragmented.
 pub(crate) const ANONYMOUS: &[u8] =
-    b"\x9f\x89\x07\x04\x01\x82\x02\x82\x02\x01\x82\x01\x00\x82\x01\x00\x82\x01\x00\x00\
-    \x42\x02\x89";
+    b"\x9f\x89\x07\x04\x01\x82\x02\x82\x02\x01\x82\x01\x00\x82\x01\x00\x82\x01\x00\x14\
+    \x42\xb3\xc4";
 
 /// The same for the beginning of a payload of two bytes.
 pub(crate) const FRAGMENT: &[u8] =
     b"\x9f\x8b\x07\x01\x01\x82\x02\x82\x02\x01\x82\x02\x82\x01\x01\x82\x01\x00\x82\x01\
-    \x00\x00\x00\x02\x42\x49\x1c";
+    \x00\x14\x00\x02\x42\x1b\x00";
 
 /// The same for an administrative record.
 pub(crate) const RECORD: &[u8] =
     b"\x9f\x89\x07\x02\x01\x82\x02\x82\x02\x01\x82\x02\x82\x01\x01\x82\x01\x00\x82\x01\
-    \x00\x00\x42\x47\xaa";
+    \x00\x14\x42\xf6\xe7";
 
 /// The end of a bundle, from its payload block on.
 pub(crate) const PAYLOAD: &[u8] = b"\x85\x01\x01\x00\x00\x41\x78\xff";
 
-/// The end of a record of another type than a status report.
-pub(crate) const GOOD_RECORD: &[u8] = b"\x85\x01\x01\x00\x00\x43\x82\x02\x00\xff";
+/// The end of a status report of a bundle that was received.
+pub(crate) const GOOD_RECORD: &[u8] =
+    b"\x85\x01\x01\x00\x00\x55\x82\x01\x84\x84\x81\xf5\x81\xf4\x81\xf4\x81\xf4\x00\x82\
+    \x02\x82\x02\x01\x82\x01\x00\xff";
 
-/// The same with an array of indefinite length.
-pub(crate) const OPEN_RECORD: &[u8] = b"\x85\x01\x01\x00\x00\x44\x9f\x02\x00\xff\xff";
+/// The end of a record that is an array of indefinite length.
+pub(crate) const OPEN_RECORD: &[u8] = b"\x85\x01\x01\x00\x00\x44\x9f\x01\x00\xff\xff";
 
 /// Good blocks, each with the number 2.
 pub(crate) const NODE: &[u8] = b"\x85\x06\x02\x00\x00\x45\x82\x02\x82\x01\x00";
@@ -64,18 +66,24 @@ pub(crate) const NO_HOPS: &[u8] = b"\x85\x0a\x02\x00\x00\x43\x82\x00\x00";
 
 pub(crate) const TOO_MANY_HOPS: &[u8] = b"\x85\x0a\x02\x00\x00\x43\x82\x05\x06";
 
-/// Blocks of the same types with the number 3.
+/// Blocks of the same types with the number 3. The first has the age of `AGE`.
+pub(crate) const AGE_3: &[u8] = b"\x85\x07\x03\x00\x00\x41\x05";
+
 pub(crate) const OTHER_AGE: &[u8] = b"\x85\x07\x03\x00\x00\x41\x06";
 
 pub(crate) const OTHER_HOPS: &[u8] = b"\x85\x0a\x03\x00\x00\x43\x82\x00\x00";
 
-/// A block confidentiality block that has the payload block as its target.
+/// A block confidentiality block that has the payload block as its target, and is in every
+/// fragment.
 pub(crate) const HIDDEN: &[u8] =
-    b"\x85\x0c\x09\x00\x00\x4b\x81\x01\x02\x00\x82\x02\x82\x01\x01\x81\x80";
+    b"\x85\x0c\x09\x01\x00\x4b\x81\x01\x02\x00\x82\x02\x82\x01\x01\x81\x80";
 
-/// The same for block 2, and for a target that is cut.
+/// One for block 2, one for block 3, and one whose target is cut.
 pub(crate) const HIDDEN_2: &[u8] =
     b"\x85\x0c\x09\x00\x00\x4b\x81\x02\x02\x00\x82\x02\x82\x01\x01\x81\x80";
+
+pub(crate) const HIDDEN_3: &[u8] =
+    b"\x85\x0c\x09\x00\x00\x4b\x81\x03\x02\x00\x82\x02\x82\x01\x01\x81\x80";
 
 pub(crate) const HIDDEN_CUT: &[u8] = b"\x85\x0c\x09\x00\x00\x42\x81\x18";
 
@@ -97,6 +105,13 @@ pub(crate) const TARGETS_63: &[u8] =
 pub(crate) const TARGET_64: &[u8] = b"\x18\x5f";
 
 pub(crate) const TARGET_65: &[u8] = b"\x18\x60";
+
+/// What they break, since the first target is the number of no block.
+pub(crate) const MISSING: BundleRule = BundleRule::SecurityTargets {
+    block: 9,
+    target: Some(0x20),
+    level: Level::Should,
+};
 
 /// What follows their targets, up to the security source.
 pub(crate) const SOURCE: &[u8] = b"\x02\x00\x82\x02\x82\x01\x01";

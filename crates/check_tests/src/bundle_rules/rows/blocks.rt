@@ -1,9 +1,9 @@
 //! Rules of blocks, but for those of their data.
 
 use super::{
-    AGE, ANONYMOUS, CLEAN, GOOD_RECORD, HIDDEN, HIDDEN_2, HIDDEN_CUT, HIDING_64, HIDING_65, HOPS,
-    NO_HOPS, NODE, OTHER_AGE, OTHER_HOPS, PAYLOAD, RECORD, Row, SOURCE, TARGET_64, TARGET_65,
-    TARGETS_63, TOO_MANY_HOPS,
+    AGE, AGE_3, ANONYMOUS, CLEAN, GOOD_RECORD, HIDDEN, HIDDEN_2, HIDDEN_3, HIDDEN_CUT, HIDING_64,
+    HIDING_65, HOPS, MISSING, NO_HOPS, NODE, OTHER_AGE, OTHER_HOPS, PAYLOAD, RECORD, Row, SOURCE,
+    TARGET_64, TARGET_65, TARGETS_63, TOO_MANY_HOPS,
 };
 use link_bundle_rules::{BundleRule as Rule, Level};
 
@@ -31,7 +31,11 @@ pub(crate) static BLOCKS: [Row; 14] = [
         &[Rule::BlockReports { block: 1 }],
     ),
     (
-        &[RECORD, b"\x85\x01\x01\x17\x00\x43\x82\x02\x00\xff"],
+        &[
+            RECORD,
+            b"\x85\x01\x01\x17\x00\x55\x82\x01\x84\x84\x81\xf5\x81\xf4\x81\xf4\x81\xf4\x00\x82\
+            \x02\x82\x02\x01\x82\x01\x00\xff",
+        ],
         &[Rule::BlockReports { block: 1 }],
     ),
     (
@@ -88,7 +92,7 @@ pub(crate) static EXTENSIONS: [Row; 13] = [
     (
         &[
             b"\x9f\x89\x07\x00\x01\x82\x02\x82\x02\x01\x82\x02\x82\x01\x01\x82\x01\x00\x82\x00\
-            \x05\x00\x42\x3f\x7e",
+            \x05\x14\x42\x8e\x33",
             PAYLOAD,
         ],
         &[Rule::Age {
@@ -106,7 +110,7 @@ pub(crate) static EXTENSIONS: [Row; 13] = [
     (
         &[
             b"\x9f\x8b\x07\x01\x01\x82\x02\x82\x02\x01\x82\x02\x82\x01\x01\x82\x01\x00\x82\x00\
-            \x05\x00\x00\x03\x42\x24\xbb",
+            \x05\x14\x00\x03\x42\x76\xa7",
             PAYLOAD,
         ],
         &[Rule::Age {
@@ -117,7 +121,7 @@ pub(crate) static EXTENSIONS: [Row; 13] = [
     (
         &[
             b"\x9f\x8b\x07\x01\x01\x82\x02\x82\x02\x01\x82\x02\x82\x01\x01\x82\x01\x00\x82\x00\
-            \x05\x00\x01\x03\x42\x2f\xff",
+            \x05\x14\x01\x03\x42\x7d\xe3",
             PAYLOAD,
         ],
         &[Rule::Age {
@@ -128,7 +132,7 @@ pub(crate) static EXTENSIONS: [Row; 13] = [
     (
         &[
             b"\x9f\x8b\x07\x01\x01\x82\x02\x82\x02\x01\x82\x02\x82\x01\x01\x82\x01\x00\x82\x01\
-            \x00\x00\x01\x03\x42\x5e\xe3",
+            \x00\x14\x01\x03\x42\x0c\xff",
             AGE,
             OTHER_AGE,
             PAYLOAD,
@@ -141,7 +145,7 @@ pub(crate) static EXTENSIONS: [Row; 13] = [
     (
         &[
             b"\x9f\x8b\x07\x01\x01\x82\x02\x82\x02\x01\x82\x02\x82\x01\x01\x82\x01\x00\x82\x00\
-            \x05\x00\x01\x03\x42\x2f\xff",
+            \x05\x14\x01\x03\x42\x7d\xe3",
             AGE,
             OTHER_AGE,
             PAYLOAD,
@@ -154,7 +158,7 @@ pub(crate) static EXTENSIONS: [Row; 13] = [
     (
         &[
             b"\x9f\x89\x07\x00\x01\x82\x02\x82\x02\x01\x82\x02\x82\x01\x01\x82\x01\x00\x82\x00\
-            \x00\x00\x42\x19\x2a",
+            \x00\x14\x42\xa8\x67",
             AGE,
             PAYLOAD,
         ],
@@ -165,7 +169,7 @@ pub(crate) static EXTENSIONS: [Row; 13] = [
     (
         &[
             b"\x9f\x8b\x07\x01\x01\x82\x02\x82\x02\x01\x82\x02\x82\x01\x01\x82\x01\x00\x82\x01\
-            \x00\x00\x01\x03\x42\x5e\xe3",
+            \x00\x14\x01\x03\x42\x0c\xff",
             PAYLOAD,
         ],
         &[],
@@ -181,13 +185,7 @@ pub(crate) static EXTENSIONS: [Row; 13] = [
         &[Rule::PreviousNode { blocks: 2 }],
     ),
     (
-        &[
-            CLEAN,
-            NODE,
-            b"\x85\x06\x03\x00\x00\x40",
-            b"\x85\x0c\x09\x00\x00\x4b\x81\x03\x02\x00\x82\x02\x82\x01\x01\x81\x80",
-            PAYLOAD,
-        ],
+        &[CLEAN, NODE, b"\x85\x06\x03\x00\x00\x40", HIDDEN_3, PAYLOAD],
         &[Rule::PreviousNode { blocks: 2 }],
     ),
     (&[CLEAN, NODE, PAYLOAD], &[]),
@@ -232,10 +230,13 @@ pub(crate) static HOP_COUNTS: [Row; 16] = [
         &[
             CLEAN, HOPS, OTHER_HOPS, HIDING_65, TARGETS_63, TARGET_64, TARGET_65, SOURCE, PAYLOAD,
         ],
-        &[Rule::HopCount {
-            blocks: 2,
-            limit: None,
-        }],
+        &[
+            Rule::HopCount {
+                blocks: 2,
+                limit: None,
+            },
+            MISSING,
+        ],
     ),
     (
         &[
@@ -245,10 +246,13 @@ pub(crate) static HOP_COUNTS: [Row; 16] = [
             b"\x85\x0a\x03\x00\x00\x40",
             PAYLOAD,
         ],
-        &[Rule::HopCount {
-            blocks: 2,
-            limit: None,
-        }],
+        &[
+            Rule::HopCount {
+                blocks: 2,
+                limit: None,
+            },
+            Rule::BlockData { block: 9, byte: 33 },
+        ],
     ),
     // The first one is no ciphertext
     (
@@ -259,13 +263,7 @@ pub(crate) static HOP_COUNTS: [Row; 16] = [
         }],
     ),
     (
-        &[
-            CLEAN,
-            HOPS,
-            b"\x85\x0a\x03\x00\x00\x40",
-            b"\x85\x0c\x09\x00\x00\x4b\x81\x03\x02\x00\x82\x02\x82\x01\x01\x81\x80",
-            PAYLOAD,
-        ],
+        &[CLEAN, HOPS, b"\x85\x0a\x03\x00\x00\x40", HIDDEN_3, PAYLOAD],
         &[Rule::HopCount {
             blocks: 2,
             limit: Some(30),
@@ -282,10 +280,13 @@ pub(crate) static HOP_COUNTS: [Row; 16] = [
         &[
             CLEAN, NO_HOPS, HIDING_64, TARGETS_63, TARGET_64, SOURCE, PAYLOAD,
         ],
-        &[Rule::HopCount {
-            blocks: 1,
-            limit: Some(0),
-        }],
+        &[
+            Rule::HopCount {
+                blocks: 1,
+                limit: Some(0),
+            },
+            MISSING,
+        ],
     ),
     (
         &[CLEAN, b"\x85\x0a\x02\x00\x00\x43\x82\x01\x01", PAYLOAD],
@@ -301,9 +302,12 @@ pub(crate) static HOP_COUNTS: [Row; 16] = [
         &[
             CLEAN, NO_HOPS, HIDING_65, TARGETS_63, TARGET_64, TARGET_65, SOURCE, PAYLOAD,
         ],
-        &[],
+        &[MISSING],
     ),
-    (&[CLEAN, NO_HOPS, HIDDEN_CUT, PAYLOAD], &[]),
+    (
+        &[CLEAN, NO_HOPS, HIDDEN_CUT, PAYLOAD],
+        &[Rule::BlockData { block: 9, byte: 42 }],
+    ),
 ];
 
 pub(crate) static CONFIDENTIAL: [Row; 12] = [
@@ -312,7 +316,8 @@ pub(crate) static CONFIDENTIAL: [Row; 12] = [
         &[
             CLEAN,
             HIDDEN,
-            b"\x85\x0c\x02\x00\x00\x4a\x82\x01\x00\x02\x00\x82\x02\x82\x01\x01",
+            AGE_3,
+            b"\x85\x0c\x02\x00\x00\x4d\x82\x03\x00\x02\x00\x82\x02\x82\x01\x01\x82\x80\x80",
             PAYLOAD,
         ],
         &[Rule::ConfidentialPrimary { block: 2 }],
@@ -326,7 +331,10 @@ pub(crate) static CONFIDENTIAL: [Row; 12] = [
         &[Rule::ConfidentialPrimary { block: 2 }],
     ),
     (&[CLEAN, HIDDEN, PAYLOAD], &[]),
-    (&[CLEAN, b"\x85\x0c\x02\x00\x00\x42\x81\x00", PAYLOAD], &[]),
+    (
+        &[CLEAN, b"\x85\x0c\x02\x00\x00\x42\x81\x00", PAYLOAD],
+        &[Rule::BlockData { block: 2, byte: 33 }],
+    ),
     // It is no ciphertext, whatever another one says
     (
         &[
@@ -335,7 +343,13 @@ pub(crate) static CONFIDENTIAL: [Row; 12] = [
             b"\x85\x0c\x08\x00\x00\x4b\x81\x00\x02\x00\x82\x02\x82\x01\x01\x81\x80",
             PAYLOAD,
         ],
-        &[Rule::ConfidentialPrimary { block: 8 }],
+        &[
+            Rule::ConfidentialPrimary { block: 8 },
+            Rule::ConfidentialTarget {
+                block: 9,
+                target: 8,
+            },
+        ],
     ),
     // hops
     (
@@ -356,7 +370,7 @@ pub(crate) static CONFIDENTIAL: [Row; 12] = [
             TOO_MANY_HOPS,
             PAYLOAD,
         ],
-        &[Rule::Hops { limit: 5, count: 6 }],
+        &[Rule::Hops { limit: 5, count: 6 }, MISSING],
     ),
     (
         &[CLEAN, b"\x85\x0a\x02\x00\x00\x43\x82\x05\x05", PAYLOAD],
@@ -374,7 +388,10 @@ pub(crate) static CONFIDENTIAL: [Row; 12] = [
             TOO_MANY_HOPS,
             PAYLOAD,
         ],
-        &[],
+        &[MISSING],
     ),
-    (&[CLEAN, HIDDEN_CUT, TOO_MANY_HOPS, PAYLOAD], &[]),
+    (
+        &[CLEAN, HIDDEN_CUT, TOO_MANY_HOPS, PAYLOAD],
+        &[Rule::BlockData { block: 9, byte: 33 }],
+    ),
 ];

@@ -1,8 +1,9 @@
 //! Rules of the data of blocks, and of administrative records.
 
 use super::{
-    AGE, CLEAN, GOOD_RECORD, HIDDEN, HIDDEN_2, HIDDEN_CUT, HIDING_64, HIDING_65, HOPS, NO_AGE,
-    NODE, OPEN_AGE, OPEN_RECORD, PAYLOAD, RECORD, Row, SOURCE, TARGET_64, TARGET_65, TARGETS_63,
+    AGE, CLEAN, GOOD_RECORD, HIDDEN, HIDDEN_2, HIDDEN_CUT, HIDING_64, HIDING_65, HOPS, MISSING,
+    NO_AGE, NODE, OPEN_AGE, OPEN_RECORD, PAYLOAD, RECORD, Row, SOURCE, TARGET_64, TARGET_65,
+    TARGETS_63,
 };
 use link_bundle_rules::BundleRule as Rule;
 
@@ -86,7 +87,7 @@ pub(crate) static DATA: [Row; 20] = [
         &[
             CLEAN, NO_AGE, HIDING_64, TARGETS_63, TARGET_64, SOURCE, PAYLOAD,
         ],
-        &[Rule::BlockData { block: 2, byte: 31 }],
+        &[Rule::BlockData { block: 2, byte: 31 }, MISSING],
     ),
     (
         &[
@@ -108,7 +109,10 @@ pub(crate) static DATA: [Row; 20] = [
         ],
         &[],
     ),
-    (&[CLEAN, b"\x85\x0b\x02\x00\x00\x40", PAYLOAD], &[]),
+    (
+        &[CLEAN, b"\x85\x0b\x02\x00\x00\x40", PAYLOAD],
+        &[Rule::BlockData { block: 2, byte: 31 }],
+    ),
 ];
 
 pub(crate) static HIDDEN_DATA: [Row; 7] = [
@@ -119,17 +123,21 @@ pub(crate) static HIDDEN_DATA: [Row; 7] = [
         &[
             CLEAN, NO_AGE, HIDING_65, TARGETS_63, TARGET_64, TARGET_65, SOURCE, PAYLOAD,
         ],
-        &[],
+        &[MISSING],
     ),
-    (&[CLEAN, NO_AGE, HIDDEN_CUT, PAYLOAD], &[]),
+    (
+        &[CLEAN, NO_AGE, HIDDEN_CUT, PAYLOAD],
+        &[Rule::BlockData { block: 9, byte: 39 }],
+    ),
     (
         &[
             CLEAN,
             NO_AGE,
             b"\x85\x06\x03\x00\x00\x40",
             b"\x85\x0a\x04\x00\x00\x41\xff",
-            b"\x85\x0c\x09\x00\x00\x53\x84\x04\x19\x01\x2c\x02\x03\x02\x00\x82\x02\x82\x01\x01\
-            \x84\x80\x80\x80\x80",
+            b"\x85\x0b\x05\x00\x00\x40",
+            b"\x85\x0c\x09\x00\x00\x51\x84\x04\x05\x02\x03\x02\x00\x82\x02\x82\x01\x01\x84\x80\
+            \x80\x80\x80",
             PAYLOAD,
         ],
         &[],
@@ -143,7 +151,10 @@ pub(crate) static HIDDEN_DATA: [Row; 7] = [
             NO_AGE,
             PAYLOAD,
         ],
-        &[],
+        &[Rule::ConfidentialTarget {
+            block: 9,
+            target: 8,
+        }],
     ),
     // The last of 64 targets
     (
@@ -156,7 +167,7 @@ pub(crate) static HIDDEN_DATA: [Row; 7] = [
             SOURCE,
             PAYLOAD,
         ],
-        &[],
+        &[MISSING],
     ),
 ];
 
@@ -320,7 +331,7 @@ pub(crate) static UNREAD_IN_ORDER: [Row; 16] = [
         &[
             CLEAN, OPEN_AGE, HIDING_64, TARGETS_63, TARGET_64, SOURCE, PAYLOAD,
         ],
-        &[Rule::DataNotRead { block: 2, byte: 31 }],
+        &[Rule::DataNotRead { block: 2, byte: 31 }, MISSING],
     ),
     (&[CLEAN, HOPS, PAYLOAD], &[]),
     // What may be ciphertext
@@ -330,17 +341,27 @@ pub(crate) static UNREAD_IN_ORDER: [Row; 16] = [
         &[
             CLEAN, OPEN_AGE, HIDING_65, TARGETS_63, TARGET_64, TARGET_65, SOURCE, PAYLOAD,
         ],
+        &[MISSING],
+    ),
+    (
+        &[CLEAN, OPEN_AGE, HIDDEN_CUT, PAYLOAD],
+        &[Rule::BlockData { block: 9, byte: 40 }],
+    ),
+    (&[RECORD, HIDDEN, OPEN_RECORD], &[]),
+    // What follows a security source, and payloads that are no record or a part of one
+    (
+        &[
+            CLEAN,
+            b"\x85\x0b\x02\x00\x00\x48\x81\x01\x01\x00\x82\x01\x00\x9f",
+            PAYLOAD,
+        ],
         &[],
     ),
-    (&[CLEAN, OPEN_AGE, HIDDEN_CUT, PAYLOAD], &[]),
-    (&[RECORD, HIDDEN, OPEN_RECORD], &[]),
-    // Security blocks, and payloads that are no record or a part of one
-    (&[CLEAN, b"\x85\x0b\x02\x00\x00\x41\x9f", PAYLOAD], &[]),
     (&[CLEAN, OPEN_RECORD], &[]),
     (
         &[
             b"\x9f\x8b\x07\x03\x01\x82\x02\x82\x02\x01\x82\x02\x82\x01\x01\x82\x01\x00\x82\x01\
-            \x00\x00\x00\x09\x42\x3f\x81",
+            \x00\x14\x00\x09\x42\x6d\x9d",
             OPEN_RECORD,
         ],
         &[],
@@ -364,11 +385,14 @@ pub(crate) static RECORDS: [Row; 11] = [
         &[Rule::Record { byte: 56 }],
     ),
     (&[RECORD, GOOD_RECORD], &[]),
-    (&[RECORD, b"\x85\x01\x01\x00\x00\x42\x82\x02\xff"], &[]),
+    (
+        &[RECORD, b"\x85\x01\x01\x00\x00\x42\x82\x02\xff"],
+        &[Rule::RecordType { record_type: 2 }],
+    ),
     (
         &[
             b"\x9f\x8b\x07\x03\x01\x82\x02\x82\x02\x01\x82\x02\x82\x01\x01\x82\x01\x00\x82\x01\
-            \x00\x00\x00\x02\x42\xff\x94",
+            \x00\x14\x00\x02\x42\xad\x88",
             PAYLOAD,
         ],
         &[],
@@ -379,7 +403,10 @@ pub(crate) static RECORDS: [Row; 11] = [
         &[
             RECORD, HIDING_65, TARGETS_63, TARGET_64, TARGET_65, SOURCE, PAYLOAD,
         ],
-        &[],
+        &[MISSING],
     ),
-    (&[RECORD, HIDDEN_CUT, PAYLOAD], &[]),
+    (
+        &[RECORD, HIDDEN_CUT, PAYLOAD],
+        &[Rule::BlockData { block: 9, byte: 33 }],
+    ),
 ];

@@ -1,41 +1,56 @@
 //! Rules of the primary block, and of fragments.
 
 use super::{
-    AGE, ANONYMOUS, CLEAN, FRAGMENT, GOOD_RECORD, HIDDEN, HIDDEN_2, HIDDEN_CUT, HIDING_64,
-    HIDING_65, INTEGRITY, NO_HOPS, PAYLOAD, RECORD, Row, SOURCE, TARGET_64, TARGET_65, TARGETS_63,
-    UNCHECKED,
+    AGE, AGE_3, ANONYMOUS, CLEAN, FRAGMENT, GOOD_RECORD, HIDDEN, HIDDEN_2, HIDDEN_3, HIDDEN_CUT,
+    HIDING_64, HIDING_65, INTEGRITY, MISSING, NO_HOPS, PAYLOAD, RECORD, Row, SOURCE, TARGET_64,
+    TARGET_65, TARGETS_63, UNCHECKED,
 };
 use link_bundle_rules::{BundleRule as Rule, Endpoint, Level};
 
-pub(crate) static PRIMARY: [Row; 12] = [
+pub(crate) static PRIMARY: [Row; 13] = [
     // long-head
     (
         &[
             b"\x9f\x89\x18\x07\x00\x01\x82\x02\x82\x02\x01\x82\x02\x82\x01\x01\x82\x01\x00\x82\
-            \x01\x00\x00\x42\xc2\x2b",
+            \x01\x00\x14\x42\x73\x66",
             PAYLOAD,
         ],
-        &[Rule::LongHead { byte: 2 }],
+        &[Rule::LongHead {
+            byte: 2,
+            level: Level::Must,
+        }],
     ),
     (
         &[
             b"\x9f\x89\x07\x00\x01\x82\x02\x82\x02\x01\x82\x02\x82\x01\x01\x82\x01\x00\x82\x01\
-            \x00\x00\x58\x02\x4b\x5b",
+            \x00\x14\x58\x02\xd2\x0b",
             PAYLOAD,
         ],
-        &[Rule::LongHead { byte: 22 }],
+        &[Rule::LongHead {
+            byte: 22,
+            level: Level::Must,
+        }],
     ),
     (
         &[CLEAN, b"\x85\x01\x01\x00\x00\x58\x01\x78\xff"],
-        &[Rule::LongHead { byte: 30 }],
+        &[Rule::LongHead {
+            byte: 30,
+            level: Level::Must,
+        }],
     ),
     (
         &[CLEAN, b"\x98\x05\x01\x01\x00\x00\x41\x78\xff"],
-        &[Rule::LongHead { byte: 25 }],
+        &[Rule::LongHead {
+            byte: 25,
+            level: Level::Must,
+        }],
     ),
     (
         &[CLEAN, b"\x85\x01\x01\x00\x00\x59\x00\x00\xff"],
-        &[Rule::LongHead { byte: 30 }],
+        &[Rule::LongHead {
+            byte: 30,
+            level: Level::Must,
+        }],
     ),
     (
         &[
@@ -45,11 +60,16 @@ pub(crate) static PRIMARY: [Row; 12] = [
         ],
         &[],
     ),
-    (&[CLEAN, b"\x85\x07\x02\x00\x00\x42\x18\x05", PAYLOAD], &[]),
+    // The data of another type, and a payload
+    (
+        &[CLEAN, b"\x85\x18\xc0\x02\x00\x00\x42\x18\x05", PAYLOAD],
+        &[],
+    ),
+    (&[CLEAN, b"\x85\x01\x01\x00\x00\x42\x18\x05\xff"], &[]),
     (
         &[
             b"\x9f\x89\x07\x00\x01\x82\x02\x82\x18\x18\x19\x01\x00\x82\x02\x82\x01\x01\x82\x01\
-            \x00\x82\x01\x00\x00\x42\xb4\xc1",
+            \x00\x82\x01\x00\x14\x42\x05\x8c",
             PAYLOAD,
         ],
         &[],
@@ -58,7 +78,7 @@ pub(crate) static PRIMARY: [Row; 12] = [
     (
         &[
             b"\x9f\x89\x07\x08\x01\x82\x02\x82\x02\x01\x82\x02\x82\x01\x01\x82\x01\x00\x82\x01\
-            \x00\x00\x42\x7f\xbc",
+            \x00\x14\x42\xce\xf1",
             PAYLOAD,
         ],
         &[Rule::BundleFlags { flags: 0x08 }],
@@ -66,7 +86,7 @@ pub(crate) static PRIMARY: [Row; 12] = [
     (
         &[
             b"\x9f\x89\x07\x1a\x00\x20\x00\x00\x01\x82\x02\x82\x02\x01\x82\x02\x82\x01\x01\x82\
-            \x01\x00\x82\x01\x00\x00\x42\x1c\xc0",
+            \x01\x00\x82\x01\x00\x14\x42\xad\x8d",
             PAYLOAD,
         ],
         &[Rule::BundleFlags { flags: 0x200000 }],
@@ -74,7 +94,7 @@ pub(crate) static PRIMARY: [Row; 12] = [
     (
         &[
             b"\x9f\x89\x07\x1a\x00\x07\x40\x64\x01\x82\x02\x82\x02\x01\x82\x02\x82\x01\x01\x82\
-            \x01\x00\x82\x01\x00\x00\x42\xf6\x0d",
+            \x01\x00\x82\x01\x00\x14\x42\x47\x40",
             PAYLOAD,
         ],
         &[],
@@ -82,7 +102,7 @@ pub(crate) static PRIMARY: [Row; 12] = [
     (
         &[
             b"\x9f\x89\x07\x18\x20\x01\x82\x02\x82\x02\x01\x82\x02\x82\x01\x01\x82\x01\x00\x82\
-            \x01\x00\x00\x42\x89\x4c",
+            \x01\x00\x14\x42\x38\x01",
             PAYLOAD,
         ],
         &[],
@@ -113,24 +133,27 @@ pub(crate) static PRIMARY_CHECKS: [Row; 19] = [
     ),
     (
         &[UNCHECKED, HIDDEN_CUT, PAYLOAD],
-        &[Rule::PrimaryCheck { level: Level::Must }],
+        &[
+            Rule::PrimaryCheck { level: Level::Must },
+            Rule::BlockData { block: 9, byte: 30 },
+        ],
     ),
     // The block of integrity is no ciphertext
     (
-        &[UNCHECKED, INTEGRITY, HIDDEN, PAYLOAD],
+        &[UNCHECKED, INTEGRITY, AGE_3, HIDDEN_3, PAYLOAD],
         &[Rule::PrimaryCheck { level: Level::Must }],
     ),
     (
         &[
             UNCHECKED, INTEGRITY, HIDING_64, TARGETS_63, TARGET_64, SOURCE, PAYLOAD,
         ],
-        &[Rule::PrimaryCheck { level: Level::Must }],
+        &[Rule::PrimaryCheck { level: Level::Must }, MISSING],
     ),
     // Fragments at the beginning of the data, and after it
     (
         &[
             b"\x9f\x8a\x07\x01\x00\x82\x02\x82\x02\x01\x82\x02\x82\x01\x01\x82\x01\x00\x82\x01\
-            \x00\x00\x00\x03",
+            \x00\x14\x00\x03",
             PAYLOAD,
         ],
         &[Rule::PrimaryCheck { level: Level::Must }],
@@ -138,7 +161,7 @@ pub(crate) static PRIMARY_CHECKS: [Row; 19] = [
     (
         &[
             b"\x9f\x8a\x07\x01\x00\x82\x02\x82\x02\x01\x82\x02\x82\x01\x01\x82\x01\x00\x82\x01\
-            \x00\x00\x01\x03",
+            \x00\x14\x01\x03",
             PAYLOAD,
         ],
         &[Rule::PrimaryCheck {
@@ -148,7 +171,7 @@ pub(crate) static PRIMARY_CHECKS: [Row; 19] = [
     (
         &[
             b"\x9f\x8a\x07\x01\x00\x82\x02\x82\x02\x01\x82\x02\x82\x01\x01\x82\x01\x00\x82\x01\
-            \x00\x00\x1b\xff\xff\xff\xff\xff\xff\xff\xfe\x1b\xff\xff\xff\xff\xff\xff\xff\xff",
+            \x00\x14\x1b\xff\xff\xff\xff\xff\xff\xff\xfe\x1b\xff\xff\xff\xff\xff\xff\xff\xff",
             INTEGRITY,
             PAYLOAD,
         ],
@@ -158,7 +181,7 @@ pub(crate) static PRIMARY_CHECKS: [Row; 19] = [
     (
         &[
             b"\x9f\x8a\x07\x01\x00\x82\x02\x82\x02\x01\x82\x02\x82\x01\x01\x82\x01\x00\x82\x01\
-            \x00\x00\x01\x03",
+            \x00\x14\x01\x03",
             NO_HOPS,
             PAYLOAD,
         ],
@@ -169,7 +192,7 @@ pub(crate) static PRIMARY_CHECKS: [Row; 19] = [
     (
         &[
             b"\x9f\x89\x07\x00\x02\x82\x02\x82\x02\x01\x82\x02\x82\x01\x01\x82\x01\x00\x82\x01\
-            \x00\x00\x44\x80\xcb\x7c\x18",
+            \x00\x14\x44\xf2\x32\x7b\x51",
             PAYLOAD,
         ],
         &[],
@@ -184,7 +207,7 @@ pub(crate) static PRIMARY_CHECKS: [Row; 19] = [
     ),
     (
         &[UNCHECKED, b"\x85\x0b\x02\x00\x00\x42\x81\x01", PAYLOAD],
-        &[],
+        &[Rule::BlockData { block: 2, byte: 30 }],
     ),
     // The block of integrity is ciphertext, or may be
     (&[UNCHECKED, INTEGRITY, HIDDEN_2, PAYLOAD], &[]),
@@ -193,13 +216,16 @@ pub(crate) static PRIMARY_CHECKS: [Row; 19] = [
         &[
             UNCHECKED, INTEGRITY, HIDING_65, TARGETS_63, TARGET_64, TARGET_65, SOURCE, PAYLOAD,
         ],
-        &[],
+        &[MISSING],
     ),
-    (&[UNCHECKED, INTEGRITY, HIDDEN_CUT, PAYLOAD], &[]),
+    (
+        &[UNCHECKED, INTEGRITY, HIDDEN_CUT, PAYLOAD],
+        &[Rule::BlockData { block: 9, byte: 45 }],
+    ),
     (
         &[
             b"\x9f\x8b\x07\x01\x01\x82\x02\x82\x02\x01\x82\x02\x82\x01\x01\x82\x01\x00\x82\x01\
-            \x00\x00\x01\x03\x42\x5e\xe3",
+            \x00\x14\x01\x03\x42\x0c\xff",
             PAYLOAD,
         ],
         &[],
@@ -210,8 +236,8 @@ pub(crate) static SOURCES: [Row; 11] = [
     // anonymous
     (
         &[
-            b"\x9f\x89\x07\x00\x01\x82\x02\x82\x02\x01\x82\x01\x00\x82\x01\x00\x82\x01\x00\x00\
-            \x42\x67\xe2",
+            b"\x9f\x89\x07\x00\x01\x82\x02\x82\x02\x01\x82\x01\x00\x82\x01\x00\x82\x01\x00\x14\
+            \x42\xd6\xaf",
             PAYLOAD,
         ],
         &[Rule::Anonymous { flags: 0x00 }],
@@ -219,7 +245,7 @@ pub(crate) static SOURCES: [Row; 11] = [
     (
         &[
             b"\x9f\x89\x07\x19\x40\x04\x01\x82\x02\x82\x02\x01\x82\x01\x00\x82\x01\x00\x82\x01\
-            \x00\x00\x42\x63\x74",
+            \x00\x14\x42\xd2\x39",
             PAYLOAD,
         ],
         &[Rule::Anonymous { flags: 0x4004 }],
@@ -227,7 +253,7 @@ pub(crate) static SOURCES: [Row; 11] = [
     (
         &[
             b"\x9f\x89\x07\x1a\x00\x01\x00\x04\x01\x82\x02\x82\x02\x01\x82\x01\x00\x82\x01\x00\
-            \x82\x01\x00\x00\x42\x4c\x0e",
+            \x82\x01\x00\x14\x42\xfd\x43",
             PAYLOAD,
         ],
         &[Rule::Anonymous { flags: 0x010004 }],
@@ -235,7 +261,7 @@ pub(crate) static SOURCES: [Row; 11] = [
     (
         &[
             b"\x9f\x89\x07\x1a\x00\x02\x00\x04\x01\x82\x02\x82\x02\x01\x82\x01\x00\x82\x01\x00\
-            \x82\x01\x00\x00\x42\xbf\xf8",
+            \x82\x01\x00\x14\x42\x0e\xb5",
             PAYLOAD,
         ],
         &[Rule::Anonymous { flags: 0x020004 }],
@@ -243,7 +269,7 @@ pub(crate) static SOURCES: [Row; 11] = [
     (
         &[
             b"\x9f\x89\x07\x1a\x00\x04\x00\x04\x01\x82\x02\x82\x02\x01\x82\x01\x00\x82\x01\x00\
-            \x82\x01\x00\x00\x42\x50\x05",
+            \x82\x01\x00\x14\x42\xe1\x48",
             PAYLOAD,
         ],
         &[Rule::Anonymous { flags: 0x040004 }],
@@ -252,7 +278,7 @@ pub(crate) static SOURCES: [Row; 11] = [
     (
         &[
             b"\x9f\x89\x07\x18\x64\x01\x82\x02\x82\x02\x01\x82\x01\x00\x82\x01\x00\x82\x01\x00\
-            \x00\x42\xe8\xbd",
+            \x14\x42\x59\xf0",
             PAYLOAD,
         ],
         &[],
@@ -260,7 +286,7 @@ pub(crate) static SOURCES: [Row; 11] = [
     (
         &[
             b"\x9f\x89\x07\x1a\x00\x07\x40\x00\x01\x82\x02\x82\x02\x01\x82\x02\x82\x01\x01\x82\
-            \x01\x00\x82\x01\x00\x00\x42\xcc\x65",
+            \x01\x00\x82\x01\x00\x14\x42\x7d\x28",
             PAYLOAD,
         ],
         &[],
@@ -269,7 +295,7 @@ pub(crate) static SOURCES: [Row; 11] = [
     (
         &[
             b"\x9f\x89\x07\x19\x40\x02\x01\x82\x02\x82\x02\x01\x82\x02\x82\x01\x01\x82\x01\x00\
-            \x82\x01\x00\x00\x42\xf9\x55",
+            \x82\x01\x00\x14\x42\x48\x18",
             GOOD_RECORD,
         ],
         &[Rule::RecordReports { flags: 0x4002 }],
@@ -278,7 +304,7 @@ pub(crate) static SOURCES: [Row; 11] = [
     (
         &[
             b"\x9f\x89\x07\x19\x40\x00\x01\x82\x02\x82\x02\x01\x82\x02\x82\x01\x01\x82\x01\x00\
-            \x82\x01\x00\x00\x42\xa3\xfe",
+            \x82\x01\x00\x14\x42\x12\xb3",
             PAYLOAD,
         ],
         &[],
@@ -289,8 +315,8 @@ pub(crate) static NAMES: [Row; 15] = [
     // dtn-name
     (
         &[
-            b"\x9f\x89\x07\x00\x01\x82\x01\x60\x82\x02\x82\x01\x01\x82\x01\x00\x82\x01\x00\x00\
-            \x42\x53\x0e",
+            b"\x9f\x89\x07\x00\x01\x82\x01\x60\x82\x02\x82\x01\x01\x82\x01\x00\x82\x01\x00\x14\
+            \x42\xe2\x43",
             PAYLOAD,
         ],
         &[Rule::DtnName {
@@ -300,7 +326,7 @@ pub(crate) static NAMES: [Row; 15] = [
     (
         &[
             b"\x9f\x89\x07\x00\x01\x82\x01\x64\x6e\x6f\x6e\x65\x82\x02\x82\x01\x01\x82\x01\x00\
-            \x82\x01\x00\x00\x42\xf2\xab",
+            \x82\x01\x00\x14\x42\x43\xe6",
             PAYLOAD,
         ],
         &[Rule::DtnName {
@@ -310,7 +336,7 @@ pub(crate) static NAMES: [Row; 15] = [
     (
         &[
             b"\x9f\x89\x07\x00\x01\x82\x01\x63\x2f\x2f\x6e\x82\x02\x82\x01\x01\x82\x01\x00\x82\
-            \x01\x00\x00\x42\x7a\xdc",
+            \x01\x00\x14\x42\xcb\x91",
             PAYLOAD,
         ],
         &[Rule::DtnName {
@@ -320,7 +346,7 @@ pub(crate) static NAMES: [Row; 15] = [
     (
         &[
             b"\x9f\x89\x07\x00\x01\x82\x01\x62\x2f\x2f\x82\x02\x82\x01\x01\x82\x01\x00\x82\x01\
-            \x00\x00\x42\xed\xdb",
+            \x00\x14\x42\x5c\x96",
             PAYLOAD,
         ],
         &[Rule::DtnName {
@@ -330,7 +356,7 @@ pub(crate) static NAMES: [Row; 15] = [
     (
         &[
             b"\x9f\x89\x07\x00\x01\x82\x01\x62\x6e\x2f\x82\x02\x82\x01\x01\x82\x01\x00\x82\x01\
-            \x00\x00\x42\xde\x50",
+            \x00\x14\x42\x6f\x1d",
             PAYLOAD,
         ],
         &[Rule::DtnName {
@@ -340,7 +366,7 @@ pub(crate) static NAMES: [Row; 15] = [
     (
         &[
             b"\x9f\x89\x07\x00\x01\x82\x01\x63\x2f\x6e\x2f\x82\x02\x82\x01\x01\x82\x01\x00\x82\
-            \x01\x00\x00\x42\x51\x45",
+            \x01\x00\x14\x42\xe0\x08",
             PAYLOAD,
         ],
         &[Rule::DtnName {
@@ -350,7 +376,7 @@ pub(crate) static NAMES: [Row; 15] = [
     (
         &[
             b"\x9f\x89\x07\x00\x01\x82\x01\x65\x2f\x2f\x6e\x20\x2f\x82\x02\x82\x01\x01\x82\x01\
-            \x00\x82\x01\x00\x00\x42\x87\x71",
+            \x00\x82\x01\x00\x14\x42\x36\x3c",
             PAYLOAD,
         ],
         &[Rule::DtnName {
@@ -360,7 +386,7 @@ pub(crate) static NAMES: [Row; 15] = [
     (
         &[
             b"\x9f\x89\x07\x00\x01\x82\x01\x65\x2f\x2f\x6e\x2f\x7f\x82\x02\x82\x01\x01\x82\x01\
-            \x00\x82\x01\x00\x00\x42\x40\xae",
+            \x00\x82\x01\x00\x14\x42\xf1\xe3",
             PAYLOAD,
         ],
         &[Rule::DtnName {
@@ -370,7 +396,7 @@ pub(crate) static NAMES: [Row; 15] = [
     (
         &[
             b"\x9f\x89\x07\x00\x01\x82\x01\x65\x2f\x2f\xc3\xa4\x2f\x82\x02\x82\x01\x01\x82\x01\
-            \x00\x82\x01\x00\x00\x42\x15\x42",
+            \x00\x82\x01\x00\x14\x42\xa4\x0f",
             PAYLOAD,
         ],
         &[Rule::DtnName {
@@ -380,7 +406,7 @@ pub(crate) static NAMES: [Row; 15] = [
     (
         &[
             b"\x9f\x89\x07\x00\x01\x82\x02\x82\x02\x01\x82\x01\x61\x6e\x82\x01\x00\x82\x01\x00\
-            \x00\x42\x7f\x55",
+            \x14\x42\xce\x18",
             PAYLOAD,
         ],
         &[Rule::DtnName {
@@ -390,7 +416,7 @@ pub(crate) static NAMES: [Row; 15] = [
     (
         &[
             b"\x9f\x89\x07\x00\x01\x82\x02\x82\x02\x01\x82\x02\x82\x01\x01\x82\x01\x61\x6e\x82\
-            \x01\x00\x00\x42\x28\x9d",
+            \x01\x00\x14\x42\x99\xd0",
             PAYLOAD,
         ],
         &[Rule::DtnName {
@@ -400,7 +426,7 @@ pub(crate) static NAMES: [Row; 15] = [
     (
         &[
             b"\x9f\x89\x07\x00\x01\x82\x02\x82\x02\x01\x82\x01\x61\x6e\x82\x01\x61\x6e\x82\x01\
-            \x00\x00\x42\x3c\x5e",
+            \x00\x14\x42\x8d\x13",
             PAYLOAD,
         ],
         &[Rule::DtnName {
@@ -410,15 +436,15 @@ pub(crate) static NAMES: [Row; 15] = [
     (
         &[
             b"\x9f\x89\x07\x00\x01\x82\x01\x64\x2f\x2f\x6e\x2f\x82\x02\x82\x01\x01\x82\x01\x00\
-            \x82\x01\x00\x00\x42\x89\x2f",
+            \x82\x01\x00\x14\x42\x38\x62",
             PAYLOAD,
         ],
         &[],
     ),
     (
         &[
-            b"\x9f\x89\x07\x00\x01\x82\x01\x64\x2f\x2f\x6e\x2f\x82\x01\x66\x2f\x2f\x6e\x2f\x7e\
-            \x61\x82\x01\x69\x2f\x2f\x6e\x2f\x2f\x61\x2f\x21\x7e\x82\x01\x00\x00\x42\x27\xf5",
+            b"\x9f\x89\x07\x00\x01\x82\x01\x64\x2f\x2f\x6e\x2f\x82\x01\x66\x2f\x2f\x6e\x2f\x61\
+            \x7e\x82\x01\x69\x2f\x2f\x6e\x2f\x2f\x61\x2f\x21\x7e\x82\x01\x00\x14\x42\x94\xd5",
             PAYLOAD,
         ],
         &[],
@@ -426,7 +452,7 @@ pub(crate) static NAMES: [Row; 15] = [
     (
         &[
             b"\x9f\x89\x07\x00\x01\x82\x01\x63\x2f\x2f\x2f\x82\x01\x64\x2f\x2f\x2f\x2f\x82\x01\
-            \x65\x2f\x2f\x2f\x6e\x2f\x82\x01\x00\x00\x42\xaa\x36",
+            \x65\x2f\x2f\x2f\x6e\x2f\x82\x01\x00\x14\x42\x1b\x7b",
             PAYLOAD,
         ],
         &[],
@@ -438,7 +464,7 @@ pub(crate) static FRAGMENTS: [Row; 16] = [
     (
         &[
             b"\x9f\x8b\x07\x05\x01\x82\x02\x82\x02\x01\x82\x02\x82\x01\x01\x82\x01\x00\x82\x01\
-            \x00\x00\x00\x02\x42\x2c\x1d",
+            \x00\x14\x00\x02\x42\x7e\x01",
             PAYLOAD,
         ],
         &[Rule::Fragment {
@@ -458,7 +484,7 @@ pub(crate) static FRAGMENTS: [Row; 16] = [
     (
         &[
             b"\x9f\x8b\x07\x01\x01\x82\x02\x82\x02\x01\x82\x02\x82\x01\x01\x82\x01\x00\x82\x01\
-            \x00\x00\x02\x02\x42\x5f\x94",
+            \x00\x14\x02\x02\x42\x0d\x88",
             PAYLOAD,
         ],
         &[Rule::Fragment {
@@ -470,7 +496,7 @@ pub(crate) static FRAGMENTS: [Row; 16] = [
     (
         &[
             b"\x9f\x8b\x07\x01\x01\x82\x02\x82\x02\x01\x82\x02\x82\x01\x01\x82\x01\x00\x82\x01\
-            \x00\x00\x01\x01\x42\x67\x95",
+            \x00\x14\x01\x01\x42\x35\x89",
             PAYLOAD,
         ],
         &[Rule::Fragment {
@@ -482,7 +508,7 @@ pub(crate) static FRAGMENTS: [Row; 16] = [
     (
         &[
             b"\x9f\x8b\x07\x01\x01\x82\x02\x82\x02\x01\x82\x02\x82\x01\x01\x82\x01\x00\x82\x01\
-            \x00\x00\x00\x01\x42\x6c\xd1",
+            \x00\x14\x00\x01\x42\x3e\xcd",
             b"\x85\x01\x01\x00\x00\x42\x78\x79\xff",
         ],
         &[Rule::Fragment {
@@ -494,8 +520,8 @@ pub(crate) static FRAGMENTS: [Row; 16] = [
     (
         &[
             b"\x9f\x8b\x07\x01\x01\x82\x02\x82\x02\x01\x82\x02\x82\x01\x01\x82\x01\x00\x82\x01\
-            \x00\x00\x1b\xff\xff\xff\xff\xff\xff\xff\xff\x1b\xff\xff\xff\xff\xff\xff\xff\xff\
-            \x42\x08\x7e",
+            \x00\x14\x1b\xff\xff\xff\xff\xff\xff\xff\xff\x1b\xff\xff\xff\xff\xff\xff\xff\xff\
+            \x42\x78\x52",
             PAYLOAD,
         ],
         &[Rule::Fragment {
@@ -516,7 +542,7 @@ pub(crate) static FRAGMENTS: [Row; 16] = [
     (
         &[
             b"\x9f\x8b\x07\x05\x01\x82\x02\x82\x02\x01\x82\x02\x82\x01\x01\x82\x01\x00\x82\x01\
-            \x00\x00\x00\x02\x42\x2c\x1d",
+            \x00\x14\x00\x02\x42\x7e\x01",
             HIDDEN,
             PAYLOAD,
         ],
@@ -529,7 +555,7 @@ pub(crate) static FRAGMENTS: [Row; 16] = [
     (
         &[
             b"\x9f\x8b\x07\x01\x01\x82\x02\x82\x02\x01\x82\x02\x82\x01\x01\x82\x01\x00\x82\x01\
-            \x00\x00\x02\x02\x42\x5f\x94",
+            \x00\x14\x02\x02\x42\x0d\x88",
             AGE,
             HIDDEN_2,
             PAYLOAD,
@@ -543,7 +569,7 @@ pub(crate) static FRAGMENTS: [Row; 16] = [
     (
         &[
             b"\x9f\x8b\x07\x01\x01\x82\x02\x82\x02\x01\x82\x02\x82\x01\x01\x82\x01\x00\x82\x01\
-            \x00\x00\x02\x02\x42\x5f\x94",
+            \x00\x14\x02\x02\x42\x0d\x88",
             HIDING_64,
             TARGETS_63,
             TARGET_64,
@@ -560,7 +586,7 @@ pub(crate) static FRAGMENTS: [Row; 16] = [
     (
         &[
             b"\x9f\x8b\x07\x01\x01\x82\x02\x82\x02\x01\x82\x02\x82\x01\x01\x82\x01\x00\x82\x01\
-            \x00\x00\x01\x02\x42\x42\x58",
+            \x00\x14\x01\x02\x42\x10\x44",
             PAYLOAD,
         ],
         &[],
@@ -568,7 +594,7 @@ pub(crate) static FRAGMENTS: [Row; 16] = [
     (
         &[
             b"\x9f\x89\x07\x04\x01\x82\x02\x82\x02\x01\x82\x02\x82\x01\x01\x82\x01\x00\x82\x01\
-            \x00\x00\x42\xa8\x57",
+            \x00\x14\x42\x19\x1a",
             PAYLOAD,
         ],
         &[],
@@ -576,7 +602,7 @@ pub(crate) static FRAGMENTS: [Row; 16] = [
     (
         &[
             b"\x9f\x8b\x07\x01\x01\x82\x02\x82\x02\x01\x82\x02\x82\x01\x01\x82\x01\x00\x82\x01\
-            \x00\x00\x02\x02\x42\x5f\x94",
+            \x00\x14\x02\x02\x42\x0d\x88",
             HIDDEN,
             PAYLOAD,
         ],
@@ -585,8 +611,8 @@ pub(crate) static FRAGMENTS: [Row; 16] = [
     (
         &[
             b"\x9f\x8b\x07\x01\x01\x82\x02\x82\x02\x01\x82\x02\x82\x01\x01\x82\x01\x00\x82\x01\
-            \x00\x00\x1b\xff\xff\xff\xff\xff\xff\xff\xff\x1b\xff\xff\xff\xff\xff\xff\xff\xff\
-            \x42\x08\x7e",
+            \x00\x14\x1b\xff\xff\xff\xff\xff\xff\xff\xff\x1b\xff\xff\xff\xff\xff\xff\xff\xff\
+            \x42\x78\x52",
             HIDING_65,
             TARGETS_63,
             TARGET_64,
@@ -599,11 +625,11 @@ pub(crate) static FRAGMENTS: [Row; 16] = [
     (
         &[
             b"\x9f\x8b\x07\x01\x01\x82\x02\x82\x02\x01\x82\x02\x82\x01\x01\x82\x01\x00\x82\x01\
-            \x00\x00\x01\x01\x42\x67\x95",
+            \x00\x14\x01\x01\x42\x35\x89",
             HIDDEN_CUT,
             PAYLOAD,
         ],
-        &[],
+        &[Rule::BlockData { block: 9, byte: 35 }],
     ),
 ];
 
@@ -612,7 +638,7 @@ pub(crate) static WHOLE_FRAGMENTS: [Row; 9] = [
     (
         &[
             b"\x9f\x8b\x07\x01\x01\x82\x02\x82\x02\x01\x82\x02\x82\x01\x01\x82\x01\x00\x82\x01\
-            \x00\x00\x00\x01\x42\x6c\xd1",
+            \x00\x14\x00\x01\x42\x3e\xcd",
             PAYLOAD,
         ],
         &[Rule::WholeFragment { total: 1 }],
@@ -620,7 +646,7 @@ pub(crate) static WHOLE_FRAGMENTS: [Row; 9] = [
     (
         &[
             b"\x9f\x8b\x07\x01\x01\x82\x02\x82\x02\x01\x82\x02\x82\x01\x01\x82\x01\x00\x82\x01\
-            \x00\x00\x00\x01\x42\x6c\xd1",
+            \x00\x14\x00\x01\x42\x3e\xcd",
             AGE,
             HIDDEN_2,
             PAYLOAD,
@@ -630,7 +656,7 @@ pub(crate) static WHOLE_FRAGMENTS: [Row; 9] = [
     (
         &[
             b"\x9f\x8b\x07\x01\x01\x82\x02\x82\x02\x01\x82\x02\x82\x01\x01\x82\x01\x00\x82\x01\
-            \x00\x00\x00\x01\x42\x6c\xd1",
+            \x00\x14\x00\x01\x42\x3e\xcd",
             HIDING_64,
             TARGETS_63,
             TARGET_64,
@@ -643,7 +669,7 @@ pub(crate) static WHOLE_FRAGMENTS: [Row; 9] = [
     (
         &[
             b"\x9f\x8b\x07\x01\x01\x82\x02\x82\x02\x01\x82\x02\x82\x01\x01\x82\x01\x00\x82\x01\
-            \x00\x00\x01\x02\x42\x42\x58",
+            \x00\x14\x01\x02\x42\x10\x44",
             PAYLOAD,
         ],
         &[],
@@ -652,7 +678,7 @@ pub(crate) static WHOLE_FRAGMENTS: [Row; 9] = [
     (
         &[
             b"\x9f\x8b\x07\x01\x01\x82\x02\x82\x02\x01\x82\x02\x82\x01\x01\x82\x01\x00\x82\x01\
-            \x00\x00\x00\x01\x42\x6c\xd1",
+            \x00\x14\x00\x01\x42\x3e\xcd",
             HIDDEN,
             PAYLOAD,
         ],
@@ -661,7 +687,7 @@ pub(crate) static WHOLE_FRAGMENTS: [Row; 9] = [
     (
         &[
             b"\x9f\x8b\x07\x01\x01\x82\x02\x82\x02\x01\x82\x02\x82\x01\x01\x82\x01\x00\x82\x01\
-            \x00\x00\x00\x01\x42\x6c\xd1",
+            \x00\x14\x00\x01\x42\x3e\xcd",
             HIDING_65,
             TARGETS_63,
             TARGET_64,
@@ -674,10 +700,10 @@ pub(crate) static WHOLE_FRAGMENTS: [Row; 9] = [
     (
         &[
             b"\x9f\x8b\x07\x01\x01\x82\x02\x82\x02\x01\x82\x02\x82\x01\x01\x82\x01\x00\x82\x01\
-            \x00\x00\x00\x01\x42\x6c\xd1",
+            \x00\x14\x00\x01\x42\x3e\xcd",
             HIDDEN_CUT,
             PAYLOAD,
         ],
-        &[],
+        &[Rule::BlockData { block: 9, byte: 35 }],
     ),
 ];

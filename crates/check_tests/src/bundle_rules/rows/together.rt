@@ -4,11 +4,11 @@ use super::{AGE, CLEAN, HIDDEN, INTEGRITY, OPEN_AGE, OPEN_RECORD, PAYLOAD, RECOR
 use link_bundle_rules::{BundleRule as Rule, Endpoint, Level};
 
 pub(crate) static TOGETHER: [Row; 18] = [
-    // a bundle
+    // a fragment without data, of which each block is wrong
     (
         &[
             b"\x9f\x8a\x18\x07\x19\x40\x0b\x00\x82\x01\x61\x6e\x82\x01\x00\x82\x01\x00\x82\x00\
-            \x00\x00\x00\x00",
+            \x00\x14\x00\x00",
             b"\x85\x06\x02\x00\x00\x41\x00",
             b"\x85\x06\x03\x00\x00\x41\x9f",
             b"\x85\x0a\x04\x0a\x00\x43\x82\x00\x01",
@@ -17,7 +17,10 @@ pub(crate) static TOGETHER: [Row; 18] = [
             b"\x85\x01\x01\x00\x00\x40\xff",
         ],
         &[
-            Rule::LongHead { byte: 2 },
+            Rule::LongHead {
+                byte: 2,
+                level: Level::Must,
+            },
             Rule::BundleFlags { flags: 0x400b },
             Rule::PrimaryCheck { level: Level::Must },
             Rule::Anonymous { flags: 0x400b },
@@ -55,7 +58,7 @@ pub(crate) static TOGETHER: [Row; 18] = [
     (
         &[
             b"\x9f\x89\x07\x19\x40\x02\x01\x82\x02\x82\x02\x01\x82\x01\x00\x82\x01\x00\x82\x00\
-            \x00\x00\x42\xb4\x89",
+            \x00\x14\x42\x05\xc4",
             PAYLOAD,
         ],
         &[
@@ -79,13 +82,16 @@ pub(crate) static TOGETHER: [Row; 18] = [
     // two long heads
     (
         &[CLEAN, b"\x98\x05\x01\x01\x00\x00\x58\x01\x78\xff"],
-        &[Rule::LongHead { byte: 25 }],
+        &[Rule::LongHead {
+            byte: 25,
+            level: Level::Must,
+        }],
     ),
     // dtn:none as a text
     (
         &[
             b"\x9f\x89\x07\x00\x01\x82\x02\x82\x02\x01\x82\x01\x64\x6e\x6f\x6e\x65\x82\x01\x00\
-            \x82\x01\x00\x00\x42\x9d\x04",
+            \x82\x01\x00\x14\x42\x2c\x49",
             PAYLOAD,
         ],
         &[Rule::DtnName {
@@ -139,7 +145,7 @@ pub(crate) static TOGETHER: [Row; 18] = [
             b"\x85\x0a\x03\x00\x00\x43\x82\x00\x01",
             b"\x85\x0a\x04\x00\x00\x40",
             b"\x85\x07\x05\x00\x00\x40",
-            b"\x85\x0c\x09\x00\x00\x53\x85\x00\x01\x03\x04\x05\x02\x00\x82\x02\x82\x01\x01\x85\
+            b"\x85\x0c\x09\x01\x00\x53\x85\x00\x01\x03\x04\x05\x02\x00\x82\x02\x82\x01\x01\x85\
             \x80\x80\x80\x80\x80",
             PAYLOAD,
         ],
@@ -196,12 +202,12 @@ pub(crate) static TOGETHER: [Row; 18] = [
     (
         &[
             b"\x9f\x88\x07\x02\x00\x82\x02\x82\x02\x01\x82\x02\x82\x01\x01\x82\x01\x00\x82\x01\
-            \x00\x00",
+            \x00\x14",
             b"\x85\x0a\x03\x00\x00\x43\x82\x00\x01",
             b"\x85\x0a\x04\x00\x00\x40",
             b"\x85\x07\x05\x00\x00\x40",
             INTEGRITY,
-            b"\x85\x0c\x09\x00\x00\x58\x73\x98\x41\x00\x01\x02\x03\x04\x05\x06\x07\x08\x09\x0a\
+            b"\x85\x0c\x09\x01\x00\x58\x73\x98\x41\x00\x01\x02\x03\x04\x05\x06\x07\x08\x09\x0a\
             \x0b\x0c\x0d\x0e\x0f\x10\x11\x12\x13\x14\x15\x16\x17\x18\x18\x18\x19\x18\x1a\x18\
             \x1b\x18\x1c\x18\x1d\x18\x1e\x18\x1f\x18\x20\x18\x21\x18\x22\x18\x23\x18\x24\x18\
             \x25\x18\x26\x18\x27\x18\x28\x18\x29\x18\x2a\x18\x2b\x18\x2c\x18\x2d\x18\x2e\x18\
@@ -216,13 +222,22 @@ pub(crate) static TOGETHER: [Row; 18] = [
                 limit: None,
             },
             Rule::ConfidentialPrimary { block: 9 },
+            Rule::SecurityTargets {
+                block: 9,
+                target: Some(6),
+                level: Level::Should,
+            },
+            Rule::ConfidentialTarget {
+                block: 9,
+                target: 9,
+            },
         ],
     ),
     // a fragment without its end
     (
         &[
             b"\x9f\x8b\x07\x05\x01\x82\x02\x82\x02\x01\x82\x02\x82\x01\x01\x82\x01\x00\x82\x01\
-            \x00\x00\x00\x00\x42\x15\x6b",
+            \x00\x14\x00\x00\x42\x47\x77",
             HIDDEN,
             b"\x85\x01\x01\x00\x00\x40\xff",
         ],
@@ -236,7 +251,7 @@ pub(crate) static TOGETHER: [Row; 18] = [
     (
         &[
             b"\x9f\x8a\x07\x01\x00\x82\x02\x82\x02\x01\x82\x02\x82\x01\x01\x82\x01\x00\x82\x00\
-            \x05\x00\x01\x02",
+            \x05\x14\x01\x02",
             PAYLOAD,
         ],
         &[
@@ -253,7 +268,7 @@ pub(crate) static TOGETHER: [Row; 18] = [
     (
         &[
             b"\x9f\x8a\x07\x01\x00\x82\x02\x82\x02\x01\x82\x02\x82\x01\x01\x82\x01\x00\x82\x00\
-            \x05\x00\x00\x02",
+            \x05\x14\x00\x02",
             PAYLOAD,
         ],
         &[
@@ -268,7 +283,7 @@ pub(crate) static TOGETHER: [Row; 18] = [
     (
         &[
             b"\x9f\x8b\x07\x01\x01\x82\x02\x82\x02\x01\x82\x02\x82\x01\x01\x82\x01\x00\x82\x01\
-            \x00\x00\x00\x00\x42\x70\x6a",
+            \x00\x14\x00\x00\x42\x22\x76",
             b"\x85\x01\x01\x00\x00\x40\xff",
         ],
         &[
@@ -284,7 +299,7 @@ pub(crate) static TOGETHER: [Row; 18] = [
     (
         &[
             b"\x9f\x8b\x07\x05\x01\x82\x02\x82\x02\x01\x82\x02\x82\x01\x01\x82\x01\x00\x82\x01\
-            \x00\x00\x00\x01\x42\x09\xd0",
+            \x00\x14\x00\x01\x42\x5b\xcc",
             PAYLOAD,
         ],
         &[

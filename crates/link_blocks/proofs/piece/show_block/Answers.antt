@@ -2,8 +2,8 @@ use Rattle.std.proofs.Common.{◌≡◌, [], ◌∷◌, ◌++◌, sym, append-ni
 use Rattle.link_bundle_blocks.specs.{Blocks.CanonicalOf, Bundle.blocks_in}
 use Rattle.link_bundle.specs.Scan.{ending}
 use Rattle.link_block_report.specs.Blocks.{block_text}
-use Rattle.link_blocks.specs.BlockLines.{found_in}
-use Rattle.link_blocks.proofs.Reading.{lies_within}
+use Rattle.link_block_reader.specs.Found.{found_in}
+use Rattle.link_block_reader.proofs.Reading.{lies_within}
 use Rattle.link_blocks.proofs.piece.show_block.Goals as goal
 
 pub returns-in-Canonical-clause-gives : goal.returns-in-Canonical-clause-gives

@@ -7,9 +7,10 @@ use Rattle.link_cbor.proofs.Joins.{joined_run}
 use Rattle.link_bundle.proofs.Pieces.{all_judged}
 use Rattle.link_run.specs.Writers.{on_output, AfterWrite}
 use Rattle.link_run.proofs.Runs.{outputs_then, part_of_more}
-use Rattle.link_blocks.specs.{BlockLines.{lines_from, block_lines}, DataReader.IsReading}
-use Rattle.link_blocks.proofs.Lines.{lines_grow}
-use Rattle.link_blocks.proofs.Judged.{seen_all, goes_judged, joined_rest, rest_read, rest_lines, run_lines}
+use Rattle.link_block_reader.specs.DataReader.{IsReading}
+use Rattle.link_block_reader.proofs.Judged.{seen_all, goes_judged, joined_rest, rest_read}
+use Rattle.link_blocks.specs.BlockLines.{lines_from, block_lines}
+use Rattle.link_blocks.proofs.Lines.{lines_grow, rest_lines, run_lines}
 use Rattle.link_blocks.proofs.piece.show_piece.Given.{Over}
 use Rattle.link_blocks.proofs.piece.show_piece.Goals as goal
 use Rattle.link_blocks.proofs.piece.show_piece.Goals.{After-show_block, After-judge_piece, then-loop-taken-test+else-going, else-loop-taken-test}

@@ -1,6 +1,7 @@
 use Rattle.std.proofs.Common.{◌≡◌, ℕ, ◌+◌, ◌-◌, ◌≤◌, List, ◌++◌, length, take, Ok}
 use Rattle.link_bundle.specs.Scan.{HasJudged, scan_size}
-use Rattle.link_blocks.specs.{DataReader.{IsReading, read_size}, Piece.ShowsMore}
+use Rattle.link_block_reader.specs.DataReader.{IsReading, read_size}
+use Rattle.link_blocks.specs.Piece.{ShowsMore}
 use Rattle.link_blocks.proofs.piece.show_piece.Given as goal
 
 -- some bytes of the piece were scanned, and the lines of the blocks that they complete were written

@@ -1,11 +1,15 @@
 use Rattle.std.proofs.{Common.{refl, rules, arith}, Math.Seq.take-length}
 use Rattle.link_bundle.proofs.Steps.{slice_bytes}
-use Rattle.link_block_data.proofs.Steps.{grown_failed}
+use Rattle.link_block_data.proofs.Steps.{at_stage, grown_failed}
 use Rattle.link_block_data.proofs.scan.DataScan.advance.Goals as goal
 
 pub returns-in-Failed-clause-taken : goal.returns-in-Failed-clause-taken
 returns-in-Failed-clause-taken c = rw (take-length c.args.piece.now) (record {
   size = search rules;
-  seen = λ kind seen. rw c.in-Failed.is
-      (grown_failed c.args.piece.now (slice_bytes c.args.piece.now (λ k. omega (arith, c.type_inv.piece k))) refl);
+  seen = λ kind seen come. record {
+    state = rw c.in-Failed.is
+        (grown_failed c.args.piece.now (slice_bytes c.args.piece.now (λ k. omega (arith, c.type_inv.piece k))) refl
+        (at_stage c.args.self.now c.in-Failed.is come));
+    long = rw c.in-Failed.is tt;
+  };
 })

@@ -5,9 +5,9 @@ use Rattle.link_run.proofs.Runs.{writes_none, part_of_more, output_then}
 use Rattle.link_walk.specs.Walk.{WalkEvent, ContactHeader, LeftOpen, abandons, closes, has_open}
 use Rattle.link_walk.specs.Telling.{ComesAfter, viewed_head}
 use Rattle.link_transfer.specs.declared.joiner.Turn.{Turn}
-use Rattle.link_unpack.specs.Transfers.{Transfer}
-use Rattle.link_unpack.specs.Unpacking.{order_line, good_due, transfers_at, told_after}
-use Rattle.link_unpack.proofs.{Effects.comes_does, Told.on_ok}
+use Rattle.link_judge.specs.Transfers.{Transfer}
+use Rattle.link_judge.specs.Unpacking.{order_line, good_due, transfers_at, told_after}
+use Rattle.link_judge.proofs.{Counts.on_ok, Effects.comes_does}
 use Rattle.link_blocks.specs.{Lister.{KnowsShown, end_due}, Showing.unpacking_by}
 use Rattle.link_blocks.specs.declared.lister.BlockLister.{BlockLister}
 use Rattle.link_blocks.specs.declared.transfer.TransferBlocks.{TransferBlocks}

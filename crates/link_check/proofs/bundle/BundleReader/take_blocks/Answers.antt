@@ -5,7 +5,7 @@ use Rattle.link_bundle.specs.Scan.{HasScanned, HasJudged, ending}
 use Rattle.std.proofs.lemmas.List.{take_rest}
 use Rattle.link_cbor.proofs.Joins.{joined_run}
 use Rattle.link_bundle.proofs.Pieces.{all_judged}
-use Rattle.link_blocks.proofs.Judged.{seen_all, goes_judged, joined_rest}
+use Rattle.link_block_reader.proofs.Judged.{seen_all, goes_judged, joined_rest}
 use Rattle.link_check.specs.BundleReader.{IsReadingBlocks}
 use Rattle.link_check.proofs.Blocks.{rest_blocks}
 use Rattle.link_check.proofs.bundle.BundleReader.take_blocks.Goals as goal

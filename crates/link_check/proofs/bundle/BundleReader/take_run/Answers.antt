@@ -2,7 +2,7 @@ use Rattle.std.proofs.Common.{◌≡◌, [], ◌∷◌, ◌++◌, sym, append-ni
 use Rattle.link_bundle_blocks.specs.Blocks.{PrimaryOf, CanonicalOf, viewed_primary}
 use Rattle.link_bundle_blocks.specs.Bundle.{blocks_in}
 use Rattle.link_bundle.specs.Scan.{ending}
-use Rattle.link_blocks.proofs.Reading.{lies_within}
+use Rattle.link_block_reader.proofs.Reading.{lies_within}
 use Rattle.link_check.proofs.Blocks.{history_same, history_begins, history_adds}
 use Rattle.link_check.proofs.bundle.BundleReader.take_run.Goals as goal
 

@@ -1,6 +1,7 @@
 use Rattle.std.proofs.Common.{◌≡◌, ◌<◌, ◌-◌, ◌^◌, ◌++◌, true, length, sym, ap, ◌∙◌, length-append, arith}
 use Rattle.link_bundle_blocks.specs.Bundle.{payload_in}
-use Rattle.link_unpack.specs.{Pieces.part_in, Unpacking.is_selected}
+use Rattle.link_bundle.specs.Part.{part_in}
+use Rattle.link_judge.specs.Unpacking.{is_selected}
 use Rattle.link_unpack.proofs.{Payloads.{part_some, part_none}, Transfers.part_of-payload}
 use Rattle.link_unpack.proofs.transfer.TransferScan.part.Goals as goal
 

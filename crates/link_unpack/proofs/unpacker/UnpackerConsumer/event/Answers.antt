@@ -3,11 +3,11 @@ use Rattle.std.proofs.lemmas.Bool.{false≢true}
 use Rattle.link_run.proofs.Runs.{writes_none, output_then}
 use Rattle.link_walk.specs.Walk.{ContactHeader, LeftOpen, abandons, closes, has_open}
 use Rattle.link_walk.specs.Telling.{viewed_head}
-use Rattle.link_unpack.specs.Unpacking.{order_line, line_due, good_due, transfers_at, told_after}
+use Rattle.link_judge.specs.Unpacking.{order_line, line_due, good_due, transfers_at, told_after}
+use Rattle.link_judge.proofs.{Counts.on_ok, Effects.abandons_open}
 use Rattle.link_unpack.specs.declared.transfer.TransferScan.{TransferScan}
 use Rattle.link_unpack.proofs.Reports.{output_part, reports_part, reports_then}
-use Rattle.link_unpack.proofs.Effects.{abandons_open}
-use Rattle.link_unpack.proofs.Told.{AtHead, Follows, at_head, does, data_known, data_latest, data_tells, data_transfers, head_known, head_tells, known, on_ok, tells}
+use Rattle.link_unpack.proofs.Told.{AtHead, Follows, at_head, does, data_known, data_latest, data_tells, data_transfers, head_known, head_tells, known, tells}
 use Rattle.link_unpack.proofs.unpacker.UnpackerConsumer.event.Goals as goal
 use Rattle.link_unpack.proofs.unpacker.UnpackerConsumer.event.Goals.{then-begins, else-begins}
 

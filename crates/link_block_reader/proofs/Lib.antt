@@ -1,0 +1,4 @@
+pub mod Grown
+pub mod Reading
+mod Runs
+pub mod Judged

@@ -1,0 +1,136 @@
+-- What a reader of block data has read after more bytes.
+use Rattle.std.proofs.Common.{◌≡◌, ℕ, ◌+◌, ◌<◌, ◌≤◌, false, true, Bool, ◌==◌, List, [], ◌∷◌, ◌++◌, length, Option, Some, None, fold, All, refl, sym, ◌∙◌, ⊎_elim, if◌then◌else◌, arith}
+use Rattle.std.proofs.lemmas.{Bool.false≢true, Grind.fold-append}
+use Rattle.link_bundle_blocks.specs.Blocks.{Block, CanonicalOf, LiesWithin, next_of}
+use Rattle.link_bundle_blocks.specs.Bundle.{judged_bundle, bundle_at, opening_at, bundle_goes, blocks_in, cut_block_in}
+use Rattle.link_bundle.specs.Left.{field_block, follows_block, stage_block, stage_follows, stage_last}
+use Rattle.link_bundle.specs.Scan.{HasScanned, ending_at, ending}
+use Rattle.link_bundle_blocks.specs.declared.block.CanonicalBlock.{CanonicalBlock}
+use Rattle.link_bundle.specs.declared.{cursor.Cursor.Cursor, draft.Draft.Draft}
+use Rattle.link_bundle.specs.declared.{scan.BundleScan.BundleScan, stage.Field.Field}
+use Rattle.link_bundle.specs.declared.stage.Field.TheVariants as field
+use Rattle.link_bundle.specs.declared.stage.ScanStage.{ScanStage}
+use Rattle.link_bundle.specs.declared.stage.ScanStage.TheVariants.{Head, Content, Stored}
+use Rattle.link_bundle_blocks.proofs.Lying.{BlocksWithin-holds}
+use Rattle.link_bundle_blocks.proofs.Showing.{BlocksEnd-holds, BlockPlaced-holds}
+use Rattle.link_bundle.proofs.Verdicts.{cut_block_of-seen}
+use Rattle.link_block_reader.specs.{Found.flags_after, DataReader.{IsReading, IsReadingBlock}}
+use Rattle.link_block_reader.specs.declared.data.DataReader.{DataReader}
+use Rattle.link_block_reader.proofs.Grown.{all_first, all_rest, goes_stops, no_blocks}
+
+-- ---- a block that ends is not cut
+
+field_uncut : (which : Field) (draft : Draft) → follows_block which ≡ true
+    → field_block which draft ≡ None
+field_uncut (field.Check block kind) draft follows = absurd (false≢true follows)
+field_uncut others draft follows = refl
+
+stage_uncut : (stage : ScanStage) (draft : Draft) → stage_follows stage ≡ true
+    → stage_block stage draft ≡ None
+stage_uncut (Head which) draft follows = field_uncut which draft follows
+stage_uncut (Content left) draft follows = absurd (false≢true follows)
+stage_uncut (Stored at left stored block kind) draft follows = absurd (false≢true follows)
+stage_uncut others draft follows = refl
+
+-- a list that has an element is that of the true case
+if_some : {A : Type 0} (test : Bool) (xs : List A) (x : A) → (if test then xs else []) ≡ x ∷ []
+    → (test ≡ true) × (xs ≡ x ∷ [])
+if_some true xs x is = (refl, is)
+if_some false xs x is = cc
+
+ends_uncut : (stage : ScanStage) (draft : Draft) (cursor : Cursor) (block : Block)
+    → ending_at stage draft cursor ≡ block ∷ [] → stage_block stage draft ≡ None
+ends_uncut stage draft cursor block ends =
+    let last = if_some (cursor.offset == cursor.count) (stage_last stage draft cursor.offset) block ends in
+    let follows = if_some _ _ block last.1 in
+    stage_uncut stage draft follows.0
+
+pub no_cut : (scan : BundleScan) (seen : List ℕ) (block : Block) → HasScanned scan seen
+    → ending scan ≡ block ∷ [] → cut_block_in seen ≡ None
+no_cut scan seen block come ends =
+    cut_block_of-seen come
+    ∙ ends_uncut scan.stage scan.draft scan.cursor block ends
+
+-- ---- before a run
+
+-- the reader has read what comes before a run of the next block's data
+pub placed : (reader : DataReader) (seen run : List ℕ) (new : List Block) (block : CanonicalBlock)
+    → IsReading reader seen → bundle_goes seen ≡ true
+    → blocks_in (seen ++ run) ≡ blocks_in seen ++ new
+    → next_of new (cut_block_in (seen ++ run)) ≡ Some block → block.data_start < length seen
+    → IsReadingBlock reader seen block
+placed reader seen run new block reading goes grown comes before =
+    ⊎_elim
+    (λ (cut : cut_block_in seen ≡ Some block). reading.at_cut goes block cut)
+    (λ (after : length seen ≤ block.data_start). absurd (omega arith))
+    (BlockPlaced-holds seen run new block grown comes)
+
+-- ---- after a run
+
+flags_more : (flags : ℕ) (seen run : List ℕ) (new : List Block)
+    → flags ≡ fold flags_after 0 (blocks_in seen)
+    → blocks_in (seen ++ run) ≡ blocks_in seen ++ new
+    → fold flags_after flags new ≡ fold flags_after 0 (blocks_in (seen ++ run))
+flags_more flags seen run new is grown =
+    rw (is, grown, fold-append) refl
+
+-- a block has ended with the run
+pub read_whole : (reader : DataReader) (scan : BundleScan) (flags : ℕ) (seen run : List ℕ)
+    (block : Block) → flags ≡ fold flags_after 0 (blocks_in seen)
+    → HasScanned scan (seen ++ run) → blocks_in (seen ++ run) ≡ blocks_in seen ++ ending scan
+    → ending scan ≡ block ∷ [] → reader.flags ≡ flags_after flags block
+    → IsReading reader (seen ++ run)
+read_whole reader scan flags seen run block was come grown ends is = record {
+  flags = is ∙ flags_more flags seen run _ was (rw ends at grown);
+  at_cut = λ goes cut_block cut.
+      absurd (none_some cut_block (sym (no_cut scan (seen ++ run) block come ends) ∙ cut));
+}
+  where
+    none_some : (some : CanonicalBlock) → ◌≡◌ {A = Option CanonicalBlock} None (Some some) → ⊥
+    none_some some is = cc
+
+-- no block has ended with the run; one is cut, or none
+pub read_on : (reader : DataReader) (flags : ℕ) (seen run : List ℕ)
+    → flags ≡ fold flags_after 0 (blocks_in seen)
+    → blocks_in (seen ++ run) ≡ blocks_in seen ++ []
+    → reader.flags ≡ flags
+    → ((block : CanonicalBlock) → cut_block_in (seen ++ run) ≡ Some block
+    → IsReadingBlock reader (seen ++ run) block)
+    → IsReading reader (seen ++ run)
+read_on reader flags seen run was grown is at_cut = record {
+  flags = is ∙ flags_more flags seen run [] was grown;
+  at_cut = λ goes block cut. at_cut block cut;
+}
+
+-- no more blocks come
+pub read_end : (reader : DataReader) (content more : List ℕ) → IsReading reader content
+    → bundle_goes content ≡ false → IsReading reader (content ++ more)
+read_end reader content more reading stops = record {
+  flags = rw (BlocksEnd-holds content more stops) reading.flags;
+  at_cut = λ goes block cut. absurd (false≢true (sym (goes_stops content more stops) ∙ goes));
+}
+
+pub none_cut : (block : CanonicalBlock) → cut_block_in [] ≡ Some block → ⊥
+unfolding cut_block_in judged_bundle bundle_at opening_at
+none_cut block cut = cc
+
+-- nothing is read of no bundle
+pub read_none : (reader : DataReader) → reader.flags ≡ 0
+    → ((block : CanonicalBlock) → cut_block_in [] ≡ Some block → ⊥) → IsReading reader []
+read_none reader is none = record {
+  flags = rw no_blocks is;
+  at_cut = λ goes block cut. absurd (none block cut);
+}
+
+-- ---- the last of the whole blocks
+
+last_of : {A : Type 0} (P : A → Type 0) (xs : List A) (x : A) → All P (xs ++ x ∷ []) → P x
+last_of P [] x all = all_first P x [] all
+last_of P (y ∷ xs) x all = last_of P xs x (all_rest P y (xs ++ x ∷ []) all)
+
+pub lies_within : (seen : List ℕ) (earlier : List Block) (block : CanonicalBlock)
+    → blocks_in seen ≡ earlier ++ CanonicalOf block ∷ []
+    → block.data_start + block.data_length ≤ length seen
+lies_within seen earlier block is =
+    (last_of (LiesWithin (length seen)) earlier (CanonicalOf block)
+    (rw is at (BlocksWithin-holds seen))).0

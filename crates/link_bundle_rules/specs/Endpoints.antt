@@ -1,0 +1,36 @@
+-- Rules of endpoint IDs (RFC 9171 sections 4.2.5.1.1 and 5.2).
+use Rattle.std.specs.Prelude.{ℕ, Option, Some, None, option_map, if◌then◌else◌}
+use Rattle.std.specs.Option.{option_and_then, option_or}
+use Rattle.link_bundle_rules.specs.Hidden.{unless_hidden}
+use Rattle.link_bundle_rules.specs.ReadBundle.{ReadBundle, find_map}
+use Rattle.link_bundle_rules.specs.declared.block.{BlockFacts.BlockFacts, DataFacts.DataFacts}
+use Rattle.link_bundle_rules.specs.declared.block.DataFacts.TheVariants as facts
+use Rattle.link_bundle_rules.specs.declared.rule.{BundleRule.BundleRule, Endpoint.Endpoint}
+use Rattle.link_bundle_rules.specs.declared.rule.BundleRule.TheVariants.{DtnName, SourceNode}
+use Rattle.link_bundle_rules.specs.declared.rule.Endpoint.TheVariants.{PreviousNode, SecuritySource, ReportSource}
+
+-- an endpoint ID in the data of a block that is a text and no dtn name
+abbrev pub bad_name_in : (number : ℕ) → DataFacts → Option Endpoint
+bad_name_in number (facts.PreviousNode node) =
+    if node.has_bad_name then Some (PreviousNode number) else None
+bad_name_in number (facts.Security has_bad_source) =
+    if has_bad_source then Some (SecuritySource number) else None
+bad_name_in number (facts.StatusReport report) =
+    if report.has_bad_source then Some ReportSource else None
+bad_name_in number _ = None
+
+abbrev pub bad_name_of : ReadBundle → BlockFacts → Option Endpoint
+bad_name_of bundle read =
+    option_and_then (λ read. bad_name_in read.number read.data) (unless_hidden bundle read)
+
+-- dtn-name: an endpoint ID of scheme dtn that is a text is a dtn name (section 4.2.5.1.1). The
+-- first one that is not counts: in the primary block, and then in the data of the blocks, in order.
+-- A status report is the payload, which is the last block.
+unfoldable pub dtn_name : ReadBundle → Option BundleRule
+dtn_name bundle =
+    option_map DtnName (option_or bundle.primary.bad_name (find_map (bad_name_of bundle) bundle.blocks))
+
+-- source-node: the source is a singleton (section 5.2), and so no dtn name whose demux begins with
+-- `~`
+unfoldable pub source_node : ReadBundle → Option BundleRule
+source_node bundle = if bundle.primary.has_group_source then Some SourceNode else None

@@ -1,0 +1,37 @@
+-- The rule of long heads (RFC 9171 section 4.1).
+use Rattle.std.specs.Prelude.{ℕ, Bool, min, Option, Some, None, option_map, if◌then◌else◌}
+use Rattle.std.specs.Option.{option_and_then, option_or}
+use Rattle.link_rules.specs.declared.level.{Level.Level, Level.TheVariants.{Must, Should}}
+use Rattle.link_bundle_rules.specs.Hidden.{unless_hidden}
+use Rattle.link_bundle_rules.specs.ReadBundle.{ReadBundle, is_extension, is_security_block, find_map}
+use Rattle.link_bundle_rules.specs.declared.block.BlockFacts.{BlockFacts}
+use Rattle.link_bundle_rules.specs.declared.rule.BundleRule.{BundleRule}
+use Rattle.link_bundle_rules.specs.declared.rule.BundleRule.TheVariants.{LongHead}
+
+-- the least of two offsets, as far as they are there
+abbrev pub least : (one other : Option ℕ) → Option ℕ
+least None other = other
+least one None = one
+least (Some byte) (Some other) = Some (min byte other)
+
+-- the first long head in the data of a block, unless the data may be ciphertext; malformed data has
+-- none
+abbrev pub readable_head : ReadBundle → BlockFacts → Option ℕ
+readable_head bundle read = option_and_then (λ read. read.long_head) (unless_hidden bundle read)
+
+-- the first in the data of some blocks; blocks are in the order of their offsets
+abbrev pub data_head : (BlockFacts → Bool) → ReadBundle → Option ℕ
+data_head test bundle =
+    find_map (λ read. if test read then readable_head bundle read else None) bundle.blocks
+
+abbrev pub of_level : Level → Option ℕ → Option BundleRule
+of_level level byte = option_map (λ byte. LongHead byte level) byte
+
+-- long-head: each head of the bundle outside the data of blocks is the shortest for its number (RFC
+-- 9171 section 4.1). So is each head in the data of security blocks, as far as it is read (RFC 9172
+-- section 3.6), and in that of previous node, bundle age and hop count blocks (should). The first
+-- that is longer counts. The head of the bundle's own array does not.
+unfoldable pub long_head : ReadBundle → Option BundleRule
+long_head bundle =
+    option_or (of_level Must (least bundle.long_head (data_head is_security_block bundle)))
+    (of_level Should (data_head is_extension bundle))

@@ -1,0 +1,73 @@
+-- Rules of administrative records and status reports (RFC 9171 section 6.1). The record of a
+-- fragment is not read, and one that may be ciphertext is not judged.
+use Rattle.std.specs.Prelude.{ℕ, not, ◌&&◌, nat_lt, Option, Some, None, if◌then◌else◌}
+use Rattle.std.specs.Option.{option_and_then}
+use Rattle.link_bundle_rules.specs.Hidden.{first_readable}
+use Rattle.link_bundle_rules.specs.ReadBundle.{ReadBundle, payload}
+use Rattle.link_bundle_rules.specs.declared.block.{BlockFacts.BlockFacts, DataFacts.DataFacts, ReportFacts.ReportFacts}
+use Rattle.link_bundle_rules.specs.declared.block.DataFacts.TheVariants.{StatusReport, OtherRecord, Malformed}
+use Rattle.link_bundle_rules.specs.declared.rule.BundleRule.{BundleRule}
+use Rattle.link_bundle_rules.specs.declared.rule.BundleRule.TheVariants as rule
+
+-- what the payload says
+abbrev pub record_of : ReadBundle → Option BlockFacts
+record_of bundle = first_readable payload bundle
+
+abbrev pub malformed_record : DataFacts → Option BundleRule
+malformed_record (Malformed byte) = Some (rule.Record byte)
+malformed_record _ = None
+
+-- record: an administrative record is well formed (sections 6.1 and 6.1.1)
+unfoldable pub administrative_record : ReadBundle → Option BundleRule
+administrative_record bundle =
+    option_and_then (λ read. malformed_record read.data) (record_of bundle)
+
+abbrev pub other_record : DataFacts → Option BundleRule
+other_record (OtherRecord type) = Some (rule.RecordType type)
+other_record _ = None
+
+-- record-type: an administrative record has type 1 (section 6.1)
+unfoldable pub record_type : ReadBundle → Option BundleRule
+record_type bundle = option_and_then (λ read. other_record read.data) (record_of bundle)
+
+-- ---- status reports
+
+abbrev pub report_in : DataFacts → Option ReportFacts
+report_in (StatusReport report) = Some report
+report_in _ = None
+
+unfoldable pub report_of : ReadBundle → Option ReportFacts
+report_of bundle = option_and_then (λ read. report_in read.data) (record_of bundle)
+
+abbrev pub if_mixed_times : ReportFacts → Option BundleRule
+if_mixed_times report =
+    if report.timed && report.untimed then Some rule.ReportTimes else None
+
+-- report-times: the statuses that are asserted all have a time, or none has one (section 6.1.1),
+-- since one flag of the bundle that the report is about asks for times
+unfoldable pub report_times : ReadBundle → Option BundleRule
+report_times bundle = option_and_then if_mixed_times (report_of bundle)
+
+abbrev pub if_empty : ReportFacts → Option BundleRule
+if_empty report =
+    if not report.timed && not report.untimed then Some rule.ReportEmpty else None
+
+-- report-empty: a status report asserts a status (sections 5.1 and 6.1.1)
+unfoldable pub report_empty : ReadBundle → Option BundleRule
+report_empty bundle = option_and_then if_empty (report_of bundle)
+
+abbrev pub if_other_reason : ReportFacts → Option BundleRule
+if_other_reason report =
+    if nat_lt 16 report.reason then Some (rule.ReportReason report.reason) else None
+
+-- report-reason: the reason is a code that is assigned, 0 to 16 (sections 6.1.1 and 9.5)
+unfoldable pub report_reason : ReadBundle → Option BundleRule
+report_reason bundle = option_and_then if_other_reason (report_of bundle)
+
+abbrev pub if_no_source : ReportFacts → Option BundleRule
+if_no_source report = if report.has_no_source then Some rule.ReportSource else None
+
+-- report-source: a status report is about a bundle with a source, since one without a source
+-- requests no reports (sections 4.2.3 and 6.1.1)
+unfoldable pub report_source : ReadBundle → Option BundleRule
+report_source bundle = option_and_then if_no_source (report_of bundle)

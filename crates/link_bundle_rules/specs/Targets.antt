@@ -1,0 +1,153 @@
+-- Rules of security blocks (RFC 9172), and of their targets. They look at the first 64 targets.
+use Rattle.std.specs.Prelude.{ℕ, Bool, false, not, ◌&&◌, ◌==◌, List, [], ◌∷◌, ◌++◌, is_none, Option, Some, None, option_map, if◌then◌else◌}
+use Rattle.std.specs.{Bool.then_some, List.list_any, Option.option_or}
+use Rattle.link_rules.specs.declared.level.Level.TheVariants.{Must, Should}
+use Rattle.link_bundle_rules.specs.Hidden.{is_hidden_block}
+use Rattle.link_bundle_rules.specs.ReadBundle.{ReadBundle, block_integrity, block_confidentiality, find_map}
+use Rattle.link_bundle_rules.specs.declared.rule.BundleRule.{BundleRule}
+use Rattle.link_bundle_rules.specs.declared.rule.BundleRule.TheVariants as rule
+use Rattle.link_bundle_rules.specs.declared.security.SecurityFacts.{SecurityFacts}
+use Rattle.link_bundle_rules.specs.declared.targets.Asked.{Asked}
+use Rattle.link_bundle_rules.specs.declared.targets.Asked.TheVariants as asked
+
+-- ---- security blocks that count, and their targets
+
+abbrev pub is_integrity : SecurityFacts → Bool
+is_integrity block = block.block_type == block_integrity
+
+abbrev pub is_confidentiality : SecurityFacts → Bool
+is_confidentiality block = block.block_type == block_confidentiality
+
+-- a security block counts if its data is neither malformed nor hidden
+abbrev pub counts : ReadBundle → SecurityFacts → Bool
+counts bundle block =
+    not block.is_malformed && not (is_hidden_block bundle block.block_type block.number)
+
+abbrev pub if_counted : {A : Type 0} → ReadBundle → (SecurityFacts → Option A) → SecurityFacts
+    → Option A
+if_counted bundle judge block = if counts bundle block then judge block else None
+
+-- what is found of the first block that counts and of which it is found
+abbrev pub first_counted : {A : Type 0} → ReadBundle → (SecurityFacts → Option A) → Option A
+first_counted bundle judge = find_map (if_counted bundle judge) bundle.security
+
+-- the number of a block, and its first target of which a test holds
+abbrev pub first_target : (SecurityFacts → ℕ → Bool) → SecurityFacts → Option (ℕ × ℕ)
+first_target test block =
+    find_map (λ target. then_some (test block target) (block.number, target)) block.targets.items
+
+abbrev pub has_target : (target : ℕ) → SecurityFacts → Bool
+has_target target block = list_any (λ other. other == target) block.targets.items
+
+-- a block of a type has this target, and counts
+abbrev pub is_target_of : ReadBundle → (type target : ℕ) → SecurityFacts → Bool
+is_target_of bundle type target block =
+    (block.block_type == type) && (has_target target block && counts bundle block)
+
+-- ---- security-targets
+
+-- the first target that is named before, also among the targets that come `before` these
+abbrev pub first_repeated : (before targets : List ℕ) → Option ℕ
+first_repeated before [] = None
+first_repeated before (target ∷ more) =
+    if list_any (λ other. other == target) before
+    then Some target
+    else first_repeated (before ++ target ∷ []) more
+
+abbrev pub if_bad_targets : SecurityFacts → Option BundleRule
+if_bad_targets block =
+    if block.count == 0
+    then Some (rule.SecurityTargets block.number None Must)
+    else option_map (λ target. rule.SecurityTargets block.number (Some target) Must)
+    (first_repeated [] block.targets.items)
+
+-- the number of no block; the primary block has number 0
+abbrev pub is_missing : ReadBundle → (target : ℕ) → Bool
+is_missing bundle target =
+    not (target == 0) && not (list_any (λ read. read.number == target) bundle.blocks)
+
+abbrev pub missing_target : ReadBundle → Option BundleRule
+missing_target bundle =
+    if is_none bundle.primary.fragment
+    then option_map (λ (block, target). rule.SecurityTargets block (Some target) Should)
+    (first_counted bundle (first_target (λ block target. is_missing bundle target)))
+    else None
+
+-- security-targets: a security block has a target, and names none twice (must, section 3.6). In a
+-- bundle that is no fragment, each target is the number of a block (should), since a node may have
+-- removed the block.
+unfoldable pub security_targets : ReadBundle → Option BundleRule
+security_targets bundle = option_or (first_counted bundle if_bad_targets) (missing_target bundle)
+
+-- ---- targets that two blocks have
+
+-- the number of the first block of a type that has this target
+abbrev pub first_with : ReadBundle → (type target : ℕ) → Option ℕ
+first_with bundle type target =
+    find_map (λ block. then_some (is_target_of bundle type target block) block.number)
+    bundle.security
+
+-- A block before this one, of its type, has this target: the first that has it is another. Each
+-- block has its own number.
+abbrev pub is_taken : ReadBundle → SecurityFacts → (target : ℕ) → Bool
+is_taken bundle block target =
+    elim (first_with bundle block.block_type target) [
+      | None ↦ false
+      | Some first ↦ not (first == block.number)
+    ]
+
+-- security-twice: no two security blocks of one type have a target in common (section 3.2). The
+-- first block that has one in common with a block before it counts, and its first such target.
+unfoldable pub security_twice : ReadBundle → Option BundleRule
+security_twice bundle =
+    option_map (λ (block, target). rule.SecurityTwice block target)
+    (first_counted bundle (first_target (is_taken bundle)))
+
+abbrev pub is_confidential : ReadBundle → (target : ℕ) → Bool
+is_confidential bundle target =
+    list_any (is_target_of bundle block_confidentiality target) bundle.security
+
+abbrev pub is_shared : ReadBundle → SecurityFacts → (target : ℕ) → Bool
+is_shared bundle block target = is_integrity block && is_confidential bundle target
+
+-- shared-target: a block integrity block has no target in common with a block confidentiality
+-- block, since it would then be encrypted itself (section 3.9)
+unfoldable pub shared_target : ReadBundle → Option BundleRule
+shared_target bundle =
+    option_map (λ (block, target). rule.SharedTarget block target)
+    (first_counted bundle (first_target (is_shared bundle)))
+
+-- ---- targets that are security blocks
+
+-- a security block is a target of a block integrity block
+abbrev pub is_protected : ReadBundle → SecurityFacts → (target : ℕ) → Bool
+is_protected bundle block target =
+    is_integrity block && list_any (λ other. other.number == target) bundle.security
+
+-- integrity-target: no security block is a target of a block integrity block (section 3.7)
+unfoldable pub integrity_target : ReadBundle → Option BundleRule
+integrity_target bundle =
+    option_map (λ (block, target). rule.IntegrityTarget block target)
+    (first_counted bundle (first_target (is_protected bundle)))
+
+-- a block confidentiality block is a target of one
+abbrev pub is_encrypted : ReadBundle → SecurityFacts → (target : ℕ) → Bool
+is_encrypted bundle block target =
+    is_confidentiality block
+    && list_any (λ other. (other.number == target) && is_confidentiality other) bundle.security
+
+-- confidential-target: no block confidentiality block is a target of one, itself included (section
+-- 3.8)
+unfoldable pub confidential_target : ReadBundle → Option BundleRule
+confidential_target bundle =
+    option_map (λ (block, target). rule.ConfidentialTarget block target)
+    (first_counted bundle (first_target (is_encrypted bundle)))
+
+-- ---- what a rule asks of a target
+
+abbrev pub is_asked : Asked → ReadBundle → SecurityFacts → (target : ℕ) → Bool
+is_asked asked.Missing bundle block target = is_missing bundle target
+is_asked asked.Taken bundle block target = is_taken bundle block target
+is_asked asked.Shared bundle block target = is_shared bundle block target
+is_asked asked.Protected bundle block target = is_protected bundle block target
+is_asked asked.Encrypted bundle block target = is_encrypted bundle block target

@@ -1,0 +1,70 @@
+//! Rules of endpoint IDs (RFC 9171 sections 4.2.5.1.1 and 5.2).
+
+ghost use Rattle.std.specs.Prelude.{◌≡◌};
+ghost use Rattle.link_bundle_rules.specs.Endpoints.{bad_name_in};
+
+use crate::block::{BlockFacts, DataFacts};
+use crate::history::BundleHistory;
+use crate::rule::{BundleRule, Endpoint};
+use crate::rules::first_found;
+
+/// The endpoint ID in the data of a block that is a text and no dtn name.
+fn bad_name_in(number: u64, found: DataFacts) -> Option<Endpoint>
+    ensures { result ≡ bad_name_in number found }
+{
+    match found {
+        DataFacts::PreviousNode(node) if node.has_bad_name => Some(Endpoint::PreviousNode(number)),
+        DataFacts::Security(true) => Some(Endpoint::SecuritySource(number)),
+        DataFacts::StatusReport(report) if report.has_bad_source => Some(Endpoint::ReportSource),
+        _ => None,
+    }
+}
+
+impl BundleHistory {
+    ghost use Rattle.std.specs.Prelude.{◌≡◌, ℕ, Option, None};
+    ghost use Rattle.link_bundle_rules.specs.Endpoints.{bad_name_of, dtn_name, source_node};
+    ghost use Rattle.link_bundle_rules.specs.History.{bundle_of};
+    ghost use Rattle.link_bundle_rules.specs.ReadBundle.{find_map};
+    ghost use Rattle.std.specs.Option.{option_or};
+
+    /// The endpoint ID in the data of a block that is a text and no dtn name, unless the data may
+    /// be ciphertext.
+    fn bad_name_of(&self, block: &BlockFacts) -> Option<Endpoint>
+        ensures { result ≡ bad_name_of (bundle_of self.now None 0) block.now }
+    {
+        let read = self.unless_hidden(block)?;
+        bad_name_in(read.number, read.data)
+    }
+
+    /// The first endpoint ID that is a text and no dtn name.
+    fn first_bad_name(&self) -> Option<Endpoint>
+        ensures { result ≡ option_or self.now.primary.bad_name
+            (find_map (bad_name_of (bundle_of self.now None 0)) self.now.blocks.items) }
+    {
+        if self.primary.bad_name.is_some() {
+            return self.primary.bad_name;
+        }
+        first_found(self.blocks.as_slice(), |block| self.bad_name_of(block))
+    }
+
+    /// The rule of dtn names.
+    #[tactic(auto, unfolding(crate::specs::Endpoints::dtn_name))]
+    pub(crate) fn dtn_name(&self) -> Option<BundleRule>
+        ensures { (byte : Option ℕ) (size : ℕ)
+            → result ≡ dtn_name (bundle_of self.now byte size) }
+    {
+        let of = self.first_bad_name()?;
+        Some(BundleRule::DtnName { of })
+    }
+
+    /// The rule of sources that are no singletons.
+    #[tactic(auto, unfolding(crate::specs::Endpoints::source_node))]
+    pub(crate) fn source_node(&self) -> Option<BundleRule>
+        ensures { (byte : Option ℕ) (size : ℕ)
+            → result ≡ source_node (bundle_of self.now byte size) }
+    {
+        self.primary
+            .has_group_source
+            .then_some(BundleRule::SourceNode)
+    }
+}

@@ -1,0 +1,96 @@
+//! The rule of long heads (RFC 9171 section 4.1).
+
+ghost use Rattle.std.specs.Prelude.{◌≡◌, Option, option_map};
+ghost use Rattle.link_bundle_rules.specs.Heads.{least, of_level};
+
+use crate::block::{BlockFacts, is_extension, is_security_block};
+use crate::history::BundleHistory;
+use crate::rule::BundleRule;
+use crate::rules::first_found;
+use link_rules::Level;
+
+/// The least of two offsets, as far as they are there.
+fn least(one: Option<u64>, other: Option<u64>) -> Option<u64>
+    ensures { result ≡ least one other }
+{
+    match (one, other) {
+        (Some(byte), Some(other)) => Some(byte.min(other)),
+        (Some(byte), None) => Some(byte),
+        (None, other) => other,
+    }
+}
+
+/// The rule of a long head at this offset.
+fn of_level(level: Level, byte: Option<u64>) -> Option<BundleRule>
+    ensures { result ≡ of_level level byte }
+{
+    let byte = byte?;
+    Some(BundleRule::LongHead { byte, level })
+}
+
+impl BundleHistory {
+    ghost use Rattle.std.specs.Prelude.{◌≡◌, ℕ, Option, None, if◌then◌else◌};
+    ghost use Rattle.link_bundle_rules.specs.Heads.{readable_head, data_head, long_head};
+    ghost use Rattle.link_bundle_rules.specs.History.{bundle_of};
+    ghost use Rattle.link_bundle_rules.specs.ReadBundle.{is_extension, is_security_block};
+
+    /// The first long head in the data of a block, unless the data may be ciphertext.
+    fn readable_head(&self, block: &BlockFacts) -> Option<u64>
+        ensures { result ≡ readable_head (bundle_of self.now None 0) block.now }
+    {
+        self.unless_hidden(block)?.long_head
+    }
+
+    fn head_of_security(&self, block: &BlockFacts) -> Option<u64>
+        ensures { result ≡ (if is_security_block block.now
+            then readable_head (bundle_of self.now None 0) block.now
+            else None) }
+    {
+        if is_security_block(block) {
+            self.readable_head(block)
+        } else {
+            None
+        }
+    }
+
+    fn head_of_extension(&self, block: &BlockFacts) -> Option<u64>
+        ensures { result ≡ (if is_extension block.now
+            then readable_head (bundle_of self.now None 0) block.now
+            else None) }
+    {
+        if is_extension(block) {
+            self.readable_head(block)
+        } else {
+            None
+        }
+    }
+
+    /// The first long head in the data of security blocks.
+    fn security_head(&self) -> Option<u64>
+        ensures { result ≡ data_head is_security_block (bundle_of self.now None 0) }
+    {
+        first_found(self.blocks.as_slice(), |block| self.head_of_security(block))
+    }
+
+    /// The first long head in the data of extension blocks.
+    fn extension_head(&self) -> Option<u64>
+        ensures { result ≡ data_head is_extension (bundle_of self.now None 0) }
+    {
+        first_found(
+            self.blocks.as_slice(),
+            |block| self.head_of_extension(block),
+        )
+    }
+
+    /// The rule of long heads. `byte` is the offset of the first one outside the data of blocks.
+    #[tactic(auto, unfolding(crate::specs::Heads::long_head))]
+    pub(crate) fn long_head(&self, byte: Option<u64>) -> Option<BundleRule>
+        ensures { (size : ℕ) → result ≡ long_head (bundle_of self.now byte size) }
+    {
+        let must = of_level(Level::Must, least(byte, self.security_head()));
+        if must.is_some() {
+            return must;
+        }
+        of_level(Level::Should, self.extension_head())
+    }
+}

@@ -1,0 +1,64 @@
+//! Data that may be ciphertext (RFC 9172 section 3.8).
+
+use crate::block::{BLOCK_CONFIDENTIALITY, BlockFacts, first_of_type};
+use crate::history::BundleHistory;
+
+/// The number of the payload block (RFC 9171 section 4.1).
+pub(crate) const PAYLOAD_NUMBER: u64 = 1;
+
+impl BundleHistory {
+    ghost use Rattle.std.specs.Prelude.{◌≡◌, ℕ, Option, None};
+    ghost use Rattle.std.specs.List.{list_any};
+    ghost use Rattle.link_bundle_rules.specs.Hidden.{may_hide, is_hidden, is_hidden_block, unless_hidden, first_readable};
+    ghost use Rattle.link_bundle_rules.specs.Fragments.{has_hidden_payload};
+    ghost use Rattle.link_bundle_rules.specs.History.{bundle_of};
+
+    /// Whether the data of the block with this number may be ciphertext.
+    pub(crate) fn is_hidden(&self, number: u64) -> bool
+        ensures { result ≡ is_hidden (bundle_of self.now None 0) number }
+    {
+        (self.primary.is_later() && number != PAYLOAD_NUMBER) || self.has_hider(number)
+    }
+
+    /// Whether a block confidentiality block is, or may be, one that encrypts this block.
+    fn has_hider(&self, number: u64) -> bool
+        ensures { result ≡ list_any (may_hide number) self.now.security.items }
+    {
+        let security = self.security.as_slice();
+        security.iter().any(|block| block.may_hide(number))
+    }
+
+    /// Whether the data of the block with this type and this number may be ciphertext.
+    pub(crate) fn is_hidden_block(&self, block_type: u64, number: u64) -> bool
+        ensures { result ≡ is_hidden_block (bundle_of self.now None 0) block_type number }
+    {
+        block_type != BLOCK_CONFIDENTIALITY && self.is_hidden(number)
+    }
+
+    /// A block, unless its data may be ciphertext.
+    pub(crate) fn unless_hidden(&self, block: &BlockFacts) -> Option<BlockFacts>
+        ensures { result ≡ unless_hidden (bundle_of self.now None 0) block.now }
+    {
+        if self.is_hidden_block(block.block_type, block.number) {
+            return None;
+        }
+        Some(*block)
+    }
+
+    /// The first block of a type, unless its data may be ciphertext.
+    #[tactic(auto, unfolding(crate::specs::Hidden::first_readable))]
+    pub(crate) fn first_readable(&self, block_type: u64) -> Option<BlockFacts>
+        ensures { (byte : Option ℕ) (size : ℕ)
+            → result ≡ first_readable block_type (bundle_of self.now byte size) }
+    {
+        let first = first_of_type(block_type, self.blocks.as_slice())?;
+        self.unless_hidden(first)
+    }
+
+    /// Whether the payload may be ciphertext.
+    pub(crate) fn has_hidden_payload(&self) -> bool
+        ensures { result ≡ has_hidden_payload (bundle_of self.now None 0) }
+    {
+        self.is_hidden(PAYLOAD_NUMBER)
+    }
+}

@@ -1,0 +1,107 @@
+//! Rules of administrative records and status reports (RFC 9171 section 6.1).
+
+ghost use Rattle.std.specs.Prelude.{◌≡◌};
+ghost use Rattle.link_bundle_rules.specs.Records.{report_in};
+
+use crate::block::{BlockFacts, DataFacts, PAYLOAD, ReportFacts};
+use crate::history::BundleHistory;
+use crate::rule::BundleRule;
+
+/// The greatest reason code that is assigned (section 9.5).
+const LAST_REASON: u64 = 16;
+
+fn report_in(found: DataFacts) -> Option<ReportFacts>
+    ensures { result ≡ report_in found }
+{
+    match found {
+        DataFacts::StatusReport(report) => Some(report),
+        _ => None,
+    }
+}
+
+impl BundleHistory {
+    ghost use Rattle.std.specs.Prelude.{◌≡◌, ℕ, Option};
+    ghost use Rattle.link_bundle_rules.specs.History.{bundle_of};
+    ghost use Rattle.link_bundle_rules.specs.Records.{record_of, administrative_record, record_type, report_of, report_times, report_empty, report_reason, report_source};
+
+    /// The payload block, unless its data may be ciphertext.
+    fn record_of(&self) -> Option<BlockFacts>
+        ensures { (byte : Option ℕ) (size : ℕ)
+            → result ≡ record_of (bundle_of self.now byte size) }
+    {
+        self.first_readable(PAYLOAD)
+    }
+
+    /// The rule of malformed administrative records.
+    #[tactic(auto, unfolding(crate::specs::Records::administrative_record))]
+    pub(crate) fn administrative_record(&self) -> Option<BundleRule>
+        ensures { (byte : Option ℕ) (size : ℕ)
+            → result ≡ administrative_record (bundle_of self.now byte size) }
+    {
+        match self.record_of()?.data {
+            DataFacts::Malformed(byte) => Some(BundleRule::Record { byte }),
+            _ => None,
+        }
+    }
+
+    /// The rule of the types of administrative records.
+    #[tactic(auto, unfolding(crate::specs::Records::record_type))]
+    pub(crate) fn record_type(&self) -> Option<BundleRule>
+        ensures { (byte : Option ℕ) (size : ℕ)
+            → result ≡ record_type (bundle_of self.now byte size) }
+    {
+        match self.record_of()?.data {
+            DataFacts::OtherRecord(record_type) => Some(BundleRule::RecordType { record_type }),
+            _ => None,
+        }
+    }
+
+    /// What a status report says, unless it may be ciphertext.
+    #[tactic(auto, unfolding(crate::specs::Records::report_of))]
+    fn report_of(&self) -> Option<ReportFacts>
+        ensures { (byte : Option ℕ) (size : ℕ)
+            → result ≡ report_of (bundle_of self.now byte size) }
+    {
+        report_in(self.record_of()?.data)
+    }
+
+    /// The rule of the times of a status report.
+    #[tactic(auto, unfolding(crate::specs::Records::report_times))]
+    pub(crate) fn report_times(&self) -> Option<BundleRule>
+        ensures { (byte : Option ℕ) (size : ℕ)
+            → result ≡ report_times (bundle_of self.now byte size) }
+    {
+        let report = self.report_of()?;
+        (report.timed && report.untimed).then_some(BundleRule::ReportTimes)
+    }
+
+    /// The rule of status reports that assert nothing.
+    #[tactic(auto, unfolding(crate::specs::Records::report_empty))]
+    pub(crate) fn report_empty(&self) -> Option<BundleRule>
+        ensures { (byte : Option ℕ) (size : ℕ)
+            → result ≡ report_empty (bundle_of self.now byte size) }
+    {
+        let report = self.report_of()?;
+        (!report.timed && !report.untimed).then_some(BundleRule::ReportEmpty)
+    }
+
+    /// The rule of the reasons of status reports.
+    #[tactic(auto, unfolding(crate::specs::Records::report_reason))]
+    pub(crate) fn report_reason(&self) -> Option<BundleRule>
+        ensures { (byte : Option ℕ) (size : ℕ)
+            → result ≡ report_reason (bundle_of self.now byte size) }
+    {
+        let reason = self.report_of()?.reason;
+        (reason > LAST_REASON).then_some(BundleRule::ReportReason { reason })
+    }
+
+    /// The rule of status reports about bundles without a source.
+    #[tactic(auto, unfolding(crate::specs::Records::report_source))]
+    pub(crate) fn report_source(&self) -> Option<BundleRule>
+        ensures { (byte : Option ℕ) (size : ℕ)
+            → result ≡ report_source (bundle_of self.now byte size) }
+    {
+        let report = self.report_of()?;
+        report.has_no_source.then_some(BundleRule::ReportSource)
+    }
+}

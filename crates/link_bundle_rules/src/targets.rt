@@ -1,0 +1,264 @@
+//! Rules of the targets of security blocks (RFC 9172). They look at the first 64 targets.
+
+ghost use Rattle.std.specs.Prelude.{◌≡◌, []};
+ghost use Rattle.link_bundle_rules.specs.Targets.{first_repeated, if_bad_targets};
+
+use crate::block::BLOCK_CONFIDENTIALITY;
+use crate::history::BundleHistory;
+use crate::rule::BundleRule;
+use crate::rules::first_found;
+use crate::security::{SecurityFacts, has_number};
+use link_rules::Level;
+
+/// The first number that is named before.
+fn first_repeated(targets: &[u64]) -> Option<u64>
+    ensures { result ≡ first_repeated [] targets.now }
+{
+    for (at, target) in targets.iter().enumerate() {
+        if has_number(*target, &targets[..at]) {
+            return Some(*target);
+        }
+    }
+    None
+}
+
+/// The rule that a security block breaks if it has no target, or one twice.
+fn if_bad_targets(block: &SecurityFacts) -> Option<BundleRule>
+    ensures { result ≡ if_bad_targets block.now }
+{
+    let level = Level::Must;
+    if block.count == 0 {
+        return Some(BundleRule::SecurityTargets {
+            block: block.number,
+            target: None,
+            level,
+        });
+    }
+    let target = first_repeated(block.targets.as_slice())?;
+    Some(BundleRule::SecurityTargets {
+        block: block.number,
+        target: Some(target),
+        level,
+    })
+}
+
+/// What a rule asks of a target of a security block.
+#[derive(Clone, Copy, Debug, PartialEq, Eq)]
+enum Asked {
+    /// It is no block of the bundle.
+    Missing,
+    /// It is a target of an earlier block of the same type.
+    Taken,
+    /// It is a target of a block integrity block and of a block confidentiality block.
+    Shared,
+    /// It is a security block, and a target of a block integrity block.
+    Protected,
+    /// It is a block confidentiality block, and a target of one.
+    Encrypted,
+}
+
+impl BundleHistory {
+    ghost use Rattle.std.specs.Prelude.{◌≡◌, ◌==◌, ◌&&◌, ℕ, Option, None, if◌then◌else◌};
+    ghost use Rattle.std.specs.Bool.{then_some};
+    ghost use Rattle.std.specs.List.{list_any};
+    ghost use Rattle.link_bundle_rules.specs.History.{bundle_of};
+    ghost use Rattle.link_bundle_rules.specs.Targets.{is_confidentiality, counts, if_counted, first_counted, first_target, is_target_of, if_bad_targets, missing_target, security_targets, first_with, is_taken, security_twice, is_confidential, shared_target, integrity_target, confidential_target, is_asked};
+
+    /// Whether the data of a security block is neither malformed nor hidden.
+    pub(crate) fn counts(&self, block: &SecurityFacts) -> bool
+        ensures { result ≡ counts (bundle_of self.now None 0) block.now }
+    {
+        !block.is_malformed && !self.is_hidden_block(block.block_type, block.number)
+    }
+
+    /// The rule that a security block breaks, if the block counts.
+    pub(crate) fn if_counted(
+        &self,
+        block: &SecurityFacts,
+        broken: Option<BundleRule>,
+    ) -> Option<BundleRule>
+        ensures { result ≡ (if counts (bundle_of self.now None 0) block.now then broken else None) }
+    {
+        if self.counts(block) { broken } else { None }
+    }
+
+    /// Whether a security block of a type has a target, and counts.
+    fn is_target_of(&self, block_type: u64, target: u64, block: &SecurityFacts) -> bool
+        ensures { result ≡ is_target_of (bundle_of self.now None 0) block_type target block.now }
+    {
+        block.block_type == block_type && block.has_target(target) && self.counts(block)
+    }
+
+    /// The number of the first block of a type that has a target.
+    fn first_with(&self, block_type: u64, target: u64) -> Option<u64>
+        ensures { result ≡ first_with (bundle_of self.now None 0) block_type target }
+    {
+        first_found(
+            self.security.as_slice(),
+            |block| self
+                .is_target_of(block_type, target, block)
+                .then_some(block.number),
+        )
+    }
+
+    /// Whether a block before this one, of its type, has a target.
+    fn is_taken(&self, block: &SecurityFacts, target: u64) -> bool
+        ensures { result ≡ is_taken (bundle_of self.now None 0) block.now target }
+    {
+        match self.first_with(block.block_type, target) {
+            Some(first) => first != block.number,
+            None => false,
+        }
+    }
+
+    /// Whether a block confidentiality block has a target.
+    fn is_confidential(&self, target: u64) -> bool
+        ensures { result ≡ is_confidential (bundle_of self.now None 0) target }
+    {
+        let security = self.security.as_slice();
+        security.iter().any(|block| self.is_target_of(BLOCK_CONFIDENTIALITY, target, block))
+    }
+
+    /// Whether a number is that of a block after the primary one.
+    fn has_block(&self, number: u64) -> bool
+        ensures { result ≡ list_any (λ block. block.number == number) self.now.blocks.items }
+    {
+        let blocks = self.blocks.as_slice();
+        blocks.iter().any(|block| block.number == number)
+    }
+
+    /// Whether a number is that of a security block.
+    fn is_security_block(&self, number: u64) -> bool
+        ensures { result ≡ list_any (λ other. other.number == number) self.now.security.items }
+    {
+        let security = self.security.as_slice();
+        security.iter().any(|other| other.number == number)
+    }
+
+    /// Whether a number is that of a block confidentiality block.
+    fn is_confidentiality_block(&self, number: u64) -> bool
+        ensures { result ≡ list_any (λ other. (other.number == number) && is_confidentiality other)
+            self.now.security.items }
+    {
+        let security = self.security.as_slice();
+        security.iter().any(|other| other.number == number && other.is_confidentiality())
+    }
+
+    /// Whether a target is as a rule asks.
+    fn is_asked(&self, asked: Asked, block: &SecurityFacts, target: u64) -> bool
+        ensures { result ≡ is_asked asked (bundle_of self.now None 0) block.now target }
+    {
+        match asked {
+            Asked::Missing => target != 0 && !self.has_block(target),
+            Asked::Taken => self.is_taken(block, target),
+            Asked::Shared => block.is_integrity() && self.is_confidential(target),
+            Asked::Protected => block.is_integrity() && self.is_security_block(target),
+            Asked::Encrypted => block.is_confidentiality() && self.is_confidentiality_block(target),
+        }
+    }
+
+    /// The number of a block, and its first target that is as a rule asks, if the block counts.
+    fn first_target(&self, asked: Asked, block: &SecurityFacts) -> Option<(u64, u64)>
+        ensures { result ≡ if_counted (bundle_of self.now None 0)
+            (first_target (is_asked asked (bundle_of self.now None 0))) block.now }
+    {
+        if !self.counts(block) {
+            return None;
+        }
+        first_found(
+            block.targets.as_slice(),
+            |target| self
+                .is_asked(asked, block, *target)
+                .then_some((block.number, *target)),
+        )
+    }
+
+    /// The first block that counts and has such a target, and its first such target.
+    fn first_asked(&self, asked: Asked) -> Option<(u64, u64)>
+        ensures { result ≡ first_counted (bundle_of self.now None 0)
+            (first_target (is_asked asked (bundle_of self.now None 0))) }
+    {
+        first_found(
+            self.security.as_slice(),
+            |block| self.first_target(asked, block),
+        )
+    }
+
+    /// The first block that has no target, or one twice.
+    fn bad_targets(&self) -> Option<BundleRule>
+        ensures { result ≡ first_counted (bundle_of self.now None 0) if_bad_targets }
+    {
+        first_found(
+            self.security.as_slice(),
+            |block| self.if_counted(block, if_bad_targets(block)),
+        )
+    }
+
+    /// The rule of targets that are missing. Those of a fragment need not be there.
+    fn missing_target(&self) -> Option<BundleRule>
+        ensures { result ≡ missing_target (bundle_of self.now None 0) }
+    {
+        if self.primary.fragment.is_some() {
+            return None;
+        }
+        let (block, target) = self.first_asked(Asked::Missing)?;
+        Some(BundleRule::SecurityTargets {
+            block,
+            target: Some(target),
+            level: Level::Should,
+        })
+    }
+
+    /// The rule of the targets of single security blocks.
+    #[tactic(auto, unfolding(crate::specs::Targets::security_targets))]
+    pub(crate) fn security_targets(&self) -> Option<BundleRule>
+        ensures { (byte : Option ℕ) (size : ℕ)
+            → result ≡ security_targets (bundle_of self.now byte size) }
+    {
+        let bad = self.bad_targets();
+        if bad.is_some() {
+            return bad;
+        }
+        self.missing_target()
+    }
+
+    /// The rule of targets that two blocks of a type have.
+    #[tactic(auto, unfolding(crate::specs::Targets::security_twice))]
+    pub(crate) fn security_twice(&self) -> Option<BundleRule>
+        ensures { (byte : Option ℕ) (size : ℕ)
+            → result ≡ security_twice (bundle_of self.now byte size) }
+    {
+        let (block, target) = self.first_asked(Asked::Taken)?;
+        Some(BundleRule::SecurityTwice { block, target })
+    }
+
+    /// The rule of targets that blocks of both types have.
+    #[tactic(auto, unfolding(crate::specs::Targets::shared_target))]
+    pub(crate) fn shared_target(&self) -> Option<BundleRule>
+        ensures { (byte : Option ℕ) (size : ℕ)
+            → result ≡ shared_target (bundle_of self.now byte size) }
+    {
+        let (block, target) = self.first_asked(Asked::Shared)?;
+        Some(BundleRule::SharedTarget { block, target })
+    }
+
+    /// The rule of security blocks that are targets of block integrity blocks.
+    #[tactic(auto, unfolding(crate::specs::Targets::integrity_target))]
+    pub(crate) fn integrity_target(&self) -> Option<BundleRule>
+        ensures { (byte : Option ℕ) (size : ℕ)
+            → result ≡ integrity_target (bundle_of self.now byte size) }
+    {
+        let (block, target) = self.first_asked(Asked::Protected)?;
+        Some(BundleRule::IntegrityTarget { block, target })
+    }
+
+    /// The rule of block confidentiality blocks that are targets of others.
+    #[tactic(auto, unfolding(crate::specs::Targets::confidential_target))]
+    pub(crate) fn confidential_target(&self) -> Option<BundleRule>
+        ensures { (byte : Option ℕ) (size : ℕ)
+            → result ≡ confidential_target (bundle_of self.now byte size) }
+    {
+        let (block, target) = self.first_asked(Asked::Encrypted)?;
+        Some(BundleRule::ConfidentialTarget { block, target })
+    }
+}

@@ -1,0 +1,3 @@
+pub mod Transfers
+pub mod Unpacking
+pub mod TransferJudge
