@@ -103,16 +103,20 @@ class Output:
     def named(self, function):
         """Returns the name under which a function is printed, if it is.
 
-        A method has its type's module, also if it is written in another one.
+        A method has its type's module, also if it is written in another one. If a type has several
+        `impl` blocks or implements a trait for several types, its word goes on with these types.
         """
-        if function in self.functions:
-            return function
-        crate, tail = function.split("::")[0], function.split("::")[-2:]
-        found = [
-            name for name in self.functions
-            if name.split("::")[0] == crate and name.split("::")[-2:] == tail
-        ]
-        return found[0] if len(tail) == 2 and len(found) == 1 else None
+        crate, *rest = function.split("::")
+        if function in self.functions or len(rest) < 2:
+            return function if function in self.functions else None
+        *module, owner, method = rest
+        names = [name.split("::") for name in self.functions]
+        found = [it for it in names if it[0] == crate and it[-2:] == [owner, method]]
+        if not found and owner[0].isupper():
+            longer = re.compile(owner + "[A-Z+]")
+            here = [it for it in names if it[:-2] == [crate, *module] and it[-1] == method]
+            found = [it for it in here if longer.match(it[-2])]
+        return "::".join(found[0]) if len(found) == 1 else None
 
     def own_lines(self, name):
         """Returns the lines that refuse a function: the notes before its line, and its proofs'."""

@@ -128,9 +128,35 @@ class Prover:
         return Run(ran.returncode, text, used.ru_utime + used.ru_stime, used.ru_maxrss * 1024)
 
     def prove(self, crate, jobs):
-        """Proves a crate as it is. The checks of edits begin with what this leaves in its out/."""
+        """Proves a crate as it is. The checks of edits begin with what this leaves in its out/.
+
+        `rt lib` has nothing to prove where `./build` or an earlier run built the library. For other
+        crates `rt` notes no such thing.
+        """
         sweep(crate)
-        return self.run(["rt", "check", "--jobs", str(jobs)], crate.folder)
+        is_library = not crate.is_static and not crate.is_program
+        is_kept = os.path.isdir(f"{crate.folder}/out/incremental")
+        if is_kept and not is_library and self.is_built(crate):
+            return Run(0, "", 0.0, 0)
+        word = "lib" if is_kept and is_library else "check"
+        return self.run(["rt", word, "--jobs", str(jobs)], crate.folder)
+
+    def is_built(self, crate):
+        """Returns whether `./build` built a crate with this kit, and no source changed since.
+
+        The date of `build.done` is the time at which that build began.
+        """
+        done = f"{crate.folder}/out/build.done"
+        folders = [self.crates[name].folder for name in [crate.name, *crate.own_below]]
+        paths = [f"{folder}/{part}" for folder in folders for part in PARTS]
+        files = [f"{at}/{name}" for it in paths for at, _, names in os.walk(it) for name in names]
+        files.append(f"{os.path.dirname(os.path.dirname(crate.folder))}/crates.txt")
+        try:
+            with open(done, encoding="utf-8") as file:
+                by_this_kit = file.read().strip() == self.kit.identity
+            return by_this_kit and max(map(os.path.getmtime, files)) < os.path.getmtime(done)
+        except OSError:
+            return False
 
     def _words(self, crate):
         """Returns the command that checks a crate in the folder where it is run, as `rt` does."""

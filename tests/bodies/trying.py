@@ -1,5 +1,6 @@
 """Tries edits: many in one check where they change different functions, the others alone."""
 
+import time
 from collections import Counter, defaultdict
 from concurrent.futures import FIRST_COMPLETED, ThreadPoolExecutor, wait
 from typing import NamedTuple
@@ -34,19 +35,61 @@ def batches_of(found):
 
 
 def for_promises(found):
-    """Returns one edit for each promise, so that few of them change the same function."""
-    chosen, covered, by_promise, taken = [], set(), defaultdict(list), Counter()
+    """Returns one edit for each promise, so that they take as few checks as possible."""
+    by_crate = defaultdict(lambda: defaultdict(list))
     for edit in found:
         for promise in edit.promises:
-            by_promise[edit.crate, promise].append(edit)
-    # A promise that fewer functions keep has less choice, so it comes first.
-    for key in sorted(by_promise, key=lambda key: len({it.function for it in by_promise[key]})):
-        if key not in covered:
-            edit = min(by_promise[key], key=lambda it: (it.function is None, taken[it.function]))
-            chosen.append(edit)
-            taken[edit.function] += 1
-            covered.update((edit.crate, promise) for promise in edit.promises)
+            by_crate[edit.crate][promise].append(edit)
+    return [edit for by_promise in by_crate.values() for edit in chosen_of(by_promise)]
+
+
+def chosen_of(by_promise):
+    """Returns one edit for each promise of a crate. As few as possible change the same function."""
+    choices = {
+        promise: [edit for edit in its if edit.function] or its[:1]
+        for promise, its in by_promise.items()
+    }
+    # The same with the edits first that break several promises
+    shared = {name: sorted(its, key=lambda it: -len(it.promises)) for name, its in choices.items()}
+    numbers = range(1, len(choices) + 1)
+    tries = (matched(its, most) for most in numbers for its in (choices, shared))
+    chosen = list(dict.fromkeys(next(filter(None, tries)).values()))
+    # An edit can break the promises of others too.
+    for edit in list(chosen):
+        others = {promise for other in chosen if other is not edit for promise in other.promises}
+        if others.issuperset(edit.promises):
+            chosen.remove(edit)
     return chosen
+
+
+def matched(choices, most):
+    """Returns an edit for each promise, at most `most` for a function, or None if there are none.
+
+    Promises can share an edit. A promise can take the place of one that has another place.
+    """
+    places = defaultdict(dict)
+
+    def place(promise, seen):
+        ways = [(places[edit.function or edit], edit) for edit in choices[promise]]
+        ways = [(its, edit) for its, edit in ways if id(its) not in seen]
+        for its, edit in ways:
+            if edit in its.values() or len(set(its.values())) < most:
+                its[promise] = edit
+                return True
+        for its, edit in ways:
+            others = [] if id(its) in seen else list(its)
+            seen.add(id(its))
+            for other in others:
+                if place(other, seen):
+                    del its[other]
+                if len(set(its.values())) < most:
+                    its[promise] = edit
+                    return True
+        return False
+
+    if not all(place(promise, set()) for promise in choices):
+        return None
+    return {promise: edit for its in places.values() for promise, edit in its.items()}
 
 
 def as_task(batch):
@@ -80,12 +123,13 @@ def parted(batch, output, texts):
 class Trial:
     """The edits to try, with what came of them. Crates are proved first, lower ones before."""
 
-    def __init__(self, prover, kept, jobs, say=print):
-        self.prover, self.kept, self.jobs, self.say = prover, kept, jobs, say
+    def __init__(self, prover, kept, jobs, say=print, until=None):
+        self.prover, self.kept, self.jobs, self.say, self.until = prover, kept, jobs, say, until
         self.verdicts, self.known = {}, set()
         self.checks, self.alone, self.seconds = Counter(), Counter(), defaultdict(float)
         self.base, self.most = defaultdict(float), 0
         self.waiting, self.left, self.unproved = [], {}, {}
+        self.untried = []
 
     def run(self, found):
         """Tries all of these edits."""
@@ -121,10 +165,18 @@ class Trial:
         is_proving = any(not task.edits for task in running)
         return proofs[:0 if is_proving else 1] + [task for task in self.waiting if task.edits]
 
+    def _stop_in_time(self):
+        """Starts no further task once the time is up."""
+        if self.until is not None and time.monotonic() >= self.until:
+            self.untried += [edit for task in self.waiting for edit in task.edits]
+            self.untried += [edit for its in self.left.values() for edit in its]
+            self.waiting, self.left = [], {}
+
     def _run_tasks(self, pool):
-        """Runs tasks, and those that come of them, until none is left."""
+        """Runs tasks, and those that come of them, until none is left or the time is up."""
         running = {}
         while self.waiting or running:
+            self._stop_in_time()
             for task in self.ready(running.values())[:self.jobs - len(running)]:
                 self.waiting.remove(task)
                 running[pool.submit(self._do, task)] = task
@@ -164,7 +216,7 @@ class Trial:
 
     def _after_proof(self, name, ran):
         """Returns the tasks of a crate's edits, once it is proved."""
-        found = self.left.pop(name)
+        found = self.left.pop(name, [])
         self.say(f"{name}: proved as it is, {ran.seconds:.0f} s" if ran.status == 0 else "\n".join(
             [*ran.text.splitlines()[-6:], f"{name} is not proved, so its edits are not tried"]))
         if ran.status == 0:
