@@ -4,9 +4,16 @@
 class Chosen {
   constructor(root, session) {
     Object.assign(this, { root, session, from: null });
-    root.addEventListener("pointerover", (event) => this.mark(event));
-    root.addEventListener("focusin", (event) => this.mark(event));
-    addEventListener("keydown", (event) => event.key === "Escape" && this.close());
+    const { signal } = this.ending = new AbortController();
+    root.addEventListener("pointerover", (event) => this.mark(event), { signal });
+    root.addEventListener("focusin", (event) => this.mark(event), { signal });
+    addEventListener("keydown", (event) => event.key === "Escape" && this.close(), { signal });
+  }
+
+  /** Ends the view of what is chosen. */
+  end() {
+    this.root.hidden = true;
+    this.ending.abort();
   }
 
   close() {

@@ -50,6 +50,9 @@ function scaled(value, units, step = 1000) {
   return `${value.toFixed(digits)} ${units[unit]}`;
 }
 
+/** Returns a text, or its beginning if it has more letters. */
+const shortened = (text, most) => (text.length > most ? `${text.slice(0, most - 1)}…` : text);
+
 const bytesText = (count) => scaled(count, ["B", "kB", "MB", "GB"]);
 
 /** Returns a duration in seconds as a text. */
@@ -71,5 +74,8 @@ function dateText(seconds) {
     : date.toISOString().replace("T", " ").replace("Z", "");
 }
 
-/** Lets the browser draw what was made so far. */
-const drawn = () => new Promise((next) => setTimeout(next));
+/** Lets the browser draw what was made so far. A page that is not seen is not drawn. */
+const drawn = () => new Promise((next) => {
+  requestAnimationFrame(() => setTimeout(next));
+  setTimeout(next, 100);
+});

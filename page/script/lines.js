@@ -60,6 +60,9 @@ function messageOf(line, side) {
     kind,
     words: second < 0 ? "" : line.slice(second + 1),
     end: 0,
+    // Of an answer: its transfer, and the index of the other side's message that it answers
+    transfer: null,
+    cause: null,
   };
 }
 
@@ -76,9 +79,9 @@ function eventOf(message) {
   }
   const { offset, end } = message;
   return pattern === REFUSE
-    ? { type, offset, end, flags: 0, length: 0, reason: found[1], ident: found[2] }
+    ? { type, message, offset, end, flags: 0, length: 0, reason: found[1], ident: found[2] }
     : {
-        type, offset, end, flags: parseInt(found[1], 16), ident: found[2],
+        type, message, offset, end, flags: parseInt(found[1], 16), ident: found[2],
         length: Number(found[3]), reason: null,
       };
 }

@@ -52,7 +52,12 @@ async function showLines() {
   session.isJoint = both !== null;
   session.takeRules(partOf(both, "rules"));
   session.tieRules();
-  session.notes.push(...linesOf(partOf(both, "notes")));
+  // A report of the fault of a recording says what its side shows.
+  const faults = session.sides.map(({ file, fault }) =>
+    fault && `${file}: byte ${fault.offset}: ${fault.text}`);
+  const notes = [...linesOf(partOf(both, "notes"))].filter((it) => !faults.includes(it));
+  session.notes.push(...notes);
+  view?.end();
   view = new View(session, (transfer) => {
     const { side } = transfer;
     side.blocks ??= [...blocksOf(partOf(sections[session.sides.indexOf(side)], "blocks"))];
@@ -84,12 +89,11 @@ async function moduleOf(text) {
 
 /** Returns the limits that a side sets to the other, as options of `check`. */
 function limitsOf(other) {
-  const init = other?.messages.find((it) => it.kind === "sess-init");
-  const values = valuesOf(init?.words ?? "");
+  const init = other?.init;
   return init
     ? {
-        has_peer_segment: 1, peer_segment: values["segment-mru"],
-        has_peer_transfer: 1, peer_transfer: values["transfer-mru"],
+        has_peer_segment: 1, peer_segment: init["segment-mru"],
+        has_peer_transfer: 1, peer_transfer: init["transfer-mru"],
       }
     : {};
 }
@@ -123,6 +127,7 @@ async function showRecordings(recordings, module) {
   if (session.sides.length > 1) {
     session.notes.push("Rules that need both sides are judged by tcpclkit-page alone.");
   }
+  view?.end();
   view = new View(session, blocksByModule);
   await progress("", 1);
 }
@@ -266,5 +271,6 @@ globalThis.tcpclkit = {
   tools: async () => Tools.of(await moduleOf(element("module").textContent)),
   open,
   session: () => view?.session,
+  order: () => view?.timeline.order,
   pairLines,
 };

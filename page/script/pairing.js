@@ -15,6 +15,9 @@ class Transfer {
     this.isCut = false;
     this.answers = 0;
     this.answer = null;
+    // Of each segment, the index of its message, and the sum of the lengths up to it
+    this.indexes = [];
+    this.sums = [];
     this.text = null;
     this.broken = [];
   }
@@ -25,10 +28,32 @@ class Transfer {
     return this.words;
   }
 
-  add(segment) {
+  add(segment, index) {
     this.segments += 1;
     this.length += segment.length;
     this.end = segment.end;
+    this.indexes.push(index);
+    this.sums.push(this.length);
+  }
+
+  /** Counts an answer, whose message then names this transfer and the message that it answers. */
+  tie(answer) {
+    answer.message.transfer = this;
+    answer.message.cause = this.causeOf(answer);
+    this.answers += 1;
+  }
+
+  /**
+   * Returns the index of the message that an answer is to. The next XFER_ACK answers the next
+   * segment, or a later one if it has the sum of the lengths up to that.
+   */
+  causeOf(answer) {
+    const next = Math.min(this.answers, this.segments - 1);
+    if (answer.reason !== null) {
+      return this.indexes[0];
+    }
+    const reached = firstAtLeast(this.sums, answer.length);
+    return this.indexes[this.sums[reached] === answer.length ? Math.max(next, reached) : next];
   }
 
   /** Returns whether an answer acknowledges all of the transfer. */
@@ -63,7 +88,7 @@ function transfersOf(side, isClosed) {
     } else if (!isOpen) {
       continue;
     }
-    open.add(segment);
+    open.add(segment, index);
     if (segment.flags & END) {
       close("over");
     }
@@ -118,10 +143,9 @@ class Pairing {
   /** Counts an answer to the first of the transfers, and decides it if the answer does. */
   count(transfers, answer, isOnly) {
     const [transfer] = transfers;
-    transfer.answers += 1;
-    const more = transfer.segments - transfer.answers;
-    if (answer.reason !== null && more > 0) {
-      this.late.set(transfer.ident, more);
+    transfer.tie(answer);
+    if (answer.reason !== null && transfer.answers < transfer.segments) {
+      this.late.set(transfer.ident, transfer);
     }
     if (answer.reason !== null || transfer.endsWith(answer)) {
       transfer.answer = answer;
@@ -133,14 +157,13 @@ class Pairing {
 
   /** Returns whether a refused transfer may still have this answer. If so, it had it. */
   spends(answer) {
-    const left = this.late.get(answer.ident);
-    if (answer.flags & START || left === undefined) {
+    const refused = this.late.get(answer.ident);
+    if (answer.flags & START || refused === undefined) {
       return false;
     }
-    if (left === 1) {
+    refused.tie(answer);
+    if (refused.answers === refused.segments) {
       this.late.delete(answer.ident);
-    } else {
-      this.late.set(answer.ident, left - 1);
     }
     return true;
   }

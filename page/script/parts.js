@@ -1,9 +1,10 @@
-// The parts of the page: numbers, transfers, broken rules and messages of a session.
+// The parts of the page: sides, numbers, transfers and messages of a session.
 
 /** Makes a link to a message. */
 function linkTo(message, chosen, text) {
-  return make("button", { class: "link", onclick: () => chosen.message(message) },
-    text ?? `${message.side.name} ${message.offset}`);
+  const choose = () => chosen.message(message);
+  return make("button", { class: "link", title: `${message.kind} ${message.words}`, onclick: choose },
+    text ?? `${message.side.name} ${message.offset} ${message.kind}`);
 }
 
 // ---- numbers
@@ -15,16 +16,49 @@ function numbersView(session) {
       make("dt", {}, name), make("dd", {}, value), make("dd", { class: "quiet" }, detail)));
 }
 
-/** Makes the line of a side: its node, its file and its length, and its fault. */
-function sideView(side, chosen) {
-  const { fault } = side;
-  const wrong = [
-    fault && ` Fault at byte ${counted(fault.offset)}: ${fault.text}`,
-    side.lacks && ` Only the first ${counted(MOST_MESSAGES)} messages are shown`,
-  ];
-  return make("p", { class: "side" }, make("b", {}, side.name), ` ${side.node ?? "no node ID"} `,
-    make("span", { class: "quiet" }, `${side.file}, ${bytesText(side.length)}`),
-    wrong.filter(Boolean).map((it) => make("strong", { class: "fault" }, it)));
+/** Makes the lines of a side: its node, its file and its length, its parameters, and its fault. */
+function sideView(side) {
+  const fault = faultOf(side);
+  const most = counted(MOST_MESSAGES);
+  return make("div", { class: "side" },
+    make("p", {}, make("b", {}, side.name), ` ${side.node ?? "no node ID"} `,
+      make("span", { class: "quiet" }, `${side.file}, ${bytesText(side.length)}`)),
+    make("p", { class: "parameters" }, ...parametersOf(side)),
+    fault && make("p", { class: fault.isWrong ? "fault" : "note" }, fault.sentence),
+    side.lacks && make("p", { class: "note" }, `Only its first ${most} messages are shown.`));
+}
+
+/** Makes the parameters that a side offers: a name, a value, and what it means. */
+function parametersOf(side) {
+  const { init } = side;
+  const tls = side.canUseTls ? [["contact header", "CAN_TLS", "this side can use TLS"]] : [];
+  const parameters = init === null ? [["", "no SESS_INIT", "so it offers no parameters"]] : [
+    ["keepalive", `${init.keepalive} s`, "after this time without a message, a KEEPALIVE is due"],
+    ["segment MRU", mruText(init["segment-mru"]), "the most data that this side takes in a segment"],
+    ["transfer MRU", mruText(init["transfer-mru"]), "the most data that this side takes in a transfer"],
+    ["extension items", init.items, "which are listed in the SESS_INIT"],
+  ].filter(([name, value]) => name !== "extension items" || value !== "0");
+  return [...parameters, ...tls].flatMap(([name, value, title]) =>
+    [make("span", { title }, name && `${name} `, make("b", {}, value)), " "]);
+}
+
+/** Returns a limit of a side as a text. The greatest one is no limit. */
+function mruText(digits) {
+  const value = BigInt(digits);
+  return value === 2n ** 64n - 1n ? "unlimited" : `${FORMAT.format(value)} bytes`;
+}
+
+/** Returns the interval of KEEPALIVEs on which both sides agree, as a text, or null. */
+function agreedText({ sides }) {
+  const intervals = sides.map((it) => it.init && Number(it.init.keepalive));
+  if (sides.length < 2 || intervals.includes(null)) {
+    return null;
+  }
+  const least = Math.min(...intervals);
+  const why = new Set(intervals).size > 1 ? ", the smaller interval of both sides" : "";
+  return least === 0
+    ? "No KEEPALIVE is due, since a side offers 0 s."
+    : `A KEEPALIVE is due after ${least} s${why}.`;
 }
 
 // ---- transfers
@@ -53,7 +87,8 @@ function outcomeView(transfer) {
     return "";
   }
   const reason = transfer.outcome.split("reason=")[1];
-  return badge(outcomeKind(transfer), reason ? `refused ${reason}` : OUTCOMES[transfer.outcome]);
+  return badge(outcomeKind(transfer),
+    reason ? `refused: ${reasonText(reason)}` : OUTCOMES[transfer.outcome]);
 }
 
 /** Returns when the last byte of a transfer was captured, and how much later its answer. */
@@ -75,7 +110,7 @@ function transferColumns(session) {
     new Column("Answer", (it) => it.outcome, outcomeView),
     new Column("Source", (it) => identityOf(it, "source"), undefined, "optional"),
     new Column("Destination", (it) => identityOf(it, "destination"), undefined, "optional"),
-    new Column("Rules", (it) => it.broken.length, (it) => String(it.broken.length || ""), "number"),
+    new Column("Broken rules", (it) => it.broken.length, (it) => brokenNames(it, session)),
   ];
   if (first !== undefined) {
     columns.push(
@@ -95,7 +130,7 @@ const signedText = (value) =>
 function transferView(transfer, blocks, session, chosen) {
   const said = [transfer.outcome, transfer.text ?? "cut by the fault of the recording"];
   const parts = [make("p", { class: "line" }, said.filter(Boolean).join(" "))];
-  const rules = transfer.broken.map((it) => make("li", {}, brokenView(it)));
+  const rules = transfer.broken.map((it) => make("li", {}, brokenView(it, session, chosen)));
   if (rules.length > 0) {
     parts.push(make("h4", {}, "Broken rules"), make("ul", {}, rules));
   }
@@ -144,7 +179,7 @@ function messagesOf(transfer, session, chosen) {
     }
     const event = eventOf(message);
     if (event?.type === "segment" && event.ident === transfer.ident) {
-      links.push(linkTo(message, chosen, `${side.name} ${message.offset} segment`));
+      links.push(linkTo(message, chosen));
     }
   }
   if (links.length > LINKS) {
@@ -152,121 +187,9 @@ function messagesOf(transfer, session, chosen) {
   }
   const answer = transfer.answer && session.other(side).messageAt(transfer.answer.offset);
   if (answer) {
-    links.push(linkTo(answer, chosen, `${answer.side.name} ${answer.offset} ${answer.kind}`));
+    links.push(linkTo(answer, chosen));
   }
   return links.flatMap((it) => [it, " "]);
-}
-
-// ---- broken rules
-
-/** Returns what the page says of each rule: its cells by their names. */
-function rulesOfPage() {
-  const rules = new Map();
-  for (const row of document.querySelectorAll("#rules tr[data-rule]")) {
-    for (const name of row.dataset.rule.split(" ")) {
-      rules.set(`${row.dataset.sides} ${name}`, row);
-    }
-  }
-  return rules;
-}
-
-/** Makes the line of a broken rule in its transfer. */
-function brokenView(broken) {
-  return [badge(broken.level, broken.level), " ", make("code", {}, broken.rule), " ",
-    make("span", { class: "line" }, wordsOf(broken)), meaningOf(broken)];
-}
-
-// How many lines of a rule are shown at first
-const LINES_OF_A_RULE = 8;
-
-/** Makes the part of a rule that is broken: its sentence, and its lines. */
-function ruleView(name, lines, row, session, chosen) {
-  const cell = (part) =>
-    row ? [...row.querySelector(`[data-part="${part}"]`).cloneNode(true).childNodes] : [];
-  const items = make("ul", { class: "broken" });
-  const levels = [...new Set(lines.map((it) => it.level))].sort();
-  const more = (from, most) => {
-    items.append(...lines.slice(from, from + most).map((it) => make("li", {},
-      it.message ? linkTo(it.message, chosen) : make("span", {}, `${it.side} ${it.offset} (end)`),
-      levels.length > 1 ? ` ${it.level} ` : " ", transferLink(it, session),
-      make("span", { class: "line" }, wordsOf(it)), peerLink(it, session, chosen), meaningOf(it))));
-    const left = lines.length - from - most;
-    if (left > 0) {
-      const next = () => {
-        button.remove();
-        more(from + most, ROWS);
-      };
-      const button = make("button", { onclick: next },
-        `Show ${counted(Math.min(left, ROWS))} more of ${counted(left)}`);
-      items.append(button);
-    }
-  };
-  more(0, LINES_OF_A_RULE);
-  const sides = [...new Set(lines.map((it) => it.side))].sort().join(" and ");
-  const quotes = cell("quotes");
-  const isOfTwo = row?.dataset.sides === "two";
-  const when = isOfTwo ? "Broken by side S, with Q as the other side, if " : "Broken if ";
-  return make("article", { class: "rule" },
-    make("h3", {}, levels.flatMap((it) => [badge(it, it), " "]), make("code", {}, name),
-      make("span", { class: "quiet" }, ` ${several(lines.length, "time")}, by side ${sides}`)),
-    make("p", { class: "sentence" }, when, ...cell("sentence"), ". ",
-      make("span", { class: "section" }, ...cell("section"))),
-    cell("advice").length > 0 ? make("p", {}, "In the node: ", ...cell("advice"), ".") : null,
-    quotes.length > 0
-      ? make("details", {}, make("summary", { class: "quiet" }, "What the RFCs say"), ...quotes)
-      : null,
-    items);
-}
-
-/** Returns the words of a broken rule without those that a link has. */
-const wordsOf = (broken) =>
-  broken.transfer ? broken.words.replace(/^transfer=\d+ ?/, "") : broken.words;
-
-/** Makes the meaning of the code of a bundle's fault, if the words of a broken rule have one. */
-function meaningOf(broken) {
-  const code = /code=(B\d+)/.exec(broken.words)?.[1];
-  const meaning = code && document.querySelector(`#codes [data-code="${code}"]`)?.textContent;
-  return meaning ? make("span", { class: "quiet" }, ` ${meaning}`) : null;
-}
-
-/** Makes a link to the message of the other side that a broken rule names. */
-function peerLink(broken, session, chosen) {
-  const at = /peer-at=(\d+)/.exec(broken.words)?.[1];
-  const message = at && session.other(broken.of)?.messageAt(Number(at));
-  return message ? [" ", linkTo(message, chosen)] : null;
-}
-
-/** Makes a link to the transfer that a broken rule is about. */
-function transferLink(broken, session) {
-  const { transfer } = broken;
-  const show = () => session.showTransfer(transfer);
-  return transfer
-    ? [make("button", { class: "link", onclick: show }, `transfer ${transfer.ident}`), " "]
-    : null;
-}
-
-/** Returns the row of a rule: that of two sides if both were judged, unless it names the other. */
-function rowOf(name, lines, known, session) {
-  const [one, two] = [known.get(`one ${name}`), known.get(`two ${name}`)];
-  const isSame = two?.querySelector('[data-part="sentence"]').textContent.startsWith("as in");
-  const isPeers = name !== "keepalive" || lines.some((it) => it.words);
-  return session.isJoint && two && !isSame && isPeers ? two : one ?? two;
-}
-
-/** Makes the parts of all rules that are broken: those of level must first. */
-function rulesView(session, chosen) {
-  const known = rulesOfPage();
-  const byName = new Map();
-  for (const broken of session.broken) {
-    if (!byName.has(broken.rule)) {
-      byName.set(broken.rule, []);
-    }
-    byName.get(broken.rule).push(broken);
-  }
-  const rank = ([, lines]) => (lines.some((it) => it.level === "must") ? 0 : 1);
-  return [...byName].sort((one, two) => rank(one) - rank(two)).map(([name, lines]) => {
-    return ruleView(name, lines, rowOf(name, lines, known, session), session, chosen);
-  });
 }
 
 // ---- messages

@@ -112,10 +112,21 @@ class Side {
     return this.offsets[index] === offset ? this.messages[index] : null;
   }
 
+  /** The words `NAME=VALUE` of the first SESS_INIT, or null. */
+  get init() {
+    const init = this.messages.find((it) => it.kind === "sess-init");
+    return init ? valuesOf(init.words) : null;
+  }
+
   /** The node ID of the first SESS_INIT, or null. */
   get node() {
-    const init = this.messages.find((it) => it.kind === "sess-init");
-    return (init && valuesOf(init.words).node) || null;
+    return this.init?.node || null;
+  }
+
+  /** Whether the contact header has the flag CAN_TLS. */
+  get canUseTls() {
+    const [contact] = this.messages;
+    return contact?.kind === "contact" && (codeOf(contact, "flags") & 1) !== 0;
   }
 
   /** The last SESS_TERM, or undefined. */
@@ -164,18 +175,29 @@ class Session {
     }
   }
 
-  /** Ties each broken rule to the transfer that it is about. */
+  /** Ties each broken rule to the transfer that it is about, which may be the other side's. */
   tieRules() {
-    for (const side of this.sides) {
-      const offsets = side.transfers.map((it) => it.offset);
-      for (const broken of this.broken.filter((it) => it.of === side)) {
-        const transfer = side.transfers[firstAtLeast(offsets, broken.offset + 1) - 1];
-        if (broken.message?.kind === "xfer-segment" && transfer && broken.offset < transfer.end) {
-          broken.transfer = transfer;
-          transfer.broken.push(broken);
-        }
-      }
+    for (const broken of this.broken) {
+      broken.transfer = this.transferOf(broken);
+      broken.transfer?.broken.push(broken);
     }
+  }
+
+  /** Returns the transfer that a broken rule is about, or null. */
+  transferOf({ of, message, words }) {
+    const other = this.other(of);
+    const { id, "peer-at": at } = valuesOf(words);
+    if (message?.kind === "xfer-segment") {
+      return transferAt(of, message.offset);
+    }
+    const isAnswer = ["xfer-ack", "xfer-refuse"].includes(message?.kind);
+    if (other === null || (message && !isAnswer)) {
+      return null;
+    }
+    const peer = at === undefined ? null : other.messageAt(Number(at));
+    return message?.transfer
+      ?? (peer?.kind === "xfer-segment" ? transferAt(other, peer.offset) : null)
+      ?? other.transfers.findLast((it) => it.ident === id) ?? null;
   }
 
   get transfers() {
@@ -190,6 +212,13 @@ class Session {
     const clocks = this.sides.map((it) => it.clock);
     return [Math.min(...clocks.map((it) => it.first)), Math.max(...clocks.map((it) => it.last))];
   }
+}
+
+/** Returns the transfer of a side that has the segment at an offset, or null for a stray one. */
+function transferAt(side, offset) {
+  side.starts ??= side.transfers.map((it) => it.offset);
+  const transfer = side.transfers[firstAtLeast(side.starts, offset + 1) - 1];
+  return transfer && offset < transfer.end ? transfer : null;
 }
 
 const isRefused = (transfer) =>
@@ -228,23 +257,4 @@ function numbersOf(session) {
     seconds === null ? ["Duration", "–", "no times"] : ["Duration", durationText(seconds), ""],
     seconds > 0 ? ["Rate", `${bytesText(bytes / seconds)}/s`, ""] : ["Rate", "–", "no times"],
   ];
-}
-
-/** Returns what is wrong with a session, in a sentence. */
-function verdictOf(session) {
-  const { sides, transfers, broken } = session;
-  const some = (test) => transfers.filter(test).length;
-  const wrong = [
-    [sides.filter((it) => it.fault).length, "recording has a fault", "recordings have faults"],
-    [new Set(broken.map((it) => it.rule)).size, "rule is broken", "rules are broken"],
-    [some((it) => it.kind !== "good"), "transfer is not good", "transfers are not good"],
-    [some(isRefused), "was refused", "were refused"],
-    [some((it) => it.outcome === "lost"), "was lost", "were lost"],
-    [some((it) => it.outcome === "unanswered"), "has no answer", "have no answer"],
-  ].filter(([count]) => count > 0);
-  if (wrong.length === 0) {
-    return "These recordings show nothing wrong";
-  }
-  const parts = wrong.map(([count, one, many]) => several(count, one, many));
-  return [parts.slice(0, -1).join(", "), parts[parts.length - 1]].filter(Boolean).join(" and ");
 }

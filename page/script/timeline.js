@@ -7,13 +7,19 @@ const GAP = 12;
 const AXIS = 26;
 const EDGE = 10;
 
+// Below this width, how a side ended is on a line of its own.
+const WIDE = 760;
+// How wide a letter of a lane's texts is
+const LETTER = 6.6;
+
 // Narrower bars are put together: as many as begin within this width.
 const NARROW = 4;
 
-/** Where each side's bytes are on the timeline: by the time, or else by the offset. */
+/** Where each side's bytes are on the timeline: by the time, or else by what is known of the order. */
 class Scale {
-  constructor(session, width) {
+  constructor(session, order, width) {
     this.period = session.period;
+    this.order = order;
     this.width = width - 2 * EDGE;
     this.sides = session.sides;
   }
@@ -21,7 +27,7 @@ class Scale {
   /** Returns the share of the width at which the byte before an offset lies. */
   share(side, offset) {
     if (this.period === null) {
-      return offset / Math.max(1, side.length);
+      return this.order.at(side, offset) / this.order.length;
     }
     const [first, last] = this.period;
     const seconds = side.clock.at(offset) ?? side.clock.last;
@@ -34,10 +40,7 @@ class Scale {
 
   /** Returns the ticks of the axis: shares of the width, and texts. */
   ticks() {
-    const span = this.period === null ? this.sides[0].length : this.period[1] - this.period[0];
-    if (this.period === null && this.sides.length > 1) {
-      return [0, 0.25, 0.5, 0.75, 1].map((it) => [it, `${100 * it} %`]);
-    }
+    const span = this.period === null ? this.order.length : this.period[1] - this.period[0];
     const step = stepOf(span, Math.max(2, Math.floor(this.width / 110)));
     const ticks = [];
     for (let value = 0; span > 0 && value <= span * 1.0001; value += step) {
@@ -49,10 +52,12 @@ class Scale {
 
   get name() {
     if (this.period !== null) {
-      return `seconds after ${dateText(this.period[0])} UTC`;
+      return `Seconds after ${dateText(this.period[0])} UTC.`;
     }
-    const ends = this.sides.map((it) => `${it.name} has ${several(it.length, "byte")}`);
-    return `offset in each recording: ${ends.join(", ")}. No times are given`;
+    return this.sides.length === 1
+      ? "Bytes of the recording. No times are given."
+      : "No times are given. The axis counts bytes in the order that is known: each side sends without "
+        + "a pause, and an answer follows what it answers.";
   }
 }
 
@@ -66,21 +71,24 @@ function tickText(value, step) {
   return value.toFixed(Math.max(0, Math.min(6, -Math.floor(Math.log10(step)))));
 }
 
-/** Returns bars: transfers that are wide enough each, and the others by where they begin. */
+/**
+ * Returns bars: transfers that are wide enough each, and the others by where they begin. A bar ends
+ * where its last transfer does, so a narrow one begins too early, and none ends too late.
+ */
 function barsOf(transfers, scale) {
   const bars = [];
   let last = null;
   for (const transfer of transfers) {
-    const from = scale.x(transfer.side, transfer.offset + 1);
+    const begin = scale.x(transfer.side, transfer.offset + 1);
     const to = scale.x(transfer.side, transfer.end);
-    if (to - from >= NARROW) {
-      bars.push({ from, to, transfers: [transfer] });
+    if (to - begin >= NARROW) {
+      bars.push({ from: begin, to, transfers: [transfer] });
       last = null;
-    } else if (last !== null && from - last.from < NARROW) {
+    } else if (last !== null && begin - last.begin < NARROW) {
       last.transfers.push(transfer);
+      last.to = Math.max(last.to, to);
     } else {
-      const start = Math.floor(from / NARROW) * NARROW;
-      last = { from: start, to: start + NARROW, transfers: [transfer] };
+      last = { begin, from: Math.min(begin, to - NARROW), to, transfers: [transfer] };
       bars.push(last);
     }
   }
@@ -130,9 +138,9 @@ function shapesOf(kind, shape) {
 
 const kindsInOrder = Object.keys(JUDGEMENTS);
 
-/** Draws marks of one kind. Those that would lie on one another are drawn once. */
+/** Draws marks of one kind. Those that would lie on one another are drawn once, and none too early. */
 function marksOf(name, places, step, shape) {
-  const xs = [...new Set(places.map((it) => Math.round(it / step) * step))];
+  const xs = [...new Set(places.map((it) => Math.ceil(it / step) * step))];
   return draw("g", { class: `mark ${name}` },
     draw("title", {}, `${several(places.length, MARKS[name])}`),
     draw("path", { d: xs.map(shape).join("") }));
@@ -159,7 +167,14 @@ function patterns() {
 class Timeline {
   constructor(root, session, choose) {
     Object.assign(this, { root, session, choose, width: 0 });
-    new ResizeObserver(() => this.draw()).observe(root);
+    this.order = session.period === null ? new Order(session.sides) : null;
+    this.resizing = new ResizeObserver(() => this.draw());
+    this.resizing.observe(root);
+  }
+
+  /** Ends the drawing. */
+  end() {
+    this.resizing.disconnect();
   }
 
   draw() {
@@ -168,7 +183,7 @@ class Timeline {
       return;
     }
     this.width = width;
-    const scale = new Scale(this.session, width);
+    const scale = new Scale(this.session, this.order, width);
     let top = 0;
     const lanes = this.session.sides.flatMap((side) => {
       const [elements, bottom] = this.lane(side, scale, top);
@@ -202,18 +217,17 @@ class Timeline {
   /** Draws what a side sent, and the answers of the other. Returns the elements and the bottom. */
   lane(side, scale, top) {
     const other = this.session.other(side);
-    const bars = top + HEADER;
+    const isWide = scale.width >= WIDE;
+    const bars = top + (isWide ? HEADER : 2 * HEADER);
     const ticks = bars + BAR + 4;
     const place = (kind, from = side) => from.messages.filter((it) => it.kind === kind)
       .map((it) => scale.x(from, it.end));
     const bottom = other === null ? ticks + 8 : ticks + TICKS;
     const elements = [
-      draw("text", { x: EDGE, y: top + 12 }, draw("tspan", { class: "name" }, laneName(side)),
-        other && scale.width >= 600 && `, and below them the answers of ${other.name}`),
-      draw("text", { x: scale.width + EDGE, y: top + 12, "text-anchor": "end" }, endName(side)),
+      ...textsOf(side, other, scale, top + 12),
       draw("path", { class: "ground", d: `M${EDGE} ${bars + BAR}H${EDGE + scale.width}` }),
       ...barsOf(side.transfers, scale).map((bar) => barOf(bar, bars, this.choose)),
-      marksOf("keepalive", place("keepalive"), 5, (x) => `M${x - 2} ${bars + BAR + 3}h4v3h-4z`),
+      marksOf("keepalive", place("keepalive"), 5, (x) => `M${x - 3} ${bars + BAR + 3}h6v4h-6z`),
       marksOf("reject", place("msg-reject"), 5, (x) => `M${x - 4} ${bars}h8l-4 7z`),
       this.ending(side, scale, bars, bottom),
     ];
@@ -230,23 +244,27 @@ class Timeline {
   ending(side, scale, top, bottom) {
     const x = scale.x(side, side.length);
     const foot = side.term ? `M${x - 5} ${top}h10` : "";
-    return draw("g", { class: side.fault ? "ending broken" : "ending" },
+    return draw("g", { class: faultOf(side)?.isWrong ? "ending broken" : "ending" },
       draw("title", {}, endName(side)), draw("path", { d: `M${x} ${top}V${bottom}${foot}` }));
   }
 }
 
-function laneName(side) {
-  return `${side.name}${side.node ? ` ${side.node}` : ""}: ${several(side.transfers.length, "transfer")}`;
+/** Draws the texts of a lane: what it has, and how its side ended. */
+function textsOf(side, other, scale, y) {
+  const isWide = scale.width >= WIDE;
+  const name = laneName(side);
+  const rest = other && isWide ? `, and below them the answers of ${other.name}` : "";
+  const letters = Math.floor(scale.width / LETTER) - (isWide ? name.length + rest.length + 2 : 0);
+  const shape = isWide
+    ? { x: scale.width + EDGE, y, "text-anchor": "end" }
+    : { x: EDGE, y: y + HEADER };
+  return [
+    draw("text", { x: EDGE, y }, draw("tspan", { class: "name" }, name), rest),
+    draw("text", shape, shortened(endName(side), letters)),
+  ];
 }
 
-/** Returns how a side ended. */
-function endName(side) {
-  const { term, fault, end } = side;
-  const reason = term && /reason=[^/]*\/(\S+)/.exec(term.words);
-  const parts = [
-    fault ? `fault: ${fault.text}` : null,
-    term ? `SESS_TERM ${reason ? reason[1] : ""}` : null,
-    end,
-  ];
-  return parts.filter(Boolean).join(", ") || "no SESS_TERM";
+function laneName(side) {
+  const node = side.node ? ` ${shortened(side.node, 30)}` : "";
+  return `${side.name}${node}: ${several(side.transfers.length, "transfer")}`;
 }

@@ -4,7 +4,7 @@
 const LEGEND = [
   ["xfer-ack", "ack", "acknowledgement", "M8 1v10"],
   ["xfer-refuse", "refuse", "refusal", "M4 2l8 8m0 -8l-8 8"],
-  ["keepalive", "keepalive", "keepalive", "M6 5h4v3h-4z"],
+  ["keepalive", "keepalive", "keepalive", "M5 4h6v4h-6z"],
   ["msg-reject", "reject", "MSG_REJECT", "M4 2h8l-4 7z"],
   ["", "ending", "end of a side", "M8 1V11M3 1h10"],
 ];
@@ -23,22 +23,34 @@ class View {
     this.chosen = new Chosen(element("chosen"), session);
     session.showTransfer = (it) => this.showTransfer(it);
     document.body.classList.add("shown");
-    element("verdict").textContent = verdictOf(session);
-    element("sides").replaceChildren(...session.sides.map((it) => sideView(it, this.chosen)),
-      ...session.notes.map((it) => make("p", { class: "note" }, it)));
+    document.title = `${session.sides.map((it) => it.file).join(", ")} - tcpclkit`;
+    element("verdict").replaceChildren(...verdictView(session));
+    element("sides").replaceChildren(...session.sides.map(sideView),
+      ...[agreedText(session), ...session.notes].filter(Boolean)
+        .map((it) => make("p", { class: "note" }, it)));
     element("numbers").replaceChildren(...numbersView(session));
     this.legend();
-    new Timeline(element("timeline"), session, (it) => this.showTransfer(it)).draw();
+    this.timeline = new Timeline(element("timeline"), session, (it) => this.showTransfer(it));
     this.rules();
     this.transfers();
     this.messages();
     element("view").hidden = false;
+    this.timeline.draw();
+  }
+
+  /** Ends the view, before another one takes its place. */
+  end() {
+    this.timeline.end();
+    this.chosen.end();
   }
 
   legend() {
     const counts = countsOf(this.session.transfers);
     const kinds = Object.keys(JUDGEMENTS).filter((it) => counts[it]);
     const sent = new Set(this.session.sides.flatMap((side) => side.messages.map((it) => it.kind)));
+    if (this.session.sides.length === 1) {
+      ["xfer-ack", "xfer-refuse"].forEach((it) => sent.delete(it));
+    }
     const box = { width: 16, height: 12 };
     const swatch = (kind, ...shapes) =>
       draw("svg", { ...box, "aria-hidden": "true", class: `mark ${kind}` }, ...shapes);
@@ -115,6 +127,7 @@ class View {
       });
     };
     const part = element("message-part");
+    element("messages").replaceChildren();
     part.open = false;
     part.ontoggle = () => part.open && unfold();
   }

@@ -152,6 +152,14 @@ class Browser:
         node = self.call("DOM.querySelector", nodeId=root, selector=selector)["nodeId"]
         self.call("DOM.setFileInputFiles", nodeId=node, files=paths)
 
+    def key(self, name):
+        """Presses a key, by its name or letter."""
+        text = {"Enter": "\r"}.get(name, name if len(name) == 1 else "")
+        codes = {"Enter": 13, "Tab": 9, "Escape": 27, "Backspace": 8, "ArrowDown": 40, "ArrowUp": 38}
+        key = {"key": name, "windowsVirtualKeyCode": codes.get(name, ord(name[0].upper()))}
+        self.call("Input.dispatchKeyEvent", type="keyDown" if text else "rawKeyDown", text=text, **key)
+        self.call("Input.dispatchKeyEvent", type="keyUp", **key)
+
     def screen(self, width, height, scheme, scale=1):
         """Makes the page this large, and light or dark."""
         self.call("Emulation.setDeviceMetricsOverride",
@@ -159,6 +167,6 @@ class Browser:
         features = [{"name": "prefers-color-scheme", "value": scheme}]
         self.call("Emulation.setEmulatedMedia", features=features)
 
-    def picture(self):
-        """Returns a picture of what is seen of the page, as PNG."""
-        return base64.b64decode(self.call("Page.captureScreenshot", format="png")["data"])
+    def picture(self, **options):
+        """Returns a picture of what is seen of the page, as PNG. `clip` says of which part."""
+        return base64.b64decode(self.call("Page.captureScreenshot", format="png", **options)["data"])

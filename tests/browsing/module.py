@@ -107,6 +107,10 @@ def as_in_libraries(browser):
 def checks(browser):
     """Yields a name, what is wanted and what came, for each group of inputs."""
     browser.open(f"{TOP}/page/out/tcpclkit.html")
+    compiled = 'WebAssembly.compile(Uint8Array.from(atob(document.getElementById("module").textContent), (it) => it.charCodeAt(0)))'
+    yield "module: it imports nothing", [], browser.value(f"{compiled}.then((it) => WebAssembly.Module.imports(it))")
+    exported = browser.value(f"{compiled}.then((it) => WebAssembly.Module.exports(it).map((it) => it.name))")
+    yield "module: it exports the tools", [], [it for it in ("list", "unpack", "blocks", "check", "memory") if it not in exported]
     wanted = [by_program(it, [("list", {}, [])])[0] for it in files("*.tcpcl")]
     listed = [[status, output.decode()] for status, output, _ in wanted]
     yield "module: the code of LIBRARIES", listed, as_in_libraries(browser)

@@ -147,7 +147,7 @@ def session(browser, folder):
     yield "the fields of a primary block", names, browser.value(fields)[:9]
     link = 'document.querySelector("#broken button.link")'
     browser.value(f"{link}.click()")
-    yield "a rule links to its message", browser.value(f"{link}.textContent"), browser.value('document.querySelector("#chosen h2").textContent').split(":")[0]
+    yield "a rule links to its message", browser.value(f"{link}.textContent"), browser.value('document.querySelector("#chosen h2").textContent').replace(":", "")
     digits = '[...document.querySelectorAll("#chosen .digits")].map((it) => it.textContent).join(" ").replace(/ +/g, "")'
     with open(f"{EXAMPLES}/session-{browser.value(f'{link}.textContent')[0]}.tcpcl", "rb") as it:
         content = it.read().hex()
@@ -180,6 +180,9 @@ def many(browser, folder):
     memory = browser.value("performance.memory.usedJSHeapSize")
     yield f"it takes {memory} bytes of memory", True, memory < MOST_MEMORY
     yield "it counts them", [f"{2 * MANY + 2:,}", f"{MANY:,}", f"{MANY:,}", "0"], browser.value(NUMBERS)[:4]
+    bars = '[...document.querySelectorAll("#timeline .choice title")].map((it) => it.textContent)'
+    groups = [int(it.split(" ")[0]) if it[0].isdigit() else 1 for it in browser.value(bars)]
+    yield f"its {len(groups)} bars are groups of all transfers", (True, MANY), (len(groups) < 1280, sum(groups))
     yield "its rows are made as they are seen", True, 0 < browser.value(ROWS) < MANY
     browser.value(f"for (let it; !(it = document.querySelector('#transfers .more')).hidden;) it.click()")
     yield "each transfer can have a row", MANY, browser.value(ROWS)
@@ -202,13 +205,20 @@ def large(browser, folder):
     yield "no error on the console", [], browser.errors
 
 
+def hostile_bundle():
+    """A bundle whose source is markup: the example's, with a dtn name in the place of ipn:1.1."""
+    name = b"//<img src=x onerror='hostile = 1'>/"
+    source = bytes([0x82, 0x01, 0x78, len(name)]) + name
+    return make.BUNDLE.replace(bytes.fromhex("82 02 82 01 01"), source)
+
+
 def hostile(browser, folder):
     """A recording with markup and every byte in its node ID, in a file whose name is markup."""
     node = b"<script>hostile = 1</script><img src=x onerror='hostile = 1'>&lt;" + bytes(range(256))
     name = b"<img src=x onerror='hostile = 1'>&amp;\"-a.tcpcl".decode()
     path, page = f"{folder}/{name}", f"{folder}/hostile.html"
     with open(path, "wb") as it:
-        it.write(make.CONTACT + make.sess_init(node=node) + make.xfer_segment(make.START | make.END, 0, make.BUNDLE))
+        it.write(make.CONTACT + make.sess_init(node=node) + make.xfer_segment(make.START | make.END, 0, hostile_bundle()))
     text = ran(PROGRAM, "list", path).split("node=")[1].split(" ")[0]
     page_of(page, path)
     for kind, look in (("by the program", lambda: show(browser, page)), ("by the module", lambda: drop(browser, path))):
@@ -216,6 +226,13 @@ def hostile(browser, folder):
         yield f"{kind}: the node ID is text", (True, True), (
             browser.value(f'document.getElementById("sides").textContent.includes({json.dumps(text)})'),
             browser.value(f'document.getElementById("sides").textContent.includes({json.dumps(name)})'))
+        browser.value('for (const it of document.querySelectorAll("#transfers button.fold")) it.click()')
+        browser.value('document.querySelector("#transfers table.blocks button").click()')
+        seen = [browser.value(f'document.querySelector("{it}").textContent.includes("<img\\\\x20src=x")') for it in ("#transfers tr.inside", "#chosen")]
+        yield f"{kind}: a source is text, also where it is unfolded and chosen", [True, True], seen
+        browser.screen(400, 860, "light")
+        yield f"{kind}: at 400 points, nothing is cut at the side", True, browser.value("document.documentElement.scrollWidth <= innerWidth")
+        browser.screen(1280, 860, "light")
         made = 'typeof hostile === "undefined" && document.querySelectorAll("img").length === 0'
         yield f"{kind}: nothing of it is markup", (True, 0), (browser.value(made), browser.value('document.querySelectorAll("body script:not([type])").length'))
         yield f"{kind}: no error on the console", [], browser.errors

@@ -3,6 +3,7 @@
 import base64
 import os
 import pty
+import re
 import shutil
 import subprocess
 from html.parser import HTMLParser
@@ -14,6 +15,35 @@ SESSIONS = f"{EXAMPLES}/faults/sessions"
 FRAME = f"{TOP}/page/out/page.html"
 BOTH = [f"{EXAMPLES}/session-a.tcpcl", f"{EXAMPLES}/session-b.tcpcl"]
 LARGEST = 2 << 20
+
+
+class Rules(HTMLParser):
+    """The rules of a page: the texts of their cells, by the sides that they need, name and part."""
+
+    def __init__(self, text):
+        super().__init__()
+        self.rule, self.part, self.cells, self.sentences = None, None, {}, {}
+        self.feed(text.partition('<details id="rules">')[2])
+
+    def handle_starttag(self, tag, attributes):
+        found = dict(attributes)
+        if "data-rule" in found:
+            self.rule, self.part = (found["data-sides"], found["data-rule"]), None
+            self.cells[self.rule], self.sentences[self.rule] = {}, []
+        if self.rule and tag == "td":
+            self.part = found.get("data-part", "level")
+            self.cells[self.rule][self.part] = ""
+        if self.rule and tag == "blockquote":
+            self.sentences[self.rule].append("")
+
+    def handle_endtag(self, tag):
+        self.rule = None if tag == "tr" else self.rule
+
+    def handle_data(self, data):
+        if self.rule and self.part and data.strip():
+            self.cells[self.rule][self.part] += data
+            if self.part == "quotes":
+                self.sentences[self.rule][-1] += data
 
 
 class Lines(HTMLParser):
@@ -171,8 +201,31 @@ def of_a_capture():
             yield f"capture --page: the times of {side}", read(f"{at}/made/0000-{side}.times").decode(), lines.parts[side, "times"]
 
 
+def all_rules():
+    """Each rule of the documents has its sentence, its sections, advice, and a sentence of each section."""
+    rules = Rules(read(FRAME).decode())
+    yield "page: rules of one side and of two", (True, True), tuple(sum(sides == it for sides, _ in rules.cells) > 30 for it in ("one", "two"))
+    lacking = [(name, part) for name, cells in rules.cells.items() for part in ("level", "section", "sentence", "advice", "quotes") if not cells.get(part)]
+    yield "page: each rule has all parts, and `bundle` has the sentences of its fault", [(("one", "bundle"), "quotes")], lacking
+    codes = re.findall(r'<td data-quotes="B\d+">(<blockquote>)?', read(FRAME).decode())
+    yield "page: each fault of a bundle has its sentences", (17, True), (len(codes), all(codes))
+    written = read(f"{TOP}/docs/FORMATS.md").partition(b"\n## Broken rules\n")[2].partition(b"\n## ")[0] + read(f"{TOP}/docs/SESSIONS.md")
+    spans = [it for it in re.findall("`([^`]*)`", written.decode()) if it.startswith(" ")]
+    words = {word for span in spans for word in re.findall(" ([a-z-]+)=", span)}
+    known = re.findall(r'^  "(?:[a-z-]+ )?([a-z-]+)":', read(f"{TOP}/page/script/words.js").decode(), re.MULTILINE)
+    yield "page: each word of a rule has a meaning", (True, set()), (len(words) > 30, words - set(known))
+    of_two = {name: cells for name, cells in rules.cells.items() if name[0] == "two" and ("one", name[1]) not in rules.cells}
+    wrong = []
+    for name, cells in of_two.items():
+        listed = re.findall(r"\d+(?:\.\d+)*", cells["section"].partition(": ")[2])
+        quoted = [re.match(r"RFC \d+, ([\d.]+): ", it)[1] for it in rules.sentences[name]]
+        if not set(listed) <= set(quoted):
+            wrong.append((name, listed, quoted))
+    yield "page: each section of a rule of two sides has a sentence", [], wrong
+
+
 PARTS = [
-    one_recording, two_recordings, faults_and_sizes, hostile_names, outputs, on_a_terminal,
+    all_rules, one_recording, two_recordings, faults_and_sizes, hostile_names, outputs, on_a_terminal,
     installed, of_a_capture,
 ]
 TOOLS = {of_a_capture: ["tshark"]}
