@@ -50,6 +50,8 @@ fn add<'a>(history: &mut BundleHistory, block: &'a CanonicalBlock, reader: &'a D
 
 impl BundleReader {
     ghost use Rattle.link_bundle_types.specs.declared.info.BundleInfo.{BundleInfo};
+    ghost use Rattle.std.specs.Prelude.{◌∷◌};
+    ghost use Rattle.link_bundle_blocks.specs.Blocks.{viewed_block};
     ghost use Rattle.link_bundle_blocks.specs.Bundle.{blocks_in, bundle_goes};
     ghost use Rattle.link_bundle.specs.Scan.{HasScanned, HasJudged, ending, scan_size};
     ghost use Rattle.link_rules.specs.Heads.{unread_of};
@@ -145,8 +147,28 @@ impl BundleReader {
             self.blocks.follow_cut(before, run, scan);
             return;
         };
-        self.blocks.follow(before, run, &ended, scan);
-        match &ended {
+        self.take_ended(before, run, &ended, scan);
+    }
+
+    /// Reads a run of a bundle that ends with this block, and with no block before.
+    // Not inlined: most pieces of a bundle in short segments end no block, and should not pay for
+    // it.
+    #[inline(never)]
+    fn take_ended(&mut self, before: u64, run: &[u8], ended: &BlockView<'_>, scan: &BundleScan)
+        requires room { before + length run.now < 2 ^ 63 }
+        requires read { data_size self.old ≤ before }
+        requires ended { ending scan.now ≡ viewed_block ended.now ∷ [] }
+        ensures read { data_size self.new ≤ before + length run.now }
+        ensures heads { self.new.heads ≡ self.old.heads }
+        ensures prefix { self.new.prefix ≡ self.old.prefix }
+        ensures reads { (seen : List ℕ) → length seen ≡ before → IsReadingBlocks self.old seen
+            → 0 < length run.now → bundle_goes seen ≡ true
+            → HasScanned scan.now (seen ++ run.now)
+            → blocks_in (seen ++ run.now) ≡ blocks_in seen ++ ending scan.now
+            → IsReadingBlocks self.new (seen ++ run.now) }
+    {
+        self.blocks.follow(before, run, ended, scan);
+        match ended {
             BlockView::Primary(block) => {
                 self.history.begin(block);
                 self.begun = true;
