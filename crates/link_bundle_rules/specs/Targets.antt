@@ -27,7 +27,7 @@ abbrev pub if_counted : {A : Type 0} → ReadBundle → (SecurityFacts → Optio
     → Option A
 if_counted bundle judge block = if counts bundle block then judge block else None
 
--- what is found of the first block that counts and of which it is found
+-- the first result that `judge` has for a block that counts
 abbrev pub first_counted : {A : Type 0} → ReadBundle → (SecurityFacts → Option A) → Option A
 first_counted bundle judge = find_map (if_counted bundle judge) bundle.security
 
