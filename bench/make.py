@@ -15,6 +15,7 @@ crc16.tcpcl, crc32.tcpcl: the same with a check over the payload.
 small.tcpcl: bundles of 100 to 300 bytes with a CRC-32C in the primary block. Each transfer has one,
     and an acknowledgement follows it.
 crumbs.tcpcl: bundles of 1 MiB in segments of 1 to 16 bytes.
+grains.tcpcl: bundles of 200 bytes in segments of 1 to 16 bytes.
 kept.tcpcl: as small.tcpcl, but nothing breaks a rule that check judges: the transfer IDs count up,
     each bundle has a creation time, and each number has its shortest spelling.
 
@@ -189,6 +190,7 @@ def recordings(list_size, bundles_size):
     yield "small.tcpcl", repeated(b"".join(segment(START | END, 7, it) + ack(START | END, 7, len(it)) for it in kinds["small"]), bundles_size)
     yield "kept.tcpcl", kept_transfers(kinds["kept"], bundles_size)
     yield "crumbs.tcpcl", repeated(transfer(7, kinds["plain"][0], range(1, 17)), bundles_size)
+    yield "grains.tcpcl", repeated(transfer(7, BUNDLE, range(1, 17)), bundles_size)
 
 
 def write(folder, list_size=LIST_SIZE, bundles_size=BUNDLES_SIZE):
