@@ -11,8 +11,8 @@ use Rattle.link_bundle_heads.specs.declared.endpoint.Scheme.TheVariants as schem
 use Rattle.link_bundle_heads.specs.Rows.{◌>>=◌, unsigned, array, pair, scheme, dtn_part, ipn_part}
 use Rattle.link_bundle_blocks.specs.Reading.{ReadAt, Stop, stopped, head_at, outcome_at, row_at}
 use Rattle.link_bundle_blocks.specs.EndpointId.{dtn_at, ipn_at, specific_at, eid_at}
-use Rattle.link_bundle_blocks.specs.Primary.{fragment_at}
-use Rattle.link_bundle.specs.Left.{numbered, scheme_left, node_left, service_left, name_left}
+use Rattle.link_bundle_blocks.specs.Primary.{fragment_at, fragment_elements}
+use Rattle.link_bundle_blocks.proofs.Elements.{fragment_at-true}
 use Rattle.link_block_data.specs.declared.values.Assertion.{Assertion}
 use Rattle.link_block_data.specs.declared.values.Assertion.TheVariants.{No, Yes, YesAt}
 use Rattle.link_block_data.specs.declared.{values.{DataFault.DataFault, Integer.Integer}, due.Owner.Owner}
@@ -31,6 +31,7 @@ use Rattle.link_block_data.specs.declared.due.DataStage.TheVariants.{Head as AtH
 use Rattle.link_block_data.specs.declared.draft.Draft.{Draft}
 use Rattle.link_block_data.specs.BlockData.{BlockData, items_at, assertion_at, located}
 use Rattle.link_block_data.specs.DataRows.{integer, assertion, four_or_six, four_or_more, one_or_two}
+use Rattle.link_block_data.specs.EidLeft.{numbered, scheme_left, node_left, service_left, name_left}
 use Rattle.link_block_data.specs.Turns.{others_due, targets_due, first_of, first_number, specific, with_others, with_times, with_assertion, with_targets, with_target, with_context, with_flags, with_eid, took_assertion, took, took_dtn, took_asserted, judged}
 use Rattle.link_block_data.specs.Left.{ended, after_fragment, sequence_left, time_left, by_eid, reason_left, others_left, received_left, by_assertion, boolean_left, boolean_at, assertions_left, report_left, flags_left, context_left, targets_left, limit_left, type_left, number_left, pair_left, due_left, stage_left, goes_on}
 use Rattle.link_block_data.proofs.Names.{then_then, same_then, owner_ends, by_eid-then, name_begins}
@@ -218,10 +219,11 @@ fragment_turn : (is_fragment : Bool) (draft : Draft) (bytes : List ℕ) (next : 
       Read found.StatusReport,
       record draft { report = record draft.report { fragment = None } },
     )) bytes next
-unfolding stage_left due_left fragment_at
+unfolding stage_left due_left fragment_at fragment_elements
 fragment_turn false draft bytes next = refl
 fragment_turn true draft bytes next =
-    ap (located bytes) (after_fragment-then draft bytes (row_at unsigned bytes next) _
+    ap (located bytes) (ap (after_fragment draft bytes) (fragment_at-true bytes next)
+    ∙ after_fragment-then draft bytes (row_at unsigned bytes next) _
     ∙ same_then (row_at unsigned bytes next) _ _
     (λ x. after_fragment-then draft bytes (row_at unsigned bytes x.1) _))
 

@@ -1,19 +1,18 @@
 -- Readings one after another, and endpoint IDs with their names in runs of bytes.
 
-use Rattle.std.proofs.Common.{◌≡◌, ℕ, ◌+◌, ◌-◌, ◌<◌, ◌≤◌, Bool, true, false, List, [], ◌++◌, length, drop, Result, Ok, Err, refl, ap, ◌∙◌, append-nil}
-use Rattle.std.specs.Prelude.{◌==◌, if◌then◌else◌}
-use Rattle.std.proofs.lemmas.Bool.{eqb-true}
+use Rattle.std.proofs.Common.{◌≡◌, ℕ, ◌+◌, ◌-◌, ◌<◌, ◌≤◌, Bool, true, false, List, [], ◌++◌, length, drop, Result, Ok, Err, refl, ap, ◌∙◌, append_assoc, append-nil}
+use Rattle.std.specs.Prelude.{IsTrue, ◌==◌, ◌&&◌, nat_lt, if◌then◌else◌}
+use Rattle.std.proofs.lemmas.Bool.{eqb-true, ltb-true, and_parts}
 use Rattle.link_bundle_types.specs.declared.eid.{Eid.Eid, Eid.TheVariants.Dtn}
 use Rattle.link_bundle_types.specs.KeptEid.{name_of}
 use Rattle.link_bundle_heads.specs.Rows.{◌>>=◌}
 use Rattle.link_bundle_blocks.specs.Reading.{ReadAt, Stop, bytes_at}
-use Rattle.link_bundle.specs.Left.{name_left}
-use Rattle.link_bundle_blocks.proofs.Runs.{bytes_at-none, run_within}
-use Rattle.link_bundle.proofs.Names.{name_left-run}
+use Rattle.link_bundle_blocks.proofs.Runs.{with_run-then, bytes_at-none, bytes_at-run, run_within}
 use Rattle.link_block_data.specs.declared.due.Owner.{Owner}
 use Rattle.link_block_data.specs.declared.due.Owner.TheVariants as owner
 use Rattle.link_block_data.specs.declared.{due.DataStage.TheVariants.Name, draft.Draft.Draft}
-use Rattle.link_block_data.specs.{BlockData.located, Turns.{after_eid, name_due, with_eid}}
+use Rattle.link_block_data.specs.{BlockData.located, EidLeft.name_left}
+use Rattle.link_block_data.specs.Turns.{after_eid, name_due, with_eid}
 use Rattle.link_block_data.specs.Left.{owner_left, by_eid, timestamp_left, due_left, stage_left}
 
 -- ---- one reading after another
@@ -48,6 +47,23 @@ pub by_eid-then : {A : Type 0} (owner : Owner) (draft : Draft) (bytes : List ℕ
     → by_eid owner draft bytes (part >>= next) ≡ (part >>= λ x. by_eid owner draft bytes (next x))
 by_eid-then owner draft bytes (Ok x) next = refl
 by_eid-then owner draft bytes (Err stop) next = refl
+
+-- ---- names
+
+-- some bytes of a name are left
+pub some_left : (left : ℕ) (fits : Bool) → IsTrue (nat_lt 0 left && fits) → 0 < left
+some_left left fits both = ltb-true 0 left (and_parts (nat_lt 0 left) fits both).0
+
+-- the rest of a name, after more of its bytes
+name_left-run : (name run : List ℕ) (left : ℕ) (bytes more : List ℕ) (offset : ℕ)
+    → drop offset bytes ≡ run ++ more → length run ≤ left
+    → name_left name left bytes offset
+    ≡ name_left (name ++ run) (left - length run) bytes (offset + length run)
+unfolding name_left
+name_left-run name run left bytes more offset here fits =
+    rw (bytes_at-run left bytes more run offset here fits)
+    (with_run-then run (bytes_at (left - length run) bytes (offset + length run)) _ _
+    (λ rest offset. rw (append_assoc name run rest) refl))
 
 -- the rest at a name that begins with these bytes, by whether it is whole
 chosen : (whole : Bool) (owner : Owner) (draft : Draft) (name : List ℕ) (left : ℕ) (bytes : List ℕ)

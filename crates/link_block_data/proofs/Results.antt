@@ -5,15 +5,14 @@ use Rattle.std.specs.Prelude.{◌==◌, ◌||◌, IsTrue, if◌then◌else◌}
 use Rattle.link_cbor.specs.declared.head_scan.HeadScan.{HeadScan}
 use Rattle.link_bundle_types.specs.declared.fault.BundleFault.TheVariants.{Cut}
 use Rattle.link_bundle_blocks.specs.Reading.{stopped}
-use Rattle.link_bundle.specs.Left.{name_left}
-use Rattle.link_bundle_blocks.proofs.Runs.{bytes_at-cut}
-use Rattle.link_bundle.proofs.Verdicts.{head_at-cut}
+use Rattle.link_bundle_blocks.proofs.{Runs.bytes_at-cut, Seen.head_at-cut_short}
 use Rattle.link_block_data.specs.declared.{kind.DataKind.DataKind, due.Due.Due, due.Owner.Owner}
 use Rattle.link_block_data.specs.declared.due.{Found.Found, DataStage.DataStage}
 use Rattle.link_block_data.specs.declared.due.DataStage.TheVariants.{Head, Name, Read, Failed}
 use Rattle.link_block_data.specs.declared.{draft.Draft.Draft, values.DataFault.DataFault}
 use Rattle.link_block_data.specs.BlockData.{BlockData, alone, fault_at, located, data_of}
-use Rattle.link_block_data.specs.{Left.{data_from, may_follow, stage_left}, Scan.HasSeen}
+use Rattle.link_block_data.specs.{EidLeft.name_left, Left.{data_from, may_follow, stage_left}}
+use Rattle.link_block_data.specs.Scan.{HasSeen}
 use Rattle.link_block_data.proofs.Stops.{due_left-stopped}
 
 ended_there : (follow : Bool) (found : BlockData) (bytes : List ℕ) (offset : ℕ)
@@ -45,7 +44,7 @@ module _ {kind : DataKind} {draft : Draft} {head : HeadScan} {offset count : ℕ
   result_head {which = which} come =
       read_now come
       ∙ ap (located seen) (due_left-stopped which draft seen offset (stopped Cut (length seen))
-      (head_at-cut seen offset come.stands.cut))
+      (head_at-cut_short seen offset come.stands.cut))
       ∙ ap (λ (at : ℕ). Err (fault_at seen Cut at)) (sym come.counted)
 
   pub result_name : {owner : Owner} {left : ℕ}

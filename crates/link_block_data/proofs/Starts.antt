@@ -12,9 +12,8 @@ use Rattle.link_block_data.specs.declared.due.Status.TheVariants as status
 use Rattle.link_block_data.specs.declared.draft.Draft.{Draft}
 use Rattle.link_bundle_heads.specs.Rows.{unsigned, array, pair}
 use Rattle.link_bundle_blocks.specs.{Reading.{Stop, row_at}, EndpointId.eid_at}
-use Rattle.link_bundle.specs.Left.{scheme_left}
 use Rattle.link_block_data.specs.BlockData.{BlockData, OtherRecord, items_at, is_timed, is_untimed, assertion_at, previous_node, bundle_age, hop_count, security, report_at, administrative_record, reading_of}
-use Rattle.link_block_data.specs.DataRows.{four_or_six, four_or_more}
+use Rattle.link_block_data.specs.{DataRows.{four_or_six, four_or_more}, EidLeft.scheme_left}
 use Rattle.link_block_data.specs.Turns.{first_due, with_others, with_times, with_assertion, with_targets, kept_targets, with_target}
 use Rattle.link_block_data.specs.Left.{sequence_left, time_left, timestamp_left, reason_left, others_left, assertions_left, report_left, flags_left, context_left, targets_left, limit_left, type_left, due_left}
 use Rattle.link_block_data.proofs.Names.{same_then, by_eid-then}

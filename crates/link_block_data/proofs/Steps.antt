@@ -8,10 +8,10 @@ use Rattle.link_cbor.specs.declared.{head.Head.Head as HeadItem, head_scan.HeadS
 use Rattle.link_cbor.specs.Head.{AreBytes, HeadFront, Cut as CutHead, IllFormed, Whole, head_front}
 use Rattle.link_cbor.specs.HeadScan.{HasScannedHead}
 use Rattle.link_cbor.proofs.HeadLaws.{whole_stays}
-use Rattle.link_bundle.proofs.Steps.{next_run, nothing_yet, all_grown, head_at-whole, head_at-bad}
 use Rattle.link_bundle_types.specs.declared.fault.BundleFault.{BundleFault}
 use Rattle.link_bundle_types.specs.declared.fault.BundleFault.TheVariants.{BadHead}
 use Rattle.link_bundle_blocks.specs.Reading.{stopped}
+use Rattle.link_bundle_blocks.proofs.Seen.{next_run, nothing_yet, AreBytes-append, head_at-whole_stays, head_at-ill_formed_stays}
 use Rattle.link_block_data.specs.declared.{kind.DataKind.DataKind, due.Due.Due, due.Owner.Owner, values.DataFault.DataFault}
 use Rattle.link_block_data.specs.declared.due.{Found.Found, DataStage.DataStage}
 use Rattle.link_block_data.specs.declared.due.DataStage.TheVariants.{Head, Name, Read, Failed}
@@ -87,7 +87,7 @@ module _ {kind : DataKind} {which : Due} {draft : Draft} {head : HeadScan} {offs
       → HasSeenHead kind which draft offset new (seen ++ run)
   unfolding stage_left
   grown_head run are grows = record {
-    all_bytes = all_grown seen run come.all_bytes are;
+    all_bytes = AreBytes-append seen run come.all_bytes are;
     counted = omega (arith, length-append seen run, come.counted);
     in_bytes = omega (arith, length-append seen run, come.stands.in_bytes);
     reads = grown_reads come run;
@@ -137,7 +137,7 @@ module _ {kind : DataKind} {which : Due} {draft : Draft} {offset count : ℕ} {s
       (λ more. come.reads more
       ∙ ap (located (seen ++ more))
       (due_left-stopped which draft (seen ++ more) offset (stopped BadHead offset)
-      (head_at-bad offset seen more come.in_bytes outcome))
+      (head_at-ill_formed_stays offset seen more come.in_bytes outcome))
       ∙ ap Err (sym there))
 
   -- the head is whole
@@ -152,7 +152,7 @@ module _ {kind : DataKind} {which : Due} {draft : Draft} {offset count : ℕ} {s
         omega (arith, length-drop offset seen, come.in_bytes) in
         come.reads more
         ∙ head_turn which draft item (seen ++ more) offset (length seen)
-        (head_at-whole offset seen more item come.in_bytes outcome)
+        (head_at-whole_stays offset seen more item come.in_bytes outcome)
         (omega (arith, length-append seen more))
         ∙ rw (same, is) refl
 
@@ -189,7 +189,7 @@ grown_name {owner = owner} {left = left} {draft = draft} {count = count} {seen =
     some fits is grows fresh =
     let counted : count ≡ length (seen ++ run) =
     omega (arith, length-append seen run, come.counted) in
-    entered (all_grown seen run come.all_bytes are) counted counted fresh
+    entered (AreBytes-append seen run come.all_bytes are) counted counted fresh
     (λ more.
     let bytes = (seen ++ run) ++ more in
     grown_reads come run more
@@ -206,8 +206,8 @@ module _ {kind : DataKind} {draft : Draft} {head : HeadScan} {offset old count :
       → HasSeen kind (Failed at) draft head offset count (seen ++ run)
   unfolding stage_left
   grown_failed {at = at} come =
-      failed (all_grown seen run come.all_bytes are) (omega (arith, length-append seen run, come.counted))
-      (grown_reads come run)
+      failed (AreBytes-append seen run come.all_bytes are)
+      (omega (arith, length-append seen run, come.counted)) (grown_reads come run)
 
   module _ {found : Found} (come : HasSeen kind (Read found) draft head offset old seen) where
     -- bytes that may follow the item
@@ -215,7 +215,7 @@ module _ {kind : DataKind} {draft : Draft} {head : HeadScan} {offset old count :
         → HasSeen kind (Read found) draft head offset count (seen ++ run)
     unfolding stage_left
     grown_open follow = record {
-      all_bytes = all_grown seen run come.all_bytes are;
+      all_bytes = AreBytes-append seen run come.all_bytes are;
       counted = omega (arith, length-append seen run, come.counted);
       reads = grown_reads come run;
       stands = rw follow refl;
@@ -228,7 +228,8 @@ module _ {kind : DataKind} {draft : Draft} {head : HeadScan} {offset old count :
     unfolding stage_left alone
     grown_closed some closed there =
         let here = eqb-true offset (length seen) (rw closed at come.stands) in
-        failed (all_grown seen run come.all_bytes are) (omega (arith, length-append seen run, come.counted))
+        failed (AreBytes-append seen run come.all_bytes are)
+        (omega (arith, length-append seen run, come.counted))
         (λ more.
         let bytes = (seen ++ run) ++ more in
         grown_reads come run more

@@ -2,10 +2,10 @@
 
 use Rattle.std.proofs.Common.{◌≡◌, ℕ, List, Err, refl}
 use Rattle.link_bundle_blocks.specs.{Reading.{Stop, head_at, row_at}, EndpointId.specific_at}
-use Rattle.link_bundle.specs.Left.{scheme_left}
 use Rattle.link_block_data.specs.declared.due.Due.{Due}
 use Rattle.link_block_data.specs.declared.due.Due.TheVariants as due
 use Rattle.link_block_data.specs.{declared.draft.Draft.Draft, BlockData.assertion_at}
+use Rattle.link_block_data.specs.EidLeft.{scheme_left}
 use Rattle.link_block_data.specs.Left.{assertions_left, report_left, context_left, boolean_at, due_left}
 use Rattle.link_block_data.proofs.Heads.{by_assertion-stopped}
 

@@ -10,7 +10,6 @@ use Rattle.link_bundle_heads.specs.Rows.{◌>>=◌, unsigned, array, pair}
 use Rattle.link_bundle_blocks.specs.Reading.{ReadAt, Stop, head_at, outcome_at, row_at}
 use Rattle.link_bundle_blocks.specs.EndpointId.{specific_at, eid_at}
 use Rattle.link_bundle_blocks.specs.Primary.{fragment_at}
-use Rattle.link_bundle.specs.Left.{numbered, scheme_left, node_left, service_left, name_left}
 use Rattle.link_block_data.specs.declared.values.{Assertion.Assertion, DataFault.DataFault}
 use Rattle.link_block_data.specs.declared.values.Assertion.TheVariants.{No, Yes, YesAt}
 use Rattle.link_block_data.specs.declared.due.Owner.{Owner}
@@ -30,6 +29,7 @@ use Rattle.link_block_data.specs.declared.due.DataStage.TheVariants.{Head, Name,
 use Rattle.link_block_data.specs.declared.draft.Draft.{Draft}
 use Rattle.link_block_data.specs.BlockData.{BlockData, PreviousNode, BundleAge, HopCount, Security, StatusReport, OtherRecord, alone, items_at, asserted_at, assertion_at, fault_at, located}
 use Rattle.link_block_data.specs.DataRows.{integer, assertion, four_or_six, four_or_more}
+use Rattle.link_block_data.specs.EidLeft.{numbered, scheme_left, node_left, service_left, name_left}
 use Rattle.link_block_data.specs.Turns.{with_others, with_times, with_assertion, with_targets, with_target, with_context, with_flags, with_eid}
 
 -- ---- after the item

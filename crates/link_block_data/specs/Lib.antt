@@ -2,6 +2,7 @@ pub mod DataRows
 pub mod BlockData
 pub mod LongHeads
 pub mod DataView
+pub mod EidLeft
 pub mod Turns
 pub mod Fits
 pub mod Left

@@ -9,7 +9,6 @@ use Rattle.link_bundle_types.specs.KeptEid.{name_of}
 use Rattle.link_bundle_heads.specs.declared.endpoint.Scheme.{Scheme}
 use Rattle.link_bundle_heads.specs.declared.endpoint.Scheme.TheVariants as scheme_
 use Rattle.link_bundle_heads.specs.Rows.{◌>>=◌, unsigned, array, pair, scheme, dtn_part, ipn_part}
-use Rattle.link_bundle.specs.Left.{numbered}
 use Rattle.link_block_data.specs.declared.kind.DataKind.{DataKind}
 use Rattle.link_block_data.specs.declared.kind.DataKind.TheVariants as kind
 use Rattle.link_block_data.specs.declared.values.Assertion.{Assertion}
@@ -30,6 +29,7 @@ use Rattle.link_block_data.specs.declared.due.DataStage.TheVariants.{Head, Name,
 use Rattle.link_block_data.specs.declared.draft.Draft.{Draft}
 use Rattle.link_block_data.specs.BlockData.{is_timed, is_untimed}
 use Rattle.link_block_data.specs.DataRows.{integer, assertion, four_or_six, four_or_more, one_or_two}
+use Rattle.link_block_data.specs.EidLeft.{numbered}
 
 abbrev pub first_due : DataKind → Due
 first_due kind.PreviousNode = due.Pair (pair_.Eid owner.PreviousNode)

@@ -3,53 +3,15 @@ use Rattle.std.proofs.Common.{◌≡◌, ℕ, ◌+◌, ◌<◌, ◌≤◌, false
 use Rattle.std.proofs.lemmas.{Bool.false≢true, Grind.fold-append}
 use Rattle.link_bundle_blocks.specs.Blocks.{Block, CanonicalOf, LiesWithin, next_of}
 use Rattle.link_bundle_blocks.specs.Bundle.{judged_bundle, bundle_at, opening_at, bundle_goes, blocks_in, cut_block_in}
-use Rattle.link_bundle.specs.Left.{field_block, follows_block, stage_block, stage_follows, stage_last}
-use Rattle.link_bundle.specs.Scan.{HasScanned, ending_at, ending}
+use Rattle.link_bundle.specs.Scan.{HasScanned, ending}
 use Rattle.link_bundle_blocks.specs.declared.block.CanonicalBlock.{CanonicalBlock}
-use Rattle.link_bundle.specs.declared.{cursor.Cursor.Cursor, draft.Draft.Draft}
-use Rattle.link_bundle.specs.declared.{scan.BundleScan.BundleScan, stage.Field.Field}
-use Rattle.link_bundle.specs.declared.stage.Field.TheVariants as field
-use Rattle.link_bundle.specs.declared.stage.ScanStage.{ScanStage}
-use Rattle.link_bundle.specs.declared.stage.ScanStage.TheVariants.{Head, Content, Stored}
+use Rattle.link_bundle.specs.declared.scan.BundleScan.{BundleScan}
 use Rattle.link_bundle_blocks.proofs.Lying.{BlocksWithin-holds}
 use Rattle.link_bundle_blocks.proofs.Showing.{BlocksEnd-holds, BlockPlaced-holds}
-use Rattle.link_bundle.proofs.Verdicts.{cut_block_of-seen}
+use Rattle.link_bundle.proofs.Verdicts.{no_cut}
 use Rattle.link_block_reader.specs.{Found.flags_after, DataReader.{IsReading, IsReadingBlock}}
 use Rattle.link_block_reader.specs.declared.data.DataReader.{DataReader}
 use Rattle.link_block_reader.proofs.Grown.{all_first, all_rest, goes_stops, no_blocks}
-
--- ---- a block that ends is not cut
-
-field_uncut : (which : Field) (draft : Draft) → follows_block which ≡ true
-    → field_block which draft ≡ None
-field_uncut (field.Check block kind) draft follows = absurd (false≢true follows)
-field_uncut others draft follows = refl
-
-stage_uncut : (stage : ScanStage) (draft : Draft) → stage_follows stage ≡ true
-    → stage_block stage draft ≡ None
-stage_uncut (Head which) draft follows = field_uncut which draft follows
-stage_uncut (Content left) draft follows = absurd (false≢true follows)
-stage_uncut (Stored at left stored block kind) draft follows = absurd (false≢true follows)
-stage_uncut others draft follows = refl
-
--- a list that has an element is that of the true case
-if_some : {A : Type 0} (test : Bool) (xs : List A) (x : A) → (if test then xs else []) ≡ x ∷ []
-    → (test ≡ true) × (xs ≡ x ∷ [])
-if_some true xs x is = (refl, is)
-if_some false xs x is = cc
-
-ends_uncut : (stage : ScanStage) (draft : Draft) (cursor : Cursor) (block : Block)
-    → ending_at stage draft cursor ≡ block ∷ [] → stage_block stage draft ≡ None
-ends_uncut stage draft cursor block ends =
-    let last = if_some (cursor.offset == cursor.count) (stage_last stage draft cursor.offset) block ends in
-    let follows = if_some _ _ block last.1 in
-    stage_uncut stage draft follows.0
-
-pub no_cut : (scan : BundleScan) (seen : List ℕ) (block : Block) → HasScanned scan seen
-    → ending scan ≡ block ∷ [] → cut_block_in seen ≡ None
-no_cut scan seen block come ends =
-    cut_block_of-seen come
-    ∙ ends_uncut scan.stage scan.draft scan.cursor block ends
 
 -- ---- before a run
 

@@ -1,8 +1,8 @@
 -- The bytes of a piece that belong to a part of the data.
-use Rattle.std.proofs.Common.{◌≡◌, ℕ, ◌+◌, ◌-◌, ◌<◌, ◌≤◌, min, List, [], ◌++◌, length, take, drop, sym, ap, ◌∙◌, ⊎_elim, append-nil, length-append, length-take, length-drop, arith}
+use Rattle.std.proofs.Common.{◌≡◌, ℕ, zero, suc, ◌∷◌, refl, ◌+◌, ◌-◌, ◌<◌, ◌≤◌, min, List, [], ◌++◌, length, take, drop, sym, ap, ◌∙◌, ⊎_elim, length-append, length-take, length-drop, arith}
 use Rattle.std.proofs.Math.ListN.{drop_of_length-le}
-use Rattle.std.proofs.{Math.Seq.{take-nil, take-append-add, drop-append-add}, lemmas.Bool.cases_lt}
-use Rattle.std.proofs.lemmas.List.{take_all, take_min, take-append-le, drop-append-le, nil_from_length}
+use Rattle.std.proofs.{Math.Seq.{take-nil}, lemmas.Bool.cases_lt}
+use Rattle.std.proofs.lemmas.List.{take_min, nil_from_length}
 use Rattle.link_bundle.specs.Part.{part_in}
 
 -- two counts take the same bytes if they take the same number of them
@@ -13,28 +13,19 @@ take_same count other bytes same =
 
 take-append : (count : ℕ) (front back : List ℕ)
     → take count (front ++ back) ≡ take count front ++ take (count - length front) back
-take-append count front back = ⊎_elim
-    (λ (inside : count < length front).
-    let none : take (count - length front) back ≡ [] = ap (λ n. take n back) {y = 0} (omega arith) in
-    take-append-le count front back (omega arith)
-    ∙ sym (append-nil (take count front)) ∙ ap (λ rest. take count front ++ rest) (sym none))
-    (λ (past : length front ≤ count).
-    ap (λ n. take n (front ++ back)) {y = length front + (count - length front)} (omega arith)
-    ∙ take-append-add front back (count - length front)
-    ∙ ap (λ xs. xs ++ take (count - length front) back) (sym (take_all count front past)))
-    (cases_lt count (length front))
+take-append zero front back = let none : 0 - length front ≡ 0 = omega arith in rw none refl
+take-append (suc count) [] back = let all : suc count - 0 ≡ suc count = omega arith in rw all refl
+take-append (suc count) (byte ∷ front) back =
+    let same : suc count - suc (length front) ≡ count - length front = omega arith in
+    rw (same, take-append count front back) refl
 
 drop-append : (count : ℕ) (front back : List ℕ)
     → drop count (front ++ back) ≡ drop count front ++ drop (count - length front) back
-drop-append count front back = ⊎_elim
-    (λ (inside : count < length front).
-    drop-append-le count front back (omega arith)
-    ∙ ap (λ n. drop count front ++ drop n back) {x = 0} (omega arith))
-    (λ (past : length front ≤ count).
-    ap (λ n. drop n (front ++ back)) {y = length front + (count - length front)} (omega arith)
-    ∙ drop-append-add front back (count - length front)
-    ∙ ap (λ xs. xs ++ drop (count - length front) back) (sym (drop_of_length-le front past)))
-    (cases_lt count (length front))
+drop-append zero front back = let none : 0 - length front ≡ 0 = omega arith in rw none refl
+drop-append (suc count) [] back = let all : suc count - 0 ≡ suc count = omega arith in rw all refl
+drop-append (suc count) (byte ∷ front) back =
+    let same : suc count - suc (length front) ≡ count - length front = omega arith in
+    rw (same, drop-append count front back) refl
 
 -- the bytes of the part that the piece has
 piece_part : (piece : List ℕ) (before offset size count : ℕ)

@@ -1,8 +1,8 @@
 -- The judging of a bundle in pieces, until no further byte can change the verdict.
 
-use Rattle.std.proofs.Common.{◌≡◌, ℕ, ◌+◌, ◌<◌, ◌⊎◌, inl, inr, Bool, true, false, List, [], ◌∷◌, ◌++◌, length, take, drop, get_or, Result, Ok, Err, refl, sym, ap, ◌∙◌, ⊎_elim, append-nil, append_assoc, arith}
+use Rattle.std.proofs.Common.{◌≡◌, ℕ, ◌+◌, ◌<◌, inl, inr, Bool, true, false, List, [], ◌∷◌, ◌++◌, length, take, drop, get_or, Result, Ok, Err, refl, sym, ap, ◌∙◌, ⊎_elim, append-nil, append_assoc, arith}
 use Rattle.std.specs.Prelude.{if◌then◌else◌}
-use Rattle.std.proofs.lemmas.Bool.{cases_lt, false≢true}
+use Rattle.std.proofs.lemmas.Bool.{cases_Bool, cases_lt, false≢true}
 use Rattle.std.proofs.lemmas.List.{take-append-drop, drop_all, drop_more}
 use Rattle.link_cbor.specs.{Pieces.{taken, IsShortestFront}, PieceLaws.{takes_shortest, taken-idle}}
 use Rattle.link_bundle_types.specs.declared.fault.{BundleFault.BundleFault, State.State}
@@ -14,7 +14,7 @@ use Rattle.link_bundle.specs.{Left.stage_left, Scan.{HasSeen, HasScanned, HasJud
 use Rattle.link_bundle.specs.{Stages.{stage_state, takes_bytes}, declared.cursor.Cursor.Cursor}
 use Rattle.link_bundle.specs.declared.{draft.Draft.Draft, scan.BundleScan.BundleScan}
 use Rattle.link_bundle.specs.declared.stage.ScanStage.{ScanStage}
-use Rattle.link_bundle.specs.declared.stage.ScanStage.TheVariants.{Ended, Failed}
+use Rattle.link_bundle.specs.declared.stage.ScanStage.TheVariants.{Failed}
 use Rattle.link_bundle_blocks.proofs.{Lengths.TrailingLasts-holds, Payloads.PayloadEnds-holds}
 use Rattle.link_bundle.proofs.Verdicts.{state_of-seen}
 
@@ -25,37 +25,34 @@ may_scan-seen : (scan : BundleScan) (seen : List ℕ) → HasScanned scan seen
     → may_scan scan ≡ takes_bytes (state_of (verdict seen))
 may_scan-seen scan seen come = ap takes_bytes (state_of-seen come)
 
-stuck_idle : (now : State) → takes_bytes now ≡ false → is_going now ≡ false
-stuck_idle state.Going stuck = absurd (false≢true (sym stuck))
-stuck_idle state.Ended stuck = refl
-stuck_idle (state.Failed fault offset) stuck = refl
-
 -- no more bytes are needed after these
 stuck_stops : (scan : BundleScan) (seen : List ℕ) → HasScanned scan seen → may_scan scan ≡ false
     → bundle_goes seen ≡ false
 stuck_stops scan seen come stuck =
-    stuck_idle (state_of (verdict seen)) (sym (may_scan-seen scan seen come) ∙ stuck)
+    idle (state_of (verdict seen)) (sym (may_scan-seen scan seen come) ∙ stuck)
+  where
+    idle : (now : State) → takes_bytes now ≡ false → is_going now ≡ false
+    idle state.Going stuck = absurd (false≢true (sym stuck))
+    idle state.Ended stuck = refl
+    idle (state.Failed fault offset) stuck = refl
 
-idle_stuck : (now : State) → is_going now ≡ false → (now ≡ state.Ended → ⊥)
-    → takes_bytes now ≡ false
-idle_stuck state.Going idle other = absurd (false≢true (sym idle))
-idle_stuck state.Ended idle other = absurd (other refl)
-idle_stuck (state.Failed fault offset) idle other = refl
+-- a scan that has not failed, and needs no more bytes, has seen a whole bundle
+ended_here : (now : State) → is_going now ≡ false → takes_bytes now ≡ true → now ≡ state.Ended
+ended_here state.Going idle may = absurd (false≢true (sym idle))
+ended_here state.Ended idle may = refl
+ended_here (state.Failed fault offset) idle may = absurd (false≢true may)
 
--- the verdict is a bundle
-record HasEnded (outcome : Result BundleInfo (BundleFault × ℕ)) : Type 0 where
-  info : BundleInfo
-  is : outcome ≡ Ok info
-
-ended_fault : (fault : BundleFault) (offset : ℕ) (test : Bool)
-    → (if test then state.Failed fault offset else state.Going) ≡ state.Ended → ⊥
-ended_fault fault offset true is = cc
-ended_fault fault offset false is = cc
-
-has_ended : (outcome : Result BundleInfo (BundleFault × ℕ))
-    → state_of outcome ≡ state.Ended → HasEnded outcome
-has_ended (Ok info) is = record { info = info; is = refl }
-has_ended (Err (fault, offset)) is = absurd (ended_fault fault offset (lasts fault) is)
+-- after a byte that follows the bundle, no byte can change the verdict
+trailing_stuck : (bytes : List ℕ) (byte : ℕ) (outcome : Result BundleInfo (BundleFault × ℕ))
+    → verdict bytes ≡ outcome → state_of outcome ≡ state.Ended
+    → takes_bytes (state_of (verdict (bytes ++ byte ∷ []))) ≡ false
+trailing_stuck bytes byte (Ok info) is ended = rw (TrailingLasts-holds bytes [] byte info is) refl
+trailing_stuck bytes byte (Err (fault, offset)) is ended = absurd (other (lasts fault) ended)
+  where
+    other : (test : Bool) → (if test then state.Failed fault offset else state.Going) ≡ state.Ended
+        → ⊥
+    other true ended = cc
+    other false ended = cc
 
 -- ---- one more piece
 
@@ -66,106 +63,70 @@ module _ (scan later : BundleScan) (content piece : List ℕ) (count : ℕ)
     → HasScanned later (seen ++ taken bundle_goes seen piece))
     (size : (seen : List ℕ) → HasScanned scan seen
     → count ≡ length (taken bundle_goes seen piece)) where
-  -- nothing was taken, since no byte can change the verdict
-  fed_stuck : may_scan scan ≡ false → (count ≡ 0) × HasScanned later before.seen
-  fed_stuck stuck =
-      let none = taken-idle bundle_goes before.seen piece
-      (stuck_stops scan before.seen before.scanned stuck) in (
-        size before.seen before.scanned ∙ ap length none,
-        rw (none, append-nil before.seen) at (fed before.seen before.scanned),
-      )
+  front : List ℕ
+  front = taken bundle_goes before.seen piece
 
-  judged_stuck : may_scan scan ≡ false → HasJudged later (content ++ piece)
-  judged_stuck stuck =
-      let come = (fed_stuck stuck).1 in
-      record {
-        seen = before.seen;
-        rest = before.rest ++ piece;
-        parts = sym (append_assoc before.seen before.rest piece)
-            ∙ ap (λ xs. xs ++ piece) before.parts;
-        scanned = come;
-        enough = inr (may_scan-seen later before.seen come
-            ∙ sym (may_scan-seen scan before.seen before.scanned) ∙ stuck);
-      }
+  fed_seen : HasScanned later (before.seen ++ front)
+  unfolding front
+  fed_seen = fed before.seen before.scanned
 
-  -- the scan had seen all of the content before the piece
-  module _ (all : before.rest ≡ []) where
-    whole : before.seen ≡ content
-    whole = rw (all, append-nil) at before.parts
+  shortest : IsShortestFront bundle_goes before.seen piece front
+  unfolding front
+  shortest = (takes_shortest bundle_goes before.seen piece front).1 refl
 
-    front : List ℕ
-    front = taken bundle_goes before.seen piece
+  -- nothing was taken if no byte can change the verdict
+  stuck_front : may_scan scan ≡ false → front ≡ []
+  unfolding front
+  stuck_front stuck = taken-idle bundle_goes before.seen piece
+      (stuck_stops scan before.seen before.scanned stuck)
 
-    shortest : IsShortestFront bundle_goes before.seen piece front
-    unfolding front
-    shortest = (takes_shortest bundle_goes before.seen piece front).1 refl
+  -- the scan had seen all of the content before the piece, if another byte can change the verdict
+  all_before : may_scan later ≡ true → before.rest ≡ []
+  all_before may = ⊎_elim (λ all. all)
+      (λ stuck. absurd (false≢true (sym stuck ∙ may_scan-seen scan before.seen before.scanned
+      ∙ sym (may_scan-seen later before.seen (rw (stuck_front stuck, append-nil) at fed_seen))
+      ∙ may)))
+      before.enough
 
-    seen_front : (before.seen ++ front) ++ drop count piece ≡ content ++ piece
-    unfolding front
-    seen_front =
-        let taken_is : front ≡ take count piece =
-        shortest.is_front ∙ ap (λ n. take n piece) (sym (size before.seen before.scanned)) in
-        rw (append_assoc, taken_is, whole, take-append-drop) refl
+  front_is : front ≡ take count piece
+  unfolding front
+  front_is = shortest.is_front ∙ ap (λ n. take n piece) (sym (size before.seen before.scanned))
 
-    -- the scan took the whole piece, or no byte can change the verdict
-    judged_front : (drop count piece ≡ []) ⊎ (may_scan later ≡ false)
-        → HasJudged later (content ++ piece)
-    unfolding front
-    judged_front enough = record {
-      seen = before.seen ++ front;
-      rest = drop count piece;
-      parts = seen_front;
-      scanned = fed before.seen before.scanned;
-      enough = enough;
-    }
-
-    -- the scan stopped before the end of the piece
-    front_stops : count < length piece → bundle_goes (before.seen ++ front) ≡ false
-    unfolding front
-    front_stops short = ⊎_elim (λ stops. stops)
-        (λ (all : front ≡ piece).
-        absurd (omega (arith, ap length all, size before.seen before.scanned))) shortest.stops
-
-    -- after a byte that follows the bundle, no byte can change the verdict
-    trailing_stuck : (byte : ℕ) → state_of (verdict (before.seen ++ front)) ≡ state.Ended
-        → takes_bytes (state_of (verdict ((before.seen ++ front) ++ byte ∷ []))) ≡ false
-    trailing_stuck byte is =
-        let ended = has_ended (verdict (before.seen ++ front)) is in
-        ap (λ outcome. takes_bytes (state_of outcome))
-        (TrailingLasts-holds (before.seen ++ front) [] byte ended.info ended.is)
-
-    judged_trailing : (last : BundleScan) (byte : ℕ) → count < length piece
-        → byte ≡ get_or piece count 0
-        → state_of (verdict (before.seen ++ front)) ≡ state.Ended
-        → HasScanned last ((before.seen ++ front) ++ byte ∷ []) → HasJudged last (content ++ piece)
-    judged_trailing last byte short is ended come = record {
-      seen = (before.seen ++ front) ++ byte ∷ [];
-      rest = drop (count + 1) piece;
-      parts = append_assoc (before.seen ++ front) (byte ∷ []) (drop (count + 1) piece)
-          ∙ ap (λ b. (before.seen ++ front) ++ (b ∷ drop (count + 1) piece)) is
-          ∙ ap (λ xs. (before.seen ++ front) ++ xs) (sym (drop_more piece count 0 short))
-          ∙ seen_front;
-      scanned = come;
-      enough = inr (may_scan-seen last ((before.seen ++ front) ++ byte ∷ []) come
-          ∙ trailing_stuck byte ended);
-    }
+  -- the bytes seen, and those that are left
+  parts : (before.seen ++ front) ++ (before.rest ++ drop count piece) ≡ content ++ piece
+  unfolding front
+  parts = ⊎_elim
+      (λ (all : before.rest ≡ []).
+      rw (sym before.parts, all, append-nil, append_assoc, front_is, take-append-drop) refl)
+      (λ stuck.
+      let none : count ≡ 0 = size before.seen before.scanned ∙ ap length (stuck_front stuck) in
+      rw (stuck_front stuck, append-nil, none, sym before.parts, append_assoc) refl)
+      before.enough
 
   -- the piece was fed, and the scan is not at the bundle's end with bytes left over
   pub judged_fed : ((seen : List ℕ) → HasScanned later seen → count < length piece
       → state_of (verdict seen) ≡ state.Ended → ⊥)
       → HasJudged later (content ++ piece)
   unfolding front
-  judged_fed other = ⊎_elim
-      (λ (all : before.rest ≡ []).
-      let seen = before.seen ++ front all in
-      let come = fed before.seen before.scanned in
-      judged_front all (⊎_elim
-      (λ short. inr (may_scan-seen later seen come
-      ∙ idle_stuck (state_of (verdict seen)) (front_stops all short) (other seen come short)))
-      (λ enough. inl (drop_all count piece enough))
-      (cases_lt count (length piece))))
-      (λ stuck. judged_stuck stuck)
-      before.enough
+  judged_fed other = record {
+    seen = before.seen ++ front;
+    rest = before.rest ++ drop count piece;
+    parts = parts;
+    scanned = fed_seen;
+    enough = ⊎_elim
+        (λ may. inl (rw (all_before may) (drop_all count piece (⊎_elim
+        (λ short. absurd (other _ fed_seen short (ended_here _ (front_stops short)
+        (sym (may_scan-seen later _ fed_seen) ∙ may))))
+        (λ enough. enough)
+        (cases_lt count (length piece))))))
+        (λ stuck. inr stuck)
+        (cases_Bool (may_scan later));
+  }
+    where
+      front_stops : count < length piece → bundle_goes (before.seen ++ front) ≡ false
+      front_stops short = ⊎_elim (λ stops. stops)
+          (λ all. absurd (omega (arith, ap length all, size before.seen before.scanned)))
+          shortest.stops
 
   -- the scan was at the bundle's end with bytes left over, and took the next byte
   pub judged_stepped : (last : BundleScan) (byte : ℕ) → count < length piece
@@ -173,16 +134,20 @@ module _ (scan later : BundleScan) (content piece : List ℕ) (count : ℕ)
       → ((seen : List ℕ) → HasScanned later seen → state_of (verdict seen) ≡ state.Ended)
       → ((seen : List ℕ) → HasScanned later seen → HasScanned last (seen ++ byte ∷ []))
       → HasJudged last (content ++ piece)
-  unfolding front
-  judged_stepped last byte short is ended step = ⊎_elim
-      (λ (all : before.rest ≡ []).
-      let come = fed before.seen before.scanned in
-      judged_trailing all last byte short is (ended (before.seen ++ front all) come)
-      (step (before.seen ++ front all) come))
-      (λ stuck. absurd (false≢true
-      (sym stuck ∙ may_scan-seen scan before.seen before.scanned
-      ∙ ap takes_bytes (ended before.seen (fed_stuck stuck).1))))
-      before.enough
+  judged_stepped last byte short is ended step =
+      let seen = before.seen ++ front in
+      let now = ended seen fed_seen in
+      let all = all_before (may_scan-seen later seen fed_seen ∙ ap takes_bytes now) in
+      record {
+        seen = seen ++ byte ∷ [];
+        rest = drop (count + 1) piece;
+        parts = append_assoc seen (byte ∷ []) (drop (count + 1) piece)
+            ∙ rw (is, sym (drop_more piece count 0 short))
+            (ap (λ (rest : List ℕ). seen ++ (rest ++ drop count piece)) (sym all) ∙ parts);
+        scanned = step seen fed_seen;
+        enough = inr (may_scan-seen last (seen ++ byte ∷ []) (step seen fed_seen)
+            ∙ trailing_stuck seen byte (verdict seen) refl now);
+      }
 
 -- ---- what is judged
 

@@ -1,116 +1,33 @@
 -- The verdict on the bytes that a scan has seen.
 
-use Rattle.std.proofs.Common.{◌≡◌, ℕ, ◌+◌, ◌-◌, ◌<◌, true, List, [], ◌++◌, length, drop, Option, None, Some, Result, Ok, Err, refl, sym, ap, ◌∙◌, append-nil, arith}
-use Rattle.std.specs.Prelude.{IsTrue, is_some}
-use Rattle.std.proofs.lemmas.Bool.{eq-eqb, ltb-true}
-use Rattle.link_cbor.specs.Head.{Cut as CutHead, head_front}
-use Rattle.link_bundle.specs.declared.{cursor.Cursor.Cursor, draft.Draft.Draft}
+use Rattle.std.proofs.Common.{◌≡◌, ℕ, ◌+◌, ◌<◌, ◌≤◌, ◌-◌, ◌^◌, true, Bool, List, [], ◌∷◌, ◌++◌, length, Option, None, Some, Result, Ok, Err, refl, sym, ap, ◌∙◌, append-nil, length-append, arith}
+use Rattle.std.specs.Prelude.{IsTrue, is_some, ◌==◌, if◌then◌else◌}
+use Rattle.std.proofs.lemmas.Bool.{and_parts, eq-eqb, ltb-true}
+use Rattle.link_bundle.specs.declared.{cursor.Cursor.Cursor, draft.Draft.Draft, scan.BundleScan.BundleScan}
 use Rattle.link_bundle_types.specs.declared.fault.BundleFault.{BundleFault}
 use Rattle.link_bundle_types.specs.declared.fault.BundleFault.TheVariants.{Cut}
 use Rattle.link_bundle_types.specs.declared.fault.State.TheVariants as state
-use Rattle.link_bundle.specs.declared.stage.ScanStage.{ScanStage}
-use Rattle.link_bundle.specs.declared.stage.ScanStage.TheVariants.{Start, Head, Name, Content, Stored, Ended, Failed}
-use Rattle.link_bundle.specs.{CheckKinds.{kind_of, is_kind}, Fits.{rest_fits, scan_fits}}
-use Rattle.link_bundle_blocks.specs.Reading.{Stop, stopped, cut_short, head_at}
-use Rattle.link_bundle.specs.declared.stage.BlockKind.{BlockKind}
-use Rattle.link_bundle.specs.declared.stage.{BlockKind.TheVariants.{Primary, Canonical}, Role.Role}
-use Rattle.link_cbor.specs.declared.check.CheckKind.{CheckKind}
 use Rattle.link_bundle_types.specs.declared.{fault.State.State, info.BundleInfo.BundleInfo}
+use Rattle.link_bundle.specs.declared.stage.ScanStage.{ScanStage}
+use Rattle.link_bundle.specs.declared.stage.ScanStage.TheVariants.{BlockData, CheckField, Ended, Failed}
+use Rattle.link_bundle.specs.Fits.{scan_fits}
+use Rattle.link_bundle_blocks.specs.Reading.{Stop, stopped}
 use Rattle.link_bundle_blocks.specs.{declared.block.CanonicalBlock.CanonicalBlock, Blocks.Block}
-use Rattle.link_bundle_blocks.specs.Bundle.{Bundle, with_blocks, opening_at, bundle_at, judged_bundle, verdict_by, verdict, payload_of, state_of, blocks_of, blocks_in, cut_block_of, cut_block_in}
-use Rattle.link_bundle.specs.Left.{span_of, bundle_of, read_alone, with_known_payload, kept_name, name_left, zeroed_check, stored_left, after_field, kind_block, stage_block, stage_last, stage_left}
+use Rattle.link_bundle_blocks.specs.Bundle.{Bundle, with_blocks, judged_bundle, verdict_by, verdict, payload_of, state_of, is_going, blocks_of, blocks_in, cut_block_of, cut_block_in}
+use Rattle.link_bundle.specs.Left.{bundle_of, current, span_of, with_known_payload, stage_block, stage_last, stage_left}
 use Rattle.link_bundle_blocks.proofs.Blocks.{verdict_by-blocks, payload_of-blocks, blocks_of-blocks, cut_block_of-blocks}
-use Rattle.link_bundle.proofs.Steps.{at_head}
-use Rattle.link_bundle.specs.{declared.scan.BundleScan.BundleScan, Scan.{HasSeen, HasScanned}}
-use Rattle.link_bundle.specs.Stages.{stage_state}
-use Rattle.link_bundle.proofs.{Fields.{has_room, some_left}, Heads.read_alone-stopped}
-use Rattle.link_bundle.proofs.Opening.{blank}
-use Rattle.link_bundle_blocks.proofs.Runs.{bytes_at-cut, content_at-cut}
-use Rattle.link_bundle.proofs.Stops.{stop_at-cut, field_left-stopped}
+use Rattle.link_bundle_blocks.proofs.Runs.{content_at-cut}
+use Rattle.link_bundle.specs.Scan.{HasSeen, HasScanned, MayAdvance, ending, part_start, scan_size}
+use Rattle.link_bundle.specs.Stages.{is_part, stage_state, takes_bytes}
+use Rattle.link_bundle.proofs.{HeldPart.{has_part, part_stopped, read_alone-stopped}, Steps.fits_stage}
 
 -- the reading of the bytes seen, if no more follow
 read_now : {stage : ScanStage} {cursor : Cursor} {draft : Draft} {before : List Block} {seen : List ℕ}
     → HasSeen stage cursor draft before seen
     → judged_bundle seen
-    ≡ with_blocks before (stage_left stage draft cursor.offset seen (length seen))
+    ≡ with_blocks (before ++ stage_last stage draft (part_start cursor))
+    (stage_left stage draft (part_start cursor) seen)
 read_now come = rw append-nil at (come.reads [])
-
-pub head_at-cut : (bytes : List ℕ) (offset : ℕ) → head_front (drop offset bytes) ≡ CutHead
-    → head_at bytes offset ≡ cut_short bytes
-unfolding head_at
-head_at-cut bytes offset cut = rw cut refl
-
--- the stop of bytes that end at a stage
-abbrev pub cut_at : ScanStage → Draft → ℕ → Stop
-cut_at stage draft offset = record (stopped Cut offset) { cut_block = stage_block stage draft }
-
-pub cut_name : (left : ℕ) (role : Role) (draft : Draft) (bytes : List ℕ) (offset : ℕ)
-    → length bytes < offset + left
-    → name_left (kept_name role draft) left bytes offset ≡ cut_short bytes
-unfolding name_left
-cut_name left role draft bytes offset ends = rw (bytes_at-cut left bytes offset ends) refl
-
-cut_stored : (left stored expected head : ℕ) (seen : List ℕ) → 0 < left
-    → stored_left left stored expected head seen (length seen) ≡ cut_short seen
-unfolding stored_left
-cut_stored left stored expected head seen some =
-    rw (bytes_at-cut left seen (length seen) (omega arith)) refl
-
--- a check field in which the bytes end
-cut_field : (block : BlockKind) (draft : Draft) (kind : CheckKind) (bytes : List ℕ)
-    → read_alone bytes (with_known_payload draft.payload_span
-    (after_field block draft (Some kind) bytes (cut_short bytes)))
-    ≡ with_known_payload draft.payload_span
-    (Err (record (stopped Cut (length bytes)) { cut_block = kind_block block draft kind }))
-cut_field Primary draft kind bytes = read_alone-stopped draft.payload_span bytes _
-cut_field Canonical draft kind bytes = read_alone-stopped draft.payload_span bytes _
-
--- bytes that end inside a bundle
-going_cut : (stage : ScanStage) (cursor : Cursor) (draft : Draft) (before : List Block) (seen : List ℕ)
-    → HasSeen stage cursor draft before seen
-    → IsTrue (scan_fits stage cursor draft) → stage_state stage ≡ state.Going
-    → judged_bundle seen
-    ≡ with_blocks (before ++ stage_last stage draft cursor.offset)
-    (with_known_payload draft.payload_span (Err (cut_at stage draft (length seen))))
-unfolding stage_left judged_bundle bundle_at opening_at
-going_cut Start cursor draft before seen come fits going =
-    read_now come ∙ rw (come.stands.nothing, (blank draft fits).payload, append-nil before, append-nil before) refl
-going_cut (Head which) cursor draft before seen come fits going =
-    read_now come
-    ∙ at_head which draft cursor.offset before seen (Err (cut_at (Head which) draft (length seen)))
-    (field_left-stopped which draft seen cursor.offset (stopped Cut (length seen))
-    (head_at-cut seen cursor.offset come.stands.cut)
-    ∙ ap Err (stop_at-cut which draft (length seen)))
-    ∙ rw (read_alone-stopped draft.payload_span seen (cut_at (Head which) draft (length seen))) refl
-going_cut (Name role left) cursor draft before seen come fits going =
-    let some = some_left left (rest_fits role draft left) fits in
-    read_now come
-    ∙ rw (
-      cut_name left role draft seen (length seen) (omega arith),
-      append-nil before,
-      read_alone-stopped draft.payload_span seen (stopped Cut (length seen)),
-    ) refl
-going_cut (Content left) cursor draft before seen come fits going =
-    let some = ltb-true 0 left fits in
-    read_now come
-    ∙ rw (
-      content_at-cut left (kind_of draft.check) draft.block.start seen (length seen) (omega arith),
-      append-nil before,
-      read_alone-stopped draft.payload_span seen (cut_at (Content left) draft (length seen)),
-    ) refl
-going_cut (Stored field left stored block kind) cursor draft before seen come fits going =
-    let some = (has_room (is_kind (kind_of draft.check) kind) left stored 0 fits (omega arith)).wants in
-    read_now come
-    ∙ rw (
-      cut_stored left stored (zeroed_check kind draft.block.start cursor.offset
-          (length seen + left - cursor.offset) seen) field seen some,
-      append-nil before,
-      cut_field block draft kind seen,
-    ) refl
-going_cut Ended cursor draft before seen come fits going = cc
-going_cut (Failed fault offset) cursor draft before seen come fits going = cc
-
--- ---- the reading of the bytes seen, at each stage
 
 -- a stop before a block is whole, with what the draft has of the payload
 abbrev stop_of : Draft → BundleFault → ℕ → Option CanonicalBlock → Stop
@@ -124,47 +41,82 @@ known_stop : (payload : Option (ℕ × ℕ)) (fault : BundleFault) (at : ℕ)
 known_stop None fault at cut = refl
 known_stop (Some payload) fault at cut = refl
 
+-- the bytes end inside a part
+cut_part : (stage : ScanStage) (cursor : Cursor) (draft : Draft) (before : List Block) (seen : List ℕ)
+    → HasSeen stage cursor draft before seen
+    → IsTrue (scan_fits stage cursor draft) → IsTrue (is_part stage)
+    → judged_bundle seen
+    ≡ with_blocks (before ++ stage_last stage draft (part_start cursor))
+    (Err (stop_of draft Cut cursor.count (stage_block stage draft)))
+cut_part stage cursor draft before seen come fits part =
+    let has = has_part come part in
+    let all : part_start cursor + length cursor.hold ≡ cursor.count =
+    omega (arith, come.count, ap length has.parts, length-append has.front cursor.hold) in
+    rw (append-nil, all, known_stop draft.payload_span Cut cursor.count (stage_block stage draft)) at
+    (part_stopped [] Cut (length cursor.hold) come part fits has (rw append-nil has.cut))
+
+-- the bytes end inside the data of a block
+cut_data : (left : ℕ) (cursor : Cursor) (draft : Draft) (before : List Block) (seen : List ℕ)
+    → HasSeen (BlockData left) cursor draft before seen
+    → IsTrue (scan_fits (BlockData left) cursor draft)
+    → stage_left (BlockData left) draft (part_start cursor) seen
+    ≡ Err (stop_of draft Cut cursor.count (Some (current draft)))
+unfolding stage_left
+cut_data left cursor draft before seen come fits =
+    let some : 0 < left =
+    ltb-true 0 left (and_parts _ _ (fits_stage (BlockData left) cursor draft fits)).0 in
+    rw (content_at-cut draft.block.data_length draft.block.check draft.block.start seen
+    draft.block.data_start (omega (arith, come.count, come.stands.end)))
+    (read_alone-stopped draft.payload_span seen
+    (record (stopped Cut (length seen)) { cut_block = Some (current draft) })
+    ∙ known_stop draft.payload_span Cut (length seen) (Some (current draft))
+    ∙ ap (λ (count : ℕ). Err (stop_of draft Cut count (Some (current draft)))) (sym come.count))
+
 -- the reading after the whole blocks
-abbrev seen_reading : ScanStage → ℕ → ℕ → Draft → Result Bundle Stop
-seen_reading Ended offset count draft = Ok (bundle_of draft offset)
-seen_reading (Failed fault at) offset count draft = Err (stop_of draft fault at None)
-seen_reading stage offset count draft = Err (stop_of draft Cut count (stage_block stage draft))
+abbrev seen_reading : ScanStage → ℕ → Draft → Result Bundle Stop
+seen_reading Ended count draft = Ok (bundle_of draft count)
+seen_reading (Failed fault at) count draft = Err (stop_of draft fault at None)
+seen_reading stage count draft = Err (stop_of draft Cut count (stage_block stage draft))
+
+-- the bytes are a whole bundle
+ended_now : (cursor : Cursor) (draft : Draft) (seen : List ℕ)
+    → cursor.count ≡ length seen → cursor.hold ≡ []
+    → stage_left Ended draft (part_start cursor) seen ≡ Ok (bundle_of draft cursor.count)
+unfolding stage_left
+ended_now cursor draft seen count nothing =
+    let start : part_start cursor ≡ cursor.count = omega (arith, ap length nothing) in
+    rw (start, eq-eqb cursor.count (length seen) count) refl
 
 seen_is : (stage : ScanStage) (cursor : Cursor) (draft : Draft) (before : List Block) (seen : List ℕ)
     → HasSeen stage cursor draft before seen → IsTrue (scan_fits stage cursor draft)
     → judged_bundle seen
-    ≡ with_blocks (before ++ stage_last stage draft cursor.offset)
-    (seen_reading stage cursor.offset cursor.count draft)
+    ≡ with_blocks (before ++ stage_last stage draft (part_start cursor))
+    (seen_reading stage cursor.count draft)
 unfolding stage_left
 seen_is Ended cursor draft before seen come fits =
-    read_now come ∙ rw (append-nil before, eq-eqb cursor.offset (length seen) come.stands) refl
+    read_now come
+    ∙ ap (with_blocks (before ++ [])) (ended_now cursor draft seen come.count come.stands)
 seen_is (Failed fault at) cursor draft before seen come fits =
-    read_now come ∙ rw (append-nil before, known_stop draft.payload_span fault at None) refl
+    read_now come ∙ ap (with_blocks (before ++ [])) (known_stop draft.payload_span fault at None)
+seen_is (BlockData left) cursor draft before seen come fits =
+    read_now come ∙ ap (with_blocks (before ++ [])) (cut_data left cursor draft before seen come fits)
 seen_is stage cursor draft before seen come fits =
-    rw come.count
-    (going_cut stage cursor draft before seen come fits refl
-    ∙ rw (known_stop draft.payload_span Cut (length seen) (stage_block stage draft)) refl)
+    cut_part stage cursor draft before seen come fits refl
 
 -- ---- what follows from it
 
 -- the verdict at a stage
-abbrev pub stage_verdict : State → ℕ → ℕ → Draft → Result BundleInfo (BundleFault × ℕ)
-stage_verdict state.Going offset count draft = Err (Cut, count)
-stage_verdict state.Ended offset count draft = Ok (bundle_of draft offset).info
-stage_verdict (state.Failed fault at) offset count draft = Err (fault, at)
-
-reading_verdict : (stage : ScanStage) (offset count : ℕ) (draft : Draft)
-    → verdict_by (seen_reading stage offset count draft)
-    ≡ stage_verdict (stage_state stage) offset count draft
-reading_verdict Ended offset count draft = refl
-reading_verdict _ offset count draft = refl
+abbrev pub stage_verdict : State → ℕ → Draft → Result BundleInfo (BundleFault × ℕ)
+stage_verdict state.Going count draft = Err (Cut, count)
+stage_verdict state.Ended count draft = Ok (bundle_of draft count).info
+stage_verdict (state.Failed fault at) count draft = Err (fault, at)
 
 -- the state that a caller sees
 verdict_state : (stage : ScanStage) (cursor : Cursor) (draft : Draft)
     → IsTrue (scan_fits stage cursor draft)
-    → stage_state stage
-    ≡ state_of (stage_verdict (stage_state stage) cursor.offset cursor.count draft)
-verdict_state (Failed fault at) cursor draft fits = rw fits refl
+    → stage_state stage ≡ state_of (stage_verdict (stage_state stage) cursor.count draft)
+verdict_state (Failed fault at) cursor draft fits =
+    rw (fits_stage (Failed fault at) cursor draft fits) refl
 verdict_state _ cursor draft fits = refl
 
 -- the offset and the length of the payload
@@ -172,61 +124,97 @@ span_back : (payload : Option (ℕ × ℕ)) → is_some payload ≡ true → Som
 span_back None known = cc
 span_back (Some payload) known = refl
 
-reading_payload : (stage : ScanStage) (cursor : Cursor) (draft : Draft)
-    → IsTrue (scan_fits stage cursor draft)
-    → payload_of (seen_reading stage cursor.offset cursor.count draft) ≡ draft.payload_span
-reading_payload Ended cursor draft fits = span_back draft.payload_span fits
-reading_payload _ cursor draft fits = refl
+-- what is found in the reading after the whole blocks
+record Finds (stage : ScanStage) (count : ℕ) (draft : Draft) : Type 0 where
+  verdict_is : verdict_by (seen_reading stage count draft)
+      ≡ stage_verdict (stage_state stage) count draft
+  payload : payload_of (seen_reading stage count draft) ≡ draft.payload_span
+  blocks : blocks_of (seen_reading stage count draft) ≡ []
+  cut : cut_block_of (seen_reading stage count draft) ≡ stage_block stage draft
 
-reading_blocks : (stage : ScanStage) (offset count : ℕ) (draft : Draft)
-    → blocks_of (seen_reading stage offset count draft) ≡ []
-reading_blocks Ended offset count draft = refl
-reading_blocks _ offset count draft = refl
-
-reading_in : (stage : ScanStage) (offset count : ℕ) (draft : Draft)
-    → cut_block_of (seen_reading stage offset count draft) ≡ stage_block stage draft
-reading_in Ended offset count draft = refl
-reading_in _ offset count draft = refl
+finds : (stage : ScanStage) (cursor : Cursor) (draft : Draft)
+    → IsTrue (scan_fits stage cursor draft) → Finds stage cursor.count draft
+finds Ended cursor draft fits = record {
+  verdict_is = refl;
+  payload = span_back draft.payload_span (and_parts _ _ (fits_stage Ended cursor draft fits)).0;
+  blocks = refl;
+  cut = refl;
+}
+finds _ cursor draft fits = record { verdict_is = refl; payload = refl; blocks = refl; cut = refl }
 
 module _ {scan : BundleScan} {seen : List ℕ} (come : HasScanned scan seen) where
   abbrev all : List Block
-  all = come.before ++ stage_last scan.stage scan.draft scan.cursor.offset
+  all = come.before ++ stage_last scan.stage scan.draft (part_start scan.cursor)
 
   abbrev reading : Result Bundle Stop
-  reading = seen_reading scan.stage scan.cursor.offset scan.cursor.count scan.draft
+  reading = seen_reading scan.stage scan.cursor.count scan.draft
+
+  found : Finds scan.stage scan.cursor.count scan.draft
+  found = finds scan.stage scan.cursor scan.draft scan.fits
 
   scan_reads : judged_bundle seen ≡ with_blocks all reading
   scan_reads = seen_is scan.stage scan.cursor scan.draft come.before seen come.come scan.fits
 
   -- the verdict in a state that a caller sees
-  pub verdict_at : {now : State} → stage_state scan.stage ≡ now
-      → verdict seen ≡ stage_verdict now scan.cursor.offset scan.cursor.count scan.draft
+  pub verdict-seen : verdict seen
+      ≡ stage_verdict (stage_state scan.stage) scan.cursor.count scan.draft
   unfolding verdict
-  verdict_at is =
-      ap verdict_by scan_reads ∙ verdict_by-blocks all reading
-      ∙ reading_verdict scan.stage scan.cursor.offset scan.cursor.count scan.draft
-      ∙ ap (λ (now : State). stage_verdict now scan.cursor.offset scan.cursor.count scan.draft) is
+  verdict-seen =
+      ap verdict_by scan_reads ∙ verdict_by-blocks all reading ∙ found.verdict_is
 
   pub state_of-seen : stage_state scan.stage ≡ state_of (verdict seen)
   state_of-seen =
-      verdict_state scan.stage scan.cursor scan.draft scan.fits ∙ ap state_of (sym (verdict_at refl))
+      verdict_state scan.stage scan.cursor scan.draft scan.fits ∙ ap state_of (sym verdict-seen)
 
   pub payload_of-seen : payload_of (judged_bundle seen) ≡ scan.draft.payload_span
   payload_of-seen =
-      ap payload_of scan_reads ∙ payload_of-blocks all reading
-      ∙ reading_payload scan.stage scan.cursor scan.draft scan.fits
+      ap payload_of scan_reads ∙ payload_of-blocks all reading ∙ found.payload
 
   pub blocks_of-seen : blocks_in seen
-      ≡ come.before ++ stage_last scan.stage scan.draft scan.cursor.offset
+      ≡ come.before ++ stage_last scan.stage scan.draft (part_start scan.cursor)
   unfolding blocks_in
   blocks_of-seen =
       ap blocks_of scan_reads ∙ blocks_of-blocks all reading
-      ∙ ap (λ (blocks : List Block). all ++ blocks)
-      (reading_blocks scan.stage scan.cursor.offset scan.cursor.count scan.draft)
-      ∙ append-nil all
+      ∙ ap (λ (blocks : List Block). all ++ blocks) found.blocks ∙ append-nil all
 
   pub cut_block_of-seen : cut_block_in seen ≡ stage_block scan.stage scan.draft
   unfolding cut_block_in
   cut_block_of-seen =
-      ap cut_block_of scan_reads ∙ cut_block_of-blocks all reading
-      ∙ reading_in scan.stage scan.cursor.offset scan.cursor.count scan.draft
+      ap cut_block_of scan_reads ∙ cut_block_of-blocks all reading ∙ found.cut
+
+-- the number of bytes seen
+pub counted : (scan : BundleScan) (seen : List ℕ) → HasScanned scan seen
+    → scan_size scan ≡ length seen
+counted scan seen come = come.come.count
+
+pub still_going : (stage : ScanStage) → takes_bytes (stage_state stage) ≡ true → (stage ≡ Ended → ⊥)
+    → is_going (stage_state stage) ≡ true
+still_going Ended may other = absurd (other refl)
+still_going (Failed fault at) may other = cc
+still_going stage may other = refl
+
+-- a scan that needs more bytes may take some
+pub may_at : {scan : BundleScan} {piece : List ℕ} → is_going (stage_state scan.stage) ≡ true
+    → 0 < length piece → scan_size scan + length piece ≤ 2 ^ 63 - 1 → MayAdvance scan piece
+may_at going some room = record {
+  goes = λ seen come. ap is_going (sym (state_of-seen come)) ∙ going;
+  some = some;
+  room = room;
+}
+
+-- a stage before which a block ends is in no block
+in_no_block : (stage : ScanStage) (draft : Draft) (count : ℕ) (here : Bool) (block : Block)
+    → (if here then stage_last stage draft count else []) ≡ block ∷ []
+    → stage_block stage draft ≡ None
+in_no_block (BlockData left) draft count here block ends = grind arith
+in_no_block (CheckField kind) draft count here block ends = grind arith
+in_no_block stage draft count here block ends = refl
+
+-- where a block ends, the bytes end in no other
+pub no_cut : (scan : BundleScan) (seen : List ℕ) (block : Block) → HasScanned scan seen
+    → ending scan ≡ block ∷ [] → cut_block_in seen ≡ None
+no_cut scan seen block come ends =
+    cut_block_of-seen come
+    ∙ in_no_block scan.stage scan.draft scan.cursor.count (length scan.cursor.hold == 0) block ends
+
+pub ruleset of_seen = (state_of-seen, cut_block_of-seen)

@@ -1,91 +1,50 @@
 -- Relations: the bounds of a scan at each stage.
 
-use Rattle.std.specs.Prelude.{◌≡◌, ℕ, ◌-◌, ◌^◌, Bool, true, false, ◌&&◌, ◌==◌, nat_lt, nat_le, List, length, is_none, is_some, Result, MatchResult, IsTrue}
-use Rattle.link_cbor.specs.declared.head_scan.HeadScan.{HeadScan}
-use Rattle.link_cbor.specs.HeadScan.{may_scan_head}
-use Rattle.link_bundle.specs.declared.cursor.Cursor.{Cursor}
-use Rattle.link_bundle_types.specs.declared.fault.BundleFault.{BundleFault}
+use Rattle.std.specs.Prelude.{ℕ, ◌==◌, Bool, true, false, not, ◌&&◌, ◌||◌, nat_lt, nat_le, List, length, is_none, is_some, Option, Some, None}
+use Rattle.link_cbor.specs.declared.check.CheckKind.{CheckKind}
+use Rattle.link_cbor.specs.declared.check.CheckKind.TheVariants.{Crc16, Crc32}
 use Rattle.link_bundle_types.specs.Faults.{lasts}
-use Rattle.link_bundle.specs.declared.{draft.Draft.Draft, stage.ScanStage.ScanStage}
-use Rattle.link_bundle.specs.declared.stage.ScanStage.TheVariants.{Start, Head, Name, Content, Stored, Ended, Failed}
-use Rattle.link_bundle.specs.declared.stage.Field.{Field}
-use Rattle.link_bundle.specs.declared.stage.Field.TheVariants as field
-use Rattle.link_bundle.specs.declared.stage.PrimaryField.{PrimaryField}
-use Rattle.link_bundle.specs.declared.stage.PrimaryField.TheVariants as primary
-use Rattle.link_bundle.specs.declared.stage.CanonicalField.{CanonicalField}
-use Rattle.link_bundle.specs.declared.stage.CanonicalField.TheVariants as canonical
-use Rattle.link_bundle.specs.declared.stage.{CheckType.CheckType, Role.Role}
-use Rattle.link_bundle.specs.declared.stage.Role.TheVariants.{Destination, Source, ReportTo}
-use Rattle.link_bundle_types.specs.KeptEid.{name_fits}
-use Rattle.link_bundle.specs.declared.checks.BlockChecks.{BlockChecks}
-use Rattle.link_bundle.specs.CheckKinds.{kind_of, is_unread, is_kind}
-use Rattle.link_bundle.specs.Covers.{Covers}
+use Rattle.link_bundle.specs.declared.{cursor.Cursor.Cursor, draft.Draft.Draft}
+use Rattle.link_bundle.specs.declared.stage.ScanStage.{ScanStage}
+use Rattle.link_bundle.specs.declared.stage.ScanStage.TheVariants.{PrimaryBlock, BlockHeads, BlockData, CheckField, Break, Ended, Failed}
+use Rattle.link_bundle.specs.Stages.{limit, is_cut, is_part, any_reading}
 
--- both checks are computed until the head of the check type was read
-abbrev pub primary_fits : PrimaryField → Draft → Bool
-primary_fits primary.Block draft = is_unread draft.check
-primary_fits primary.Version draft = is_unread draft.check
-primary_fits primary.Flags draft = is_unread draft.check
-primary_fits primary.CheckType draft = is_unread draft.check
-primary_fits _ draft = true
+abbrev pub same_kind : CheckKind → CheckKind → Bool
+same_kind Crc16 Crc16 = true
+same_kind Crc16 Crc32 = false
+same_kind Crc32 Crc16 = false
+same_kind Crc32 Crc32 = true
 
--- the payload block was not seen yet, and there is room for the number of the block
-abbrev pub canonical_fits : CanonicalField → Draft → Bool
-canonical_fits canonical.Block draft = is_none draft.payload_span && is_unread draft.check
-canonical_fits canonical.Data draft = is_none draft.payload_span && nat_lt (length draft.numbers) 64
-canonical_fits _ draft =
-    is_none draft.payload_span && (is_unread draft.check && nat_lt (length draft.numbers) 64)
+-- whether a block has a check of this kind
+abbrev pub is_kind : Option CheckKind → CheckKind → Bool
+is_kind None kind = false
+is_kind (Some found) kind = same_kind found kind
 
-abbrev pub field_fits : Field → Draft → Bool
-field_fits (field.Primary which) draft = primary_fits which draft
-field_fits (field.Endpoint role part) draft = true
-field_fits (field.Canonical which) draft = canonical_fits which draft
-field_fits (field.Check block kind) draft = is_kind (kind_of draft.check) kind
-field_fits field.Closing draft = is_some draft.payload_span
-
--- a name has room for the bytes that are left of it
-abbrev pub rest_fits : Role → Draft → ℕ → Bool
-rest_fits Destination draft left = name_fits draft.destination left
-rest_fits Source draft left = name_fits draft.source left
-rest_fits ReportTo draft left = name_fits draft.report_to left
+-- the data of a canonical block has begun
+abbrev pub has_block : Draft → Bool
+has_block draft = draft.whole && not (length draft.numbers == 0)
 
 abbrev pub stage_fits : ScanStage → Draft → Bool
-stage_fits Start draft =
-    is_none draft.payload_span && (is_unread draft.check && length draft.numbers == 0)
-stage_fits (Head which) draft = field_fits which draft
-stage_fits (Name role left) draft = nat_lt 0 left && rest_fits role draft left
-stage_fits (Content left) draft = nat_lt 0 left
-stage_fits (Stored offset left stored block kind) draft =
-    is_kind (kind_of draft.check) kind
-    && (nat_lt 0 left && (nat_le left 4 && nat_lt stored (256 ^ (4 - left))))
-stage_fits Ended draft = is_some draft.payload_span
+stage_fits PrimaryBlock draft =
+    is_none draft.payload_span && (not draft.whole && length draft.numbers == 0)
+stage_fits BlockHeads draft = is_none draft.payload_span && draft.whole
+stage_fits (BlockData left) draft = nat_lt 0 left && has_block draft
+stage_fits (CheckField kind) draft = is_kind draft.block.check kind && has_block draft
+stage_fits Break draft = is_some draft.payload_span && has_block draft
+stage_fits Ended draft = is_some draft.payload_span && draft.whole
 stage_fits (Failed fault offset) draft = lasts fault
 
--- whether the stage is at the head of a block's array, where the block's checks begin
-abbrev pub is_block : ScanStage → Bool
-is_block (Head (field.Primary primary.Block)) = true
-is_block (Head (field.Canonical canonical.Block)) = true
-is_block _ = false
+-- the hold has room for more bytes of the part
+abbrev pub hold_fits : ScanStage → Cursor → Bool
+hold_fits (Failed fault offset) cursor = true
+hold_fits stage cursor = nat_lt (length cursor.hold) (limit stage)
 
-abbrev pub is_begun : ScanStage → Bool
-is_begun Start = false
-is_begun _ = true
-
--- once the check type was read, what the checks cover stays covered until the end of the block
-abbrev pub KeepsCheck : CheckType → ScanStage → CheckType → Type 0
-KeepsCheck old stage new =
-    IsTrue (is_begun stage)
-    × (is_block stage ≡ false → is_unread old ≡ false → (checks : BlockChecks) (covered : List ℕ)
-    → Covers old checks covered → Covers new checks covered)
-
--- the stage after a head is within its bounds, and a fault lasts
-abbrev pub Follows : Result ScanStage BundleFault → Draft → Type 0
-Follows result draft =
-    MatchResult result (λ stage. IsTrue (stage_fits stage draft)) (λ fault. IsTrue (lasts fault))
-
-abbrev pub head_fits : ScanStage → HeadScan → Bool
-head_fits (Head which) head = may_scan_head head
-head_fits _ head = true
+-- The bytes that are held end inside the part. `numbers` are the numbers of the blocks before.
+abbrev pub part_goes : ScanStage → (numbers hold : List ℕ) → Bool
+part_goes stage numbers hold = not (is_part stage) || is_cut (any_reading stage numbers hold)
 
 abbrev pub scan_fits : ScanStage → Cursor → Draft → Bool
-scan_fits stage cursor draft = head_fits stage cursor.head && stage_fits stage draft
+scan_fits stage cursor draft =
+    nat_le (length cursor.hold) cursor.count
+    && (hold_fits stage cursor
+    && (part_goes stage draft.numbers cursor.hold && stage_fits stage draft))

@@ -1,9 +1,5 @@
-pub mod CheckKinds
 pub mod Left
-pub mod Fits
-pub mod Covers
-pub mod Moves
 pub mod Stages
+pub mod Fits
 pub mod Scan
 pub mod Part
-pub mod Judged

@@ -1,88 +1,115 @@
 -- Relations, but for HasScanned, ending: the bytes that a scan of a bundle has seen. The promises
 -- need only two facts: `new` has seen nothing, and a step adds its byte.
 
-use Rattle.std.specs.Prelude.{◌≡◌, ℕ, ◌+◌, ◌-◌, ◌^◌, ◌<◌, ◌≤◌, ◌==◌, if◌then◌else◌, ◌⊎◌, Bool, true, false, List, [], ◌++◌, length, replicate, slice_range, take, drop}
-use Rattle.link_cbor.specs.Head.{AreBytes, Cut, head_front}
-use Rattle.link_cbor.specs.HeadScan.{HasScannedHead}
-use Rattle.link_bundle.specs.declared.{cursor.Cursor.Cursor, draft.Draft.Draft}
-use Rattle.link_bundle.specs.declared.{scan.BundleScan.BundleScan, stage.CheckType.CheckType}
-use Rattle.link_bundle.specs.declared.stage.{Field.Field, ScanStage.ScanStage}
-use Rattle.link_bundle.specs.declared.stage.ScanStage.TheVariants.{Start, Head, Name, Content, Stored, Ended, Failed}
+use Rattle.std.specs.Prelude.{◌≡◌, ℕ, ◌+◌, ◌-◌, ◌^◌, ◌<◌, ◌≤◌, ◌==◌, if◌then◌else◌, ◌⊎◌, Bool, true, false, List, [], ◌++◌, length, drop, take, Option, Some, None, Ok}
+use Rattle.std.specs.Bool.{MatchBool}
+use Rattle.link_cbor.specs.declared.check.{Check.Check, CheckKind.CheckKind}
+use Rattle.link_cbor.specs.Head.{AreBytes}
+use Rattle.link_cbor.specs.Pushed.{HasPushed}
+use Rattle.link_bundle_heads.specs.Rows.{closing}
+use Rattle.link_bundle_blocks.specs.declared.block.CanonicalBlock.{CanonicalBlock}
+use Rattle.link_bundle_blocks.specs.Reading.{cut_short, row_at}
 use Rattle.link_bundle_blocks.specs.Blocks.{Block}
 use Rattle.link_bundle_blocks.specs.Bundle.{with_blocks, judged_bundle, bundle_goes, blocks_in}
-use Rattle.link_bundle.specs.Covers.{Covers}
-use Rattle.link_bundle.specs.Left.{block_start, stage_last, stage_left}
-use Rattle.link_bundle.specs.Stages.{stage_state, takes_bytes}
+use Rattle.link_bundle_blocks.specs.Parts.{next_block_at, field_from}
+use Rattle.link_bundle_blocks.specs.Primary.{all_fields}
+use Rattle.link_bundle_blocks.specs.PrimaryFields.{primary_fields}
+use Rattle.link_bundle_blocks.specs.Whole.{whole_primary, moved}
+use Rattle.link_bundle.specs.declared.{cursor.Cursor.Cursor, draft.Draft.Draft}
+use Rattle.link_bundle.specs.declared.{scan.BundleScan.BundleScan, stage.ScanStage.ScanStage}
+use Rattle.link_bundle.specs.declared.stage.ScanStage.TheVariants.{PrimaryBlock, BlockHeads, BlockData, CheckField, Break, Ended, Failed}
+use Rattle.link_bundle.specs.Left.{primary_of, stage_last, stage_left, with_block}
+use Rattle.link_bundle.specs.Stages.{stage_state, takes_bytes, stage_after, stage_in_data, Covers, part_reading}
 
--- in a head that begins at `cursor.offset`, in a block that begins at `start`
-pub record IsAtHead (field : Field) (cursor : Cursor) (check : CheckType) (start : ℕ)
+-- where the part of a stage begins: after the bytes `front`; `covered` are the bytes of its block
+-- before a check field
+abbrev pub IsPlaced : ScanStage → Draft → (front covered : List ℕ) → Type 0
+IsPlaced PrimaryBlock draft front covered = front ≡ []
+IsPlaced (CheckField kind) draft front covered =
+    (length front ≡ draft.block.data_start + draft.block.data_length)
+    × (draft.block.start ≤ length front) × (covered ≡ drop draft.block.start front)
+IsPlaced _ draft front covered = Unit {0}
+
+-- Bytes of a part were seen, and not all of it. They are held, after those of the parts before.
+pub record HoldsPart (stage : ScanStage) (cursor : Cursor) (draft : Draft)
     (seen : List ℕ) : Type 0 where
-  pub in_bytes : cursor.offset ≤ length seen
-  pub in_block : block_start field start cursor.offset ≤ length seen
-  pub checks : Covers check cursor.checks (drop (block_start field start cursor.offset) seen)
+  pub front : List ℕ
+  pub covered : List ℕ
+  pub parts : front ++ cursor.hold ≡ seen
+  pub placed : IsPlaced stage draft front covered
+  pub covers : Covers stage cursor.check covered
+  pub cut : part_reading stage draft.numbers covered cursor.hold ≡ cut_short cursor.hold
 
--- the same, while the head is not whole
-pub record IsInHead (field : Field) (cursor : Cursor) (check : CheckType) (start : ℕ)
+-- the check of a block, if it has one, covers these bytes
+abbrev pub IsChecked : Option CheckKind → Check → List ℕ → Type 0
+IsChecked None check covered = Unit {0}
+IsChecked (Some kind) check covered = HasPushed kind check covered
+
+-- in the data of a block, which has `left` bytes left
+pub record IsInData (left : ℕ) (cursor : Cursor) (block : CanonicalBlock)
     (seen : List ℕ) : Type 0 where
-  pub at : IsAtHead field cursor check start seen
-  pub head : HasScannedHead cursor.head (drop cursor.offset seen)
-  pub cut : head_front (drop cursor.offset seen) ≡ Cut
-
--- in a name or in data, in a block that begins at `start`
-pub record IsInside (cursor : Cursor) (check : CheckType) (start : ℕ) (seen : List ℕ) : Type 0 where
-  pub in_block : start ≤ length seen
-  pub checks : Covers check cursor.checks (drop start seen)
-
--- in the content of a check field, which begins at `cursor.offset`; the checks cover it as zeros
-pub record IsInStored (cursor : Cursor) (check : CheckType) (start : ℕ)
-    (seen : List ℕ) : Type 0 where
-  pub in_block : start ≤ length seen
-  pub in_bytes : cursor.offset ≤ length seen
-  pub checks : Covers check cursor.checks (slice_range seen start cursor.offset
-      ++ replicate (length seen - cursor.offset) 0)
-
--- before the first byte
-pub record IsFresh (cursor : Cursor) (check : CheckType) (seen : List ℕ) : Type 0 where
-  pub nothing : seen ≡ []
-  pub checks : Covers check cursor.checks []
+  pub nothing : cursor.hold ≡ []
+  pub end : cursor.count + left ≡ block.data_start + block.data_length
+  pub begun : block.start ≤ cursor.count
+  pub checks : IsChecked block.check cursor.check (drop block.start seen)
 
 -- the state of the cursor at each stage
-abbrev pub IsAtStage : ScanStage → Cursor → CheckType → ℕ → List ℕ → Type 0
-IsAtStage Start cursor check start seen = IsFresh cursor check seen
-IsAtStage (Head field) cursor check start seen = IsInHead field cursor check start seen
-IsAtStage (Name role left) cursor check start seen = IsInside cursor check start seen
-IsAtStage (Content left) cursor check start seen = IsInside cursor check start seen
-IsAtStage (Stored offset left stored block kind) cursor check start seen =
-    IsInStored cursor check start seen
-IsAtStage Ended cursor check start seen = cursor.offset ≡ length seen
-IsAtStage (Failed fault offset) cursor check start seen = Unit {0}
+abbrev pub IsAtStage : ScanStage → Cursor → Draft → List ℕ → Type 0
+IsAtStage (BlockData left) cursor draft seen = IsInData left cursor draft.block seen
+IsAtStage Ended cursor draft seen = cursor.hold ≡ []
+IsAtStage (Failed fault offset) cursor draft seen = Unit {0}
+IsAtStage stage cursor draft seen = HoldsPart stage cursor draft seen
 
--- Exactly these bytes were seen. Whatever bytes follow, the bundle is the blocks before, and the
--- rest that is read from this stage on.
+-- The draft has the fields of the primary block if that is whole, whatever bytes follow. Otherwise
+-- all bytes seen are held.
+abbrev pub KeepsPrimary : Cursor → Draft → List ℕ → Type 0
+KeepsPrimary cursor draft seen = MatchBool draft.whole
+    ((more : List ℕ) → primary_fields (seen ++ more) ≡ all_fields (primary_of draft))
+    (cursor.hold ≡ seen)
+
+-- the offset of the part that the scan is in
+abbrev pub part_start : Cursor → ℕ
+part_start cursor = cursor.count - length cursor.hold
+
+-- The held bytes begin with the part of a stage, which has `size` bytes. The draft `new` keeps it,
+-- `check` covers it in a block's heads, and `next` is the stage after it.
+abbrev pub HasRead : ScanStage → Draft → Cursor → ℕ → ScanStage → Draft → Check → Type 0
+HasRead PrimaryBlock old cursor size next new check =
+    (whole_primary cursor.hold ≡ Ok ((primary_of new, new.check), size)) × (next ≡ BlockHeads)
+    × (new.payload_span ≡ old.payload_span) × (new.numbers ≡ old.numbers) × (new.whole ≡ true)
+HasRead BlockHeads old cursor size next new check =
+    (block : CanonicalBlock)
+    × (next_block_at old.numbers cursor.hold 0 ≡ Ok (block, size))
+    × (block.start ≡ 0) × (block.data_start ≡ size) × (block.end ≡ None)
+    × (new ≡ with_block old (moved (part_start cursor) block))
+    × (next ≡ stage_in_data block.data_length new.block.check new.payload_span)
+    × IsChecked block.check check (take size cursor.hold)
+HasRead (CheckField kind) old cursor size next new check =
+    ((covered : List ℕ) → HasPushed kind cursor.check covered
+    → field_from kind covered cursor.hold ≡ Ok (true, size))
+    × (new ≡ old) × (next ≡ stage_after old.payload_span)
+HasRead Break old cursor size next new check =
+    (row_at closing cursor.hold 0 ≡ Ok (true, size)) × (new ≡ old) × (next ≡ Ended)
+HasRead _ old cursor size next new check = Unit {0}
+
+-- Exactly these bytes were seen. Whatever bytes follow, the bundle is the whole blocks, and the
+-- rest that is read from this stage on. The last of the blocks is not among those before if it
+-- ended just before the part that the scan is in.
 pub record HasSeen (stage : ScanStage) (cursor : Cursor) (draft : Draft) (before : List Block)
     (seen : List ℕ) : Type 0 where
   pub all_bytes : AreBytes seen
   pub count : cursor.count ≡ length seen
   pub reads : (more : List ℕ)
       → judged_bundle (seen ++ more)
-      ≡ with_blocks before (stage_left stage draft cursor.offset (seen ++ more) (length seen))
-  pub stands : IsAtStage stage cursor draft.check draft.block.start seen
-
--- bytes of the head at `cursor.offset` were seen, and the head is not judged yet
-pub record HasSeenHead (which : Field) (cursor : Cursor) (draft : Draft) (before : List Block)
-    (seen : List ℕ) : Type 0 where
-  pub all_bytes : AreBytes seen
-  pub count : cursor.count ≡ length seen
-  pub reads : (more : List ℕ)
-      → judged_bundle (seen ++ more)
-      ≡ with_blocks before
-      (stage_left (Head which) draft cursor.offset (seen ++ more) (length seen))
-  pub at : IsAtHead which cursor draft.check draft.block.start seen
+      ≡ with_blocks (before ++ stage_last stage draft (part_start cursor))
+      (stage_left stage draft (part_start cursor) (seen ++ more))
+  pub stands : IsAtStage stage cursor draft seen
+  pub primary : KeepsPrimary cursor draft seen
 
 -- the block that ends with the bytes seen, if one does
 abbrev pub ending_at : ScanStage → Draft → Cursor → List Block
 ending_at stage draft cursor =
-    if cursor.offset == cursor.count then stage_last stage draft cursor.offset else []
+    if length cursor.hold == 0 then stage_last stage draft cursor.count else []
 
 abbrev pub ending : BundleScan → List Block
 ending scan = ending_at scan.stage scan.draft scan.cursor

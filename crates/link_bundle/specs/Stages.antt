@@ -1,29 +1,107 @@
--- Relations: the state that a caller sees at a stage.
+-- Relations: the state that a caller sees at a stage, and the part that is read there.
 
-use Rattle.std.specs.Prelude.{Bool, true, false}
-use Rattle.link_bundle_types.specs.declared.fault.State.{State}
+use Rattle.std.specs.Prelude.{◌≡◌, ℕ, ◌-◌, take, Bool, true, false, not, nat_lt, List, Option, None, Some, Result, Ok, Err, if◌then◌else◌}
+use Rattle.link_cbor.specs.declared.check.{Check.Check, CheckKind.CheckKind}
+use Rattle.link_cbor.specs.Pushed.{HasPushed}
+use Rattle.link_bundle_types.specs.declared.fault.{State.State}
 use Rattle.link_bundle_types.specs.declared.fault.State.TheVariants as state
-use Rattle.link_bundle.specs.declared.stage.Field.TheVariants as field
-use Rattle.link_bundle.specs.declared.stage.Part.TheVariants as part
-use Rattle.link_bundle.specs.declared.stage.PrimaryField.TheVariants as primary
-use Rattle.link_bundle.specs.declared.stage.Role.{Role}
-use Rattle.link_bundle.specs.declared.stage.Role.TheVariants.{Destination, Source, ReportTo}
+use Rattle.link_bundle_types.specs.Faults.{lasts}
+use Rattle.link_bundle_heads.specs.Rows.{closing}
+use Rattle.link_bundle_blocks.specs.declared.exact.PartFault.{PartFault}
+use Rattle.link_bundle_blocks.specs.Reading.{Stop, ReadAt, stopped, row_at}
+use Rattle.link_bundle_blocks.specs.Parts.{next_block_at, field_from, any_field}
+use Rattle.link_bundle_blocks.specs.Whole.{whole_primary}
 use Rattle.link_bundle.specs.declared.stage.ScanStage.{ScanStage}
-use Rattle.link_bundle.specs.declared.stage.ScanStage.TheVariants.{Head, Ended, Failed}
+use Rattle.link_bundle.specs.declared.stage.ScanStage.TheVariants.{PrimaryBlock, BlockHeads, BlockData, CheckField, Break, Ended, Failed}
 
 abbrev pub stage_state : ScanStage → State
 stage_state Ended = state.Ended
 stage_state (Failed fault offset) = state.Failed fault offset
 stage_state _ = state.Going
 
--- the stage at the head after an endpoint ID
-abbrev pub stage_after : Role → ScanStage
-stage_after Destination = Head (field.Endpoint Source part.Array)
-stage_after Source = Head (field.Endpoint ReportTo part.Array)
-stage_after ReportTo = Head (field.Primary primary.Timestamp)
-
 -- whether one more byte may be fed, which is not so after a fault
 abbrev pub takes_bytes : State → Bool
 takes_bytes state.Going = true
 takes_bytes state.Ended = true
 takes_bytes (state.Failed fault offset) = false
+
+-- whether a block ends before a stage
+abbrev pub follows_block : ScanStage → Bool
+follows_block BlockHeads = true
+follows_block Break = true
+follows_block _ = false
+
+-- whether the scan holds the bytes of a part at a stage
+abbrev pub is_part : ScanStage → Bool
+is_part PrimaryBlock = true
+is_part BlockHeads = true
+is_part (CheckField kind) = true
+is_part Break = true
+is_part _ = false
+
+-- Fewer bytes than this show how a part is read: the opening byte and a primary block, the heads of
+-- a canonical block, a check field, and a break. An endpoint ID has at most 1,051 bytes: a name of
+-- 1,024, and three heads of at most 9. A check value has at most 4.
+abbrev pub limit : ScanStage → ℕ
+limit PrimaryBlock = 3257
+limit BlockHeads = 54
+limit (CheckField kind) = 13
+limit Break = 9
+limit _ = 1
+
+-- the bytes of a block before its check field were pushed to the check
+abbrev pub Covers : ScanStage → Check → List ℕ → Type 0
+Covers (CheckField kind) check covered = HasPushed kind check covered
+Covers _ check covered = Unit {0}
+
+-- the offset after a part, or its stop
+abbrev pub end_of : {A : Type 0} → ReadAt A → Result ℕ Stop
+end_of (Ok (value, next)) = Ok next
+end_of (Err stop) = Err stop
+
+-- The part of a stage, at the beginning of some bytes, whatever check value a check field has.
+-- `numbers` are the numbers of the blocks before.
+abbrev pub any_reading : ScanStage → (numbers bytes : List ℕ) → Result ℕ Stop
+any_reading PrimaryBlock numbers bytes = end_of (whole_primary bytes)
+any_reading BlockHeads numbers bytes = end_of (next_block_at numbers bytes 0)
+any_reading (CheckField kind) numbers bytes = end_of (any_field kind bytes)
+any_reading Break numbers bytes = end_of (row_at closing bytes 0)
+any_reading _ numbers bytes = Ok 0
+
+-- The part of a stage. `covered` are the bytes of the block before its check field.
+abbrev pub part_reading : ScanStage → (numbers covered bytes : List ℕ) → Result ℕ Stop
+part_reading (CheckField kind) numbers covered bytes = end_of (field_from kind covered bytes)
+part_reading stage numbers covered bytes = any_reading stage numbers bytes
+
+-- the end of a part that was read
+abbrev pub part_end : Result (ℕ × ScanStage) PartFault → Result ℕ Stop
+part_end (Ok (size, next)) = Ok size
+part_end (Err stop) = Err (stopped stop.fault stop.offset)
+
+-- whether the bytes end inside a part
+abbrev pub is_cut : Result ℕ Stop → Bool
+is_cut (Ok next) = false
+is_cut (Err stop) = not (lasts stop.fault)
+
+-- the stage after a block: the break follows the payload block
+abbrev pub stage_after : Option (ℕ × ℕ) → ScanStage
+stage_after None = BlockHeads
+stage_after (Some payload) = Break
+
+-- the stage after the data of a block with this check
+abbrev pub stage_after_data : Option CheckKind → Option (ℕ × ℕ) → ScanStage
+stage_after_data None payload = stage_after payload
+stage_after_data (Some kind) payload = CheckField kind
+
+-- the stage in a block with this check, of whose data `left` bytes are left
+abbrev pub stage_in_data : ℕ → Option CheckKind → Option (ℕ × ℕ) → ScanStage
+stage_in_data left check payload =
+    if nat_lt 0 left then BlockData left else stage_after_data check payload
+
+-- If the first `held` bytes end inside a part, and all bytes do not, then `shown` is the least
+-- number of bytes that do not.
+abbrev pub ShowsFirst : (List ℕ → Result ℕ Stop) → (held shown : ℕ) → List ℕ → Type 0
+ShowsFirst reading held shown bytes =
+    is_cut (reading (take held bytes)) ≡ true → is_cut (reading bytes) ≡ false
+    → (is_cut (reading (take shown bytes)) ≡ false)
+    × (is_cut (reading (take (shown - 1) bytes)) ≡ true)

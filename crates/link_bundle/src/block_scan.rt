@@ -1,17 +1,16 @@
 //! The blocks of a bundle that is being scanned, one after another.
-ghost use Rattle.std.specs.Prelude.{◌≡◌, ℕ, ◌+◌, ◌-◌, ◌^◌, ◌<◌, ◌≤◌, Ok, ◌==◌, ◌&&◌, false, IsTrue, IfSome, List, [], ◌++◌, length, take};
+ghost use Rattle.std.specs.Prelude.{◌≡◌, ◌<◌, ◌==◌, ◌&&◌, false, IsTrue, IfSome, List, ℕ, [], ◌++◌, length, take};
 
 use crate::scan::BundleScan;
-use crate::stage::{CanonicalField, Field, ScanStage};
+use crate::stage::ScanStage;
 use link_bundle_blocks::{BlockView, CanonicalBlock, whole_canonical};
-use link_cbor::{CheckKind, Piecewise};
+use link_cbor::Piecewise;
 
 impl BundleScan {
     ghost use Rattle.link_bundle_blocks.specs.Blocks.{viewed_blocks, viewed_block, HasShortBlock};
-    ghost use Rattle.link_bundle.specs.Left.{primary_of, stage_follows};
+    ghost use Rattle.link_bundle.specs.Stages.{follows_block};
     ghost use Rattle.link_bundle_blocks.specs.Bundle.{cut_block_in, bundle_goes};
-    ghost use Rattle.link_bundle_blocks.specs.Whole.{whole_primary, whole_canonical};
-    ghost use Rattle.link_bundle.specs.Scan.{HasScanned, HasTaken, MayAdvance, Advances, AddsBlock, ending, may_scan};
+    ghost use Rattle.link_bundle.specs.Scan.{HasScanned, MayAdvance, Advances, AddsBlock, ending, may_scan};
 
     /// Takes the next bytes of a piece, until a block ends or no more bytes are needed.
     ///
@@ -45,96 +44,61 @@ impl BundleScan {
         ensures blocks { AddsBlock self.old self.new piece.now result }
     {
         match self.stage {
-            ScanStage::Start => self.advance_primary(piece),
-            ScanStage::Head(Field::Canonical(CanonicalField::Block))
-                if self.cursor.offset == self.cursor.count => self.advance_canonical(piece),
+            ScanStage::PrimaryBlock if self.cursor.count == 0 => self.advance_primary(piece),
+            ScanStage::BlockHeads if self.cursor.hold.len() == 0 => self.advance_canonical(piece),
             _ => self.advance_part(piece),
         }
     }
 
     /// Takes the first bytes of a bundle: up to the end of its primary block if the piece has all
-    /// of it, or else one byte.
+    /// of it, or else a part of it.
     #[inline(never)]
     fn advance_primary(&mut self, piece: &[u8]) -> usize
-        requires stage { self.old.stage ≡ ScanStage.Start }
+        requires stage { self.old.stage ≡ ScanStage.PrimaryBlock }
+        requires begins { self.old.cursor.hold ≡ [] }
         requires may_take { MayAdvance self.old piece.now }
         ensures advances { Advances self.old self.new piece.now result }
         ensures blocks { AddsBlock self.old self.new piece.now result }
     {
         match self.draft.whole_primary(piece) {
             Ok((check, size)) => {
-                self.primary_run(check, &piece[..size]);
+                self.draft.check = check;
+                self.draft.whole = true;
+                self.cursor.count += size as u64;
+                self.stage = ScanStage::BlockHeads;
                 size
             }
-            Err(_) => {
-                self.open(piece[0]);
-                1
-            }
+            Err(_) => self.take_primary(piece),
         }
     }
 
-    /// Takes a primary block that lies whole in a piece, and the byte before it.
-    ///
-    /// The draft has the block's fields already.
-    #[inline(always)]
-    fn primary_run(&mut self, check: Option<CheckKind>, run: &[u8])
-        requires stage { self.old.stage ≡ ScanStage.Start }
-        requires whole { whole_primary run.now
-            ≡ Ok ((primary_of self.old.draft, check), length run.now) }
-        requires room { self.old.cursor.count + length run.now ≤ 2 ^ 63 - 1 }
-        ensures { HasTaken self.old self.new run.now }
-    {
-        let stage = self.draft.end_primary(check);
-        self.cursor.pass(run.len(), stage);
-        self.stage = stage;
-    }
-
-    /// Takes the first bytes of a canonical block: the whole block if the piece has it, or else as
-    /// `advance_head` does.
+    /// Takes the first bytes of a canonical block: the whole block if the piece has it, or else its
+    /// heads or a part of them.
     #[inline(never)]
     fn advance_canonical(&mut self, piece: &[u8]) -> usize
-        requires stage { self.old.stage ≡ ScanStage.Head (Field.Canonical CanonicalField.Block) }
-        requires begins { self.old.cursor.offset ≡ self.old.cursor.count }
+        requires stage { self.old.stage ≡ ScanStage.BlockHeads }
+        requires begins { self.old.cursor.hold ≡ [] }
         requires may_take { MayAdvance self.old piece.now }
         ensures advances { Advances self.old self.new piece.now result }
         ensures blocks { AddsBlock self.old self.new piece.now result }
     {
         match whole_canonical(&self.draft.numbers, piece, 0) {
             Ok((block, size)) => {
-                self.canonical_run(block, &piece[..size]);
+                self.draft.keep_block(block.moved(self.cursor.count));
+                self.cursor.count += size as u64;
+                self.stage = self.draft.after_block();
                 size
             }
-            Err(_) => self.advance_head(Field::Canonical(CanonicalField::Block), piece),
+            Err(_) => self.take_heads(piece),
         }
-    }
-
-    /// Takes a canonical block that lies whole in a piece.
-    ///
-    /// `run` has exactly the bytes of the block. `block` was read from `run`, so its offsets count
-    /// from the first byte of `run`.
-    #[inline(always)]
-    fn canonical_run(&mut self, block: CanonicalBlock, run: &[u8])
-        requires stage { self.old.stage ≡ ScanStage.Head (Field.Canonical CanonicalField.Block) }
-        requires begins { self.old.cursor.offset ≡ self.old.cursor.count }
-        requires numbers { length self.old.draft.numbers < 64 }
-        requires whole { whole_canonical self.old.draft.numbers run.now 0
-            ≡ Ok (block, length run.now) }
-        requires start { block.start ≡ 0 }
-        requires room { self.old.cursor.count + length run.now ≤ 2 ^ 63 - 1 }
-        ensures { HasTaken self.old self.new run.now }
-    {
-        let stage = self.draft.end_canonical(block.moved(self.cursor.count));
-        self.cursor.pass(run.len(), stage);
-        self.stage = stage;
     }
 
     /// Whether a block ends with the bytes seen.
     #[inline(always)]
     fn ends_block(&self) -> bool
-        ensures { result ≡ (self.now.cursor.offset == self.now.cursor.count
-            && stage_follows self.now.stage) }
+        ensures { result ≡ (follows_block self.now.stage && length self.now.cursor.hold == 0) }
     {
-        self.cursor.offset == self.cursor.count && self.stage.follows_block()
+        self.stage.follows_block() && self.cursor.hold.len() == 0
     }
 
     /// The block that ends with the bytes seen, if one does.
@@ -146,12 +110,13 @@ impl BundleScan {
         if !self.ends_block() {
             return None;
         }
-        Some(self.draft.last_block(self.cursor.offset))
+        Some(self.draft.last_block(self.cursor.count))
     }
 
     /// The canonical block that the bytes seen cut short, if they end in its data or check field.
     ///
     /// There is none if they end elsewhere, or if they show a fault.
+    #[tactic(auto, using(crate::proofs::Verdicts::of_seen))]
     #[inline(always)]
     pub fn cut_block(&self) -> Option<CanonicalBlock>
         ensures { (seen : List ℕ) → HasScanned self.now seen → result ≡ cut_block_in seen }

@@ -1,87 +1,124 @@
-//! The progress of a scan: the bytes counted, the head that is being read, and the checks.
-ghost use Rattle.std.specs.Prelude.{◌≡◌, ℕ, ◌+◌, ◌-◌, ◌^◌, ◌<◌, ◌≤◌, ◌↔◌, IsTrue, List, ◌∷◌, [], ◌++◌, length};
-ghost use Rattle.link_cbor.specs.Head.{head_front, front_by_step};
-ghost use Rattle.link_cbor.specs.HeadScan.{HasScannedHead, may_scan_head};
-ghost use Rattle.link_bundle.specs.Covers.{Covers};
-ghost use Rattle.link_bundle.specs.Moves.{TakesRun, Enters};
+//! The progress of a scan: the bytes counted, the bytes held, and the check of the current block.
+ghost use Rattle.std.specs.Prelude.{◌≡◌, ℕ, ◌+◌, ◌-◌, ◌^◌, ◌<◌, ◌≤◌, List, [], ◌++◌, length, take, min};
+ghost use Rattle.link_bundle.specs.Scan.{IsChecked, part_start};
 
-use crate::checks::BlockChecks;
-use crate::stage::{CheckType, ScanStage};
-use link_cbor::{HeadScan, HeadStep, Piecewise};
+use crate::hold::Hold;
+use link_cbor::{Check, CheckKind};
 
 /// The progress of a scan through its bytes.
 #[derive(Drop)]
 pub(crate) struct Cursor {
     /// The number of bytes seen.
     pub count: u64,
-    /// At a head, the offset of its first byte.
-    pub offset: u64,
-    pub head: HeadScan,
-    pub checks: BlockChecks,
+    /// The bytes seen of the part that the scan is in. There are none in a block's data.
+    pub hold: Hold,
+    /// The check of the current canonical block, if it has one, over its bytes before the part.
+    pub check: Check,
 }
 
 impl Cursor {
     /// A cursor before the first byte.
     pub fn new() -> Cursor
         ensures count { result.count ≡ 0 }
-        ensures head { HasScannedHead result.head [] }
-        ensures checks { Covers CheckType.Unread result.checks [] }
+        ensures hold { result.hold ≡ [] }
     {
         Cursor {
             count: 0,
-            offset: 0,
-            head: HeadScan::new(),
-            checks: BlockChecks::new(),
+            hold: Hold::new(),
+            check: Check::new(CheckKind::Crc16),
         }
     }
 
-    /// Takes a byte of a head, and returns the state of the head.
-    pub fn head_byte(&mut self, check: CheckType, byte: u8) -> HeadStep
-        requires room { self.old.count < 2 ^ 63 - 1 }
-        requires may_step { IsTrue (may_scan_head self.old.head) }
-        ensures takes { TakesRun check self.old self.new (byte ∷ []) }
-        ensures head { (seen : List ℕ) → HasScannedHead self.old.head seen
-            → HasScannedHead self.new.head (seen ++ byte ∷ []) }
-        ensures front { (seen : List ℕ) → HasScannedHead self.new.head seen
-            → head_front seen ≡ front_by_step result (length seen) }
-        ensures may_step { IsTrue (may_scan_head self.new.head) ↔ (result ≡ HeadStep.More) }
+    /// Makes the cursor one before the first byte.
+    pub fn restart(&mut self)
+        ensures count { self.new.count ≡ 0 }
+        ensures hold { self.new.hold ≡ [] }
     {
-        self.count += 1;
-        self.checks.take(check, &[byte]);
-        self.head.step(byte);
-        self.head.outcome()
+        self.count = 0;
+        self.hold.clear();
     }
 
-    /// Takes bytes without reading them as a head.
+    /// The offset of the part that the scan is in.
     #[inline(always)]
-    pub fn content_run(&mut self, check: CheckType, run: &[u8])
-        requires room { self.old.count + length run.now ≤ 2 ^ 63 - 1 }
-        ensures { TakesRun check self.old self.new run.now }
+    pub fn start(&self) -> u64
+        requires { length self.now.hold ≤ self.now.count }
+        ensures { result ≡ part_start self.now }
+    {
+        self.count - self.hold.len() as u64
+    }
+
+    /// Takes the bytes of a piece into the hold, until that has `limit` bytes.
+    ///
+    /// Returns the number of bytes that were held before.
+    pub fn hold(&mut self, piece: &[u8], limit: usize) -> usize
+        requires room { self.old.count + length piece.now ≤ 2 ^ 63 - 1 }
+        requires within { length self.old.hold ≤ limit }
+        requires most { limit ≤ 3257 }
+        ensures held { result ≡ length self.old.hold }
+        ensures hold { self.new.hold
+            ≡ self.old.hold ++ take (limit - length self.old.hold) piece.now }
+        ensures count { self.new.count
+            ≡ self.old.count + min (limit - length self.old.hold) (length piece.now) }
+        ensures check { self.new.check ≡ self.old.check }
+    {
+        let held = self.hold.len();
+        let size = piece.len().min(limit - held);
+        self.hold.extend(&piece[..size]);
+        self.count += size as u64;
+        held
+    }
+
+    /// Gives back the held bytes after the first `size`, as if they had not been seen.
+    #[inline(always)]
+    pub fn give_back(&mut self, size: usize)
+        requires within { size ≤ length self.old.hold }
+        requires held { length self.old.hold ≤ self.old.count }
+        ensures count { self.new.count ≡ part_start self.old + size }
+        ensures hold { self.new.hold ≡ take size self.old.hold }
+        ensures check { self.new.check ≡ self.old.check }
+    {
+        self.count -= (self.hold.len() - size) as u64;
+        self.hold.truncate(size);
+    }
+
+    /// Passes over a part of `size` bytes, and holds nothing.
+    #[inline(always)]
+    pub fn pass(&mut self, size: usize)
+        requires within { size ≤ length self.old.hold }
+        requires held { length self.old.hold ≤ self.old.count }
+        ensures count { self.new.count ≡ part_start self.old + size }
+        ensures hold { self.new.hold ≡ [] }
+        ensures check { self.new.check ≡ self.old.check }
+    {
+        self.give_back(size);
+        self.hold.clear();
+    }
+
+    /// Begins the check of a canonical block, whose heads are the first `size` bytes held.
+    pub fn begin_check(&mut self, check: Option<CheckKind>, size: usize)
+        requires { size ≤ length self.old.hold }
+        ensures checks { IsChecked check self.new.check (take size self.old.hold) }
+        ensures count { self.new.count ≡ self.old.count }
+        ensures hold { self.new.hold ≡ self.old.hold }
+    {
+        if let Some(kind) = check {
+            self.check = Check::new(kind);
+            self.check.push_slice(&self.hold.as_slice()[..size]);
+        }
+    }
+
+    /// Takes bytes of a block's data, in a block that has this check.
+    #[inline(always)]
+    pub fn data_run(&mut self, check: Option<CheckKind>, run: &[u8])
+        requires { self.old.count + length run.now ≤ 2 ^ 63 - 1 }
+        ensures checks { (covered : List ℕ) → IsChecked check self.old.check covered
+            → IsChecked check self.new.check (covered ++ run.now) }
+        ensures count { self.new.count ≡ self.old.count + length run.now }
+        ensures hold { self.new.hold ≡ self.old.hold }
     {
         self.count += run.len() as u64;
-        self.checks.take(check, run);
-    }
-
-    /// Prepares the cursor for the next stage.
-    ///
-    /// The next head is new, and at the head of a block's array the checks are new too.
-    pub fn enter(&mut self, stage: ScanStage)
-        ensures { Enters stage self.old self.new }
-    {
-        self.offset = self.count;
-        self.head = HeadScan::new();
-        if stage.is_block() {
-            self.checks = BlockChecks::new();
+        if check.is_some() {
+            self.check.push_slice(run);
         }
-    }
-
-    /// Passes over a block that was read at once, and prepares the cursor for the next stage.
-    #[inline(always)]
-    pub fn pass(&mut self, size: usize, stage: ScanStage)
-        requires room { self.old.count + size ≤ 2 ^ 63 - 1 }
-        ensures { Enters stage (record self.old { count = self.old.count + size }) self.new }
-    {
-        self.count += size as u64;
-        self.enter(stage);
     }
 }

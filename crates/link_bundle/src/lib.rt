@@ -8,8 +8,9 @@
 //! +-----+----------------+------------------+--+-------------------+-----+
 //! ```
 //!
-//! A [`BundleScan`] is fed the bytes of a bundle as they come. It judges each head as soon as the
-//! head is complete. Its findings can be read at any time, and one scan serves many bundles:
+//! A [`BundleScan`] is fed the bytes of a bundle as they come. It holds the bytes seen of the
+//! primary block, of a canonical block's heads or of a check field, and reads them as a whole. Its
+//! findings can be read at any time, and one scan serves many bundles:
 //!
 //! ```text
 //! let mut scan = BundleScan::new();
@@ -31,10 +32,10 @@
 #![tactic(auto)]
 
 mod block_scan;
-mod checks;
 mod cursor;
 mod draft;
-mod judging;
+mod held;
+mod hold;
 mod part;
 mod scan;
 mod stage;

@@ -1,18 +1,15 @@
 //! The scan of a bundle.
 ghost use Rattle.std.specs.Prelude.{◌≡◌, ℕ, ◌+◌, ◌-◌, ◌^◌, ◌<◌, ◌≤◌, IfOk, IsTrue, List, ◌∷◌, [], ◌++◌, length, take, min};
 ghost use Rattle.link_bundle.specs.Fits.{scan_fits};
-ghost use Rattle.link_cbor.specs.Head.{Whole, head_front};
 
 use crate::cursor::Cursor;
 use crate::draft::Draft;
-use crate::judging::take_head;
-use crate::stage::{BlockKind, CheckType, Field, PrimaryField, Role, ScanStage};
+use crate::held::{read_part, shown};
+use crate::stage::ScanStage;
+use link_bundle_blocks::{PrimaryView, primary_fields};
 use link_bundle_types::{BundleFault, BundleInfo, BundleView, State};
-use link_cbor::{CheckKind, Head, HeadStep, Piecewise};
+use link_cbor::{CheckKind, Piecewise};
 use std::fmt;
-
-/// The first byte of a bundle: it opens an array of indefinite length (RFC 9171 section 4.1).
-pub(crate) const OPENING: u8 = 0x9f;
 
 /// Scans one bundle (RFC 9171 section 4) in pieces of any size.
 ///
@@ -28,7 +25,7 @@ pub struct BundleScan {
 /// The first bytes of a piece, at most `left` of them.
 #[inline(always)]
 fn first_of(piece: &[u8], left: u64) -> &[u8]
-    ensures run { result.now ≡ take (min left (length piece.now)) piece.now }
+    ensures run { result.now ≡ take (length result.now) piece.now }
     ensures size { length result.now ≡ min left (length piece.now) }
 {
     let size = left.min(piece.len() as u64) as usize;
@@ -37,19 +34,22 @@ fn first_of(piece: &[u8], left: u64) -> &[u8]
 
 impl BundleScan {
     ghost use Rattle.link_bundle_blocks.specs.Bundle.{verdict, state_of, payload_seen};
+    ghost use Rattle.link_bundle_blocks.specs.PrimaryFields.{primary_fields};
+    ghost use Rattle.link_bundle_blocks.specs.PrimaryView.{viewed_fields};
     ghost use Rattle.link_bundle_types.specs.BundleView.{viewed_info, viewed_verdict};
     ghost use Rattle.link_bundle_types.specs.ShortNames.{HasShortNames};
     ghost use Rattle.link_bundle.specs.Scan.{HasScanned, scan_size, may_scan, HasTaken};
     ghost use Rattle.link_bundle.specs.Stages.{takes_bytes};
 
     /// A scan that has seen no byte.
+    #[tactic(auto, using(crate::proofs::Steps::is_new, crate::proofs::Steps::nothing_fits))]
     pub fn new() -> BundleScan
         ensures seen { HasScanned result [] }
         ensures size { scan_size result ≡ 0 }
         ensures may_step { IsTrue (may_scan result) }
     {
         BundleScan {
-            stage: ScanStage::Start,
+            stage: ScanStage::PrimaryBlock,
             cursor: Cursor::new(),
             draft: Draft::new(),
         }
@@ -59,17 +59,19 @@ impl BundleScan {
     ///
     /// The next byte is the first of a bundle. A field keeps its value if the next bundle sets it
     /// before it is read.
+    #[tactic(auto, using(crate::proofs::Steps::is_new, crate::proofs::Steps::nothing_fits))]
     pub fn restart(&mut self)
         ensures seen { HasScanned self.new [] }
         ensures size { scan_size self.new ≡ 0 }
         ensures may_step { IsTrue (may_scan self.new) }
     {
         self.draft.restart();
-        self.cursor = Cursor::new();
-        self.stage = ScanStage::Start;
+        self.cursor.restart();
+        self.stage = ScanStage::PrimaryBlock;
     }
 
     /// The state of the scan, which follows from the verdict on the bytes seen.
+    #[tactic(auto, using(crate::proofs::Verdicts::of_seen))]
     pub fn state(&self) -> State
         ensures seen { (seen : List ℕ) → HasScanned self.now seen
             → result ≡ state_of (verdict seen) }
@@ -107,6 +109,19 @@ impl BundleScan {
         }
     }
 
+    /// The fields of the primary block that come before its first fault, among the bytes seen.
+    #[tactic(auto, using(crate::proofs::Steps::fields_whole))]
+    pub fn primary(&self) -> PrimaryView<'_>
+        ensures { (seen : List ℕ) → HasScanned self.now seen
+            → viewed_fields result ≡ primary_fields seen }
+    {
+        if self.draft.whole {
+            PrimaryView::of(self.draft.primary_block(0))
+        } else {
+            primary_fields(self.cursor.hold.as_slice())
+        }
+    }
+
     /// The offset of the payload's first byte, and the number of payload bytes seen.
     ///
     /// It is `None` until the head of the payload block's data (RFC 9171 section 4.3.2) is complete
@@ -118,120 +133,24 @@ impl BundleScan {
         Some((offset, size.min(self.cursor.count.saturating_sub(offset))))
     }
 
-    /// Takes the first byte of a bundle.
-    pub(crate) fn open(&mut self, byte: u8)
-        requires stage { self.old.stage ≡ ScanStage.Start }
-        requires room { self.old.cursor.count < 2 ^ 63 - 1 }
-        ensures { HasTaken self.old self.new (byte ∷ []) }
-    {
-        self.cursor.count += 1;
-        if byte == OPENING {
-            self.stage = ScanStage::Head(Field::Primary(PrimaryField::Block));
-            self.cursor.enter(self.stage);
-        } else {
-            self.stage = ScanStage::Failed(BundleFault::NotABundle, 0);
-        }
-    }
-
-    /// Takes a byte of a head.
-    fn head_byte(&mut self, field: Field, byte: u8)
-        requires stage { self.old.stage ≡ ScanStage.Head field }
-        requires room { self.old.cursor.count < 2 ^ 63 - 1 }
-        ensures { HasTaken self.old self.new (byte ∷ []) }
-    {
-        match self.cursor.head_byte(self.draft.check, byte) {
-            HeadStep::More => {}
-            HeadStep::Bad => {
-                self.stage = ScanStage::Failed(BundleFault::BadHead, self.cursor.offset);
-            }
-            HeadStep::Done(head) => self.stage = take_head(
-                &mut self.draft,
-                &mut self.cursor,
-                field,
-                head,
-            ),
-        }
-    }
-
-    /// Takes a head that lies whole in a piece.
-    fn head_run(&mut self, field: Field, head: Head, run: &[u8])
-        requires stage { self.old.stage ≡ ScanStage.Head field }
-        requires begins { self.old.cursor.offset ≡ self.old.cursor.count }
-        requires whole { head_front run.now ≡ Whole head (length run.now) }
-        requires room { self.old.cursor.count + length run.now ≤ 2 ^ 63 - 1 }
-        ensures { HasTaken self.old self.new run.now }
-    {
-        self.cursor.content_run(self.draft.check, run);
-        self.stage = take_head(&mut self.draft, &mut self.cursor, field, head);
-    }
-
-    /// Takes bytes of a dtn name that has `left` bytes left.
-    fn name_run(&mut self, role: Role, left: u64, run: &[u8])
-        requires stage { self.old.stage ≡ ScanStage.Name role left }
-        requires within { length run.now ≤ left }
-        requires room { self.old.cursor.count + length run.now ≤ 2 ^ 63 - 1 }
-        ensures { HasTaken self.old self.new run.now }
-    {
-        self.cursor.content_run(self.draft.check, run);
-        let stage = self.draft.name_run(role, left, run);
-        self.cursor.enter(stage);
-        self.stage = stage;
-    }
-
     /// Takes bytes of a block's data, which has `left` bytes left.
     #[inline(always)]
-    fn content_run(&mut self, left: u64, run: &[u8])
-        requires stage { self.old.stage ≡ ScanStage.Content left }
+    fn data_run(&mut self, left: u64, run: &[u8])
+        requires stage { self.old.stage ≡ ScanStage.BlockData left }
         requires within { length run.now ≤ left }
         requires room { self.old.cursor.count + length run.now ≤ 2 ^ 63 - 1 }
-        ensures { HasTaken self.old self.new run.now }
+        ensures taken { HasTaken self.old self.new run.now }
+        ensures may_step { IsTrue (may_scan self.new) }
     {
-        self.cursor.content_run(self.draft.check, run);
+        self.cursor.data_run(self.draft.block.check, run);
         let rest = left - run.len() as u64;
         if rest > 0 {
             // A new stage would be written whole, padding included, after each short piece.
-            if let ScanStage::Content(left) = &mut self.stage {
+            if let ScanStage::BlockData(left) = &mut self.stage {
                 *left = rest;
             }
         } else {
-            let stage = self.draft.after_fields(BlockKind::Canonical);
-            self.cursor.enter(stage);
-            self.stage = stage;
-        }
-    }
-
-    /// Takes a byte of a check field's content, which the check covers as zero.
-    fn stored_byte(
-        &mut self,
-        offset: u64,
-        left: u64,
-        stored: u32,
-        block: BlockKind,
-        kind: CheckKind,
-        byte: u8,
-    )
-        requires stage { self.old.stage ≡ ScanStage.Stored offset left stored block kind }
-        requires room { self.old.cursor.count < 2 ^ 63 - 1 }
-        ensures { HasTaken self.old self.new (byte ∷ []) }
-    {
-        self.cursor.content_run(self.draft.check, &[0]);
-        let stored = stored * 256 + u32::from(byte);
-        if left > 1 {
-            self.stage = ScanStage::Stored {
-                offset,
-                left: left - 1,
-                stored,
-                block,
-                kind,
-            };
-        } else if stored == self.cursor.checks.value(kind) {
-            // Nothing more of the block is checked.
-            self.draft.check = CheckType::Is(None);
-            let stage = self.draft.after_block(block, Some(kind));
-            self.cursor.enter(stage);
-            self.stage = stage;
-        } else {
-            self.stage = ScanStage::Failed(BundleFault::CheckDiffers, offset);
+            self.stage = self.draft.in_data(0);
         }
     }
 
@@ -241,7 +160,7 @@ impl BundleScan {
         requires room { self.old.cursor.count < 2 ^ 63 - 1 }
         ensures { HasTaken self.old self.new (byte ∷ []) }
     {
-        self.stage = ScanStage::Failed(BundleFault::Trailing, self.cursor.offset);
+        self.stage = ScanStage::Failed(BundleFault::Trailing, self.cursor.count);
         self.cursor.count += 1;
     }
 
@@ -252,19 +171,10 @@ impl BundleScan {
         ensures { HasTaken self.old self.new (byte ∷ []) }
     {
         match self.stage {
-            ScanStage::Start => self.open(byte),
-            ScanStage::Head(field) => self.head_byte(field, byte),
-            ScanStage::Name(role, left) => self.name_run(role, left, &[byte]),
-            ScanStage::Content(left) => self.content_run(left, &[byte]),
-            ScanStage::Stored {
-                offset,
-                left,
-                stored,
-                block,
-                kind,
-            } => self.stored_byte(offset, left, stored, block, kind, byte),
             ScanStage::Ended => self.trailing_byte(byte),
-            ScanStage::Failed(..) => unreachable!(),
+            _ => {
+                self.advance_part(&[byte]);
+            }
         }
     }
 }
@@ -302,15 +212,14 @@ impl BundleScan {
         ensures { Advances self.old self.new piece.now result }
     {
         match self.stage {
-            ScanStage::Start => self.advance_start(piece),
+            ScanStage::PrimaryBlock if self.cursor.count == 0 => self.advance_start(piece),
             _ => self.advance_part(piece),
         }
     }
 
     /// Takes the next bytes of a piece while more are needed, and returns how many, at least one.
     ///
-    /// It takes the bytes of a name or of data that the piece has, or a whole head. In all other
-    /// cases it takes one byte. A block may end with the last of them.
+    /// It takes bytes of one part. A block may end with the last of them.
     #[inline(always)]
     pub(crate) fn advance_part(&mut self, piece: &[u8]) -> usize
         requires may_step { IsTrue (may_scan self.old) }
@@ -319,65 +228,124 @@ impl BundleScan {
         ensures blocks { AddsBlock self.old self.new piece.now result }
     {
         match self.stage {
-            ScanStage::Name(role, left) => {
+            ScanStage::PrimaryBlock => self.take_primary(piece),
+            ScanStage::BlockHeads => self.take_heads(piece),
+            ScanStage::BlockData(left) => {
                 let run = first_of(piece, left);
-                self.name_run(role, left, run);
+                self.data_run(left, run);
                 run.len()
             }
-            ScanStage::Content(left) => {
-                let run = first_of(piece, left);
-                self.content_run(left, run);
-                run.len()
-            }
-            ScanStage::Head(field) if self.cursor.offset == self.cursor.count => {
-                self.advance_head(field, piece)
-            }
-            _ => {
-                self.take_byte(piece[0]);
+            ScanStage::CheckField(kind) => self.take_check_field(kind, piece),
+            ScanStage::Break => self.take_break(piece),
+            ScanStage::Ended => {
+                self.trailing_byte(piece[0]);
                 1
             }
+            ScanStage::Failed(..) => unreachable!(),
         }
     }
 
-    /// Takes the first bytes of a bundle: the whole bundle if the piece has it, or else one byte.
+    /// Takes the first bytes of a bundle: the whole bundle if the piece has it, or else a part.
     #[inline(never)]
     fn advance_start(&mut self, piece: &[u8]) -> usize
-        requires stage { self.old.stage ≡ ScanStage.Start }
+        requires stage { self.old.stage ≡ ScanStage.PrimaryBlock }
+        requires begins { self.old.cursor.hold ≡ [] }
         requires may_take { MayAdvance self.old piece.now }
         ensures { Advances self.old self.new piece.now result }
     {
         match self.draft.whole(piece) {
             Ok(size) => {
                 self.cursor.count += size as u64;
-                self.cursor.offset = self.cursor.count;
                 self.stage = ScanStage::Ended;
                 size
             }
             Err(_) => {
                 self.draft.restart();
-                self.open(piece[0]);
-                1
+                self.take_primary(piece)
             }
         }
     }
+}
 
-    /// Takes the first bytes of a head: the whole head if the piece has it, or else one byte.
+/// The parts that the scan holds.
+impl BundleScan {
+    ghost use Rattle.link_bundle.specs.Scan.{MayAdvance, Advances, AddsBlock};
+    ghost use Rattle.link_bundle.specs.Stages.{is_part};
+
+    /// Takes bytes of the first byte and the primary block.
+    // Cold, so that the attempt to read a whole bundle at once keeps its registers.
+    #[cold]
     #[inline(never)]
-    pub(crate) fn advance_head(&mut self, field: Field, piece: &[u8]) -> usize
-        requires stage { self.old.stage ≡ ScanStage.Head field }
-        requires begins { self.old.cursor.offset ≡ self.old.cursor.count }
+    pub(crate) fn take_primary(&mut self, piece: &[u8]) -> usize
+        requires stage { self.old.stage ≡ ScanStage.PrimaryBlock }
         requires may_take { MayAdvance self.old piece.now }
         ensures advances { Advances self.old self.new piece.now result }
         ensures blocks { AddsBlock self.old self.new piece.now result }
     {
-        match Head::front(piece) {
-            Some((head, size)) => {
-                self.head_run(field, head, &piece[..size]);
-                size
+        self.take_part(ScanStage::PrimaryBlock, piece)
+    }
+
+    /// Takes bytes of the heads of a canonical block.
+    #[inline(never)]
+    pub(crate) fn take_heads(&mut self, piece: &[u8]) -> usize
+        requires stage { self.old.stage ≡ ScanStage.BlockHeads }
+        requires may_take { MayAdvance self.old piece.now }
+        ensures advances { Advances self.old self.new piece.now result }
+        ensures blocks { AddsBlock self.old self.new piece.now result }
+    {
+        self.take_part(ScanStage::BlockHeads, piece)
+    }
+
+    /// Takes bytes of the check field of a canonical block.
+    #[inline(never)]
+    fn take_check_field(&mut self, kind: CheckKind, piece: &[u8]) -> usize
+        requires stage { self.old.stage ≡ ScanStage.CheckField kind }
+        requires may_take { MayAdvance self.old piece.now }
+        ensures advances { Advances self.old self.new piece.now result }
+        ensures blocks { AddsBlock self.old self.new piece.now result }
+    {
+        self.take_part(ScanStage::CheckField(kind), piece)
+    }
+
+    /// Takes bytes of the break after the payload block.
+    #[inline(never)]
+    fn take_break(&mut self, piece: &[u8]) -> usize
+        requires stage { self.old.stage ≡ ScanStage.Break }
+        requires may_take { MayAdvance self.old piece.now }
+        ensures advances { Advances self.old self.new piece.now result }
+        ensures blocks { AddsBlock self.old self.new piece.now result }
+    {
+        self.take_part(ScanStage::Break, piece)
+    }
+
+    /// Takes bytes of the part of this stage.
+    // Inline, so that each stage has its own code.
+    #[inline(always)]
+    fn take_part(&mut self, stage: ScanStage, piece: &[u8]) -> usize
+        requires part { IsTrue (is_part stage) }
+        requires stage { self.old.stage ≡ stage }
+        requires may_take { MayAdvance self.old piece.now }
+        ensures advances { Advances self.old self.new piece.now result }
+        ensures blocks { AddsBlock self.old self.new piece.now result }
+    {
+        let held = self.cursor.hold(piece, stage.limit());
+        match read_part(stage, &mut self.draft, &mut self.cursor) {
+            Ok((size, next)) => {
+                self.cursor.pass(size);
+                self.stage = next;
+                size - held
             }
-            None => {
-                self.head_byte(field, piece[0]);
-                1
+            Err(stop) => {
+                if let BundleFault::Cut = stop.fault {
+                    return self.cursor.hold.len() - held;
+                }
+                let start = self.cursor.start();
+                let bytes = self.cursor.hold.as_slice();
+                let size = shown(stage, &self.draft.numbers, self.cursor.check, bytes, held);
+                self.cursor.give_back(size);
+                let offset = start.saturating_add(stop.offset as u64);
+                self.stage = ScanStage::Failed(stop.fault, offset);
+                size - held
             }
         }
     }
@@ -437,8 +405,8 @@ impl Piecewise for BundleScan {
     fn feed(&mut self, bytes: &[u8]) -> usize {
         match self.stage {
             // Most short pieces lie inside a block's data.
-            ScanStage::Content(left) if left > bytes.len() as u64 => {
-                self.content_run(left, bytes);
+            ScanStage::BlockData(left) if left > bytes.len() as u64 => {
+                self.data_run(left, bytes);
                 bytes.len()
             }
             _ => self.feed_on(bytes),

@@ -1,129 +1,46 @@
 //! The stages of a scan.
-ghost use Rattle.std.specs.Prelude.{◌≡◌};
+ghost use Rattle.std.specs.Prelude.{◌≡◌, ◌≤◌};
 
-use link_bundle_heads::Scheme;
+use link_bundle_blocks::PRIMARY_LIMIT;
 use link_bundle_types::{BundleFault, State};
 use link_cbor::CheckKind;
 
-/// The role of an endpoint ID in the primary block.
-#[derive(Clone, Copy)]
-pub(crate) enum Role {
-    Destination,
-    Source,
-    ReportTo,
-}
+/// The greatest length of a canonical block's heads: six heads of at most 9 bytes.
+const HEADS_LIMIT: usize = 54;
 
-impl Role {
-    ghost use Rattle.link_bundle.specs.Stages.{stage_after};
+/// The greatest length of a check field: a head of at most 9 bytes, and a value of at most 4.
+const CHECK_FIELD_LIMIT: usize = 13;
 
-    /// The stage at the head after this endpoint ID.
-    pub fn stage_after(self) -> ScanStage
-        ensures { result ≡ stage_after self }
-    {
-        match self {
-            Role::Destination => ScanStage::Head(Field::Endpoint(Role::Source, Part::Array)),
-            Role::Source => ScanStage::Head(Field::Endpoint(Role::ReportTo, Part::Array)),
-            Role::ReportTo => ScanStage::Head(Field::Primary(PrimaryField::Timestamp)),
-        }
-    }
-}
+/// The greatest length of a head (RFC 8949 section 3).
+const HEAD_LIMIT: usize = 9;
 
-/// A kind of block.
-#[derive(Clone, Copy)]
-pub(crate) enum BlockKind {
-    Primary,
-    Canonical,
-}
-
-/// A head of an endpoint ID.
-#[derive(Clone, Copy)]
-pub(crate) enum Part {
-    /// The array of the scheme and the specific part.
-    Array,
-    Scheme,
-    /// The head of this scheme's specific part.
-    Specific(Scheme),
-    /// The allocator identifier of an ipn endpoint ID with three numbers.
-    Allocator,
-    Node,
-    Service,
-}
-
-/// A head of the primary block (RFC 9171 section 4.3.1).
+/// The part of a bundle that a scan is in.
 ///
-/// The heads of its endpoint IDs and of its check field are not among them.
-#[derive(Clone, Copy)]
-pub(crate) enum PrimaryField {
-    Block,
-    Version,
-    Flags,
-    CheckType,
-    Timestamp,
-    Time,
-    Sequence,
-    Lifetime,
-    FragmentOffset,
-    TotalLength,
-}
-
-/// A head of a canonical block (RFC 9171 section 4.3.2).
-///
-/// The head of its check field is not among them.
-#[derive(Clone, Copy)]
-pub(crate) enum CanonicalField {
-    Block,
-    Type,
-    Number,
-    Flags,
-    CheckType,
-    Data,
-}
-
-/// The head that comes next.
-#[derive(Clone, Copy)]
-pub(crate) enum Field {
-    Primary(PrimaryField),
-    Endpoint(Role, Part),
-    Canonical(CanonicalField),
-    /// The check field of a block whose check is of this kind.
-    Check(BlockKind, CheckKind),
-    /// The break after the payload block.
-    Closing,
-}
-
-/// The position of a scan in its bundle.
+/// The scan holds the bytes seen of a primary block, of a block's heads, of a check field, and of
+/// the break, and reads them as a whole.
 #[derive(Clone, Copy)]
 pub(crate) enum ScanStage {
-    /// Before the first byte.
-    Start,
-    /// At a head.
-    Head(Field),
-    /// In a dtn name that has this many bytes left.
-    Name(Role, u64),
-    /// In a block's data, which has this many bytes left.
-    Content(u64),
-    /// In the content of the check field whose head is at `offset`.
-    ///
-    /// The bytes seen of it spell `stored`, and `left` bytes are left.
-    Stored {
-        offset: u64,
-        left: u64,
-        stored: u32,
-        block: BlockKind,
-        kind: CheckKind,
-    },
-    /// After the break. No byte has come after it.
+    /// The first byte of a bundle and its primary block (RFC 9171 section 4.3.1).
+    PrimaryBlock,
+    /// The heads of a canonical block up to its data (RFC 9171 section 4.3.2).
+    BlockHeads,
+    /// The data of a canonical block, which has this many bytes left.
+    BlockData(u64),
+    /// The check field of a canonical block whose check is of this kind.
+    CheckField(CheckKind),
+    /// The break after the payload block.
+    Break,
+    /// The bundle is whole.
     Ended,
-    /// The bytes have this fault, at this offset.
+    /// The bundle has this fault at this offset.
     Failed(BundleFault, u64),
 }
 
 impl ScanStage {
-    ghost use Rattle.link_bundle.specs.Fits.{is_block};
-    ghost use Rattle.link_bundle.specs.Left.{stage_follows};
-    ghost use Rattle.link_bundle.specs.Stages.{stage_state};
+    ghost use Rattle.link_bundle.specs.Stages.{stage_state, follows_block, limit};
 
-    /// The state that a caller sees.
+    /// The state that a caller sees at this stage.
+    #[inline(always)]
     pub fn state(self) -> State
         ensures { result ≡ stage_state self }
     {
@@ -134,48 +51,26 @@ impl ScanStage {
         }
     }
 
-    /// Whether the stage is at the head of a block's array, where the block's checks begin.
-    pub fn is_block(self) -> bool
-        ensures { result ≡ is_block self }
-    {
-        match self {
-            ScanStage::Head(Field::Primary(PrimaryField::Block)) => true,
-            ScanStage::Head(Field::Canonical(CanonicalField::Block)) => true,
-            _ => false,
-        }
-    }
-
     /// Whether a block ends before this stage.
+    #[inline(always)]
     pub fn follows_block(self) -> bool
-        ensures { result ≡ stage_follows self }
+        ensures { result ≡ follows_block self }
     {
-        match self {
-            ScanStage::Head(Field::Canonical(CanonicalField::Block)) => true,
-            ScanStage::Head(Field::Closing) => true,
-            _ => false,
-        }
+        matches!(self, ScanStage::BlockHeads | ScanStage::Break)
     }
-}
 
-/// The check of the current block, as far as it is known.
-#[derive(Clone, Copy)]
-pub(crate) enum CheckType {
-    /// The head of the check type was not seen yet.
-    Unread,
-    /// The check type, which is `None` for a block without a check field.
-    Is(Option<CheckKind>),
-}
-
-impl CheckType {
-    ghost use Rattle.link_bundle.specs.CheckKinds.{kind_of};
-
-    /// The kind of the block's check, or `None` if it has none or its type was not seen yet.
-    pub fn kind(self) -> Option<CheckKind>
-        ensures { result ≡ kind_of self }
+    /// The number of bytes within which the part of this stage is read, at most.
+    #[inline(always)]
+    pub fn limit(self) -> usize
+        ensures limit { result ≡ limit self }
+        ensures most { result ≤ 3257 }
     {
         match self {
-            CheckType::Unread => None,
-            CheckType::Is(kind) => kind,
+            ScanStage::PrimaryBlock => PRIMARY_LIMIT,
+            ScanStage::BlockHeads => HEADS_LIMIT,
+            ScanStage::CheckField(_) => CHECK_FIELD_LIMIT,
+            ScanStage::Break => HEAD_LIMIT,
+            _ => 1,
         }
     }
 }

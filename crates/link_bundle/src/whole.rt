@@ -1,18 +1,17 @@
 //! Reads a bundle that lies whole in a slice.
 //!
 //! An error means only that no bundle was read: it is cut or has a fault, or a head in it is
-//! spelled at greater length than it has to be. The scan then finds out which, byte by byte.
-ghost use Rattle.std.specs.Prelude.{◌≡◌, List, ◌<◌, [], length, is_some, Some, Ok, IfOk, IsTrue};
+//! spelled at greater length than it has to be. The scan then finds out which, part by part.
+ghost use Rattle.std.specs.Prelude.{◌≡◌, List, ◌<◌, [], length, is_some, Some, Ok, IfOk, IsTrue, true};
 ghost use Rattle.link_bundle_blocks.specs.Primary.{primary_at};
 ghost use Rattle.link_bundle_blocks.specs.Blocks.{Block};
 ghost use Rattle.link_bundle_blocks.specs.Bundle.{bundle_at};
-ghost use Rattle.link_bundle.specs.Left.{primary_of, bundle_of};
+ghost use Rattle.link_bundle.specs.Left.{primary_of, bundle_of, HasPrimary};
 ghost use Rattle.link_bundle_blocks.specs.Whole.{whole_primary};
 
 use crate::draft::Draft;
-use crate::scan::OPENING;
 use link_bundle_blocks::{
-    blocks_at, eid_at, field_at, fragment_at, pair_at, small_at, unsigned_at,
+    OPENING, blocks_at, eid_at, field_at, fragment_at, pair_at, small_at, unsigned_at,
 };
 use link_bundle_heads::row;
 use link_bundle_types::BundleFault;
@@ -32,7 +31,7 @@ impl Draft {
             ≡ Ok ((primary_of self.new, read.0), read.1)) }
         ensures numbers { self.new.numbers ≡ self.old.numbers }
         ensures payload { self.new.payload_span ≡ self.old.payload_span }
-        ensures check { self.new.check ≡ self.old.check }
+        ensures whole { self.new.whole ≡ self.old.whole }
     {
         let (head, offset) = small_at(row::ARRAY, bytes, offset)?;
         let count = row::primary_block(head)?;
@@ -64,6 +63,7 @@ impl Draft {
     ///
     /// Returns the block's check type, and the offset after the block. After an error, the draft
     /// may have some of the block's fields.
+    #[tactic(auto, using(link_bundle_blocks::proofs::Readings::opens), unfolding(link_bundle_blocks::specs::Whole::whole_primary))]
     #[inline(always)]
     pub fn whole_primary(&mut self, bytes: &[u8]) -> Result<(Option<CheckKind>, usize), BundleFault>
         requires some { 0 < length bytes.now }
@@ -71,7 +71,7 @@ impl Draft {
             ≡ Ok ((primary_of self.new, read.0), read.1)) }
         ensures numbers { self.new.numbers ≡ self.old.numbers }
         ensures payload { self.new.payload_span ≡ self.old.payload_span }
-        ensures check { self.new.check ≡ self.old.check }
+        ensures whole { self.new.whole ≡ self.old.whole }
     {
         if bytes[0] != OPENING {
             return Err(BundleFault::NotABundle);
@@ -90,11 +90,14 @@ impl Draft {
         requires blank { self.old.numbers ≡ [] }
         ensures read { IfOk result (λ size. (blocks : List Block)
             × (bundle_at bytes.now ≡ Ok (record (bundle_of self.new size) { blocks = blocks }))) }
+        ensures primary { IfOk result (λ _. HasPrimary self.new bytes.now) }
         ensures payload { IfOk result (λ _. IsTrue (is_some self.new.payload_span)) }
+        ensures whole { IfOk result (λ _. IsTrue self.new.whole) }
     {
         let (_, offset) = self.whole_primary(bytes)?;
         let (payload, end) = blocks_at(&mut self.numbers, bytes, offset)?;
         self.payload_span = Some(payload);
+        self.whole = true;
         Ok(end)
     }
 }

@@ -8,7 +8,8 @@ use Rattle.link_bundle_blocks.specs.Reading.{Stop, ReadAt, head_at, row_at}
 use Rattle.link_bundle_blocks.specs.Canonical.{heads_at}
 use Rattle.link_bundle_blocks.specs.Bundle.{Bundle, opening_at, bundle_at}
 use Rattle.link_bundle_blocks.specs.Whole.{whole_primary, whole_canonical}
-use Rattle.link_bundle_blocks.proofs.Steady.{EndsCut, Reads, GoesTo, EndsWithin, Lasts, cuts, same, reads_last, ended, reads-then, reads-then-of, content_at-reads, heads_at-reads, whole_primary-reads, data_before}
+use Rattle.link_bundle_blocks.proofs.Steady.{EndsCut, Reads, GoesTo, EndsWithin, Lasts, cuts, same, reads_last, ended, reads-then, reads-then-of, content_at-reads, heads_at-reads, data_before}
+use Rattle.link_bundle_blocks.proofs.Elements.{whole_primary-reads}
 use Rattle.link_bundle_blocks.proofs.Keeping.{begun-of-either, bundle_at-lasts}
 use Rattle.link_bundle_blocks.proofs.Readings.{was_read, has_parts}
 
@@ -40,8 +41,6 @@ module _ {A : Type 0} (size : A → ℕ) (read : List ℕ → Result A Stop) (va
     pub some : 0 < size value
     pub within : size value ≤ length bytes
     pub reads : (more : List ℕ) → read (take (size value) bytes ++ more) ≡ Ok value
-    -- fewer bytes end inside it
-    pub cuts : (count : ℕ) → count < size value → EndsCut (read (take count bytes))
 
   ends_within : (bytes : List ℕ) (now later : Result A Stop) → Lasts size bytes now later
       → now ≡ Ok value → size value ≤ length bytes
@@ -55,12 +54,6 @@ module _ {A : Type 0} (size : A → ℕ) (read : List ℕ → Result A Stop) (va
   by_itself bytes now later (cuts cut past) is here =
       absurd (let beyond : GoesTo size (suc (length bytes)) (Ok value) = rw is at past in omega arith)
   by_itself bytes now later (same stays within) is here = sym stays ∙ is
-
-  cut_inside : (bytes : List ℕ) (now later : Result A Stop) → Lasts size bytes now later
-      → later ≡ Ok value → length bytes < size value → EndsCut now
-  cut_inside bytes now later (cuts cut past) is before = cut
-  cut_inside bytes now later (same stays within) is before =
-      absurd (omega (arith, ends_within bytes now later (same stays within) (sym stays ∙ is)))
 
   not_nothing : (count : ℕ) (bytes : List ℕ)
       → EndsCut (read []) → read (take count bytes) ≡ Ok value → 0 < count
@@ -82,11 +75,6 @@ module _ {A : Type 0} (size : A → ℕ) (read : List ℕ → Result A Stop) (va
         some = not_nothing count bytes nothing own;
         within = within;
         reads = λ more. read_on value (lasting run more) own;
-        cuts = λ count before.
-            let run = take count bytes in
-            cut_inside run (read run) (read (run ++ drop count bytes)) (lasting run (drop count bytes))
-            (ap read (take-append-drop count bytes) ∙ is)
-            (omega (arith, length-take-le count bytes (omega arith)));
       }
 
 block_stays : (numbers bytes more : List ℕ)

@@ -11,7 +11,8 @@ use Rattle.link_bundle_blocks.specs.Reading.{Stop}
 use Rattle.link_bundle_blocks.proofs.Blocks.{blocks_of-blocks}
 use Rattle.link_bundle_blocks.proofs.Lying.{stops_bare}
 use Rattle.link_bundle_blocks.proofs.Showing.{blocks_payload, blocks_judged}
-use Rattle.link_bundle_blocks.proofs.Steady.{Reads, of_either, row_at-reads, content_at-reads, heads_at-reads, whole_primary-reads}
+use Rattle.link_bundle_blocks.proofs.Steady.{Reads, of_either, row_at-reads, content_at-reads, heads_at-reads}
+use Rattle.link_bundle_blocks.proofs.Elements.{whole_primary-reads}
 use Rattle.link_bundle_blocks.proofs.{Readings.bundle_parts}
 
 -- a reading has at most that many blocks

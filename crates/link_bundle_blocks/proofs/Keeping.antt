@@ -13,7 +13,8 @@ use Rattle.link_bundle_blocks.specs.Reading.{Stop, ReadAt, stopped, cut_short, r
 use Rattle.link_bundle_blocks.specs.Canonical.{heads_at, content_at}
 use Rattle.link_bundle_blocks.specs.Bundle.{Bundle, with_payload, with_blocks, cut_in, inside as inside_block, info_of, payload_at, blocks_at, bundle_at, payload_of}
 use Rattle.link_bundle_blocks.proofs.{Blocks.payload_of-blocks, Runs.content_at-cut}
-use Rattle.link_bundle_blocks.proofs.Steady.{EndsCut, Reads, GoesTo, EndsWithin, Lasts, short, whole, cuts, same, both_either, row_at-reads, content_at-reads, heads_at-reads, whole_primary-reads, on_by, Onward, onward_of}
+use Rattle.link_bundle_blocks.proofs.Steady.{EndsCut, Reads, GoesTo, EndsWithin, Lasts, short, whole, cuts, same, both_either, row_at-reads, content_at-reads, heads_at-reads, on_by, Onward, onward_of}
+use Rattle.link_bundle_blocks.proofs.Elements.{whole_primary-reads}
 use Rattle.link_bundle_blocks.proofs.Readings.{then_read, was_read, bundle_parts}
 
 -- ---- the offsets of the payload and of the bundle's end

@@ -1,9 +1,13 @@
 pub mod Blocks
 pub mod Heads
 pub mod Runs
+pub mod Seen
 pub mod Readings
 pub mod Items
 pub mod Steady
+pub mod Spans
+pub mod Elements
+pub mod PartsSteady
 pub mod Keeping
 pub mod Lengths
 pub mod Payloads
@@ -13,3 +17,6 @@ pub mod Few
 pub mod Tiling
 pub mod Shifting
 pub mod Beginnings
+pub mod WholeFields
+pub mod ExactReading
+pub mod Parts

@@ -13,7 +13,8 @@ use Rattle.link_bundle_blocks.specs.Bundle.{Bundle, with_blocks, inside, rest_of
 use Rattle.link_bundle_blocks.specs.Laws.{BlocksWithin}
 use Rattle.link_bundle_blocks.proofs.Blocks.{blocks_of-blocks}
 use Rattle.link_bundle_blocks.proofs.Showing.{blocks_payload, blocks_judged}
-use Rattle.link_bundle_blocks.proofs.Steady.{Reads, short, whole, of_either, row_at-reads, content_at-reads, heads_at-reads, whole_primary-reads}
+use Rattle.link_bundle_blocks.proofs.Steady.{Reads, short, whole, of_either, row_at-reads, content_at-reads, heads_at-reads}
+use Rattle.link_bundle_blocks.proofs.Elements.{whole_primary-reads}
 use Rattle.link_bundle_blocks.proofs.{Readings.bundle_parts, Runs.content_at-cut}
 
 -- the blocks of a reading lie within the bytes

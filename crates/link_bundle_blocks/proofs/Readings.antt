@@ -110,7 +110,7 @@ abbrev pub after_primary : List ℕ → (Primary × Option CheckKind) × ℕ →
 after_primary bytes ((primary, check), next) =
     with_blocks (PrimaryOf primary check next ∷ []) (blocks_at 64 [] primary bytes next)
 
-joined : {A B C : Type 0} (reading : ReadAt A) (next : A × ℕ → ReadAt B) (all : A × ℕ → Result C Stop)
+pub joined : {A B C : Type 0} (reading : ReadAt A) (next : A × ℕ → ReadAt B) (all : A × ℕ → Result C Stop)
     (last : B × ℕ → Result C Stop) → ((value : A × ℕ) → all value ≡ (next value >>= last))
     → (reading >>= all) ≡ ((reading >>= next) >>= last)
 joined (Ok value) next all last each = each value
@@ -135,3 +135,5 @@ pub opens : (bytes : List ℕ) → 0 < length bytes → get_or bytes 0 0 ≡ 0x9
 unfolding opening_at
 opens [] some is = absurd (omega arith)
 opens (first ∷ rest) some is = rw is refl
+
+pub ruleset whole_bytes = (bytes_at-whole)

@@ -1,6 +1,6 @@
 -- That many bytes from an offset on, taken in runs.
 
-use Rattle.std.proofs.Common.{◌≡◌, ℕ, ◌+◌, ◌-◌, ◌<◌, ◌≤◌, Bool, true, false, List, [], ◌∷◌, ◌++◌, length, take, drop, Option, Result, Ok, Err, refl, sym, ap, ◌∙◌, arith, add-zero, ltb, length-append, length-drop}
+use Rattle.std.proofs.Common.{◌≡◌, ℕ, ◌+◌, ◌-◌, ◌<◌, ◌≤◌, Bool, true, false, List, [], ◌++◌, length, take, drop, Option, Result, Ok, Err, refl, sym, ap, ◌∙◌, arith, add-zero, ltb, length-append, length-drop}
 use Rattle.std.specs.Prelude.{if◌then◌else◌}
 use Rattle.std.proofs.lemmas.{Bool.{le-ltb, lt-ltb}, List.drop-drop}
 use Rattle.std.proofs.Math.Seq.{drop-append_seam, take-append-add}
@@ -72,20 +72,3 @@ pub with_run-then : {A : Type 0} (run : List ℕ) (reading : ReadAt (List ℕ))
     → (with_run run reading >>= next) ≡ (reading >>= later)
 with_run-then run (Ok (rest, offset)) next later each = each rest offset
 with_run-then run (Err stop) next later each = refl
-
--- a run of one byte
-pub bytes_at-step : (left : ℕ) (bytes more : List ℕ) (byte offset : ℕ)
-    → drop offset bytes ≡ byte ∷ more → 0 < left
-    → bytes_at left bytes offset ≡ with_run (byte ∷ []) (bytes_at (left - 1) bytes (offset + 1))
-bytes_at-step left bytes more byte offset here some =
-    bytes_at-run left bytes more (byte ∷ []) offset here (omega arith)
-
--- the last byte
-pub bytes_at-last : (bytes more : List ℕ) (byte offset : ℕ) → drop offset bytes ≡ byte ∷ more
-    → bytes_at 1 bytes offset ≡ Ok (byte ∷ [], offset + 1)
-bytes_at-last bytes more byte offset here =
-    let within : offset + 1 ≤ length bytes =
-    omega (arith, length-drop offset bytes, ap length here) in
-    bytes_at-step 1 bytes more byte offset here (omega arith)
-    ∙ ap (λ (reading : ReadAt (List ℕ)). with_run (byte ∷ []) reading)
-    (bytes_at-none bytes (offset + 1) within)

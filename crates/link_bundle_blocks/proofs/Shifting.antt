@@ -21,10 +21,10 @@ shifted count change (Ok (value, next)) = Ok (change value, count + next)
 shifted count change (Err stop) = Err (record stop { offset = count + stop.offset })
 
 -- a value that stays the same
-abbrev same : {A : Type 0} → A → A
+abbrev pub same : {A : Type 0} → A → A
 same value = value
 
-shifted-then : {A B : Type 0} (count : ℕ) (change : A → A) (change_next : B → B)
+pub shifted-then : {A B : Type 0} (count : ℕ) (change : A → A) (change_next : B → B)
     (reading later : ReadAt A) (next next_later : A × ℕ → ReadAt B)
     → later ≡ shifted count change reading
     → ((value : A) (offset : ℕ)
@@ -34,12 +34,13 @@ shifted-then count change change_next (Ok (value, offset)) later next next_later
     rw is (each value offset)
 shifted-then count change change_next (Err stop) later next next_later is each = rw is refl
 
-shifted-if : (count : ℕ) (test : Bool) (one other one_later other_later : ReadAt Bool)
-    → one_later ≡ shifted count same one → other_later ≡ shifted count same other
+pub shifted-if : {A : Type 0} (count : ℕ) (change : A → A) (test : Bool)
+    (one other one_later other_later : ReadAt A)
+    → one_later ≡ shifted count change one → other_later ≡ shifted count change other
     → (if test then one_later else other_later)
-    ≡ shifted count same (if test then one else other)
-shifted-if count true one other one_later other_later taken passed = taken
-shifted-if count false one other one_later other_later taken passed = passed
+    ≡ shifted count change (if test then one else other)
+shifted-if count change true one other one_later other_later taken passed = taken
+shifted-if count change false one other one_later other_later taken passed = passed
 
 drop-front : (front bytes : List ℕ) (offset : ℕ)
     → drop (length front + offset) (front ++ bytes) ≡ drop offset bytes
@@ -70,7 +71,7 @@ outcome_at-shifted : {A : Type 0} (count offset next : ℕ) (outcome : Result A 
 outcome_at-shifted count offset next (Ok value) = refl
 outcome_at-shifted count offset next (Err fault) = refl
 
-row_at-shifted : {A : Type 0} (row : Head → Result A BundleFault) (front bytes : List ℕ)
+pub row_at-shifted : {A : Type 0} (row : Head → Result A BundleFault) (front bytes : List ℕ)
     (offset : ℕ)
     → row_at row (front ++ bytes) (length front + offset)
     ≡ shifted (length front) same (row_at row bytes offset)
@@ -80,7 +81,7 @@ row_at-shifted row front bytes offset =
     (head_at (front ++ bytes) (length front + offset)) _ _ (head_at-shifted front bytes offset)
     (λ head next. outcome_at-shifted (length front) offset next (row head))
 
-row-then : {A B : Type 0} (row : Head → Result A BundleFault) (change : B → B)
+pub row-then : {A B : Type 0} (row : Head → Result A BundleFault) (change : B → B)
     (front bytes : List ℕ) (offset : ℕ) (next next_later : A × ℕ → ReadAt B)
     → ((value : A) (offset : ℕ)
     → next_later (value, length front + offset)
@@ -92,7 +93,7 @@ row-then row change front bytes offset next next_later each =
     (row_at row (front ++ bytes) (length front + offset)) next next_later
     (row_at-shifted row front bytes offset) each
 
-bytes_at-shifted : (size : ℕ) (front bytes : List ℕ) (offset : ℕ)
+pub bytes_at-shifted : (size : ℕ) (front bytes : List ℕ) (offset : ℕ)
     → bytes_at size (front ++ bytes) (length front + offset)
     ≡ shifted (length front) same (bytes_at size bytes offset)
 unfolding bytes_at
@@ -134,7 +135,7 @@ field_at-shifted (Some kind) start front bytes offset =
     (bytes_at (check_width kind) (front ++ bytes) (length front + content)) _ _
     (bytes_at-shifted (check_width kind) front bytes content)
     (λ stored next. rw (check_of-shifted kind start content front bytes)
-    (shifted-if (length front) (number_from 0 stored == check_of kind start content bytes)
+    (shifted-if (length front) same (number_from 0 stored == check_of kind start content bytes)
     (Ok (true, next)) (Err (stopped CheckDiffers offset)) _ _ refl refl)))
 
 content_at-shifted : (size : ℕ) (check : Option CheckKind) (start : ℕ) (front bytes : List ℕ)
@@ -148,7 +149,7 @@ content_at-shifted size check start front bytes offset =
     (bytes_at-shifted size front bytes offset)
     (λ _ offset. field_at-shifted check start front bytes offset)
 
-heads_at-shifted : (numbers front bytes : List ℕ) (start : ℕ)
+pub heads_at-shifted : (numbers front bytes : List ℕ) (start : ℕ)
     → heads_at numbers (front ++ bytes) (length front + start)
     ≡ shifted (length front) (moved (length front)) (heads_at numbers bytes start)
 unfolding heads_at

@@ -10,7 +10,8 @@ use Rattle.link_bundle_blocks.specs.declared.block.CanonicalBlock.{CanonicalBloc
 use Rattle.link_bundle_blocks.specs.Blocks.{Primary, Block, PrimaryOf, CanonicalOf, ended, next_of}
 use Rattle.link_bundle_blocks.specs.{Reading.{Stop, ReadAt, stopped}, Canonical.heads_at}
 use Rattle.link_bundle_blocks.specs.Bundle.{Bundle, with_payload, with_blocks, inside, payload_at, blocks_at, bundle_at, blocks_of, cut_block_of, blocks_in, cut_block_in}
-use Rattle.link_bundle_blocks.proofs.Steady.{EndsCut, Reads, Lasts, cuts, same, short, whole, of_either, both_either, row_at-reads, content_at-reads, heads_at-reads, whole_primary-reads}
+use Rattle.link_bundle_blocks.proofs.Steady.{EndsCut, Reads, Lasts, cuts, same, short, whole, of_either, both_either, row_at-reads, content_at-reads, heads_at-reads}
+use Rattle.link_bundle_blocks.proofs.Elements.{whole_primary-reads}
 use Rattle.link_bundle_blocks.proofs.Readings.{bundle_parts}
 use Rattle.link_bundle_blocks.specs.Laws.{BlocksGrow, BlocksEnd, BlockPlaced}
 use Rattle.link_bundle_blocks.proofs.Blocks.{blocks_of-blocks, cut_block_of-blocks}

@@ -10,13 +10,11 @@ use Rattle.link_cbor.proofs.HeadLaws.{EndsFrom, HeadStays, ends_inside, ends_aft
 use Rattle.link_bundle_types.specs.declared.fault.BundleFault.{BundleFault}
 use Rattle.link_bundle_types.specs.declared.fault.BundleFault.TheVariants.{Cut, NotABundle, CheckDiffers}
 use Rattle.link_bundle_heads.specs.declared.endpoint.{Scheme.Scheme, Scheme.TheVariants.{Dtn, Ipn}}
-use Rattle.link_bundle_heads.specs.Rows.{◌>>=◌, unsigned, block_data, block, block_number, block_check_type, pair, scheme, dtn_part, ipn_part, version, is_fragment, primary_block, primary_check_type, check_width, check_field}
+use Rattle.link_bundle_heads.specs.Rows.{◌>>=◌, unsigned, block_data, block, block_number, block_check_type, pair, scheme, dtn_part, ipn_part, check_width, check_field}
 use Rattle.link_bundle_blocks.specs.Reading.{Stop, ReadAt, stopped, cut_short, head_by, outcome_at, head_at, row_at, bytes_at}
 use Rattle.link_bundle_blocks.specs.EndpointId.{dtn_at, ipn_at, specific_at, eid_at}
 use Rattle.link_bundle_blocks.specs.CheckField.{number_from, check_of, field_at}
-use Rattle.link_bundle_blocks.specs.Primary.{fragment_at, primary_at}
 use Rattle.link_bundle_blocks.specs.{Canonical.{heads_at, content_at}, Bundle.opening_at}
-use Rattle.link_bundle_blocks.specs.Whole.{whole_primary}
 
 -- ---- how far one reading goes
 
@@ -218,7 +216,7 @@ row_at-reads row bytes more offset =
     reads-then (head_at-reads bytes more offset)
     (λ (head, next). judged-reads bytes offset next (row head))
 
-bytes_at-reads : (count : ℕ) (bytes more : List ℕ) (offset : ℕ)
+pub bytes_at-reads : (count : ℕ) (bytes more : List ℕ) (offset : ℕ)
     → Reads bytes offset (bytes_at count bytes offset) (bytes_at count (bytes ++ more) offset)
 unfolding bytes_at
 bytes_at-reads count bytes more offset =
@@ -276,22 +274,13 @@ specific_at-reads Ipn bytes more offset =
     reads-then (row_at-reads ipn_part bytes more offset)
     (λ (count, next). ipn_at-reads (count == 3) bytes more next)
 
-eid_at-reads : (bytes more : List ℕ) (offset : ℕ)
+pub eid_at-reads : (bytes more : List ℕ) (offset : ℕ)
     → Reads bytes offset (eid_at bytes offset) (eid_at (bytes ++ more) offset)
 unfolding eid_at
 eid_at-reads bytes more offset =
     reads-then (row_at-reads pair bytes more offset)
     (λ (_, offset). reads-then (row_at-reads scheme bytes more offset)
     (λ (which, offset). specific_at-reads which bytes more offset))
-
-fragment_at-reads : (is : Bool) (bytes more : List ℕ) (offset : ℕ)
-    → Reads bytes offset (fragment_at is bytes offset) (fragment_at is (bytes ++ more) offset)
-unfolding fragment_at
-fragment_at-reads false bytes more offset = ended bytes _ offset
-fragment_at-reads true bytes more offset =
-    reads-then (row_at-reads unsigned bytes more offset)
-    (λ (fragment_offset, offset). reads-then (row_at-reads unsigned bytes more offset)
-    (λ (total, end). ended bytes _ end))
 
 -- a check field: the bytes that are checked come before its content
 pub slice-stays : (bytes more : List ℕ) (start end : ℕ) → end ≤ length bytes
@@ -307,50 +296,51 @@ slice-stays bytes more start end within =
     ) refl)
     (cases_lt end start)
 
--- the comparison of a check field's content with the check
-compared : CheckKind → ℕ → ℕ → ℕ → List ℕ → ReadAt Bool
-compared kind start offset content bytes =
+-- the content of a check field, compared with the check
+abbrev pub compared : CheckKind → (offset content check : ℕ) → List ℕ → ReadAt Bool
+compared kind offset content check bytes =
     bytes_at (check_width kind) bytes content >>= λ (stored, next).
-    if number_from 0 stored == check_of kind start content bytes then Ok (true, next)
-    else Err (stopped CheckDiffers offset)
+    if number_from 0 stored == check then Ok (true, next) else Err (stopped CheckDiffers offset)
 
-compared-onward : (kind : CheckKind) (start offset content : ℕ) (bytes : List ℕ)
-    → Onward content (compared kind start offset content bytes)
-unfolding compared
-compared-onward kind start offset content bytes =
+compared-onward : (kind : CheckKind) (offset content check : ℕ) (bytes : List ℕ)
+    → Onward content (compared kind offset content check bytes)
+compared-onward kind offset content check bytes =
     onward-then content (bytes_at (check_width kind) bytes content) _
     (onward-bytes (check_width kind) bytes content)
-    (λ (stored, next). of_either (Onward next)
-    (number_from 0 stored == check_of kind start content bytes) (Ok _) (Err _) (omega arith) refl)
+    (λ (stored, next). of_either (Onward next) (number_from 0 stored == check) (Ok _) (Err _)
+    (omega arith) refl)
 
-compared-reads : (kind : CheckKind) (bytes more : List ℕ) (start offset content : ℕ)
-    → Reads bytes content (compared kind start offset content bytes)
-    (compared kind start offset content (bytes ++ more))
-unfolding compared check_of bytes_at
-compared-reads kind bytes more start offset content =
+-- the check is the same, if the content begins within the first bytes
+pub compared-reads : (kind : CheckKind) (bytes more : List ℕ) (offset content check later : ℕ)
+    → (content ≤ length bytes → later ≡ check)
+    → Reads bytes content (compared kind offset content check bytes)
+    (compared kind offset content later (bytes ++ more))
+unfolding bytes_at
+compared-reads kind bytes more offset content check later stays =
     ⊎_elim
     (λ follows.
     let short_now : ltb (length bytes) (content + check_width kind) ≡ true =
     lt-ltb (length bytes) (content + check_width kind) (omega arith) in
-    let onward = compared-onward kind start offset content (bytes ++ more) in
+    let onward = compared-onward kind offset content later (bytes ++ more) in
     short (rw short_now refl) onward
-    (past-from (length bytes) content (compared kind start offset content (bytes ++ more))
+    (past-from (length bytes) content (compared kind offset content later (bytes ++ more))
     (omega arith) onward))
     (λ within.
-    rw (slice-stays bytes more start content within)
+    rw (stays within)
     (reads-then (bytes_at-reads (check_width kind) bytes more content)
     (λ (stored, next). chosen-reads bytes next next offset CheckDiffers
-    (number_from 0 stored == check_of kind start content bytes) (omega arith) (λ here. here))))
+    (number_from 0 stored == check) (omega arith) (λ here. here))))
     (cases_lt (length bytes) content)
 
-field_at-reads : (check : Option CheckKind) (start : ℕ) (bytes more : List ℕ) (offset : ℕ)
+pub field_at-reads : (check : Option CheckKind) (start : ℕ) (bytes more : List ℕ) (offset : ℕ)
     → Reads bytes offset (field_at check start bytes offset)
     (field_at check start (bytes ++ more) offset)
-unfolding field_at compared
+unfolding field_at check_of
 field_at-reads None start bytes more offset = ended bytes true offset
 field_at-reads (Some kind) start bytes more offset =
     reads-then (row_at-reads (check_field kind) bytes more offset)
-    (λ (_, content). compared-reads kind bytes more start offset content)
+    (λ (_, content). compared-reads kind bytes more offset content _ _
+    (λ within. rw (slice-stays bytes more start content within) refl))
 
 pub content_at-reads : (size : ℕ) (check : Option CheckKind) (start : ℕ)
     (bytes more : List ℕ) (offset : ℕ)
@@ -391,24 +381,6 @@ heads_at-reads numbers bytes more offset =
     (λ (check, offset). reads-then (row_at-reads block_data bytes more offset)
     (λ (size, offset). ended bytes _ offset))))))
 
-primary_at-reads : (bytes more : List ℕ) (offset : ℕ)
-    → Reads bytes offset (primary_at bytes offset) (primary_at (bytes ++ more) offset)
-unfolding primary_at
-primary_at-reads bytes more offset =
-    reads-then (row_at-reads primary_block bytes more offset)
-    (λ (count, offset). reads-then (row_at-reads version bytes more offset)
-    (λ (_, offset). reads-then (row_at-reads unsigned bytes more offset)
-    (λ (flags, offset). reads-then (row_at-reads (primary_check_type count flags) bytes more offset)
-    (λ (check, offset). reads-then (eid_at-reads bytes more offset)
-    (λ (destination, offset). reads-then (eid_at-reads bytes more offset)
-    (λ (source, offset). reads-then (eid_at-reads bytes more offset)
-    (λ (report_to, offset). reads-then (row_at-reads pair bytes more offset)
-    (λ (_, offset). reads-then (row_at-reads unsigned bytes more offset)
-    (λ (time, offset). reads-then (row_at-reads unsigned bytes more offset)
-    (λ (sequence, offset). reads-then (row_at-reads unsigned bytes more offset)
-    (λ (lifetime, offset). reads-then (fragment_at-reads (is_fragment flags) bytes more offset)
-    (λ (fragment, end). ended bytes _ end))))))))))))
-
 opening_at-onward : (bytes : List ℕ) → Onward 0 (opening_at bytes)
 unfolding opening_at
 opening_at-onward [] = refl
@@ -421,23 +393,13 @@ opening_at-past [] = tt
 opening_at-past (first ∷ rest) =
     of_either (Past 0) (first == 0x9f) (Ok (true, 1)) (Err _) (omega arith) tt
 
-opening_at-reads : (bytes more : List ℕ)
+pub opening_at-reads : (bytes more : List ℕ)
     → Reads bytes 0 (opening_at bytes) (opening_at (bytes ++ more))
 unfolding opening_at
 opening_at-reads [] more =
     short refl (opening_at-onward more) (opening_at-past more)
 opening_at-reads (first ∷ rest) more =
     chosen-reads (first ∷ rest) 0 1 0 NotABundle (first == 0x9f) (omega arith) (λ _. omega arith)
-
--- the first byte of a bundle and its primary block
-pub whole_primary-reads : (bytes more : List ℕ)
-    → Reads bytes 0 (whole_primary bytes) (whole_primary (bytes ++ more))
-unfolding whole_primary
-whole_primary-reads bytes more =
-    reads-then (opening_at-reads bytes more)
-    (λ (_, start). reads-then (primary_at-reads bytes more start)
-    (λ ((primary, check), offset). reads-then (field_at-reads check start bytes more offset)
-    (λ (_, next). ended bytes (primary, check) next)))
 
 -- ---- whether more bytes change a reading
 

@@ -7,3 +7,7 @@ pub mod Blocks
 pub mod Bundle
 pub mod Laws
 pub mod Whole
+pub mod PrimaryFields
+pub mod PrimaryView
+pub mod Exact
+pub mod Parts

@@ -1,52 +1,139 @@
--- The primary block (RFC 9171 section 4.3.1).
+-- The primary block (RFC 9171 section 4.3.1), and the fields that come before its first fault.
 
-use Rattle.std.specs.Prelude.{ℕ, Bool, true, false, List, Option, Some, None, Ok}
+use Rattle.std.specs.Prelude.{ℕ, Bool, true, false, nat_lt, List, Option, Some, None, unwrap_or, Result, Ok, Err, if◌then◌else◌}
 use Rattle.link_cbor.specs.declared.check.CheckKind.{CheckKind}
+use Rattle.link_bundle_types.specs.declared.eid.Eid.{Eid}
+use Rattle.link_bundle_types.specs.declared.eid.Eid.TheVariants.{DtnNone}
 use Rattle.link_bundle_heads.specs.Rows.{◌>>=◌, unsigned, pair, primary_block, version, is_fragment, primary_check_type}
 use Rattle.link_bundle_blocks.specs.Blocks.{Primary}
-use Rattle.link_bundle_blocks.specs.Reading.{ReadAt, row_at}
+use Rattle.link_bundle_blocks.specs.Reading.{Stop, ReadAt, row_at}
 use Rattle.link_bundle_blocks.specs.EndpointId.{eid_at}
 
+-- ---- what is known of a block
+
+pub record PrimaryFields : Type 0 where
+  -- The number of elements of the block's array that were accepted, in their order. These are the
+  -- version, the flags, the check type, the destination, the source node, the report-to endpoint,
+  -- the creation timestamp and the lifetime, and in a fragment its offset and the total length. The
+  -- check value is not counted.
+  pub accepted : ℕ
+  -- whether the whole block was accepted, its check value too
+  pub whole : Bool
+  pub flags : ℕ
+  pub destination : Option Eid
+  pub source : Option Eid
+  pub report_to : Option Eid
+  pub time : ℕ
+  pub sequence : ℕ
+  pub lifetime : ℕ
+  pub fragment_offset : ℕ
+  pub fragment_total : ℕ
+
+-- the number of elements of a block's array, without its check value
+abbrev pub element_count : Option (ℕ × ℕ) → ℕ
+element_count None = 8
+element_count (Some fragment) = 10
+
+-- all fields of a whole block
+abbrev pub all_fields : Primary → PrimaryFields
+all_fields block =
+    record {
+      accepted = element_count block.fragment;
+      whole = true;
+      flags = block.flags;
+      destination = Some block.destination;
+      source = Some block.source;
+      report_to = Some block.report_to;
+      time = block.time;
+      sequence = block.sequence;
+      lifetime = block.lifetime;
+      fragment_offset = (unwrap_or block.fragment (0, 0)).0;
+      fragment_total = (unwrap_or block.fragment (0, 0)).1;
+    }
+
+-- the fields of a block whose first `count` elements were read, and no others
+abbrev pub first_elements : ℕ → Primary → PrimaryFields
+first_elements count block =
+    record (all_fields block) {
+      accepted = count;
+      whole = false;
+      destination = if nat_lt 3 count then Some block.destination else None;
+      source = if nat_lt 4 count then Some block.source else None;
+      report_to = if nat_lt 5 count then Some block.report_to else None;
+    }
+
+-- a block of which nothing was read
+abbrev pub no_primary : Primary
+no_primary =
+    record {
+      flags = 0;
+      destination = DtnNone;
+      source = DtnNone;
+      report_to = DtnNone;
+      time = 0;
+      sequence = 0;
+      lifetime = 0;
+      fragment = None;
+    }
+
+-- ---- how a block is read
+
+-- elements and the offset after them, or the fields before the stop and the stop
+abbrev pub ElementsAt : Type 0 → Type 0
+ElementsAt A = Result (A × ℕ) (PrimaryFields × Stop)
+
+-- a part that comes after the first `count` elements of a block
+abbrev pub after : {A : Type 0} → ℕ → Primary → ReadAt A → ElementsAt A
+after count block (Ok read) = Ok read
+after count block (Err stop) = Err (first_elements count block, stop)
+
+-- the same without the fields before the stop
+abbrev pub without_fields : {A : Type 0} → ElementsAt A → ReadAt A
+without_fields (Ok read) = Ok read
+without_fields (Err (fields, stop)) = Err stop
+
 -- the fragment offset and the total length, if the bundle is a fragment
-unfoldable pub fragment_at : Bool → List ℕ → ℕ → ReadAt (Option (ℕ × ℕ))
-fragment_at false bytes offset = Ok (None, offset)
-fragment_at true bytes offset = do
-  (fragment_offset, offset) ← row_at unsigned bytes offset
-  (total, offset) ← row_at unsigned bytes offset
+unfoldable pub fragment_elements : Bool → Primary → List ℕ → ℕ → ElementsAt (Option (ℕ × ℕ))
+fragment_elements false block bytes offset = Ok (None, offset)
+fragment_elements true block bytes offset = do
+  (fragment_offset, offset) ← after 8 block (row_at unsigned bytes offset)
+  let block = record block { fragment = Some (fragment_offset, 0) }
+  (total, offset) ← after 9 block (row_at unsigned bytes offset)
   Ok (Some (fragment_offset, total), offset)
 
--- The primary block up to its check field, and its check type (section 4.3.1). The version, the
--- bundle processing control flags (section 4.2.3) and the check type (section 4.2.1) come first.
--- The endpoint IDs of destination, source and report-to follow (section 4.2.5.1). The creation
+-- The block up to its check field, and its check type (section 4.3.1). The version, the bundle
+-- processing control flags (section 4.2.3) and the check type (section 4.2.1) come first. The
+-- endpoint IDs of destination, source and report-to follow (section 4.2.5.1). The creation
 -- timestamp (section 4.2.7) has a time (section 4.2.6) and a sequence number. The lifetime and the
 -- fields of a fragment come last.
+unfoldable pub primary_elements : List ℕ → ℕ → ElementsAt (Primary × Option CheckKind)
+primary_elements bytes offset = do
+  let block = no_primary
+  (count, offset) ← after 0 block (row_at primary_block bytes offset)
+  (_, offset) ← after 0 block (row_at version bytes offset)
+  (flags, offset) ← after 1 block (row_at unsigned bytes offset)
+  let block = record block { flags = flags }
+  (check, offset) ← after 2 block (row_at (primary_check_type count flags) bytes offset)
+  (destination, offset) ← after 3 block (eid_at bytes offset)
+  let block = record block { destination = destination }
+  (source, offset) ← after 4 block (eid_at bytes offset)
+  let block = record block { source = source }
+  (report_to, offset) ← after 5 block (eid_at bytes offset)
+  let block = record block { report_to = report_to }
+  (_, offset) ← after 6 block (row_at pair bytes offset)
+  (time, offset) ← after 6 block (row_at unsigned bytes offset)
+  (sequence, offset) ← after 6 block (row_at unsigned bytes offset)
+  let block = record block { time = time; sequence = sequence }
+  (lifetime, offset) ← after 7 block (row_at unsigned bytes offset)
+  let block = record block { lifetime = lifetime }
+  (fragment, offset) ← fragment_elements (is_fragment flags) block bytes offset
+  Ok ((record block { fragment = fragment }, check), offset)
+
+-- ---- the same without the fields before a stop
+
+unfoldable pub fragment_at : Bool → List ℕ → ℕ → ReadAt (Option (ℕ × ℕ))
+fragment_at is_fragment bytes offset =
+    without_fields (fragment_elements is_fragment no_primary bytes offset)
+
 unfoldable pub primary_at : List ℕ → ℕ → ReadAt (Primary × Option CheckKind)
-primary_at bytes offset = do
-  (count, offset) ← row_at primary_block bytes offset
-  (_, offset) ← row_at version bytes offset
-  (flags, offset) ← row_at unsigned bytes offset
-  (check, offset) ← row_at (primary_check_type count flags) bytes offset
-  (destination, offset) ← eid_at bytes offset
-  (source, offset) ← eid_at bytes offset
-  (report_to, offset) ← eid_at bytes offset
-  (_, offset) ← row_at pair bytes offset
-  (time, offset) ← row_at unsigned bytes offset
-  (sequence, offset) ← row_at unsigned bytes offset
-  (lifetime, offset) ← row_at unsigned bytes offset
-  (fragment, offset) ← fragment_at (is_fragment flags) bytes offset
-  Ok (
-    (
-      record {
-        flags = flags;
-        destination = destination;
-        source = source;
-        report_to = report_to;
-        time = time;
-        sequence = sequence;
-        lifetime = lifetime;
-        fragment = fragment;
-      },
-      check,
-    ),
-    offset,
-  )
+primary_at bytes offset = without_fields (primary_elements bytes offset)

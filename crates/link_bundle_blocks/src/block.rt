@@ -72,6 +72,18 @@ pub struct PrimaryBlock<'a> {
     pub end: u64,
 }
 
+impl PrimaryBlock<'_> {
+    ghost use Rattle.link_bundle_blocks.specs.Primary.{element_count};
+
+    /// The number of elements of the block's array, without its check value.
+    #[inline(always)]
+    pub(crate) fn elements(&self) -> u64
+        ensures { result ≡ element_count self.now.fragment }
+    {
+        if self.fragment.is_some() { 10 } else { 8 }
+    }
+}
+
 /// A block of a bundle.
 #[derive(Clone, Copy, Debug, PartialEq, Eq)]
 pub enum BlockView<'a> {

@@ -129,6 +129,7 @@ pub fn closing_at(bytes: &[u8], offset: usize) -> Result<usize, BundleFault>
 }
 
 /// Reads that many bytes from an offset on, and returns them and the offset after them.
+#[tactic(auto, using(crate::proofs::Readings::whole_bytes))]
 #[inline(always)]
 pub fn bytes_at(size: u64, bytes: &[u8], offset: usize) -> Result<(&[u8], usize), BundleFault>
     ensures read { IfOk result (λ read. bytes_at size bytes.now offset ≡ Ok (read.0.now, read.1)) }

@@ -1,6 +1,8 @@
 //! Laws over the definitions alone.
 //!
 //! The functions do nothing when they run. Their contracts are the laws.
+ghost use Rattle.std.specs.Prelude.{◌≡◌, ℕ, List, take};
+ghost use Rattle.link_bundle_blocks.specs.PrimaryFields.{primary_fields};
 ghost use Rattle.link_bundle_blocks.specs.Laws.{FaultLasts, TrailingLasts, PayloadLasts, PayloadPlaced, PayloadEnds, BlocksGrow, BlocksEnd, BlocksWithin, BlockPlaced, GoodBlocksTile};
 
 /// How the verdict on some bytes lasts when more bytes follow.
@@ -44,4 +46,9 @@ pub fn blocks_last()
 /// - The data of each block lies in it.
 pub fn good_blocks_tile()
     ensures { GoodBlocksTile }
+{}
+
+/// The fields of a primary block depend on the first 3,257 bytes of the bundle alone.
+pub fn primary_is_short()
+    ensures { (bytes : List ℕ) → primary_fields (take 3257 bytes) ≡ primary_fields bytes }
 {}

@@ -2,11 +2,12 @@
 //!
 //! Each function has the name of its definition in specs/. An error means only that no bundle was
 //! read: it is cut or has a fault, or a head in it is spelled at greater length than it has to be.
-//! The scan then finds out which, byte by byte.
-ghost use Rattle.std.specs.Prelude.{◌≡◌, List, ◌<◌, ◌++◌, [], length, replicate, true, Some, Ok, IfOk};
+//! The scan then finds out which, part by part.
+ghost use Rattle.std.specs.Prelude.{◌≡◌, ℕ, List, ◌<◌, ◌++◌, [], length, replicate, true, Some, Ok, IfOk};
 ghost use Rattle.link_bundle_types.specs.EidView.{viewed_eid};
 ghost use Rattle.link_bundle_types.specs.ShortNames.{IsShort};
 ghost use Rattle.link_cbor.specs.Crc.{crc};
+ghost use Rattle.link_cbor.specs.Pushed.{HasPushed};
 ghost use Rattle.link_bundle_heads.specs.Rows.{check_width};
 ghost use Rattle.link_bundle_blocks.specs.EndpointId.{eid_at, specific_at};
 ghost use Rattle.link_bundle_blocks.specs.CheckField.{number_from, field_at};
@@ -105,7 +106,7 @@ fn ipn_at(bytes: &[u8], offset: usize) -> Result<(EidView<'_>, usize), BundleFau
 
 /// Reads the fragment offset and the total length, if the bundle is a fragment.
 #[inline(always)]
-#[tactic(auto, unfolding(crate::specs::Primary::fragment_at))]
+#[tactic(auto, unfolding(crate::specs::Primary::fragment_at, crate::specs::Primary::fragment_elements))]
 pub fn fragment_at(
     is_fragment: bool,
     bytes: &[u8],
@@ -139,13 +140,20 @@ pub fn number_of(kind: CheckKind, stored: &[u8]) -> u32
 pub fn check_of(kind: CheckKind, block: &[u8]) -> u32
     ensures { result ≡ crc kind (block.now ++ replicate (check_width kind) 0) }
 {
-    let mut check = Check::new(kind);
-    check.push_slice(block);
-    check.push(0);
-    check.push(0);
-    if let CheckKind::Crc32 = kind {
-        check.push(0);
-        check.push(0);
+    padded_check_of(kind, Check::new(kind), block)
+}
+
+/// The check value of a block, from a check to which its first bytes were pushed.
+///
+/// `rest` are its other bytes before the content of its check field. The content counts as zeros.
+pub(crate) fn padded_check_of(kind: CheckKind, mut check: Check, rest: &[u8]) -> u32
+    ensures { (before : List ℕ) → HasPushed kind check before
+        → result ≡ crc kind (before ++ rest.now ++ replicate (check_width kind) 0) }
+{
+    check.push_slice(rest);
+    match kind {
+        CheckKind::Crc16 => check.push_slice(&[0; 2]),
+        CheckKind::Crc32 => check.push_slice(&[0; 4]),
     }
     check.value()
 }
@@ -214,6 +222,7 @@ fn content_at(
 /// Reads a canonical block up to its data (RFC 9171 section 4.3.2).
 ///
 /// `numbers` are the numbers of the blocks before it. Returns the offset of its data too.
+#[tactic(auto, using(crate::proofs::Heads::heads), unfolding(crate::specs::Canonical::heads_at, crate::specs::Reading::row_at))]
 #[inline(always)]
 fn heads_at(
     numbers: &[u64],
@@ -252,6 +261,7 @@ fn heads_at(
 ///
 /// `numbers` are the numbers of the blocks before it. If they have no room for one more, there are
 /// too many blocks. Returns the offset after the block too.
+#[tactic(auto, unfolding(crate::specs::Whole::whole_canonical))]
 #[inline(always)]
 pub fn whole_canonical(
     numbers: &BlockNumbers,

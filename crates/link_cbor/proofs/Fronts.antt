@@ -1,10 +1,10 @@
 -- The head that some bytes begin with, read at once.
 
-use Rattle.std.proofs.Common.{◌≡◌, ℕ, ◌-◌, ◌/◌, ◌^◌, ◌<◌, ◌≤◌, true, List, [], ◌∷◌, length, take, drop, get_or, refl, arith}
+use Rattle.std.proofs.Common.{◌≡◌, ℕ, ◌-◌, ◌/◌, ◌^◌, ◌<◌, ◌≤◌, true, nat_lt, List, [], ◌∷◌, length, take, drop, get_or, refl, arith}
 use Rattle.std.specs.Prelude.{◌==◌, bit_and}
-use Rattle.std.proofs.lemmas.{Bool.eqb-true, List.take_rest, Nat.{and_le_r, and_mask}}
-use Rattle.link_cbor.specs.Head.{Cut, argument_front, front_by, head_front}
-use Rattle.link_cbor.proofs.HeadLaws.{front_by-argument}
+use Rattle.std.proofs.lemmas.{Bool.{eqb-true, Decides.nat_tests}, List.{take_rest, length-drop}, Nat.{and_le_r, and_mask}}
+use Rattle.link_cbor.specs.Head.{Cut, argument_front, front_by, head_front, is_cut}
+use Rattle.link_cbor.proofs.HeadLaws.{left_by, cut_by-left, front_by-argument}
 
 pub empty : (bytes : List ℕ) → (length bytes == 0) ≡ true → head_front bytes ≡ Cut
 unfolding head_front
@@ -38,6 +38,19 @@ by_argument bytes information some is least below =
       is,
       front_by-argument (get_or bytes 0 0 / 32) information (drop 1 bytes) least below,
     )
+
+-- whether a head is cut, by its additional information
+pub cut_by : (bytes : List ℕ) → 0 < length bytes
+    → is_cut (head_front bytes)
+    ≡ nat_lt (length bytes - 1) (left_by (bit_and (get_or bytes 0 0) 31))
+cut_by bytes some =
+    rw (
+      by_first bytes some,
+      cut_by-left (get_or bytes 0 0 / 32) (bit_and (get_or bytes 0 0) 31) (drop 1 bytes),
+      length-drop 1 bytes,
+    ) refl
+
+pub ruleset cut = (empty, cut_by, nat_tests)
 
 -- what the reading of a first byte follows from
 pub ruleset first_byte = (empty, first_by, by_first, below_32)

@@ -58,7 +58,7 @@ front_by-none major information rest least = grind (arith, nat_tests)
 -- ---- how many bytes a head has
 
 -- the number of bytes after the first one, by the additional information
-abbrev left_by : ℕ → ℕ
+abbrev pub left_by : ℕ → ℕ
 left_by information =
     if nat_lt information 24 then 0
     else (if nat_lt information 28 then 2 ^ (information - 24) else 0)
@@ -85,6 +85,11 @@ left-missing : (major information : ℕ) (rest : List ℕ) → length rest < lef
     → front_by major information rest ≡ Cut
 unfolding front_by argument_front
 left-missing major information rest missing = grind (arith, nat_tests)
+
+pub cut_by-left : (major information : ℕ) (rest : List ℕ)
+    → is_cut (front_by major information rest) ≡ nat_lt (length rest) (left_by information)
+unfolding front_by argument_front with_argument no_argument
+cut_by-left major information rest = grind (arith, nat_tests)
 
 -- if all its bytes are there, it lies within them, and no byte after them changes it
 left-within : (major information first : ℕ) (rest : List ℕ) → left_by information ≤ length rest

@@ -19,7 +19,7 @@ pub struct Head {
 }
 
 impl Head {
-    ghost use Rattle.link_cbor.specs.Head.{head_front, argument_front, no_argument, whole_of, is_indefinite};
+    ghost use Rattle.link_cbor.specs.Head.{head_front, argument_front, no_argument, whole_of, is_cut, is_indefinite};
 
     /// Reads the head at the start of the bytes, and returns it with its length in bytes.
     ///
@@ -96,6 +96,24 @@ impl Head {
             return None;
         }
         Some((Head { major, value: None }, 1))
+    }
+
+    /// Whether the bytes end inside the head that they begin with, so more bytes are needed.
+    #[tactic(auto, using(crate::proofs::Fronts::cut))]
+    pub fn is_cut(bytes: &[u8]) -> bool
+        ensures { result ≡ is_cut (head_front bytes.now) }
+    {
+        if bytes.is_empty() {
+            return true;
+        }
+        let rest = bytes.len() - 1;
+        match bytes[0] & 0x1f {
+            24 => rest < 1,
+            25 => rest < 2,
+            26 => rest < 4,
+            27 => rest < 8,
+            _ => false,
+        }
     }
 
     /// Whether it is the head of a string, an array or a map of indefinite length (RFC 8949 section

@@ -8,7 +8,7 @@ use Rattle.link_bundle_types.specs.declared.fault.State.TheVariants.{Going, Ende
 use Rattle.link_bundle_types.specs.declared.info.BundleInfo.{BundleInfo}
 use Rattle.link_bundle_blocks.specs.Bundle.{verdict, payload_seen, state_of}
 use Rattle.link_bundle_heads.specs.Rows.{is_fragment}
-use Rattle.link_primary.specs.Fields.{PrimaryFields}
+use Rattle.link_bundle_blocks.specs.Primary.{PrimaryFields}
 use Rattle.link_numbers.specs.Fault.{no_fault, bundle_fault}
 use Rattle.link_numbers.specs.declared.{fault.Fault.Fault, bundle.Bundle.Bundle}
 use Rattle.link_numbers.specs.declared.bundle.{EidNumbers.EidNumbers, Verdict.Verdict}

@@ -4,14 +4,14 @@ ghost use Rattle.std.specs.Prelude.{◌≡◌, option_map, IfSome};
 ghost use Rattle.link_bundle_types.specs.BundleView.{viewed_info, viewed_verdict};
 ghost use Rattle.link_bundle_types.specs.EidView.{viewed_eid};
 ghost use Rattle.link_bundle_types.specs.ShortNames.{IsShort};
-ghost use Rattle.link_primary.specs.View.{viewed_fields};
+ghost use Rattle.link_bundle_blocks.specs.PrimaryView.{viewed_fields};
 ghost use Rattle.link_numbers.specs.Bundle.{state_status, fault_of, with_span, no_eid, eid_shown, eid_or_none, name_of, name_or_none, eid_by, viewed_option, primary_shown, bundle_shown};
 
 use crate::fault::Fault;
 use crate::status::{FAULT, OK, TRUNCATED};
+use link_bundle_blocks::PrimaryView;
 use link_bundle_heads::row;
 use link_bundle_types::{BundleFault, BundleView, EID_LIMIT, EidView, State};
-use link_primary::PrimaryView;
 
 /// `struct tcpclkit_verdict`: the verdict on bytes as one bundle, and where its payload is.
 #[repr(C)]

@@ -1,5 +1,4 @@
 mod Packed
-mod Scanning
 mod Blocks
 mod Walks
 mod Lending

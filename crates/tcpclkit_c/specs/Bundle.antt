@@ -4,7 +4,7 @@ use Rattle.link_bundle_types.specs.declared.fault.BundleFault.{BundleFault}
 use Rattle.link_bundle_types.specs.declared.fault.State.{State}
 use Rattle.link_bundle_types.specs.declared.info.BundleInfo.{BundleInfo}
 use Rattle.link_bundle_blocks.specs.Bundle.{state_of}
-use Rattle.link_primary.specs.Fields.{PrimaryFields}
+use Rattle.link_bundle_blocks.specs.Primary.{PrimaryFields}
 use Rattle.link_numbers.specs.Bundle.{state_status, verdict_shown, name_of, name_or_none, primary_shown, bundle_shown}
 use Rattle.link_numbers.specs.declared.bundle.Bundle.{Bundle}
 use Rattle.link_numbers.specs.declared.bundle.Verdict.{Verdict}

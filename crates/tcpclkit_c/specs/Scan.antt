@@ -6,7 +6,7 @@ use denote.RawPtr.{Ptr, lies_at}
 use Rattle.link_cbor.specs.Pieces.{taken}
 use Rattle.link_bundle_blocks.specs.Bundle.{verdict, payload_seen, state_of, bundle_goes}
 use Rattle.link_bundle.specs.Scan.{HasScanned}
-use Rattle.link_primary.specs.Fields.{primary_fields}
+use Rattle.link_bundle_blocks.specs.PrimaryFields.{primary_fields}
 use Rattle.link_numbers.specs.Bundle.{state_status, ReturnsVerdict}
 use Rattle.tcpclkit_c.specs.Bundle.{Names, ReturnsInfo}
 use Rattle.tcpclkit_c.specs.contracts.scan.MarkedScan.{the_row}
@@ -18,12 +18,10 @@ use Rattle.tcpclkit_c.specs.declared.scan.MarkedScan.{MarkedScan}
 abbrev pub mark : ℕ
 mark = 11674977472243525447
 
--- the scan has its mark, has seen exactly these bytes, and keeps as many of them as a primary block
--- can need
+-- the scan has its mark, and has seen exactly these bytes
 pub record IsScan (held : MarkedScan) (seen : List ℕ) : Type 0 where
   pub marked : held.mark ≡ mark
   pub scanned : HasScanned held.scan seen
-  pub keeps : held.kept ≡ take 3257 seen
 
 -- a scan that has seen exactly these bytes lies at the pointer
 abbrev pub HoldsScan : Ptr → List ℕ → Fml

@@ -4,18 +4,18 @@ ghost use Rattle.std.specs.Prelude.{◌≡◌, ℕ, List};
 ghost use Rattle.link_bundle_types.specs.BundleView.{viewed_info};
 ghost use Rattle.link_bundle_blocks.specs.Bundle.{verdict, payload_seen, state_of};
 ghost use Rattle.link_bundle.specs.Scan.{HasJudged};
-ghost use Rattle.link_primary.specs.Fields.{primary_fields};
-ghost use Rattle.link_primary.specs.View.{viewed_fields};
+ghost use Rattle.link_bundle_blocks.specs.PrimaryFields.{primary_fields};
+ghost use Rattle.link_bundle_blocks.specs.PrimaryView.{viewed_fields};
 ghost use Rattle.link_numbers.specs.Bundle.{state_status, verdict_shown, ReturnsVerdict};
 ghost use Rattle.tcpclkit_c.specs.Bundle.{three_names, GivesNames, names_status, ReturnsBundle, ReturnsStop, ReturnsInfo};
 
 use link_bundle::{BundleScan, BundleView, State};
+use link_bundle_blocks::{PrimaryView, primary_fields};
 use link_numbers::bundle::{
     Bundle, Verdict, bundle_shown, fault_of, name_of, name_or_none, primary_shown, state_status,
     with_span,
 };
 use link_numbers::status::{OK, TOO_SMALL};
-use link_primary::{PrimaryView, primary_fields};
 use link_slices::copy_front;
 
 /// Makes a scan that has judged the bytes.

@@ -13,7 +13,6 @@
 ghost use Rattle.std.specs.Prelude.{◌≡◌};
 
 mod bundle;
-mod kept;
 mod order;
 mod recording;
 mod scan;

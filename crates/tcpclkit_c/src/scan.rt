@@ -8,7 +8,7 @@ ghost use denote.Memory.{lone};
 ghost use denote.RawPtr.{room_at};
 ghost use Rattle.link_bundle_blocks.specs.Bundle.{verdict, payload_seen, state_of};
 ghost use Rattle.link_bundle.specs.Scan.{scan_size};
-ghost use Rattle.link_primary.specs.Fields.{primary_fields};
+ghost use Rattle.link_bundle_blocks.specs.PrimaryFields.{primary_fields};
 ghost use Rattle.link_numbers.specs.Bundle.{verdict_shown, state_status};
 ghost use Rattle.tcpclkit_c.specs.Bundle.{three_names, ReturnsInfo};
 ghost use Rattle.tcpclkit_c.specs.Scan.{IsScan, HoldsScan, mark, has_room, fed, fed_status, FeedsMarked, JudgesMarked, DescribesMarked};
@@ -16,13 +16,11 @@ ghost use Rattle.tcpclkit_c.specs.NextBlock.{TakesBlock, fed_block, fed_block_st
 ghost use Rattle.tcpclkit_c.specs.contracts.scan.MarkedScan.{the_row};
 
 use crate::bundle::{give_info, give_verdict};
-use crate::kept::Kept;
 use link_bundle::BundleScan;
 use link_cbor::Piecewise;
 use link_numbers::block::{BlockNumbers, block_numbers};
 use link_numbers::bundle::{Bundle, Verdict, state_status};
 use link_numbers::status::{OK, RANGE};
-use link_primary::primary_fields;
 use link_wire::INPUT_LIMIT;
 
 /// The first word of each scan. It was drawn at random, so other memory hardly begins with it.
@@ -33,8 +31,6 @@ const MARK: u64 = 0xa205_da27_81c3_6747;
 pub struct MarkedScan {
     mark: u64,
     scan: BundleScan,
-    /// The first bytes that the scan has taken, for the fields of a bad bundle.
-    kept: Kept,
 }
 
 /// The size of a scan in bytes.
@@ -62,7 +58,6 @@ fn new_scan() -> MarkedScan
     MarkedScan {
         mark: MARK,
         scan: BundleScan::new(),
-        kept: Kept::new(),
     }
 }
 
@@ -95,7 +90,6 @@ fn feed(scan: &mut MarkedScan, piece: &[u8], taken: &mut u64) -> u32
         return RANGE;
     }
     let count = scan.scan.feed(piece);
-    scan.kept.extend(&piece[..count]);
     *taken = count as u64;
     state_status(scan.scan.state())
 }
@@ -136,7 +130,6 @@ fn next_block(scan: &mut MarkedScan, piece: &[u8], taken: &mut u64, block: &mut 
         return RANGE;
     }
     let count = take_block(&mut scan.scan, piece);
-    scan.kept.extend(&piece[..count]);
     *taken = count as u64;
     // A block that ended before this call is not given again.
     let ended = if count > 0 {
@@ -205,10 +198,9 @@ fn describe(
     if scan.mark != MARK {
         return RANGE;
     }
-    let primary = primary_fields(scan.kept.as_slice());
     give_info(
         &scan.scan,
-        &primary,
+        &scan.scan.primary(),
         destination_name,
         source_name,
         report_to_name,

@@ -143,3 +143,11 @@ returns-clause-gives g c = λ content same judged reading.
       ) shows.are;
       wrote = shows.wrote;
     }
+
+pub returns-clause-judged : goal.returns-clause-judged
+returns-clause-judged g c = λ content same judged.
+    let piece = c.args.piece.now in
+    let taken = c.loop-taken.taken in
+    rw (joined_rest content piece taken) at (rw (take_rest piece taken) at
+    (c.judge_piece.ensures.judged (content ++ take taken piece)
+    (c.loop-taken.invariant.judged content same judged)))

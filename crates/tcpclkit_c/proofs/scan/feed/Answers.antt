@@ -1,6 +1,5 @@
 use Rattle.std.proofs.Common.{◌≡◌, true, sym, ◌∙◌, rules}
 use Rattle.tcpclkit_c.specs.Scan.{has_room}
-use Rattle.tcpclkit_c.proofs.Scanning.{keeps_taken}
 use Rattle.tcpclkit_c.proofs.scan.feed.Goals as goal
 
 pub returns : goal.returns
@@ -11,11 +10,7 @@ returns c = record {
       let come = c.feed-count.ensures.seen seen has.scanned in
       let counts = c.feed-count.ensures.count seen has.scanned in
       record {
-        scanned = rw room (record {
-          marked = has.marked;
-          scanned = come;
-          keeps = keeps_taken _ 3257 seen _ _ _ _ has.keeps counts c.extend.ensures;
-        });
+        scanned = rw room (record { marked = has.marked; scanned = come });
         counts = rw room counts;
         answers = rw (room, ← c.state.ensures.seen _ come) c.state_status.ensures;
       };

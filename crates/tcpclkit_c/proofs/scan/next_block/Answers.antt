@@ -3,7 +3,6 @@ use Rattle.std.specs.Prelude.{nat_lt, if◌then◌else◌}
 use Rattle.link_bundle_blocks.specs.Blocks.{viewed_blocks}
 use Rattle.link_bundle.specs.Scan.{ending}
 use Rattle.tcpclkit_c.specs.Scan.{has_room}
-use Rattle.tcpclkit_c.proofs.Scanning.{keeps_taken}
 use Rattle.tcpclkit_c.proofs.scan.next_block.Goals.{then-count-gt0, else-count-gt0}
 use Rattle.tcpclkit_c.proofs.scan.next_block.Goals as goal
 
@@ -27,11 +26,7 @@ returns c =
           let come = took.ensures.seen seen has.scanned in
           let counts = took.ensures.counts seen has.scanned in
           record {
-            scanned = rw room (record {
-              marked = has.marked;
-              scanned = come;
-              keeps = keeps_taken _ 3257 seen _ _ _ _ has.keeps counts c.extend.ensures;
-            });
+            scanned = rw room (record { marked = has.marked; scanned = come });
             counts = rw room counts;
             gives = rw (room, took.ensures.adds seen has.scanned, ← shown) c.block_numbers.ensures;
             answers = rw (room, ← c.state.ensures.seen _ come) c.state_status.ensures;

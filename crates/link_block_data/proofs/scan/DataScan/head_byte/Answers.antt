@@ -1,6 +1,6 @@
 use Rattle.std.proofs.Common.{ℕ, ◌+◌, List, ◌∷◌, [], ◌++◌, drop, refl, arith, rules}
 use Rattle.link_cbor.specs.HeadScan.{HasScannedHead}
-use Rattle.link_bundle.proofs.Steps.{one_byte}
+use Rattle.link_bundle_blocks.proofs.Seen.{AreBytes-one}
 use Rattle.link_block_data.specs.{declared.kind.DataKind.DataKind, Scan.{HasScanned, HasSeenHead, IsLongAt}}
 use Rattle.link_block_data.specs.declared.due.DataStage.TheVariants.{Head}
 use Rattle.link_block_data.proofs.Steps.{at_stage, grown_head, grown_bytes, more_head, bad_head}
@@ -14,7 +14,7 @@ grown : (c : After-outcome) {kind : DataKind} {seen : List ℕ} → HasScanned k
     (c.args.self.now.count + 1) (seen ++ c.args.byte ∷ [])
 grown c come =
     grown_head (at_stage c.args.self.now c.requires.stage come) (c.args.byte ∷ [])
-    (one_byte c.args.byte (omega arith)) refl
+    (AreBytes-one c.args.byte (omega arith)) refl
 
 scanned : (c : After-outcome) {kind : DataKind} {seen : List ℕ}
     → HasScanned kind c.args.self.now seen

@@ -1,5 +1,5 @@
 use Rattle.std.proofs.Common.{refl, ap, sym, ◌∙◌, length, rules, arith}
-use Rattle.link_bundle.proofs.Steps.{after_seen, slice_bytes}
+use Rattle.link_bundle_blocks.proofs.Seen.{after_seen, AreBytes-slice}
 use Rattle.link_block_data.proofs.Steps.{at_stage, grown_head, fresh_at}
 use Rattle.link_block_data.proofs.LongHeads.{long_at, long_more}
 use Rattle.link_block_data.proofs.scan.DataScan.head_run.Goals as goal
@@ -13,7 +13,8 @@ returns c = record {
       let at = at_stage now c.requires.stage come in
       let here = c.requires.begins ∙ at.counted in
       let rest = after_seen now.offset seen run here in
-      c.take_head.ensures.seen kind _ (grown_head at run (slice_bytes run (λ k. omega (arith, c.type_inv.run k))) refl)
+      let are = AreBytes-slice run (λ k. omega (arith, c.type_inv.run k)) in
+      c.take_head.ensures.seen kind _ (grown_head at run are refl)
       (long_more c.args.due now.long now.offset seen run (long_at now c.requires.stage come))
       (rw rest c.requires.whole) (ap length (sym rest)) (fresh_at at here);
 }

@@ -1,6 +1,6 @@
 use Rattle.std.proofs.Common.{◌∙◌, ⊎_elim}
 use Rattle.link_bundle_types.specs.KeptEid.{name_fits}
-use Rattle.link_bundle.proofs.Fields.{some_left}
+use Rattle.link_block_data.proofs.Names.{some_left}
 use Rattle.link_block_data.proofs.Steps.{at_stage, fits_at}
 use Rattle.link_block_data.proofs.Results.{result_failed, result_head, result_name, result_read}
 use Rattle.link_block_data.proofs.LongHeads.{long_at, result_long, result_none}

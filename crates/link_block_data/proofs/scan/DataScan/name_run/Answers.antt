@@ -1,5 +1,5 @@
 use Rattle.std.proofs.Common.{refl, ap, length-append, rules, arith}
-use Rattle.link_bundle.proofs.Steps.{slice_bytes}
+use Rattle.link_bundle_blocks.proofs.Seen.{AreBytes-slice}
 use Rattle.link_block_data.proofs.Steps.{at_stage, grown_name}
 use Rattle.link_block_data.specs.declared.{due.DataStage.DataStage, draft.Draft.Draft}
 use Rattle.link_block_data.proofs.LongHeads.{long_at, long_named}
@@ -13,7 +13,7 @@ returns c = record {
       let run = c.args.run.now in
       let at = at_stage now c.requires.stage come in
       record {
-        state = grown_name run at (slice_bytes run (λ k. omega (arith, c.type_inv.run k)))
+        state = grown_name run at (AreBytes-slice run (λ k. omega (arith, c.type_inv.run k)))
             c.requires.some c.requires.within c.name-self.ensures.took refl c.new-self.ensures.seen;
         long = long_named c.args.owner c.args.left now.long _ now.offset _ seen run
             (long_at now c.requires.stage come) c.requires.within

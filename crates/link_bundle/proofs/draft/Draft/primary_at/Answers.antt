@@ -1,9 +1,10 @@
 use Rattle.std.proofs.Common.{refl, sym, ◌∙◌}
-use Rattle.link_bundle_blocks.specs.{Primary.primary_at, Reading.row_at}
+use Rattle.link_bundle_blocks.specs.{Primary.{primary_at, primary_elements}, Reading.row_at}
+use Rattle.link_bundle_blocks.proofs.Elements.{fragment_read}
 use Rattle.link_bundle.proofs.draft.Draft.primary_at.Goals as goal
 
 pub returns-clause-read : goal.returns-clause-read
-unfolding primary_at row_at
+unfolding primary_at primary_elements row_at
 returns-clause-read c =
     rw (
       c.in_ok-head.ensures,
@@ -21,7 +22,7 @@ returns-clause-read c =
       c.in_ok-sequence.ensures,
       c.in_ok-lifetime.ensures,
       sym c.is_fragment.ensures,
-      c.in_ok-fragment.ensures,
+      fragment_read _ _ _ _ _ c.in_ok-fragment.ensures,
       c.keep.ensures,
       c.keep-2.ensures,
       c.keep-3.ensures,

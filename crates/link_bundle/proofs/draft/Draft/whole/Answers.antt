@@ -11,3 +11,7 @@ returns-clause-read c =
       primary_read c.args.bytes.now primary c.in_ok-offset.field-0-0 c.in_ok-offset.offset
           c.in_ok-offset.ensures.read ∙ rw (c.in_ok-payload.ensures.1 primary) refl,
     )
+
+pub returns-clause-primary : goal.returns-clause-primary
+returns-clause-primary c =
+    ((c.in_ok-offset.field-0-0, c.in_ok-offset.offset), c.in_ok-offset.ensures.read)

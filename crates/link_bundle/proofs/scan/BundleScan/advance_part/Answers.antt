@@ -1,19 +1,16 @@
-use Rattle.std.proofs.{Common.{take, arith, rules}, lemmas.List.length-take}
-use Rattle.link_bundle.proofs.{Feeding.{as_taken, goes_in_content, goes_in_name}, Steps.at_stage}
+use Rattle.std.proofs.Common.{rules}
+use Rattle.link_bundle.proofs.Taking.{advances_by, one_taken}
 use Rattle.link_bundle.proofs.scan.BundleScan.advance_part.Goals as goal
 
-pub returns-in-Name-clause-advances : goal.returns-in-Name-clause-advances
-returns-in-Name-clause-advances c =
-    as_taken (search rules) (search rules) (search rules) (search rules) (λ seen come count below.
-    let now = c.args.self.now in
-    goes_in_name (take count c.args.piece.now)
-    (at_stage now c.in-Name.is come.come)
-    (omega (arith, length-take count c.args.piece.now, c.first_of-run.ensures.size)))
+pub returns-in-BlockData : goal.returns-in-BlockData
+returns-in-BlockData c =
+    let taken = rw c.first_of-run.ensures.run at c.data_run.ensures.taken in
+    record {
+      advances = advances_by (search rules) (search rules) c.data_run.ensures.may_step taken;
+      blocks = taken.blocks;
+    }
 
-pub returns-in-Content-clause-advances : goal.returns-in-Content-clause-advances
-returns-in-Content-clause-advances c =
-    as_taken (search rules) (search rules) (search rules) (search rules) (λ seen come count below.
-    let now = c.args.self.now in
-    goes_in_content (take count c.args.piece.now)
-    (at_stage now c.in-Content.is come.come)
-    (omega (arith, length-take count c.args.piece.now, c.first_of-run-in-Content.ensures.size)))
+pub returns-in-Ended-clause-advances : goal.returns-in-Ended-clause-advances
+returns-in-Ended-clause-advances c =
+    one_taken c.args.self.now c.trailing_byte.new.self c.args.piece.now c.requires.may_take
+    c.trailing_byte.ensures

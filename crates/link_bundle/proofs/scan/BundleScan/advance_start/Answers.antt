@@ -1,9 +1,10 @@
-use Rattle.std.proofs.Common.{refl, ◌+◌, arith, rules}
+use Rattle.std.proofs.Common.{refl, arith}
 use Rattle.link_bundle.specs.Left.{bundle_of}
 use Rattle.link_bundle_blocks.specs.Bundle.{Bundle, bundle_at}
 use Rattle.link_bundle_blocks.proofs.Beginnings.{Begins, begins_bundle}
-use Rattle.link_bundle.proofs.{Alone.{whole_come, goes_in_whole, first_taken}, Feeding.as_taken}
-use Rattle.link_bundle.proofs.Steps.{at_stage, slice_bytes}
+use Rattle.link_bundle.proofs.Wholes.{whole_taken, advances_anew}
+use Rattle.link_bundle.proofs.Steps.{slice_bytes}
+use Rattle.link_bundle.proofs.Verdicts.{may_at}
 use Rattle.link_bundle.proofs.scan.BundleScan.advance_start.Goals as goal
 use Rattle.link_bundle.proofs.scan.BundleScan.advance_start.Goals.{In-Ok}
 
@@ -22,28 +23,16 @@ overflow_add-self c = omega (arith, (begins c).within)
 pub returns-in-Ok : goal.returns-in-Ok
 unfolding bundle
 returns-in-Ok c =
-    let now = c.args.self.now in
-    let piece = c.args.piece.now in
-    let size = c.in-Ok.size in
-    let count = now.cursor.count + size in
-    let begins_here = begins (goal.at.returns-in-Ok c).In-Ok in
-    record {
-      some = begins_here.some;
-      within = begins_here.within;
-      size = search rules;
-      seen = λ seen come. record {
-        before = c.in-Ok.ensures.read.0;
-        come = whole_come (at_stage now c.requires.stage come.come)
-            (slice_bytes piece (λ k. omega (arith, c.type_inv.piece k)))
-            begins_here refl refl;
-      };
-      goes = λ seen come count below.
-          goes_in_whole count (at_stage now c.requires.stage come.come) begins_here below;
-    }
+    whole_taken {old = c.args.self.now} c.requires.stage c.requires.begins
+    (slice_bytes c.args.piece.now (λ k. omega (arith, c.type_inv.piece k)))
+    (begins (goal.at.returns-in-Ok c).In-Ok) c.in-Ok.ensures.primary c.in-Ok.ensures.whole refl refl
+    c.requires.begins
+
+pub take_primary-requires-clause-may_take : goal.take_primary-requires-clause-may_take
+take_primary-requires-clause-may_take c =
+    may_at (rw c.requires.stage refl) c.requires.may_take.some c.requires.may_take.room
 
 pub returns-in-Err : goal.returns-in-Err
 returns-in-Err c =
-    let piece = c.args.piece.now in
-    let some = c.requires.may_take.some in
-    as_taken (search rules) (search rules) (search rules)
-    (first_taken piece c.requires.stage refl refl some c.open.ensures).seen (search rules)
+    advances_anew {old = c.args.self.now} c.requires.stage c.requires.stage refl
+    c.take_primary.ensures.advances

@@ -1,10 +1,12 @@
-use Rattle.std.proofs.Common.{length, ◌-◌}
-use Rattle.link_bundle.specs.Scan.{Advances, AddsBlock}
+use Rattle.std.proofs.Common.{length, ◌-◌, ◌<◌}
+use Rattle.link_bundle.specs.Scan.{AddsBlock}
+use Rattle.link_bundle.proofs.Taking.{HasFed}
 use Rattle.link_bundle.proofs.scan.BundleScan.feed_block.Given as goal
 
 abbrev pub invariant-loop-taken : goal.invariant-loop-taken
 invariant-loop-taken l = record {
-  advances : Advances l.fn.self l.self l.piece l.taken;
+  some : 0 < l.taken;
+  fed : HasFed l.fn.self l.self l.piece l.taken;
   blocks : AddsBlock l.fn.self l.self l.piece l.taken;
 }
 

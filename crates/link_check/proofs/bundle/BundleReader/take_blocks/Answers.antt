@@ -91,3 +91,11 @@ returns-clause-reads c = λ content same judged reading.
     subst (IsReadingBlocks c.loop-taken.self) (joined_rest content piece c.loop-taken.taken)
     (rest_blocks c.loop-taken.self _ (drop c.loop-taken.taken piece)
     (ends at content (kept.judged content same judged)) (kept.reads content same judged reading))
+
+pub returns-clause-judged : goal.returns-clause-judged
+returns-clause-judged c = λ content same judged.
+    let piece = c.args.piece.now in
+    let taken = c.loop-taken.taken in
+    subst (HasJudged c.judge_piece.new.self) (joined_rest content piece taken)
+    (rw (take_rest piece taken) at (c.judge_piece.ensures.judged (content ++ take taken piece)
+    (c.loop-taken.invariant.judged content same judged)))
