@@ -62,6 +62,8 @@ fn run(rt: &HostRuntime) -> Ending {
 /// Returns the tool that these words ask for, and its input, or the ending of a call without a run.
 ///
 /// The first word is the program's own name.
+// Out of line, so that its locals are gone when the tool runs: its stack has to fit beside them.
+#[inline(never)]
 fn request(rt: &HostRuntime, words: &[String]) -> Result<(Job, Either<File, Stdin>), Ending>
     ensures ok { IfOk result (λ request. AskFor (map string_bytes words.now) request.0 (is_left request.1)) }
     ensures ready { IfOk result (λ request. IsReady request.0) }
