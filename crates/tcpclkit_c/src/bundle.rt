@@ -18,15 +18,6 @@ use link_numbers::bundle::{
 use link_numbers::status::{OK, TOO_SMALL};
 use link_slices::copy_front;
 
-/// Makes a scan that has judged the bytes.
-fn judged_scan(bytes: &[u8]) -> BundleScan
-    ensures { HasJudged result bytes.now }
-{
-    let mut scan = BundleScan::new();
-    scan.judge_piece(bytes);
-    scan
-}
-
 /// What a scan has found of the bytes that it has judged.
 fn found(scan: &BundleScan) -> Verdict
     ensures { (bytes : List ℕ) → HasJudged scan.now bytes
@@ -49,7 +40,8 @@ pub extern "C" fn tcpclkit_raw_judge_bundle(bytes: &[u8], answer: &mut Verdict) 
     ensures status { result ≡ state_status (state_of (verdict bytes.now)) }
     ensures answer { answer.new ≡ verdict_shown (verdict bytes.now) (payload_seen bytes.now) }
 {
-    let scan = judged_scan(bytes);
+    let mut scan = BundleScan::new();
+    scan.judge_piece(bytes);
     give_verdict(&scan, answer)
 }
 
@@ -185,7 +177,8 @@ pub extern "C" fn tcpclkit_raw_describe_bundle(
         (three_names destination_name.new source_name.new report_to_name.new)
         answer.new result }
 {
-    let scan = judged_scan(bytes);
+    let mut scan = BundleScan::new();
+    scan.judge_piece(bytes);
     let primary = primary_fields(bytes);
     give_info(
         &scan,
