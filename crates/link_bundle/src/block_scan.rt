@@ -68,7 +68,7 @@ impl BundleScan {
                 self.stage = ScanStage::BlockHeads;
                 size
             }
-            Err(_) => self.take_primary(piece),
+            Err(_) => self.take_part(piece),
         }
     }
 
@@ -89,7 +89,7 @@ impl BundleScan {
                 self.stage = self.draft.after_block();
                 size
             }
-            Err(_) => self.take_heads(piece),
+            Err(_) => self.take_part(piece),
         }
     }
 

@@ -50,7 +50,7 @@ impl Cursor {
     /// Takes the bytes of a piece into the hold, until that has `limit` bytes.
     ///
     /// Returns the number of bytes that were held before.
-    pub fn hold(&mut self, piece: &[u8], limit: usize) -> usize
+    pub fn take_in(&mut self, piece: &[u8], limit: usize) -> usize
         requires room { self.old.count + length piece.now ≤ 2 ^ 63 - 1 }
         requires within { length self.old.hold ≤ limit }
         requires most { limit ≤ 3257 }

@@ -41,7 +41,7 @@ mod scan;
 mod stage;
 mod whole;
 
-pub use link_bundle_blocks::{BlockView, CanonicalBlock, PrimaryBlock};
+pub use link_bundle_blocks::{BlockView, CanonicalBlock, PrimaryBlock, PrimaryView};
 pub use link_bundle_types::{
     BLOCK_LIMIT, BundleFault, BundleInfo, BundleView, EID_LIMIT, Eid, EidView, State,
 };

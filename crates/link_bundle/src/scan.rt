@@ -8,12 +8,13 @@ use crate::held::{read_part, shown};
 use crate::stage::ScanStage;
 use link_bundle_blocks::{PrimaryView, primary_fields};
 use link_bundle_types::{BundleFault, BundleInfo, BundleView, State};
-use link_cbor::{CheckKind, Piecewise};
+use link_cbor::Piecewise;
 use std::fmt;
 
 /// Scans one bundle (RFC 9171 section 4) in pieces of any size.
 ///
-/// It keeps the fields of [`BundleInfo`], and no bytes of a block's data.
+/// It keeps the fields of [`BundleInfo`] and the bytes of the part that it is in, at most 3,257. It
+/// keeps no bytes of a block's data.
 #[derive(Drop)]
 pub struct BundleScan {
     pub(crate) stage: ScanStage,
@@ -228,20 +229,17 @@ impl BundleScan {
         ensures blocks { AddsBlock self.old self.new piece.now result }
     {
         match self.stage {
-            ScanStage::PrimaryBlock => self.take_primary(piece),
-            ScanStage::BlockHeads => self.take_heads(piece),
             ScanStage::BlockData(left) => {
                 let run = first_of(piece, left);
                 self.data_run(left, run);
                 run.len()
             }
-            ScanStage::CheckField(kind) => self.take_check_field(kind, piece),
-            ScanStage::Break => self.take_break(piece),
             ScanStage::Ended => {
                 self.trailing_byte(piece[0]);
                 1
             }
             ScanStage::Failed(..) => unreachable!(),
+            _ => self.take_part(piece),
         }
     }
 
@@ -261,7 +259,7 @@ impl BundleScan {
             }
             Err(_) => {
                 self.draft.restart();
-                self.take_primary(piece)
+                self.take_part(piece)
             }
         }
     }
@@ -272,63 +270,18 @@ impl BundleScan {
     ghost use Rattle.link_bundle.specs.Scan.{MayAdvance, Advances, AddsBlock};
     ghost use Rattle.link_bundle.specs.Stages.{is_part};
 
-    /// Takes bytes of the first byte and the primary block.
-    // Cold, so that the attempt to read a whole bundle at once keeps its registers.
+    /// Takes bytes of the part that the scan is in.
+    // Cold, so that the attempt to read a whole bundle or block at once keeps its registers.
     #[cold]
     #[inline(never)]
-    pub(crate) fn take_primary(&mut self, piece: &[u8]) -> usize
-        requires stage { self.old.stage ≡ ScanStage.PrimaryBlock }
+    pub(crate) fn take_part(&mut self, piece: &[u8]) -> usize
+        requires part { IsTrue (is_part self.old.stage) }
         requires may_take { MayAdvance self.old piece.now }
         ensures advances { Advances self.old self.new piece.now result }
         ensures blocks { AddsBlock self.old self.new piece.now result }
     {
-        self.take_part(ScanStage::PrimaryBlock, piece)
-    }
-
-    /// Takes bytes of the heads of a canonical block.
-    #[inline(never)]
-    pub(crate) fn take_heads(&mut self, piece: &[u8]) -> usize
-        requires stage { self.old.stage ≡ ScanStage.BlockHeads }
-        requires may_take { MayAdvance self.old piece.now }
-        ensures advances { Advances self.old self.new piece.now result }
-        ensures blocks { AddsBlock self.old self.new piece.now result }
-    {
-        self.take_part(ScanStage::BlockHeads, piece)
-    }
-
-    /// Takes bytes of the check field of a canonical block.
-    #[inline(never)]
-    fn take_check_field(&mut self, kind: CheckKind, piece: &[u8]) -> usize
-        requires stage { self.old.stage ≡ ScanStage.CheckField kind }
-        requires may_take { MayAdvance self.old piece.now }
-        ensures advances { Advances self.old self.new piece.now result }
-        ensures blocks { AddsBlock self.old self.new piece.now result }
-    {
-        self.take_part(ScanStage::CheckField(kind), piece)
-    }
-
-    /// Takes bytes of the break after the payload block.
-    #[inline(never)]
-    fn take_break(&mut self, piece: &[u8]) -> usize
-        requires stage { self.old.stage ≡ ScanStage.Break }
-        requires may_take { MayAdvance self.old piece.now }
-        ensures advances { Advances self.old self.new piece.now result }
-        ensures blocks { AddsBlock self.old self.new piece.now result }
-    {
-        self.take_part(ScanStage::Break, piece)
-    }
-
-    /// Takes bytes of the part of this stage.
-    // Inline, so that each stage has its own code.
-    #[inline(always)]
-    fn take_part(&mut self, stage: ScanStage, piece: &[u8]) -> usize
-        requires part { IsTrue (is_part stage) }
-        requires stage { self.old.stage ≡ stage }
-        requires may_take { MayAdvance self.old piece.now }
-        ensures advances { Advances self.old self.new piece.now result }
-        ensures blocks { AddsBlock self.old self.new piece.now result }
-    {
-        let held = self.cursor.hold(piece, stage.limit());
+        let stage = self.stage;
+        let held = self.cursor.take_in(piece, stage.limit());
         match read_part(stage, &mut self.draft, &mut self.cursor) {
             Ok((size, next)) => {
                 self.cursor.pass(size);
@@ -343,6 +296,7 @@ impl BundleScan {
                 let bytes = self.cursor.hold.as_slice();
                 let size = shown(stage, &self.draft.numbers, self.cursor.check, bytes, held);
                 self.cursor.give_back(size);
+                // It never saturates: the fault lies within the bytes held.
                 let offset = start.saturating_add(stop.offset as u64);
                 self.stage = ScanStage::Failed(stop.fault, offset);
                 size - held

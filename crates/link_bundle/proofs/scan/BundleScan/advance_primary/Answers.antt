@@ -48,8 +48,8 @@ returns-in-Ok c =
     refl (omega (arith, length-take-le size piece at.within)) c.requires.begins)) in
     record { advances = both.0; blocks = both.1 }
 
-pub take_primary-requires-clause-may_take : goal.take_primary-requires-clause-may_take
-take_primary-requires-clause-may_take c =
+pub take_part-requires-clause-may_take : goal.take_part-requires-clause-may_take
+take_part-requires-clause-may_take c =
     may_at (rw c.requires.stage refl) c.requires.may_take.some c.requires.may_take.room
 
 pub returns-in-Err : goal.returns-in-Err
@@ -57,7 +57,7 @@ returns-in-Err c =
     let now = c.args.self.now in
     let start = c.requires.stage in
     record {
-      advances = advances_anew {old = now} start start refl c.take_primary.ensures.advances;
+      advances = advances_anew {old = now} start start refl c.take_part.ensures.advances;
       blocks = λ seen come.
-          c.take_primary.ensures.blocks seen (anew {old = now} start start refl come);
+          c.take_part.ensures.blocks seen (anew {old = now} start start refl come);
     }

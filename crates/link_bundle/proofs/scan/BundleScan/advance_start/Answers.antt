@@ -28,11 +28,11 @@ returns-in-Ok c =
     (begins (goal.at.returns-in-Ok c).In-Ok) c.in-Ok.ensures.primary c.in-Ok.ensures.whole refl refl
     c.requires.begins
 
-pub take_primary-requires-clause-may_take : goal.take_primary-requires-clause-may_take
-take_primary-requires-clause-may_take c =
+pub take_part-requires-clause-may_take : goal.take_part-requires-clause-may_take
+take_part-requires-clause-may_take c =
     may_at (rw c.requires.stage refl) c.requires.may_take.some c.requires.may_take.room
 
 pub returns-in-Err : goal.returns-in-Err
 returns-in-Err c =
     advances_anew {old = c.args.self.now} c.requires.stage c.requires.stage refl
-    c.take_primary.ensures.advances
+    c.take_part.ensures.advances
