@@ -12,91 +12,7 @@
  * counted for libFuzzer in place of the branches that it took.
  */
 #define _GNU_SOURCE
-#include <stdio.h>
-#include <stdlib.h>
-#include <string.h>
-#include <sys/mman.h>
-#include <unistd.h>
-
-#include <tcpclkit.h>
-
-/* The slices that are lent at the same time, and the most bytes of each. */
-enum { INPUT, FIRST, SECOND, THIRD, MEMORY, SLICES };
-#define MOST ((size_t)1 << 20)
-/* The greatest length of an extension list. */
-#define LIST_MOST 65536
-/* Bytes before a slice that no call may change, and what they are. */
-#define BEFORE 64
-#define MARK 0x5a
-
-#define CHECK(holds) check(holds, __func__, __LINE__)
-#define SAME(one, other) CHECK(memcmp(&(one), &(other), sizeof(one)) == 0)
-/* Two answers with one status are the same. Nothing is written after these two statuses. */
-#define SAME_ANSWER(status, one, other)                                      \
-  do {                                                                       \
-    if ((status) != TCPCLKIT_RANGE && (status) != TCPCLKIT_END)              \
-      SAME(one, other);                                                      \
-  } while (0)
-
-static uint8_t *ends[SLICES];
-
-#define COUNTERS 8192
-__attribute__((section("__libfuzzer_extra_counters"))) static uint8_t counters[COUNTERS];
-
-static void check(int holds, const char *function, int line) {
-  if (holds)
-    return;
-  fprintf(stderr, "%s: line %d does not hold\n", function, line);
-  abort();
-}
-
-/* Counts an answer: what was asked, a status or a kind, a code, and the size of a number. */
-static void count(unsigned question, uint64_t status, uint64_t code, uint64_t number) {
-  unsigned bits = 0;
-  while (number >> bits && bits < 63)
-    bits++;
-  counters[(question * 1021 + status * 509 + code * 67 + bits) % COUNTERS] = 1;
-}
-
-/* -- slices */
-
-static void make_slices(void) {
-  size_t page = (size_t)sysconf(_SC_PAGESIZE), size = MOST + BEFORE + page;
-  int which;
-  size -= size % page;
-  for (which = 0; which < SLICES; which++) {
-    uint8_t *start = mmap(NULL, size + page, PROT_READ | PROT_WRITE,
-                          MAP_PRIVATE | MAP_ANONYMOUS, -1, 0);
-    CHECK(start != MAP_FAILED);
-    CHECK(mprotect(start + size, page, PROT_NONE) == 0);
-    ends[which] = start + size;
-  }
-}
-
-/* A slice whose bytes are all `fill`. */
-static uint8_t *lend(int which, size_t length, int fill) {
-  CHECK(length <= MOST);
-  memset(ends[which] - length - BEFORE, MARK, BEFORE);
-  memset(ends[which] - length, fill, length);
-  return ends[which] - length;
-}
-
-static void give_back(int which, size_t length) {
-  const uint8_t *before = ends[which] - length - BEFORE;
-  size_t at;
-  for (at = 0; at < BEFORE; at++)
-    CHECK(before[at] == MARK);
-}
-
-static size_t least(size_t one, size_t other) { return one < other ? one : other; }
-
-/* The bytes of a slice after those that were written are as they were lent. */
-static void keeps_rest(const uint8_t *slice, size_t length, uint64_t written, int fill) {
-  const uint8_t *rest = slice + least(written, length);
-  size_t left = length - least(written, length);
-  if (left > 0)
-    CHECK(rest[0] == fill && memcmp(rest, rest + 1, left - 1) == 0);
-}
+#include "driver.h"
 
 /* -- bundles */
 
@@ -183,11 +99,14 @@ static uint32_t ask_info(const uint8_t *bytes, size_t length, int fill, struct n
   return status;
 }
 
-/* With less room each name is cut, and nothing else changes but the status of a good bundle. */
+/* With less room each name is cut, and nothing else changes but the status of a good bundle, and of
+ * a bad one the length of each name. */
 static void ask_cut_names(const uint8_t *bytes, size_t length, const struct names *whole,
                           uint32_t wanted, size_t room) {
   const struct tcpclkit_eid *eids[3] = {&whole->bundle.destination, &whole->bundle.source,
                                         &whole->bundle.report_to};
+  struct tcpclkit_bundle same = whole->bundle;
+  struct tcpclkit_eid *lengths[3] = {&same.destination, &same.source, &same.report_to};
   struct names cut;
   uint32_t status;
   int which;
@@ -195,13 +114,15 @@ static void ask_cut_names(const uint8_t *bytes, size_t length, const struct name
   cut.rooms[1] = room / 7 % (TCPCLKIT_EID_LIMIT + 1);
   cut.rooms[2] = room / 11 % (TCPCLKIT_EID_LIMIT + 1);
   status = ask_info(bytes, length, 0x33, &cut);
-  SAME(cut.bundle, whole->bundle);
   for (which = 0; which < 3; which++) {
     size_t name = eids[which]->name_length;
     CHECK(memcmp(cut.bytes[which], whole->bytes[which], least(name, cut.rooms[which])) == 0);
-    if (name > cut.rooms[which] && wanted == TCPCLKIT_OK)
+    if (wanted != TCPCLKIT_OK && wanted != TCPCLKIT_TOO_SMALL)
+      lengths[which]->name_length = least(name, cut.rooms[which]);
+    else if (name > cut.rooms[which])
       wanted = TCPCLKIT_TOO_SMALL;
   }
+  SAME(cut.bundle, same);
   CHECK(status == wanted);
 }
 
@@ -232,6 +153,20 @@ static void ask_bundle(const uint8_t *bytes, size_t length, size_t cut, size_t r
 
 /* -- bundles in pieces */
 
+/* The block that the bytes taken end in. */
+static void ask_block(const uint64_t *scan, size_t length, uint32_t status) {
+  struct tcpclkit_block it;
+  uint32_t found;
+  memset(&it, 0x11, sizeof it);
+  found = tcpclkit_raw_judge_block(scan, &it);
+  CHECK(found == (it.kind == 0 ? TCPCLKIT_END : TCPCLKIT_OK));
+  if (found != TCPCLKIT_OK)
+    return;
+  CHECK(it.kind == TCPCLKIT_BLOCK_CANONICAL && it.length == 0 && status == TCPCLKIT_GOING_ON);
+  CHECK(it.offset < it.data_offset && it.data_offset <= length);
+  CHECK(it.data_seen == least(it.data_length, length - it.data_offset));
+}
+
 /* What a scan has found is what the bytes that it took are. */
 static void compare_scan(uint64_t *scan, const uint8_t *bytes, size_t length, uint32_t status) {
   struct names it = {.rooms = WHOLE_NAMES}, same = it;
@@ -252,24 +187,42 @@ static void compare_scan(uint64_t *scan, const uint8_t *bytes, size_t length, ui
   SAME(verdict, same.bundle.verdict);
   SAME(it.bundle, same.bundle);
   SAME(it.bytes, same.bytes);
+  ask_block(scan, length, status);
+}
+
+/* The verdict at the end of a transfer, of which a scan has taken the first `at` bytes. */
+static void ask_end(const uint64_t *scan, const uint8_t *bytes, size_t length, size_t at,
+                    uint32_t status) {
+  struct tcpclkit_verdict it, same;
+  CHECK(tcpclkit_raw_end_scan(scan, length, &it) == ask_verdict(bytes, length, &same));
+  SAME(it, same);
+  if (at > 0)
+    CHECK(tcpclkit_raw_end_scan(scan, at - 1, &it) == TCPCLKIT_RANGE);
+  if (status == TCPCLKIT_GOING_ON)
+    CHECK(tcpclkit_raw_end_scan(scan, at + 1, &it) == TCPCLKIT_RANGE);
+  SAME(it, same);
 }
 
 /* Any bytes as a scan: without the mark they are refused, and stay as they are. */
 static void ask_no_scan(const uint8_t *bytes, size_t length) {
   static uint64_t other[TCPCLKIT_SCAN_WORDS], before[TCPCLKIT_SCAN_WORDS];
   struct tcpclkit_verdict verdict;
-  struct tcpclkit_block block, same;
+  static const struct tcpclkit_block none = {0};
+  struct tcpclkit_block block;
   struct tcpclkit_bundle info;
   uint64_t taken;
   memcpy(other, bytes, least(length, sizeof other));
   memcpy(before, other, sizeof other);
   CHECK(tcpclkit_raw_feed_scan(other, bytes, length, &taken) == TCPCLKIT_RANGE && taken == 0);
   memset(&block, 0x11, sizeof block);
-  same = block;
   CHECK(tcpclkit_raw_next_block(other, bytes, length, &taken, &block) == TCPCLKIT_RANGE);
   CHECK(taken == 0);
-  SAME(block, same);
+  SAME(block, none);
+  memset(&block, 0x11, sizeof block);
+  CHECK(tcpclkit_raw_judge_block(other, &block) == TCPCLKIT_RANGE);
+  SAME(block, none);
   CHECK(tcpclkit_raw_judge_scan(other, &verdict) == TCPCLKIT_RANGE);
+  CHECK(tcpclkit_raw_end_scan(other, length, &verdict) == TCPCLKIT_RANGE);
   CHECK(tcpclkit_raw_describe_scan(other, ends[FIRST], 0, ends[SECOND], 0, ends[THIRD], 0,
                                    &info) == TCPCLKIT_RANGE);
   SAME(other, before);
@@ -294,10 +247,14 @@ static void ask_scan(const uint8_t *bytes, size_t length, size_t size, int fill)
     at += taken;
   } while (status == TCPCLKIT_TRUNCATED && at < length);
   compare_scan(scan, bytes, at, status);
+  ask_end(scan, bytes, length, at, status);
   if (at < length) {
     CHECK(ask_verdict(bytes, length, &whole) == TCPCLKIT_FAULT);
     CHECK(status == TCPCLKIT_FAULT || whole.fault.code == TCPCLKIT_BUNDLE_TRAILING);
-    CHECK(tcpclkit_raw_feed_scan(scan, bytes + at, length - at, &taken) == status && taken == 0);
+    CHECK(tcpclkit_raw_feed_scan(scan, bytes + at, 0, &taken) == status && taken == 0);
+    taken = 7;
+    CHECK(tcpclkit_raw_feed_scan(scan, bytes + at, length - at, &taken) == TCPCLKIT_SCAN_ENDED);
+    CHECK(taken == 0);
     compare_scan(scan, bytes, at, status);
   }
   give_back(MEMORY, room);
@@ -349,12 +306,21 @@ static void take_blocks(const uint8_t *bytes, size_t length, size_t size, int fi
   give_back(MEMORY, room);
 }
 
-/* The pieces make no difference to the blocks. */
+static uint32_t ask_words(const struct tcpclkit_block *primary, const struct tcpclkit_block *block,
+                          const uint8_t *data, size_t length, size_t room);
+
+/* The pieces make no difference to the blocks. The data of each has words. */
 static void ask_blocks(const uint8_t *bytes, size_t length, size_t size) {
   static struct blocks whole, pieces;
+  size_t at;
   take_blocks(bytes, length, length + 1, 0x11, &whole);
   take_blocks(bytes, length, size, 0xee, &pieces);
   SAME(whole, pieces);
+  for (at = 1; at < whole.count; at++) {
+    const struct tcpclkit_block *it = &whole.each[at];
+    CHECK(ask_words(whole.each, it, bytes + it->data_offset, it->data_length, size) ==
+          TCPCLKIT_OK);
+  }
 }
 
 /* -- texts */
@@ -398,6 +364,25 @@ static void ask_texts_of_eid(const struct tcpclkit_eid *eid, const uint8_t *name
     compare_texts(text, written, again, other, cut, room);
 }
 
+/* The words of some data. Returns the status with enough room. */
+static uint32_t ask_words(const struct tcpclkit_block *primary, const struct tcpclkit_block *block,
+                          const uint8_t *data, size_t length, size_t room) {
+  uint64_t written = 0, cut = 0;
+  uint8_t *text = lend(FIRST, 4500, 0x11), *other = lend(SECOND, room %= 4600, 0xee);
+  uint32_t status =
+      tcpclkit_read_block_data(primary, block, data, length, text, 4500, &written);
+  uint32_t again = tcpclkit_read_block_data(primary, block, data, length, other, room, &cut);
+  give_back(FIRST, 4500);
+  give_back(SECOND, room);
+  keeps_rest(text, 4500, written, 0x11);
+  keeps_rest(other, room, cut, 0xee);
+  count(28, status, block->block_type & 15, written);
+  CHECK(status == TCPCLKIT_OK || (status == TCPCLKIT_RANGE && again == TCPCLKIT_RANGE));
+  if (status == TCPCLKIT_OK)
+    compare_texts(text, written, again, other, cut, room);
+  return status;
+}
+
 /* -- recordings */
 
 static void ask_contact(const uint8_t *bytes, size_t length, size_t cut) {
@@ -435,7 +420,7 @@ static uint32_t ask_message(const uint8_t *bytes, size_t length, uint64_t offset
           it->data_seen == it->data_length && it->fault.code == TCPCLKIT_NO_FAULT);
   if (status == TCPCLKIT_DATA_TRUNCATED)
     CHECK(it->fault.code == TCPCLKIT_WIRE_TRUNCATED && it->fault.offset == offset &&
-          it->data_seen == length - it->data_offset && it->next == 0);
+          it->data_seen == length - it->data_offset && it->next > length);
   if (status == TCPCLKIT_TRUNCATED || status == TCPCLKIT_FAULT)
     CHECK(it->kind == 0 && it->data_offset == 0 && it->next == 0);
   SAME_ANSWER(status, *it, again);
@@ -472,28 +457,61 @@ static void ask_message_alone(const uint8_t *bytes, size_t length, uint64_t offs
   CHECK(alone.data_length == whole->data_length && alone.fault.code == whole->fault.code);
 }
 
-/* Reads all items of a message, or the bytes of a list that was not judged. */
-static void ask_items(const uint8_t *bytes, size_t length, uint64_t offset, uint64_t end,
-                      int is_judged) {
+/* Reads all items of a message from an offset on, or the bytes of a list that was not judged. */
+static void ask_items(const uint8_t *bytes, size_t length, const struct tcpclkit_message *message,
+                      uint64_t offset, int is_judged) {
+  uint64_t end = message->items_offset + message->items_length;
+  int has_list = message->kind == TCPCLKIT_SESS_INIT || message->kind == TCPCLKIT_XFER_SEGMENT;
   struct tcpclkit_item it, again;
   uint32_t status;
+  has_list = has_list && message->items_length <= LIST_MOST && end <= length;
   for (;;) {
     memset(&it, 0x11, sizeof it);
     memset(&again, 0xee, sizeof again);
-    status = tcpclkit_read_item(bytes, length, offset, end, &it);
-    CHECK(tcpclkit_read_item(bytes, length, offset, end, &again) == status);
-    CHECK((status == TCPCLKIT_RANGE) ==
-          (offset > end || end > length || end - offset > LIST_MOST));
+    status = tcpclkit_read_item(bytes, length, message, offset, &it);
+    CHECK(tcpclkit_read_item(bytes, length, message, offset, &again) == status);
+    CHECK((status != TCPCLKIT_RANGE) ==
+          (has_list && message->items_offset <= offset && offset <= end));
     SAME_ANSWER(status, it, again);
     if (status != TCPCLKIT_OK)
       break;
     count(7, it.item_type & 15, it.has_total, it.value_length);
     CHECK(it.next <= end && it.next - it.value_length == it.value_offset);
     CHECK(it.value_offset == offset + 5);
+    CHECK(message->kind == TCPCLKIT_XFER_SEGMENT || it.has_total == 0);
     offset = it.next;
   }
   if (is_judged)
     CHECK(status == TCPCLKIT_END);
+}
+
+/* What the items of a segment announce is what they say one by one. */
+static void ask_announced(const uint8_t *bytes, size_t length,
+                          const struct tcpclkit_message *message, int is_judged) {
+  struct tcpclkit_announced it, again;
+  struct tcpclkit_item item;
+  uint64_t lengths = 0, totals = 0, total = 0;
+  uint32_t status;
+  memset(&it, 0x11, sizeof it);
+  memset(&again, 0xee, sizeof again);
+  status = tcpclkit_read_announced(bytes, length, message, &it);
+  CHECK(tcpclkit_read_announced(bytes, length, message, &again) == status);
+  SAME_ANSWER(status, it, again);
+  if (status != TCPCLKIT_OK) {
+    CHECK(status == TCPCLKIT_RANGE && !(is_judged && message->kind == TCPCLKIT_XFER_SEGMENT));
+    return;
+  }
+  item.next = message->items_offset;
+  while (tcpclkit_read_item(bytes, length, message, item.next, &item) == TCPCLKIT_OK) {
+    lengths += item.item_type == 1;
+    totals += item.has_total;
+    total = item.has_total ? item.total : total;
+  }
+  CHECK(it.kind == (lengths == 0 ? TCPCLKIT_ANNOUNCED_NONE
+                                 : lengths == 1 && totals == 1 ? TCPCLKIT_ANNOUNCED_TOTAL
+                                                               : TCPCLKIT_ANNOUNCED_BADLY));
+  CHECK(it.total == (it.kind == TCPCLKIT_ANNOUNCED_TOTAL ? total : 0));
+  count(27, it.kind, 0, it.total);
 }
 
 /* -- the order of messages */
@@ -505,7 +523,7 @@ static void ask_take(struct tcpclkit_order order, const struct tcpclkit_message 
   struct tcpclkit_order before = order;
   struct tcpclkit_turn it;
   memset(&it, 0x33, sizeof it);
-  CHECK(tcpclkit_take_message(&order, message->kind, message->flags, message->id, &it) == judged);
+  CHECK(tcpclkit_take_message(&order, message, &it) == judged);
   if (judged == TCPCLKIT_RANGE) {
     SAME(order, before);
     return;
@@ -528,8 +546,8 @@ static void ask_order(struct tcpclkit_order *order, const struct tcpclkit_messag
   uint32_t status;
   memset(&it, 0x11, sizeof it);
   memset(&other, 0xee, sizeof other);
-  status = tcpclkit_judge_order(order, message->kind, message->flags, message->id, &it);
-  CHECK(tcpclkit_judge_order(&again, message->kind, message->flags, message->id, &other) == status);
+  status = tcpclkit_judge_message(order, message, &it);
+  CHECK(tcpclkit_judge_message(&again, message, &other) == status);
   SAME(*order, again);
   SAME_ANSWER(status, it, other);
   if (status == TCPCLKIT_OK)
@@ -557,7 +575,8 @@ static void ask_recording(const uint8_t *bytes, size_t length, uint64_t offset, 
       it.flags &= 255;
     ask_order(&order, &it);
     if (it.kind == TCPCLKIT_SESS_INIT || (it.kind == TCPCLKIT_XFER_SEGMENT && it.flags & 2))
-      ask_items(bytes, length, it.items_offset, it.items_offset + it.items_length, 1);
+      ask_items(bytes, length, &it, it.items_offset, 1);
+    ask_announced(bytes, length, &it, 1);
     if (status != TCPCLKIT_OK)
       return;
     offset = it.next;
@@ -660,11 +679,20 @@ static void ask_numbers(const uint8_t *bytes, size_t length, const uint64_t *num
                              name + (numbers[5] % 7 == 0)};
   struct tcpclkit_order order = {numbers[0] % 3, numbers[1] % 3, numbers[2] % 3, numbers[3]};
   struct tcpclkit_message message = {.kind = numbers[4] % 10, .flags = numbers[5] % 300,
-                                     .id = numbers[3]};
+                                     .id = numbers[3],
+                                     .items_offset = numbers[2] % (length + 3),
+                                     .items_length = numbers[3] % (length + 3)};
+  struct tcpclkit_block primary = {.kind = 1 + (numbers[4] % 99 == 0), .flags = numbers[0] & 7};
+  struct tcpclkit_block block = {.kind = 2 - (numbers[4] % 99 == 1),
+                                 .block_type = numbers[1] & 15,
+                                 .data_offset = numbers[2] >> numbers[5] % 64,
+                                 .data_length = name + (numbers[5] % 7 == 0)};
+  ask_words(&primary, &block, bytes, name, numbers[5] & 8191);
   ask_texts_of_eid(&eid, bytes, name, numbers[5] & 8191);
   ask_texts_of_fault(numbers[0] % 130, numbers[1] >> numbers[2] % 64, numbers[5] & 127);
   ask_order(&order, &message);
-  ask_items(bytes, length, numbers[2] % (length + 3), numbers[3] % (length + 3), 0);
+  ask_items(bytes, length, &message, numbers[1] % (length + 3), 0);
+  ask_announced(bytes, length, &message, 0);
   ask_message(bytes, length, numbers[4], &message);
 }
 
@@ -677,7 +705,8 @@ int LLVMFuzzerInitialize(int *count_of_arguments, char ***arguments) {
 }
 
 int LLVMFuzzerTestOneInput(const uint8_t *data, size_t size) {
-  static const struct tcpclkit_order begun = {1, 0, 0, 0}, none = {0, 0, 0, 0};
+  static const struct tcpclkit_order begun = {1, 0, 0, 0};
+  struct tcpclkit_order none;
   uint64_t numbers[6] = {0};
   size_t length = least(size, MOST), cut;
   uint8_t *bytes = lend(INPUT, length, 0);
@@ -690,6 +719,8 @@ int LLVMFuzzerTestOneInput(const uint8_t *data, size_t size) {
   ask_scan(bytes, length, 1 + numbers[1] % 64, 0xee);
   ask_blocks(bytes, length, 1 + numbers[1] % 64);
   ask_contact(bytes, length, cut);
+  memset(&none, 0x11, sizeof none);
+  CHECK(tcpclkit_start_order(&none) == TCPCLKIT_OK);
   ask_recording(bytes, length, TCPCLKIT_CONTACT_LENGTH, cut, none);
   ask_recording(bytes, length, 0, cut, begun);
   ask_numbers(bytes, length, numbers);

@@ -152,8 +152,29 @@ static void fields_of_bad_bundles(void) {
         TCPCLKIT_FAULT);
   CHECK(info.verdict.fault.code == TCPCLKIT_BUNDLE_CHECK_DIFFERS && goes(&info, 10, 0));
   CHECK(info.sequence == 9 && info.fragment_offset == 70000 && info.fragment_total == 140000);
-  CHECK(info.source.name_length == 3 && begins(from, "//") && info.destination.node == 2);
+  CHECK(info.source.name_length == 2 && begins(from, "//") && info.destination.node == 2);
   CHECK(info.report_to.kind == TCPCLKIT_EID_DTN_NONE);
+}
+
+/* Checks the verdict at the end of a transfer of each length. The scan has taken the first `at` of
+ * these bytes. */
+static void ends(const struct tcpclkit_scan *scan, const uint8_t *bytes, size_t length, size_t at,
+                 uint32_t status) {
+  struct tcpclkit_verdict verdict, whole;
+  size_t all;
+  for (all = 0; all <= length; all++) {
+    memset(&verdict, MARK, sizeof verdict);
+    if (all < at || (all > at && status == TCPCLKIT_GOING_ON)) {
+      LEAVES(tcpclkit_end_scan(scan, all, &verdict), TCPCLKIT_RANGE, verdict);
+    } else {
+      CHECK(tcpclkit_end_scan(scan, all, &verdict) == tcpclkit_judge_bundle(bytes, all, &whole));
+      CHECK(memcmp(&verdict, &whole, sizeof verdict) == 0);
+    }
+  }
+  if (status == TCPCLKIT_OK) {
+    CHECK(tcpclkit_end_scan(scan, UINT64_MAX, &verdict) == TCPCLKIT_FAULT);
+    CHECK(verdict.fault.code == TCPCLKIT_BUNDLE_TRAILING && verdict.fault.offset == at);
+  }
 }
 
 /* Feeds the bytes in pieces of this size, and checks what `verdict` and `info` then say of them. */
@@ -182,9 +203,13 @@ static void scanned(struct tcpclkit_scan *scan, const uint8_t *bytes, size_t len
   CHECK(memcmp(&info, &whole_info, sizeof info) == 0);
   CHECK(memcmp(to[0], to[1], 8) == 0 && memcmp(from[0], from[1], 8) == 0);
   CHECK(memcmp(reports[0], reports[1], 8) == 0);
-  /* After the end and after a fault nothing is taken. */
-  if (status != TCPCLKIT_TRUNCATED) {
-    CHECK(tcpclkit_feed_scan(scan, bytes, length, &taken) == status && taken == 0);
+  ends(scan, bytes, length, at, status);
+  /* After the end and after a fault a piece is refused, unless it is empty. */
+  if (status != TCPCLKIT_GOING_ON) {
+    taken = 7;
+    CHECK(tcpclkit_feed_scan(scan, bytes, length, &taken) == TCPCLKIT_SCAN_ENDED && taken == 0);
+    taken = 7;
+    CHECK(tcpclkit_feed_scan(scan, bytes, 0, &taken) == status && taken == 0);
     CHECK(tcpclkit_judge_scan(scan, &verdict) == status);
     CHECK(memcmp(&verdict, &whole, sizeof verdict) == 0);
   }
@@ -246,6 +271,8 @@ static void scans(void) {
   CHECK(tcpclkit_feed_scan(&scan, NULL, 1, &taken) == TCPCLKIT_NULL);
   CHECK(tcpclkit_feed_scan(&scan, bundle, 1, NULL) == TCPCLKIT_NULL);
   CHECK(tcpclkit_feed_scan(&scan, bundle, SIZE_MAX, &taken) == TCPCLKIT_RANGE);
+  CHECK(tcpclkit_end_scan(NULL, 1, &verdict) == TCPCLKIT_NULL);
+  CHECK(tcpclkit_end_scan(&scan, 1, NULL) == TCPCLKIT_NULL);
   CHECK(tcpclkit_judge_scan(NULL, &verdict) == TCPCLKIT_NULL);
   CHECK(tcpclkit_judge_scan(&scan, NULL) == TCPCLKIT_NULL);
   CHECK(tcpclkit_describe_scan(NULL, NULL, 0, NULL, 0, NULL, 0, &info) == TCPCLKIT_NULL);
@@ -257,21 +284,29 @@ static void scans(void) {
 }
 
 /* The blocks of some bundles, in the order of the fields of struct tcpclkit_block. */
-static const struct tcpclkit_block bundle_blocks[] = {{1, 1, 21, 0, 0, 0, 0, 0, 0},
-                                                      {2, 22, 11, 1, 1, 0, 0, 28, 5}};
-static const struct tcpclkit_block checked_blocks[] = {{1, 1, 37, 0, 0, 1, 2, 0, 0},
-                                                       {2, 38, 12, 1, 1, 0, 0, 44, 6}};
-static const struct tcpclkit_block several_blocks[] = {{1, 1, 21, 0, 0, 4, 0, 0, 0},
-                                                       {2, 22, 10, 7, 2, 16, 1, 28, 1},
-                                                       {2, 32, 9, 10, 3, 0, 0, 38, 3},
-                                                       {2, 41, 13, 1, 1, 1, 2, 47, 2}};
+static const struct tcpclkit_block bundle_blocks[] = {{1, 1, 21, 0, 0, 0, 0, 0, 0, 0},
+                                                      {2, 22, 11, 1, 1, 0, 0, 28, 5, 5}};
+static const struct tcpclkit_block checked_blocks[] = {{1, 1, 37, 0, 0, 1, 2, 0, 0, 0},
+                                                       {2, 38, 12, 1, 1, 0, 0, 44, 6, 6}};
+static const struct tcpclkit_block several_blocks[] = {{1, 1, 21, 0, 0, 4, 0, 0, 0, 0},
+                                                       {2, 22, 10, 7, 2, 16, 1, 28, 1, 1},
+                                                       {2, 32, 9, 10, 3, 0, 0, 38, 3, 3},
+                                                       {2, 41, 13, 1, 1, 1, 2, 47, 2, 2}};
+
+/* The call refuses, and gives no block. */
+#define CLEARS(call, status)                                                            \
+  do {                                                                                  \
+    memset(&block, MARK, sizeof block);                                                 \
+    CHECK((call) == (status));                                                          \
+    CHECK(block.kind == 0 && block.data_offset == 0 && block.data_seen == 0);           \
+  } while (0)
 
 /* Takes the bytes block by block, in pieces of this size, from a scan that was fed the first ones.
  * Checks that the blocks that end in the others are these, and returns the last status. */
 static uint32_t next_blocks(struct tcpclkit_scan *scan, const uint8_t *bytes, size_t length,
                             size_t at, size_t size, const struct tcpclkit_block *blocks,
                             size_t rows) {
-  static const struct tcpclkit_block none = {0, 0, 0, 0, 0, 0, 0, 0, 0};
+  static const struct tcpclkit_block none = {0, 0, 0, 0, 0, 0, 0, 0, 0, 0};
   struct tcpclkit_block block;
   struct tcpclkit_verdict verdict, whole;
   uint64_t taken;
@@ -299,8 +334,11 @@ static uint32_t next_blocks(struct tcpclkit_scan *scan, const uint8_t *bytes, si
   CHECK(memcmp(&verdict, &whole, sizeof verdict) == 0);
   /* After the end and after a fault nothing is taken, and no block is given again. */
   if (status != TCPCLKIT_TRUNCATED) {
-    CHECK(tcpclkit_next_block(scan, bytes, length, &taken, &block) == status && taken == 0);
-    CHECK(memcmp(&block, &none, sizeof block) == 0);
+    memset(&block, MARK, sizeof block);
+    taken = 7;
+    CHECK(tcpclkit_next_block(scan, bytes, length, &taken, &block) == TCPCLKIT_SCAN_ENDED);
+    CHECK(taken == 0 && memcmp(&block, &none, sizeof block) == 0);
+    CHECK(tcpclkit_next_block(scan, bytes, 0, &taken, &block) == status && block.kind == 0);
   }
   return status;
 }
@@ -313,6 +351,31 @@ static uint32_t blocks_after(size_t fed, const uint8_t *bytes, size_t length, si
   CHECK(tcpclkit_start_scan(&scan) == TCPCLKIT_OK);
   CHECK(tcpclkit_feed_scan(&scan, bytes, fed, &taken) == TCPCLKIT_TRUNCATED && taken == fed);
   return next_blocks(&scan, bytes, length, fed, size, blocks, rows);
+}
+
+/* The head of a block is there as soon as it was taken, and until the block ends. */
+static void blocks_that_go_on(const uint8_t *bytes, size_t length,
+                              const struct tcpclkit_block *blocks, size_t rows) {
+  static const struct tcpclkit_block none = {0, 0, 0, 0, 0, 0, 0, 0, 0, 0};
+  struct tcpclkit_block block, wanted;
+  struct tcpclkit_scan scan;
+  uint64_t taken;
+  size_t at, row;
+  for (at = 0; at <= length; at++) {
+    CHECK(tcpclkit_start_scan(&scan) == TCPCLKIT_OK);
+    tcpclkit_feed_scan(&scan, bytes, at, &taken);
+    wanted = none;
+    for (row = 1; row < rows; row++)
+      if (blocks[row].data_offset <= at && at < blocks[row].offset + blocks[row].length) {
+        wanted = blocks[row];
+        wanted.length = 0;
+        if (at - wanted.data_offset < wanted.data_length)
+          wanted.data_seen = at - wanted.data_offset;
+      }
+    memset(&block, MARK, sizeof block);
+    CHECK(tcpclkit_judge_block(&scan, &block) == (wanted.kind ? TCPCLKIT_OK : TCPCLKIT_END));
+    CHECK(memcmp(&block, &wanted, sizeof block) == 0);
+  }
 }
 
 static void blocks_one_by_one(void) {
@@ -334,6 +397,9 @@ static void blocks_one_by_one(void) {
       CHECK(blocks_after(0, several, at, size, several_blocks, whole) == TCPCLKIT_TRUNCATED);
     }
   }
+  blocks_that_go_on(bundle, sizeof bundle, bundle_blocks, 2);
+  blocks_that_go_on(checked, sizeof checked, checked_blocks, 2);
+  blocks_that_go_on(several, sizeof several, several_blocks, 4);
   /* a check value that differs, in the block before the last one */
   memcpy(bad, several, sizeof bad);
   bad[30] ^= 1;
@@ -353,207 +419,14 @@ static void blocks_one_by_one(void) {
   CHECK(tcpclkit_next_block(&scan, NULL, 0, &taken, &block) == TCPCLKIT_TRUNCATED);
   CHECK(taken == 0 && block.kind == 0);
   /* what a caller may get wrong */
-  memset(&block, MARK, sizeof block);
-  LEAVES(tcpclkit_next_block(NULL, bundle, 1, &taken, &block), TCPCLKIT_NULL, block);
-  LEAVES(tcpclkit_next_block(&scan, NULL, 1, &taken, &block), TCPCLKIT_NULL, block);
-  LEAVES(tcpclkit_next_block(&scan, bundle, 1, NULL, &block), TCPCLKIT_NULL, block);
-  LEAVES(tcpclkit_next_block(&scan, bundle, SIZE_MAX, &taken, &block), TCPCLKIT_RANGE, block);
-  CHECK(tcpclkit_next_block(&scan, bundle, 1, &taken, NULL) == TCPCLKIT_NULL);
-}
-
-static void messages(void) {
-  struct tcpclkit_contact contact;
-  struct tcpclkit_message message;
-  uint8_t other[sizeof recording];
-  CHECK(tcpclkit_read_contact(recording, sizeof recording, &contact) == TCPCLKIT_OK);
-  CHECK(contact.flags == 0);
-  CHECK(tcpclkit_read_contact(recording, TCPCLKIT_CONTACT_LENGTH, &contact) == TCPCLKIT_OK);
-  CHECK(tcpclkit_read_contact(recording, 5, &contact) == TCPCLKIT_TRUNCATED);
-  CHECK(contact.fault.code == TCPCLKIT_WIRE_TRUNCATED && contact.fault.offset == 0);
-  CHECK(tcpclkit_read_contact(NULL, 0, &contact) == TCPCLKIT_TRUNCATED);
-  memcpy(other, recording, sizeof recording);
-  other[4] = 3;
-  CHECK(tcpclkit_read_contact(other, sizeof other, &contact) == TCPCLKIT_FAULT);
-  CHECK(contact.fault.code == TCPCLKIT_WIRE_BAD_VERSION && contact.fault.number == 3);
-  CHECK(tcpclkit_read_message(recording, sizeof recording, TCPCLKIT_CONTACT_LENGTH, &message) ==
-        TCPCLKIT_OK);
-  CHECK(message.kind == TCPCLKIT_SESS_INIT && message.keepalive == 60);
-  CHECK(message.segment_mru == 65536 && message.transfer_mru == 1048576);
-  CHECK(message.node_length == 7 && begins(recording + message.node_offset, "ipn:1.0"));
-  CHECK(message.items_length == 0 && message.data_length == 0 && message.next == 38);
-  CHECK(tcpclkit_read_message(recording, sizeof recording, 38, &message) == TCPCLKIT_OK);
-  CHECK(message.kind == TCPCLKIT_XFER_SEGMENT && message.id == 0);
-  CHECK(message.flags == (TCPCLKIT_SEGMENT_START | TCPCLKIT_SEGMENT_END));
-  CHECK(message.data_offset == 60 && message.data_length == 34 && message.next == 94);
-  CHECK(message.data_seen == 34 && message.fault.code == TCPCLKIT_NO_FAULT);
-  CHECK(tcpclkit_read_message(recording, sizeof recording, 94, &message) == TCPCLKIT_END);
-  CHECK(tcpclkit_read_message(recording, sizeof recording, 95, &message) == TCPCLKIT_RANGE);
-  CHECK(tcpclkit_read_message(recording, sizeof recording, UINT64_MAX, &message) == TCPCLKIT_RANGE);
-  CHECK(tcpclkit_read_message(recording, 93, 38, &message) == TCPCLKIT_DATA_TRUNCATED);
-  CHECK(message.data_offset == 60 && message.data_length == 34 && message.data_seen == 33);
-  CHECK(message.next == 0);
-  CHECK(message.fault.code == TCPCLKIT_WIRE_TRUNCATED && message.fault.number == 0);
-  CHECK(message.fault.offset == 38);
-  CHECK(tcpclkit_read_message(recording, 59, 38, &message) == TCPCLKIT_TRUNCATED);
-  CHECK(message.fault.code == TCPCLKIT_WIRE_TRUNCATED && message.fault.offset == 38);
-  CHECK(tcpclkit_read_message(recording, sizeof recording, 0, &message) == TCPCLKIT_FAULT);
-  CHECK(message.fault.code == TCPCLKIT_WIRE_UNKNOWN_TYPE && message.fault.number == 0x64);
-  CHECK(tcpclkit_read_message(NULL, 0, 0, &message) == TCPCLKIT_END);
-  CHECK(tcpclkit_read_message(NULL, 1, 0, &message) == TCPCLKIT_NULL);
-}
-
-static void items(void) {
-  static const uint8_t other[] = {1, 0, 2, 0, 3, 'a', 'b', 'c'};
-  struct tcpclkit_message message;
-  struct tcpclkit_item item;
-  uint64_t end;
-  CHECK(tcpclkit_read_message(announcing, sizeof announcing, 0, &message) ==
-        TCPCLKIT_DATA_TRUNCATED);
-  CHECK(message.items_offset == 14 && message.items_length == 13 && message.data_length == 3);
-  CHECK(message.flags == TCPCLKIT_SEGMENT_START);
-  end = message.items_offset + message.items_length;
-  CHECK(tcpclkit_read_item(announcing, sizeof announcing, message.items_offset, end, &item) ==
-        TCPCLKIT_OK);
-  CHECK(item.flags == 1 && item.item_type == 1 && item.value_offset == 19 &&
-        item.value_length == 8);
-  CHECK(item.has_total == 1 && item.total == 256 && item.next == end);
-  CHECK(tcpclkit_read_item(announcing, sizeof announcing, end, end, &item) == TCPCLKIT_END);
-  CHECK(tcpclkit_read_item(other, sizeof other, 0, sizeof other, &item) == TCPCLKIT_OK);
-  CHECK(item.flags == 1 && item.item_type == 2 && item.value_length == 3 && item.has_total == 0);
-  CHECK(tcpclkit_read_item(announcing, sizeof announcing, 14, 26, &item) == TCPCLKIT_FAULT);
-  CHECK(item.fault.code == TCPCLKIT_WIRE_ITEMS_OVERRUN && item.fault.offset == 14);
-  CHECK(tcpclkit_read_item(announcing, sizeof announcing, 15, 14, &item) == TCPCLKIT_RANGE);
-  CHECK(tcpclkit_read_item(announcing, sizeof announcing, 14, 36, &item) == TCPCLKIT_RANGE);
-  CHECK(tcpclkit_read_item(NULL, 0, 0, 0, &item) == TCPCLKIT_END);
-}
-
-/* A message of each kind that `messages` does not have, and a further segment of a transfer. */
-static void kinds(void) {
-  static const uint8_t ack[] = {2, 3, 0, 0, 0, 0, 0, 0, 0, 4, 0, 0, 0, 0, 0, 0, 0, 5};
-  static const uint8_t refuse[] = {3, 4, 0, 0, 0, 0, 0, 0, 0, 5}, keepalive[] = {4};
-  static const uint8_t term[] = {5, 1, 4}, reject[] = {6, 2, 0x16};
-  static const uint8_t more[] = {1, 1, 0, 0, 0, 0, 0, 0, 0, 9, 0, 0, 0, 0, 0, 0, 0, 0};
-  struct tcpclkit_message it;
-  CHECK(tcpclkit_read_message(ack, sizeof ack, 0, &it) == TCPCLKIT_OK &&
-        it.kind == TCPCLKIT_XFER_ACK);
-  CHECK(it.flags == 3 && it.id == 4 && it.acknowledged == 5 && it.next == sizeof ack);
-  CHECK(tcpclkit_read_message(refuse, sizeof refuse, 0, &it) == TCPCLKIT_OK);
-  CHECK(it.kind == TCPCLKIT_XFER_REFUSE && it.reason == 4 && it.id == 5);
-  CHECK(tcpclkit_read_message(keepalive, 1, 0, &it) == TCPCLKIT_OK &&
-        it.kind == TCPCLKIT_KEEPALIVE);
-  CHECK(it.data_offset == 1 && it.data_length == 0 && it.next == 1);
-  CHECK(tcpclkit_read_message(term, sizeof term, 0, &it) == TCPCLKIT_OK);
-  CHECK(it.kind == TCPCLKIT_SESS_TERM && it.flags == 1 && it.reason == 4);
-  CHECK(tcpclkit_read_message(reject, sizeof reject, 0, &it) == TCPCLKIT_OK);
-  CHECK(it.kind == TCPCLKIT_MSG_REJECT && it.reason == 2 && it.header == 0x16);
-  CHECK(tcpclkit_read_message(more, sizeof more, 0, &it) == TCPCLKIT_OK && it.id == 9);
-  CHECK(it.flags == TCPCLKIT_SEGMENT_END && it.items_length == 0 && it.next == sizeof more);
-}
-
-/* A node ID without bytes, and lists without items, are where the caller may ask for them. */
-static void empty_parts(void) {
-  static const uint8_t init[] = {0x07, 0, 60, 0, 0, 0, 0, 0, 0, 0, 9, 0, 0, 0, 0, 0,
-                                 0,    0, 9,  0, 0, 0, 0, 0, 0};
-  static const uint8_t start[] = {0x01, 0x02, 0, 0, 0, 0, 0, 0, 0, 5, 0, 0, 0, 0,
-                                  0,    0,    0, 0, 0, 0, 0, 0};
-  struct tcpclkit_message message;
-  struct tcpclkit_item item;
-  CHECK(tcpclkit_read_message(init, sizeof init, 0, &message) == TCPCLKIT_OK);
-  CHECK(message.node_offset == 21 && message.node_length == 0);
-  CHECK(message.items_offset == 25 && message.items_length == 0 && message.next == 25);
-  CHECK(tcpclkit_read_item(init, sizeof init, message.items_offset, message.items_offset, &item) ==
-        TCPCLKIT_END);
-  CHECK(tcpclkit_read_message(start, sizeof start, 0, &message) == TCPCLKIT_OK);
-  CHECK(message.items_offset == 14 && message.items_length == 0 && message.next == 22);
-  CHECK(tcpclkit_read_item(start, sizeof start, message.items_offset, message.items_offset,
-                           &item) == TCPCLKIT_END);
-}
-
-/* The longest head: a SESS_INIT with the longest node ID and the longest list of items. */
-static void longest_head(void) {
-  static uint8_t head[TCPCLKIT_HEAD_LIMIT];
-  struct tcpclkit_message message;
-  head[0] = TCPCLKIT_SESS_INIT;
-  head[19] = TCPCLKIT_NODE_ID_LIMIT >> 8;
-  head[1046] = 65536 >> 16; /* the length of the list, in 32 bits */
-  head[1052] = 65531 >> 8;  /* the length of its one item, in 16 bits */
-  head[1053] = 65531 & 255;
-  CHECK(tcpclkit_read_message(head, sizeof head, 0, &message) == TCPCLKIT_OK);
-  CHECK(message.node_length == TCPCLKIT_NODE_ID_LIMIT && message.items_length == 65536);
-  CHECK(message.next == TCPCLKIT_HEAD_LIMIT);
-  CHECK(tcpclkit_read_message(head, sizeof head - 1, 0, &message) == TCPCLKIT_TRUNCATED);
-}
-
-static void orders(void) {
-  struct tcpclkit_order order = {0, 0, 0, 0};
-  struct tcpclkit_turn turn;
-  CHECK(tcpclkit_judge_order(&order, TCPCLKIT_XFER_SEGMENT, 3, 1, &turn) == TCPCLKIT_FAULT);
-  CHECK(turn.fault == TCPCLKIT_ORDER_SEGMENT_BEFORE_SESS_INIT);
-  CHECK(tcpclkit_judge_order(&order, TCPCLKIT_SESS_INIT, 0, 0, &turn) == TCPCLKIT_OK);
-  CHECK(turn.turn == TCPCLKIT_TURN_OTHER && order.initiated == 1);
-  CHECK(tcpclkit_judge_order(&order, TCPCLKIT_SESS_INIT, 0, 0, &turn) == TCPCLKIT_FAULT);
-  CHECK(turn.fault == TCPCLKIT_ORDER_SECOND_SESS_INIT);
-  CHECK(tcpclkit_judge_order(&order, TCPCLKIT_XFER_SEGMENT, 2, 7, &turn) == TCPCLKIT_OK);
-  CHECK(turn.turn == TCPCLKIT_TURN_BEGIN && turn.last == 0 && turn.abandons == 0);
-  CHECK(order.is_open == 1 && order.transfer == 7);
-  CHECK(tcpclkit_judge_order(&order, TCPCLKIT_XFER_SEGMENT, 2, 7, &turn) == TCPCLKIT_FAULT);
-  CHECK(turn.fault == TCPCLKIT_ORDER_START_REPEATS_OPEN_ID);
-  CHECK(tcpclkit_judge_order(&order, TCPCLKIT_XFER_SEGMENT, 0, 7, &turn) == TCPCLKIT_OK);
-  CHECK(turn.turn == TCPCLKIT_TURN_CONTINUE && turn.last == 0);
-  CHECK(tcpclkit_judge_order(&order, TCPCLKIT_XFER_SEGMENT, 0, 8, &turn) == TCPCLKIT_FAULT);
-  CHECK(turn.fault == TCPCLKIT_ORDER_NO_SUCH_OPEN_TRANSFER && order.transfer == 7);
-  CHECK(tcpclkit_judge_order(&order, TCPCLKIT_XFER_SEGMENT, 3, 8, &turn) == TCPCLKIT_OK);
-  CHECK(turn.abandons == 1 && turn.abandoned == 7 && turn.last == 1 && order.is_open == 0);
-  CHECK(tcpclkit_judge_order(&order, TCPCLKIT_XFER_SEGMENT, 3, 9, &turn) == TCPCLKIT_OK);
-  CHECK(turn.turn == TCPCLKIT_TURN_BEGIN && turn.last == 1 && turn.abandons == 0);
-  CHECK(tcpclkit_judge_order(&order, TCPCLKIT_SESS_TERM, 0, 0, &turn) == TCPCLKIT_OK);
-  CHECK(tcpclkit_judge_order(&order, TCPCLKIT_XFER_SEGMENT, 2, 9, &turn) == TCPCLKIT_FAULT);
-  CHECK(turn.fault == TCPCLKIT_ORDER_START_AFTER_SESS_TERM);
-  CHECK(tcpclkit_judge_order(&order, 0, 0, 0, &turn) == TCPCLKIT_RANGE);
-  CHECK(tcpclkit_judge_order(&order, 8, 0, 0, &turn) == TCPCLKIT_RANGE);
-  CHECK(tcpclkit_judge_order(&order, TCPCLKIT_KEEPALIVE, 256, 0, &turn) == TCPCLKIT_RANGE);
-  order.initiated = 2;
-  CHECK(tcpclkit_judge_order(&order, TCPCLKIT_KEEPALIVE, 0, 0, &turn) == TCPCLKIT_RANGE);
-  CHECK(tcpclkit_judge_order(NULL, TCPCLKIT_KEEPALIVE, 0, 0, &turn) == TCPCLKIT_NULL);
-}
-
-/* A session that goes on after each fault of its order. */
-static void takes(void) {
-  static const struct {
-    uint64_t kind, flags, id;
-    struct tcpclkit_turn turn;
-    int is_open;
-  } steps[] = {
-      {TCPCLKIT_XFER_SEGMENT, 0, 1, {TCPCLKIT_ORDER_SEGMENT_BEFORE_SESS_INIT, 3, 0, 0, 0}, 0},
-      {TCPCLKIT_XFER_SEGMENT, 2, 1, {TCPCLKIT_ORDER_SEGMENT_BEFORE_SESS_INIT, 1, 0, 0, 0}, 1},
-      {TCPCLKIT_SESS_INIT, 0, 0, {TCPCLKIT_NO_FAULT, 0, 0, 0, 0}, 1},
-      {TCPCLKIT_SESS_INIT, 0, 0, {TCPCLKIT_ORDER_SECOND_SESS_INIT, 0, 0, 0, 0}, 1},
-      {TCPCLKIT_XFER_SEGMENT, 2, 1, {TCPCLKIT_ORDER_START_REPEATS_OPEN_ID, 1, 0, 1, 1}, 1},
-      {TCPCLKIT_XFER_SEGMENT, 0, 2, {TCPCLKIT_ORDER_NO_SUCH_OPEN_TRANSFER, 3, 0, 0, 0}, 1},
-      {TCPCLKIT_XFER_SEGMENT, 0, 1, {TCPCLKIT_NO_FAULT, 2, 0, 0, 0}, 1},
-      {TCPCLKIT_SESS_TERM, 0, 0, {TCPCLKIT_NO_FAULT, 0, 0, 0, 0}, 1},
-      {TCPCLKIT_XFER_SEGMENT, 3, 5, {TCPCLKIT_ORDER_START_AFTER_SESS_TERM, 1, 1, 1, 1}, 0},
-      {TCPCLKIT_KEEPALIVE, 0, 0, {TCPCLKIT_NO_FAULT, 0, 0, 0, 0}, 0},
-  };
-  struct tcpclkit_order order = {0, 0, 0, 0}, before;
-  struct tcpclkit_turn turn;
-  size_t at;
-  for (at = 0; at < sizeof steps / sizeof *steps; at++) {
-    uint32_t status = steps[at].turn.fault == 0 ? TCPCLKIT_OK : TCPCLKIT_FAULT;
-    memset(&turn, MARK, sizeof turn);
-    CHECK(tcpclkit_take_message(&order, steps[at].kind, steps[at].flags, steps[at].id, &turn) ==
-          status);
-    CHECK(memcmp(&turn, &steps[at].turn, sizeof turn) == 0);
-    CHECK((int)order.is_open == steps[at].is_open);
-  }
-  before = order;
-  memset(&turn, MARK, sizeof turn);
-  LEAVES(tcpclkit_take_message(&order, 0, 0, 0, &turn), TCPCLKIT_RANGE, turn);
-  LEAVES(tcpclkit_take_message(&order, 8, 0, 0, &turn), TCPCLKIT_RANGE, turn);
-  LEAVES(tcpclkit_take_message(&order, TCPCLKIT_KEEPALIVE, 256, 0, &turn), TCPCLKIT_RANGE, turn);
-  CHECK(memcmp(&order, &before, sizeof order) == 0);
-  CHECK(tcpclkit_take_message(&order, TCPCLKIT_KEEPALIVE, 0, 0, NULL) == TCPCLKIT_NULL);
-  CHECK(tcpclkit_take_message(NULL, TCPCLKIT_KEEPALIVE, 0, 0, &turn) == TCPCLKIT_NULL);
+  CLEARS(tcpclkit_next_block(NULL, bundle, 1, &taken, &block), TCPCLKIT_NULL);
+  CLEARS(tcpclkit_next_block(&scan, NULL, 1, &taken, &block), TCPCLKIT_NULL);
+  CLEARS(tcpclkit_next_block(&scan, bundle, SIZE_MAX, &taken, &block), TCPCLKIT_RANGE);
+  CLEARS(tcpclkit_judge_block(NULL, &block), TCPCLKIT_NULL);
+  CLEARS(tcpclkit_next_block(&scan, bundle, 1, NULL, &block), TCPCLKIT_NULL);
+  taken = 7;
+  CHECK(tcpclkit_next_block(&scan, bundle, 1, &taken, NULL) == TCPCLKIT_NULL && taken == 0);
+  CHECK(tcpclkit_judge_block(&scan, NULL) == TCPCLKIT_NULL);
 }
 
 static void texts(void) {
@@ -658,6 +531,171 @@ static void longest_texts(void) {
         TCPCLKIT_TOO_SMALL);
 }
 
+/* Data of each type of blocks that is read, of one that is not, and malformed data. The data begins
+ * at the offset 28. */
+static const struct {
+  uint64_t block_type, bundle_flags, length;
+  uint8_t data[40];
+  const char *words;
+} data_rows[] = {
+    {6, 0, 5, {0x82, 2, 0x82, 2, 1}, "node=ipn:2.1"},
+    {6, 0, 8, {0x82, 1, 0x65, '/', '/', 'a', 'b', '/'}, "node=dtn://ab/"},
+    {6, 0, 3, {0x82, 1, 0}, "node=dtn:none"},
+    {7, 0, 2, {0x18, 100}, "age=100"},
+    {7, 0, 9, {0x1b, 255, 255, 255, 255, 255, 255, 255, 255}, "age=18446744073709551615"},
+    {10, 0, 4, {0x82, 0x18, 30, 2}, "limit=30 count=2"},
+    {11, 0, 9, {0x81, 1, 1, 0, 0x82, 2, 0x82, 3, 0},
+     "targets=1 context=1 context-flags=00 source=ipn:3.0"},
+    {12, 0, 12, {0x83, 1, 2, 3, 0x20, 1, 0x82, 1, 0x63, '/', '/', 'x'},
+     "targets=3 context=-1 context-flags=01 source=dtn://x"},
+    {11, 0, 10, {0x80, 1, 0, 0x82, 2, 0x82, 3, 0, 0xff, 0xff},
+     "targets=0 context=1 context-flags=00 source=ipn:3.0"},
+    {1, 2, 19, {0x82, 1, 0x84, 0x84, 0x81, 0xf5, 0x81, 0xf4, 0x82, 0xf5, 9, 0x81, 0xf4, 1, 0x82, 1,
+                0, 0x82, 5},
+     "malformed-at=47"},
+    {1, 2, 20, {0x82, 1, 0x84, 0x84, 0x81, 0xf5, 0x81, 0xf4, 0x82, 0xf5, 9, 0x81, 0xf4, 1, 0x82, 1,
+                0, 0x82, 5, 6},
+     "record=1/status-report received=yes forwarded=no delivered=9 deleted=no "
+     "reason=1/lifetime-expired of-source=dtn:none of-time=5 of-sequence=6"},
+    {1, 2, 25, {0x82, 1, 0x86, 0x84, 0x81, 0xf5, 0x81, 0xf4, 0x81, 0xf4, 0x81, 0xf4, 0, 0x82, 2,
+                0x82, 1, 1, 0x82, 5, 6, 7, 8},
+     "malformed-at=51"},
+    {1, 2, 23, {0x82, 1, 0x86, 0x84, 0x81, 0xf5, 0x81, 0xf4, 0x81, 0xf4, 0x81, 0xf4, 0, 0x82, 2,
+                0x82, 1, 1, 0x82, 5, 6, 7, 8},
+     "record=1/status-report received=yes forwarded=no delivered=no deleted=no "
+     "reason=0/no-additional-information of-source=ipn:1.1 of-time=5 of-sequence=6 "
+     "of-fragment=7+8"},
+    {1, 6, 2, {0x82, 2}, "record=2/?"},
+    {1, 0, 2, {0x82, 2}, ""},
+    {1, 3, 2, {0x82, 2}, ""},
+    {5, 2, 2, {0x82, 2}, ""},
+    {192, 0, 2, {0x82, 2}, ""},
+    {UINT64_MAX, UINT64_MAX, 0, {0}, ""},
+    {6, 0, 0, {0}, "malformed-at=28"},
+    {7, 0, 2, {5, 5}, "malformed-at=29"},
+    {10, 0, 2, {0x83, 1}, "malformed-at=28"},
+    {11, 0, 1, {0x81}, "malformed-at=29"},
+    {12, 0, 1, {5}, "malformed-at=28"},
+};
+
+/* Every room for the words of each row. */
+static void words_of_data(void) {
+  uint8_t text[200];
+  uint64_t written;
+  size_t row, room;
+  for (row = 0; row < sizeof data_rows / sizeof *data_rows; row++) {
+    const size_t length = (size_t)data_rows[row].length, size = strlen(data_rows[row].words);
+    const struct tcpclkit_block primary = {
+        TCPCLKIT_BLOCK_PRIMARY, 1, 21, 0, 0, data_rows[row].bundle_flags, 0, 0, 0, 0};
+    const struct tcpclkit_block block = {TCPCLKIT_BLOCK_CANONICAL,
+                                         22,
+                                         6 + length,
+                                         data_rows[row].block_type,
+                                         1,
+                                         0,
+                                         0,
+                                         28,
+                                         length,
+                                         length};
+    for (room = 0; room <= size + 1; room++) {
+      const size_t fits = size < room ? size : room;
+      memset(text, MARK, sizeof text);
+      CHECK(tcpclkit_read_block_data(&primary, &block, data_rows[row].data, length, text, room,
+                                     &written) ==
+            (size <= room ? TCPCLKIT_OK : TCPCLKIT_TOO_SMALL));
+      CHECK(written == fits && memcmp(text, data_rows[row].words, fits) == 0);
+      CHECK(is_marked(text + fits, sizeof text - fits));
+    }
+    CHECK(tcpclkit_read_block_data(&primary, &block, data_rows[row].data, length, NULL, 0,
+                                   &written) == (size == 0 ? TCPCLKIT_OK : TCPCLKIT_TOO_SMALL));
+    CHECK(written == 0);
+  }
+}
+
+/* The longest words: a status report with the longest numbers, name and reason. */
+static void longest_words(void) {
+  static const uint8_t start[] = {0x82, 1, 0x86, 0x84}, source[] = {2, 0x82, 1, 0x79, 4, 0};
+  static const uint8_t number[] = {0x1b, 255, 255, 255, 255, 255, 255, 255, 255};
+  uint8_t data[4 + 4 * 11 + 6 + TCPCLKIT_EID_LIMIT + 1 + 4 * 9], text[4501];
+  const struct tcpclkit_block primary = {1, 1, 21, 0, 0, 2, 0, 0, 0, 0};
+  const struct tcpclkit_block block = {2, 22, 9 + sizeof data, 1, 1, 0, 0, 30, sizeof data,
+                                       sizeof data};
+  uint8_t *at = data;
+  uint64_t written;
+  size_t row;
+  memcpy(at, start, sizeof start);
+  at += sizeof start;
+  for (row = 0; row < 4; row++, at += 11) {
+    at[0] = 0x82;
+    at[1] = 0xf5;
+    memcpy(at + 2, number, 9);
+  }
+  memcpy(at, source, sizeof source);
+  at += sizeof source;
+  memset(at, 0, TCPCLKIT_EID_LIMIT);
+  at += TCPCLKIT_EID_LIMIT;
+  *at++ = 0x82;
+  for (row = 0; row < 4; row++, at += 9)
+    memcpy(at, number, 9);
+  CHECK(at == data + sizeof data);
+  memset(text, MARK, sizeof text);
+  CHECK(tcpclkit_read_block_data(&primary, &block, data, sizeof data, text, 4500, &written) ==
+        TCPCLKIT_OK);
+  CHECK(written == 4414 && is_marked(text + 4414, sizeof text - 4414));
+  CHECK(begins(text, "record=1/status-report received=18446744073709551615 forwarded=18446744"));
+  CHECK(begins(text + 4393, "+18446744073709551615"));
+  CHECK(tcpclkit_read_block_data(&primary, &block, data, sizeof data, text, 4413, &written) ==
+            TCPCLKIT_TOO_SMALL &&
+        written == 4413);
+}
+
+/* What the data of each block says. */
+static void block_data(void) {
+  static const char *const words[] = {"", "age=5", "limit=4 count=1", ""};
+  static const uint8_t bad[] = {0x82, 0x04, 0x81};
+  struct tcpclkit_block other = several_blocks[2];
+  uint8_t text[4500];
+  uint64_t written;
+  size_t row, room;
+  for (row = 1; row < 4; row++) {
+    const struct tcpclkit_block *block = &several_blocks[row];
+    for (room = 0; room < 20; room++) {
+      size_t size = strlen(words[row]), fits = size < room ? size : room;
+      memset(text, MARK, sizeof text);
+      CHECK(tcpclkit_read_block_data(several_blocks, block, several + block->data_offset,
+                                     block->data_length, text, room, &written) ==
+            (size <= room ? TCPCLKIT_OK : TCPCLKIT_TOO_SMALL));
+      CHECK(written == fits && memcmp(text, words[row], fits) == 0);
+      CHECK(is_marked(text + fits, sizeof text - fits));
+    }
+  }
+  CHECK(tcpclkit_read_block_data(several_blocks, &other, bad, 3, text, sizeof text, &written) ==
+        TCPCLKIT_OK);
+  CHECK(written == 15 && begins(text, "malformed-at=40"));
+  /* what a caller may get wrong */
+  memset(text, MARK, sizeof text);
+  written = 7;
+  LEAVES(tcpclkit_read_block_data(&other, several_blocks, bad, 3, text, 9, &written),
+         TCPCLKIT_RANGE, text);
+  LEAVES(tcpclkit_read_block_data(&other, &other, bad, 3, text, 9, &written), TCPCLKIT_RANGE,
+         text);
+  LEAVES(tcpclkit_read_block_data(several_blocks, several_blocks, bad, 0, text, 9, &written),
+         TCPCLKIT_RANGE, text);
+  LEAVES(tcpclkit_read_block_data(several_blocks, &other, bad, 2, text, 9, &written),
+         TCPCLKIT_RANGE, text);
+  LEAVES(tcpclkit_read_block_data(several_blocks, NULL, bad, 3, text, 9, &written), TCPCLKIT_NULL,
+         text);
+  LEAVES(tcpclkit_read_block_data(NULL, &other, bad, 3, text, 9, &written), TCPCLKIT_NULL, text);
+  LEAVES(tcpclkit_read_block_data(several_blocks, &other, text, 3, text, 9, &written),
+         TCPCLKIT_RANGE, text);
+  LEAVES(tcpclkit_read_block_data(several_blocks, &other, bad, 3, text, 9, &other.data_length),
+         TCPCLKIT_RANGE, text);
+  other.data_offset = UINT64_MAX;
+  LEAVES(tcpclkit_read_block_data(several_blocks, &other, bad, 3, text, 9, &written),
+         TCPCLKIT_RANGE, text);
+  CHECK(written == 7);
+}
+
 /* The bytes of a slice after what was written stay as they were. */
 static void rests(void) {
   const struct tcpclkit_eid eid = {TCPCLKIT_EID_IPN, 0, 2, 1, 0};
@@ -706,20 +744,19 @@ int main(int argc, char **argv) {
   fields_of_bad_bundles();
   scans();
   blocks_one_by_one();
-  messages();
-  items();
-  kinds();
-  empty_parts();
-  longest_head();
-  orders();
-  takes();
+  test_recordings();
   texts();
   names_of_codes();
   longest_texts();
+  block_data();
+  words_of_data();
+  longest_words();
   rests();
   rests_of_names();
   test_tools(argc == 1);
   test_mistakes();
+  test_overlaps();
+  test_shown();
   printf("%u passed, %u failed\n", passed, failed);
   return failed > 0;
 }

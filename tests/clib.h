@@ -13,7 +13,10 @@ void count(int holds, const char *file, int line, const char *what);
 
 /* What the other files test. The first measures stacks if it is told to. */
 void test_tools(int measures_stacks);
+void test_recordings(void);
 void test_mistakes(void);
+void test_overlaps(void);
+void test_shown(void);
 
 /* Whether the slice begins with these bytes. */
 static inline int begins(const uint8_t *slice, const char *text) {
@@ -94,6 +97,28 @@ static const uint8_t announcing[] = {0x01, 0x02, 0, 0, 0, 0, 0, 0, 0, 5, 0, 0, 0
 /* tcpclkit_describe_bundle without slices for the names. */
 static inline uint32_t describe(const uint8_t *bytes, size_t length, struct tcpclkit_bundle *info) {
   return tcpclkit_describe_bundle(bytes, length, NULL, 0, NULL, 0, NULL, 0, info);
+}
+
+/* The fields of a message that its order depends on. */
+static inline struct tcpclkit_message message_of(uint64_t kind, uint64_t flags, uint64_t id) {
+  struct tcpclkit_message message;
+  memset(&message, 0, sizeof message);
+  message.kind = kind;
+  message.flags = flags;
+  message.id = id;
+  return message;
+}
+
+static inline uint32_t judge(struct tcpclkit_order *order, uint64_t kind, uint64_t flags,
+                             uint64_t id, struct tcpclkit_turn *turn) {
+  const struct tcpclkit_message message = message_of(kind, flags, id);
+  return tcpclkit_judge_message(order, &message, turn);
+}
+
+static inline uint32_t take(struct tcpclkit_order *order, uint64_t kind, uint64_t flags,
+                            uint64_t id, struct tcpclkit_turn *turn) {
+  const struct tcpclkit_message message = message_of(kind, flags, id);
+  return tcpclkit_take_message(order, &message, turn);
 }
 
 #define LEAVES(call, status, it) \

@@ -33,6 +33,8 @@ void *__wrap_realloc(void *block, size_t size) {
   "transfer 0 start=0 written=34 length=34 good source=ipn:1.1 time=0 sequence=0 "                \
   "destination=ipn:2.1 payload=5\n"
 
+#define NO TCPCLKIT_UNWANTED
+
 static void lists(void) {
   struct tcpclkit_run run;
   uint8_t output[300], report[100];
@@ -53,16 +55,20 @@ static void lists(void) {
         TCPCLKIT_TOO_SMALL);
   CHECK(run.report_length == 29 && begins(report, "tcpclkit: byte 38: truncated"));
   CHECK(tcpclkit_list(recording, 70, output, sizeof output, report, 29, &run) == TCPCLKIT_OK);
-  /* A text without a pointer is not wanted. */
-  CHECK(tcpclkit_list(recording, 70, NULL, 0, NULL, 0, &run) == TCPCLKIT_OK);
+  /* a text that is not wanted, and one that has no room */
+  CHECK(tcpclkit_list(recording, 70, NULL, NO, NULL, NO, &run) == TCPCLKIT_OK);
   CHECK(run.output_length == strlen(LINES) && run.report_length == 29 && run.exit_status == 3);
-  CHECK(tcpclkit_list(recording, 70, output, 0, NULL, 0, &run) == TCPCLKIT_TOO_SMALL);
-  CHECK(tcpclkit_list(recording, 70, NULL, 0, report, 28, &run) == TCPCLKIT_TOO_SMALL);
-  CHECK(tcpclkit_list(recording, 70, NULL, 0, report, 29, &run) == TCPCLKIT_OK);
-  CHECK(tcpclkit_list(recording, 6, output, strlen(CONTACT_LINE), NULL, 0, &run) == TCPCLKIT_OK);
+  CHECK(tcpclkit_list(recording, 70, output, 0, NULL, NO, &run) == TCPCLKIT_TOO_SMALL);
+  CHECK(tcpclkit_list(recording, 70, NULL, 0, NULL, NO, &run) == TCPCLKIT_TOO_SMALL);
+  CHECK(tcpclkit_list(recording, 70, NULL, NO, NULL, 0, &run) == TCPCLKIT_TOO_SMALL);
+  CHECK(tcpclkit_list(recording, 6, output, sizeof output, NULL, 0, &run) == TCPCLKIT_OK);
+  CHECK(tcpclkit_list(recording, 70, NULL, NO, report, 28, &run) == TCPCLKIT_TOO_SMALL);
+  CHECK(tcpclkit_list(recording, 70, NULL, NO, report, 29, &run) == TCPCLKIT_OK);
+  CHECK(tcpclkit_list(recording, 6, output, strlen(CONTACT_LINE), NULL, NO, &run) == TCPCLKIT_OK);
   CHECK(run.output_length == strlen(CONTACT_LINE) && begins(output, CONTACT_LINE));
-  CHECK(tcpclkit_list(recording, 6, output, strlen(CONTACT_LINE) - 1, NULL, 0, &run) ==
+  CHECK(tcpclkit_list(recording, 6, output, strlen(CONTACT_LINE) - 1, NULL, NO, &run) ==
         TCPCLKIT_TOO_SMALL);
+  CHECK(tcpclkit_list(recording, 6, output, NO, NULL, NO, &run) == TCPCLKIT_RANGE);
   CHECK(tcpclkit_list(NULL, 0, output, sizeof output, report, sizeof report, &run) ==
         TCPCLKIT_OK);
   CHECK(run.exit_status == 3 && begins(report, "tcpclkit: byte 0: truncated\n"));
@@ -89,6 +95,9 @@ static void unpacks(void) {
   CHECK(tcpclkit_unpack(recording, sizeof recording, &options, output, sizeof output, report,
                         sizeof report, &run) == TCPCLKIT_OK);
   CHECK(run.output_length == 0);
+  options.only_one = 0;
+  CHECK(tcpclkit_unpack(recording, sizeof recording, &options, output, sizeof output, report,
+                        sizeof report, &run) == TCPCLKIT_RANGE);
   options.only_one = 2;
   CHECK(tcpclkit_unpack(recording, sizeof recording, &options, output, sizeof output, report,
                         sizeof report, &run) == TCPCLKIT_RANGE);
@@ -181,8 +190,14 @@ static void judges_rules(void) {
   CHECK(tcpclkit_check(recording, sizeof recording, &options, output, sizeof output, report,
                        sizeof report, &run) == TCPCLKIT_OK);
   CHECK(run.output_length == strlen(lines) && begins(output, lines));
-  /* A limit that is not set is not judged, whatever its number is. */
+  /* A limit that is not set has to be 0. */
   options.has_peer_segment = 0;
+  CHECK(tcpclkit_check(recording, sizeof recording, &options, output, sizeof output, report,
+                       sizeof report, &run) == TCPCLKIT_RANGE);
+  options.peer_segment = 0;
+  options.peer_transfer = 34;
+  CHECK(tcpclkit_check(recording, sizeof recording, &options, output, sizeof output, report,
+                       sizeof report, &run) == TCPCLKIT_RANGE);
   options.has_peer_transfer = 1;
   options.peer_transfer = 34;
   CHECK(tcpclkit_check(recording, sizeof recording, &options, output, sizeof output, report,
@@ -274,9 +289,9 @@ static void packs(void) {
   options = usual;
   options.announce = 1048577;
   CHECK(pack(&options, 7, output, sizeof output, &run) == TCPCLKIT_RANGE);
-  CHECK(pack(&usual, TCPCLKIT_NODE_ID_LIMIT, NULL, 0, &run) == TCPCLKIT_OK);
+  CHECK(pack(&usual, TCPCLKIT_NODE_ID_LIMIT, NULL, NO, &run) == TCPCLKIT_OK);
   CHECK(run.output_length == sizeof recording - 7 + TCPCLKIT_NODE_ID_LIMIT);
-  CHECK(pack(&usual, TCPCLKIT_NODE_ID_LIMIT + 1, NULL, 0, &run) == TCPCLKIT_RANGE);
+  CHECK(pack(&usual, TCPCLKIT_NODE_ID_LIMIT + 1, NULL, NO, &run) == TCPCLKIT_RANGE);
   CHECK(pack(NULL, 7, output, sizeof output, &run) == TCPCLKIT_NULL);
 }
 
@@ -289,31 +304,93 @@ struct lent {
 
 enum tool { LIST, UNPACK, PACK, BLOCKS, CHECKS, TOOLS };
 
-/* Runs a tool. The input of pack is the bundle. */
-static uint32_t run_tool(int tool, struct lent *it, size_t output_room, size_t report_room) {
+/* What a tool reads: bundles for pack, and else a recording. Less than all of it is a fault. */
+static const uint8_t *input_of(int tool, size_t *length) {
+  *length = tool == PACK ? BUNDLE_LENGTH : sizeof recording;
+  return tool == PACK ? bundle : recording;
+}
+
+/* Runs a tool on the first bytes of its input, without `less` of them. */
+static uint32_t run_into(int tool, size_t less, uint8_t *output, size_t output_room,
+                         uint8_t *report, size_t report_room, struct tcpclkit_run *run) {
   struct tcpclkit_pack_options usual;
   struct tcpclkit_unpack_options all;
   struct tcpclkit_blocks_options blocks;
   struct tcpclkit_check_options check;
+  size_t length;
+  const uint8_t *input = input_of(tool, &length);
   tcpclkit_pack_defaults(&usual);
   tcpclkit_unpack_defaults(&all);
   tcpclkit_blocks_defaults(&blocks);
   tcpclkit_check_defaults(&check);
-  memset(it, MARK, sizeof *it);
+  length -= less;
   if (tool == LIST)
-    return tcpclkit_list(recording, sizeof recording, it->output, output_room, it->report,
-                         report_room, &it->run);
+    return tcpclkit_list(input, length, output, output_room, report, report_room, run);
   if (tool == UNPACK)
-    return tcpclkit_unpack(recording, sizeof recording, &all, it->output, output_room, it->report,
-                           report_room, &it->run);
+    return tcpclkit_unpack(input, length, &all, output, output_room, report, report_room, run);
   if (tool == BLOCKS)
-    return tcpclkit_blocks(recording, sizeof recording, &blocks, it->output, output_room,
-                           it->report, report_room, &it->run);
+    return tcpclkit_blocks(input, length, &blocks, output, output_room, report, report_room, run);
   if (tool == CHECKS)
-    return tcpclkit_check(recording, sizeof recording, &check, it->output, output_room,
-                          it->report, report_room, &it->run);
-  return tcpclkit_pack(bundle, BUNDLE_LENGTH, &usual, (const uint8_t *)"ipn:1.0", 7, it->output,
-                       output_room, it->report, report_room, &it->run);
+    return tcpclkit_check(input, length, &check, output, output_room, report, report_room, run);
+  return tcpclkit_pack(input, length, &usual, (const uint8_t *)"ipn:1.0", 7, output, output_room,
+                       report, report_room, run);
+}
+
+/* The same of the whole input, into slices that were marked. */
+static uint32_t run_tool(int tool, struct lent *it, size_t output_room, size_t report_room) {
+  memset(it, MARK, sizeof *it);
+  return run_into(tool, 0, it->output, output_room, it->report, report_room, &it->run);
+}
+
+/* A text that is not wanted needs no room. A null pointer with a room of 0 is an empty slice, into
+ * which only a text without bytes fits. Any other room of a null pointer is refused, and so is a
+ * room of TCPCLKIT_UNWANTED for a slice. */
+static void no_slices(int tool) {
+  size_t less;
+  for (less = 0; less < 2; less++) { /* a run without a fault, and one with a fault */
+    struct lent whole, it;
+    uint8_t *to = it.output, *report = it.report;
+    const size_t size = sizeof it.output, rest = sizeof it.report;
+    uint32_t output_status, report_status;
+    memset(&whole, MARK, sizeof whole);
+    memset(&it, MARK, sizeof it);
+    CHECK(run_into(tool, less, whole.output, sizeof whole.output, whole.report,
+                   sizeof whole.report, &whole.run) == TCPCLKIT_OK);
+    /* The status of the call says nothing of what the run found. */
+    CHECK(less == 0 ? whole.run.exit_status < 2 : whole.run.exit_status == 3);
+    CHECK(less == 0 || whole.run.report_length > 0);
+    output_status = whole.run.output_length > 0 ? TCPCLKIT_TOO_SMALL : TCPCLKIT_OK;
+    report_status = whole.run.report_length > 0 ? TCPCLKIT_TOO_SMALL : TCPCLKIT_OK;
+#define RUNS(output, output_room, report, report_room, status)                                  \
+  do {                                                                                          \
+    memset(&it, MARK, sizeof it);                                                               \
+    CHECK(run_into(tool, less, output, output_room, report, report_room, &it.run) == (status)); \
+    CHECK(memcmp(&it.run, &whole.run, sizeof it.run) == 0);                                     \
+  } while (0)
+    RUNS(NULL, NO, NULL, NO, TCPCLKIT_OK);
+    RUNS(NULL, 0, NULL, NO, output_status);
+    RUNS(NULL, NO, NULL, 0, report_status);
+    RUNS(to, 0, NULL, NO, output_status);
+    CHECK(IS_MARKED(it.output));
+    RUNS(NULL, NO, report, 0, report_status);
+    CHECK(IS_MARKED(it.report));
+    RUNS(NULL, 0, report, rest, output_status);
+    CHECK(memcmp(it.report, whole.report, sizeof it.report) == 0 && IS_MARKED(it.output));
+    RUNS(to, size, NULL, 0, report_status);
+    CHECK(memcmp(it.output, whole.output, sizeof it.output) == 0 && IS_MARKED(it.report));
+    RUNS(to, size, NULL, NO, TCPCLKIT_OK);
+    CHECK(memcmp(it.output, whole.output, sizeof it.output) == 0 && IS_MARKED(it.report));
+    RUNS(NULL, NO, report, rest, TCPCLKIT_OK);
+    CHECK(memcmp(it.report, whole.report, sizeof it.report) == 0 && IS_MARKED(it.output));
+#undef RUNS
+    memset(&it, MARK, sizeof it);
+    LEAVES(run_into(tool, less, NULL, 1, report, rest, &it.run), TCPCLKIT_NULL, it);
+    LEAVES(run_into(tool, less, to, size, NULL, 1, &it.run), TCPCLKIT_NULL, it);
+    LEAVES(run_into(tool, less, NULL, NO - 1, report, rest, &it.run), TCPCLKIT_RANGE, it);
+    LEAVES(run_into(tool, less, to, NO, report, rest, &it.run), TCPCLKIT_RANGE, it);
+    LEAVES(run_into(tool, less, to, size, report, NO, &it.run), TCPCLKIT_RANGE, it);
+    LEAVES(run_into(tool, less, to, size, report, rest, NULL), TCPCLKIT_NULL, it);
+  }
 }
 
 /* A tool with these rooms: it succeeds exactly if its texts fit, and says how long they are. */
@@ -438,6 +515,55 @@ static void unwritten_runs(void) {
   LEAVES(tcpclkit_list(recording, SIZE_MAX, to, 9, report, 9, &it.run), TCPCLKIT_RANGE, it);
 }
 
+/* The numbers of an option that is off have to be 0, whatever the others are, and a switch is 0 or
+ * 1. Each option of `unpack`, `blocks` and `check` is 0, 1 and 2 in turn, and each pair of two. */
+static int may_be(int tool, const uint64_t *numbers) {
+  if (tool == CHECKS) /* must, has_peer_segment, it, has_peer_transfer, it, bundles */
+    return numbers[0] <= 1 && numbers[1] <= 1 && numbers[3] <= 1 && numbers[5] <= 1 &&
+           (numbers[1] || !numbers[2]) && (numbers[3] || !numbers[4]) &&
+           !(numbers[5] && (numbers[1] || numbers[3]));
+  /* only_one, transfer, payload or keep_going, keep_going or bundles */
+  return numbers[0] <= 1 && numbers[2] <= 1 && numbers[3] <= 1 && (numbers[0] || !numbers[1]) &&
+         !(tool == BLOCKS && numbers[3] && (numbers[0] || numbers[2]));
+}
+
+static uint32_t run_with(int tool, const uint64_t *numbers, struct lent *it) {
+  const struct tcpclkit_unpack_options unpack = {sizeof unpack, numbers[0], numbers[1], numbers[2],
+                                                 numbers[3]};
+  const struct tcpclkit_blocks_options blocks = {sizeof blocks, numbers[0], numbers[1], numbers[2],
+                                                 numbers[3]};
+  const struct tcpclkit_check_options check = {sizeof check, numbers[0], numbers[1], numbers[2],
+                                               numbers[3],   numbers[4], numbers[5]};
+  if (tool == UNPACK)
+    return tcpclkit_unpack(recording, sizeof recording, &unpack, it->output, sizeof it->output,
+                           it->report, sizeof it->report, &it->run);
+  if (tool == BLOCKS)
+    return tcpclkit_blocks(recording, sizeof recording, &blocks, it->output, sizeof it->output,
+                           it->report, sizeof it->report, &it->run);
+  return tcpclkit_check(recording, sizeof recording, &check, it->output, sizeof it->output,
+                        it->report, sizeof it->report, &it->run);
+}
+
+static void switches(void) {
+  static const int tools[] = {UNPACK, BLOCKS, CHECKS};
+  static const uint64_t values[] = {0, 1, 2, UINT64_MAX};
+  size_t at, one, other, pair;
+  for (at = 0; at < 3; at++)
+    for (one = 0; one < 6; one++)
+      for (other = 0; other < 6; other++)
+        for (pair = 0; pair < 16; pair++) {
+          uint64_t numbers[6] = {0, 0, 0, 0, 0, 0};
+          struct lent it;
+          numbers[one] = values[pair % 4];
+          numbers[other] = values[pair / 4];
+          memset(&it, MARK, sizeof it);
+          if (may_be(tools[at], numbers))
+            CHECK(run_with(tools[at], numbers, &it) == TCPCLKIT_OK);
+          else
+            LEAVES(run_with(tools[at], numbers, &it), TCPCLKIT_RANGE, it);
+        }
+}
+
 /* What is called on a stack of its own. Its variables are static, so that they are not on it. */
 static void no_call(void) {}
 
@@ -446,11 +572,18 @@ static void small_calls(void) {
   static struct tcpclkit_contact contact;
   static struct tcpclkit_message message;
   static struct tcpclkit_item item;
+  static struct tcpclkit_announced announced;
   static struct tcpclkit_order order;
   static struct tcpclkit_turn turn;
   static struct tcpclkit_scan scan;
   static struct tcpclkit_block block;
   static const struct tcpclkit_eid eid = {TCPCLKIT_EID_DTN, 0, 0, 0, TCPCLKIT_EID_LIMIT};
+  /* a status report: received, for a reason, about a bundle of dtn:none */
+  static const uint8_t report[] = {0x82, 0x01, 0x84, 0x84, 0x81, 0xf5, 0x81, 0xf4, 0x81, 0xf4,
+                                   0x81, 0xf4, 0x00, 0x82, 0x01, 0x00, 0x82, 0x05, 0x06};
+  static const struct tcpclkit_block primary = {1, 1, 21, 0, 0, 2, 0, 0, 0, 0};
+  static const struct tcpclkit_block reporting = {2,  22, 27, 1, 1, 0, 0, 28, sizeof report,
+                                                  19};
   static uint8_t name[TCPCLKIT_EID_LIMIT], reports[TCPCLKIT_EID_LIMIT], text[4100];
   static uint64_t written;
   tcpclkit_judge_bundle(bundle, sizeof bundle, &info.verdict);
@@ -459,16 +592,22 @@ static void small_calls(void) {
   tcpclkit_read_contact(recording, sizeof recording, &contact);
   tcpclkit_read_message(recording, sizeof recording, 6, &message);
   tcpclkit_read_message(announcing, sizeof announcing, 0, &message);
-  tcpclkit_read_item(announcing, sizeof announcing, 14, 27, &item);
-  tcpclkit_judge_order(&order, TCPCLKIT_SESS_INIT, 0, 0, &turn);
-  tcpclkit_take_message(&order, TCPCLKIT_XFER_SEGMENT, 0, 7, &turn);
+  tcpclkit_read_item(announcing, sizeof announcing, &message, 14, &item);
+  tcpclkit_read_announced(announcing, sizeof announcing, &message, &announced);
+  tcpclkit_start_order(&order);
+  tcpclkit_judge_message(&order, &message, &turn);
+  tcpclkit_take_message(&order, &message, &turn);
   tcpclkit_start_scan(&scan);
   tcpclkit_next_block(&scan, reported, sizeof reported, &written, &block);
   tcpclkit_feed_scan(&scan, reported + written, sizeof reported - (size_t)written, &written);
+  tcpclkit_judge_block(&scan, &block);
   tcpclkit_judge_scan(&scan, &info.verdict);
+  tcpclkit_end_scan(&scan, sizeof reported, &info.verdict);
   tcpclkit_describe_scan(&scan, text, sizeof text, name, sizeof name, reports, sizeof reports,
                          &info);
   tcpclkit_write_fault_text(TCPCLKIT_BUNDLE_CUT, 0, text, sizeof text, &written);
+  tcpclkit_read_block_data(&primary, &reporting, report, sizeof report, text, sizeof text,
+                           &written);
   tcpclkit_write_eid_text(&eid, name, sizeof name, text, sizeof text, &written);
 }
 
@@ -595,9 +734,12 @@ void test_tools(int measures_stacks) {
   judges_rules_of_level_must();
   judges_rules_of_bundles();
   packs();
-  for (tool = 0; tool < TOOLS; tool++)
+  for (tool = 0; tool < TOOLS; tool++) {
     rooms(tool);
+    no_slices(tool);
+  }
   unwritten_runs();
+  switches();
   unwritten_rules();
   numbers_of_options();
   numbers_of_check_options();

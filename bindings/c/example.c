@@ -5,6 +5,7 @@
  *     example blocks < BUNDLE      writes the types of its blocks, and the lengths of their data
  *     example payload < BUNDLE     writes the payload of a bundle while it comes
  *     example data < RECORDING     writes the data of a recording
+ *     example receive < RECORDING  writes the same as it comes, and judges the order of messages
  *     example pack < BUNDLES       writes bundles as the stream of a sender
  */
 #include <inttypes.h>
@@ -114,6 +115,55 @@ static int copy_data(const uint8_t *bytes, size_t length, FILE *output) {
   return status == TCPCLKIT_END;
 }
 
+/* Writes the data of a session's segments as it comes. Returns whether the session has no fault. */
+static int receive_data(FILE *input, FILE *output) {
+  static uint8_t buffer[TCPCLKIT_HEAD_LIMIT];
+  struct tcpclkit_fault fault = {TCPCLKIT_WIRE_TRUNCATED, 0, 0};
+  struct tcpclkit_contact contact;
+  struct tcpclkit_message message;
+  struct tcpclkit_order order;
+  struct tcpclkit_turn turn;
+  size_t used, got, room, length = fread(buffer, 1, TCPCLKIT_CONTACT_LENGTH, input);
+  uint64_t left = 0, at = length; /* data that is still to come, and where the buffer begins */
+  uint32_t status = tcpclkit_read_contact(buffer, length, &contact);
+  if (status != TCPCLKIT_OK) {
+    show_fault(&contact.fault);
+    return 0;
+  }
+  tcpclkit_start_order(&order);
+  length = 0;
+  do {
+    if (left > 0) {
+      used = left < length ? left : length;
+      fwrite(buffer, 1, used, output);
+      left -= used;
+    } else {
+      fault.offset = at;
+      status = tcpclkit_read_message(buffer, length, 0, &message);
+      used = message.data_offset, left = message.data_length;
+      if (status == TCPCLKIT_END || status == TCPCLKIT_TRUNCATED) {
+        used = left = 0;
+      } else if (status == TCPCLKIT_FAULT) {
+        message.fault.offset = at;
+        show_fault(&message.fault);
+        return 0;
+      } else if (tcpclkit_judge_message(&order, &message, &turn) != TCPCLKIT_OK) {
+        fault.code = turn.fault;
+        show_fault(&fault);
+        return 0;
+      }
+    }
+    at += used;
+    memmove(buffer, buffer + used, length -= used);
+    room = sizeof buffer - length < 32 ? sizeof buffer - length : 32;
+    got = used > 0 ? 0 : fread(buffer + length, 1, room, input);
+    length += got;
+  } while (used > 0 || got > 0);
+  if (length > 0 || left > 0)
+    show_fault(&fault);
+  return length == 0 && left == 0;
+}
+
 /* Writes bundles as the stream of a sender whose peer takes segments of 20 bytes. */
 static int pack_bundles(const uint8_t *bytes, size_t length, FILE *output) {
   static const uint8_t node[7] = "ipn:1.0";
@@ -135,6 +185,8 @@ int main(int count, char **words) {
   size_t length;
   if (count == 2 && strcmp(words[1], "payload") == 0)
     return !copy_payload(stdin, stdout);
+  if (count == 2 && strcmp(words[1], "receive") == 0)
+    return !receive_data(stdin, stdout);
   length = fread(bytes, 1, sizeof bytes, stdin);
   if (count == 2 && strcmp(words[1], "bundle") == 0)
     return !show_bundle(bytes, length);

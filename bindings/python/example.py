@@ -4,6 +4,7 @@
     example.py blocks < BUNDLE      writes the types of its blocks, and the lengths of their data
     example.py payload < BUNDLE     writes the payload of a bundle while it comes
     example.py data < RECORDING     writes the data of a recording
+    example.py receive < RECORDING  writes the same as it comes, and judges the order of messages
     example.py pack < BUNDLES       writes bundles as the stream of a sender
 """
 
@@ -46,6 +47,34 @@ def copy_data(recording, output):
             output.write(message.data)
 
 
+def receive_data(source, output):
+    """Writes the data of a session's segments as it comes."""
+    held, piece, order = b"", None, tcpclkit.Order()
+    tcpclkit.contact(source.read(tcpclkit.CONTACT_LENGTH))
+    # where `held` begins, where the last message began, and its data that is still to come
+    at, begun, left = tcpclkit.CONTACT_LENGTH, 0, 0
+    while piece != b"":
+        piece = source.read(32)
+        held += piece
+        used = min(left, len(held))
+        output.write(held[:used])
+        left -= used
+        try:
+            for message in tcpclkit.messages(held, used):
+                order.judge(message)
+                begun, used = at + message.offset, message.head_end
+                if message.kind == tcpclkit.Kind.XFER_SEGMENT:
+                    output.write(message.data)
+                    used += len(message.data)
+                    left = message.length - len(message.data)
+        except tcpclkit.Fault as fault:
+            if not fault.is_truncated:
+                raise tcpclkit.Fault(fault.code, fault.number, at + fault.offset) from fault
+        at, held = at + used, held[used:]
+    if held or left:
+        raise tcpclkit.Fault(tcpclkit.Code.WIRE_TRUNCATED, 0, begun if left else at)
+
+
 def pack_bundles(bundles):
     """Packs bundles as the stream of a sender whose peer takes segments of 20 bytes."""
     return tcpclkit.pack(bundles, b"ipn:1.0", peer_segment=20)
@@ -56,6 +85,9 @@ def main():
     try:
         if sys.argv[1:] == ["payload"]:
             copy_payload(sys.stdin.buffer, sys.stdout.buffer)
+            return 0
+        if sys.argv[1:] == ["receive"]:
+            receive_data(sys.stdin.buffer, sys.stdout.buffer)
             return 0
         content = sys.stdin.buffer.read()
         if sys.argv[1:] == ["bundle"]:

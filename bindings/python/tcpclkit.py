@@ -9,24 +9,25 @@
 
 Each function calls functions of the C library `libtcpclkit`, which are proved to do what their
 definitions say; `tcpclkit.h` says what is proved of each of them. This module itself is tested and
-not proved. It needs python 3.8 or later and nothing but its standard library.
+not proved. It needs CPython 3.8 or later and nothing but its standard library.
 
-The shared object `libtcpclkit.so.3` is the one that the environment variable TCPCLKIT_LIBRARY names
-if it is set, or else the one of the folder in which this module was installed, or else the one that
-the system's loader finds. Bytes that are read may be any object with a contiguous buffer, such as
-bytes, a bytearray, or a memoryview of a mapped file. What is not of type bytes is copied first, so
-that nobody can change it while the library reads; so pass bytes where the copy would cost too much.
+The shared object `libtcpclkit.so.N`, where N is ABI, is the one that the environment variable
+TCPCLKIT_LIBRARY names if it is set, or else the one of the folder in which this module was
+installed, or else the one that the system's loader finds. Bytes that are read may be any object
+with a contiguous buffer, such as bytes, a bytearray, or a memoryview of a mapped file. What is not
+of type bytes is copied first, so that nobody can change it while the library reads; so pass bytes
+where the copy would cost too much.
 """
 
 import ctypes
 import os
 import threading
-from ctypes import POINTER, byref, c_size_t, c_uint32, c_uint64, c_void_p
+from ctypes import POINTER, byref, c_char_p, c_size_t, c_uint32, c_uint64, c_void_p, py_object
 from enum import IntEnum
 from typing import NamedTuple, Optional, Tuple, Union
 
-ABI = 3
-OK, END, TRUNCATED, DATA_TRUNCATED, FAULT, TOO_SMALL, RANGE, NULL, MEMORY = range(9)
+ABI = 4
+OK, END, TRUNCATED, DATA_TRUNCATED, FAULT, TOO_SMALL, RANGE, NULL, MEMORY, SCAN_ENDED = range(10)
 STRAY = 3  # the turn of a segment of no open transfer
 
 CONTACT_LENGTH = 6
@@ -34,7 +35,9 @@ SEGMENT_END, SEGMENT_START = 1, 2
 EID_LIMIT = 1024
 SCAN_WORDS = 1024
 HEAD_LIMIT = 66585
-FAULT_ROOM, EID_ROOM = 64, 4100
+NODE_ID_LIMIT = 1024
+FAULT_ROOM, EID_ROOM, WORDS_ROOM = 64, 4100, 4500
+FIRST_ROOM = 4096  # for each text of a tool, as long as its length is not known
 
 
 class Code(IntEnum):
@@ -102,7 +105,8 @@ _Bundle = _struct(
     "payload_length",
 )
 _Block = _struct(
-    "_Block", "kind offset length block_type number flags check data_offset data_length"
+    "_Block",
+    "kind offset length block_type number flags check data_offset data_length data_seen",
 )
 _Contact = _struct("_Contact", "fault:_Fault flags")
 _Message = _struct(
@@ -113,6 +117,7 @@ _Message = _struct(
 _Item = _struct(
     "_Item", "fault:_Fault flags item_type value_offset value_length has_total total next"
 )
+_Announced = _struct("_Announced", "kind total")
 _Order = _struct("_Order", "initiated terminated is_open transfer")
 _Turn = _struct("_Turn", "fault turn last abandons abandoned")
 _Run = _struct("_Run", "exit_status output_length report_length")
@@ -128,14 +133,21 @@ _PARAMETERS = {
     "feed_scan": [_SCAN, *_SLICE, POINTER(c_uint64)],
     "next_block": [_SCAN, *_SLICE, POINTER(c_uint64), POINTER(_Block)],
     "judge_scan": [_SCAN, POINTER(_Verdict)],
+    "judge_block": [_SCAN, POINTER(_Block)],
+    "end_scan": [_SCAN, c_uint64, POINTER(_Verdict)],
     "describe_scan": [_SCAN, *_NAMES, POINTER(_Bundle)],
     "read_contact": [*_SLICE, POINTER(_Contact)],
     "read_message": [*_SLICE, c_uint64, POINTER(_Message)],
-    "read_item": [*_SLICE, c_uint64, c_uint64, POINTER(_Item)],
-    "judge_order": [POINTER(_Order), c_uint64, c_uint64, c_uint64, POINTER(_Turn)],
-    "take_message": [POINTER(_Order), c_uint64, c_uint64, c_uint64, POINTER(_Turn)],
+    "read_item": [*_SLICE, POINTER(_Message), c_uint64, POINTER(_Item)],
+    "read_announced": [*_SLICE, POINTER(_Message), POINTER(_Announced)],
+    "start_order": [POINTER(_Order)],
+    "judge_message": [POINTER(_Order), POINTER(_Message), POINTER(_Turn)],
+    "take_message": [POINTER(_Order), POINTER(_Message), POINTER(_Turn)],
     "write_fault_text": [c_uint64, c_uint64, *_SLICE, POINTER(c_uint64)],
     "write_eid_text": [POINTER(_Eid), *_SLICE, *_SLICE, POINTER(c_uint64)],
+    "read_block_data": [
+        POINTER(_Block), POINTER(_Block), *_SLICE, *_SLICE, POINTER(c_uint64),
+    ],
     "list": [*_SLICE, *_TEXT, *_TEXT, POINTER(_Run)],
     "unpack": [*_SLICE, *_SLICE, *_TEXT, *_TEXT, POINTER(_Run)],
     "blocks": [*_SLICE, *_SLICE, *_TEXT, *_TEXT, POINTER(_Run)],
@@ -196,16 +208,37 @@ class _Lent:
         return ctypes.cast(self.kept, c_void_p).value + offset, len(self.kept) - offset
 
 
-def _number(value):
-    """Returns a number that the library is handed, or raises a ValueError if it is out of range."""
-    if not 0 <= value < 2**64:
-        raise ValueError(f"{value} is no number of 64 bits")
+def _number(name, value, least=0, most=2**64 - 1):
+    """Returns an argument that the library is handed, or raises a ValueError with its name."""
+    if not least <= value <= most:
+        raise ValueError(f"{name} is {value}, and has to be from {least} to {most}")
     return value
 
 
 def _room(length):
     """Returns a buffer that the library writes into, of at least one byte."""
     return ctypes.create_string_buffer(length or 1)
+
+
+class _State:
+    """What the library keeps in memory of its caller. A copy, by the module copy, has its own."""
+
+    def __init__(self, memory):
+        self._memory = memory
+        self._lock = threading.Lock()  # Two calls of the library may not share the memory.
+
+    def _call(self, name, *arguments):
+        with self._lock:
+            return _call(name, self._memory, *arguments)
+
+    def __copy__(self):
+        copied = type(self)()
+        with self._lock:
+            copied._memory = type(self._memory).from_buffer_copy(self._memory)
+        return copied
+
+    def __deepcopy__(self, _memo):
+        return self.__copy__()
 
 
 # ---- faults
@@ -235,7 +268,7 @@ class Fault(Exception):
 
     def __str__(self):
         text, written = _room(FAULT_ROOM), c_uint64()
-        number = _number(self.number)
+        number = _number("number", self.number)
         status = _call("write_fault_text", self.code, number, text, FAULT_ROOM, byref(written))
         if status != OK:
             return repr(self)
@@ -268,7 +301,8 @@ class Ipn(NamedTuple):
 
     def __str__(self):
         kind = 3 if self.allocator is None else 4
-        numbers = map(_number, (self.allocator or 0, self.node, self.service))
+        values = self._replace(allocator=self.allocator or 0)
+        numbers = map(_number, self._fields, values)
         return _eid_text(_Eid(kind, *numbers, 0), b"")
 
 
@@ -397,26 +431,21 @@ def _primary(_status, it, destination, source, report_to):
     )
 
 
-class Scan:
+class Scan(_State):
     """A scan of one bundle that comes in pieces of any size.
 
         scan = tcpclkit.Scan()
-        while scan.is_going:
-            piece = receive()
+        while scan.is_going and (piece := receive()):
             taken = scan.feed(piece)
         bundle = scan.bundle()
 
-    It keeps what the heads of the bundle say, and the first 3,257 bytes.
+    The loop also ends where no more bytes come. It keeps what the heads of the bundle say, and the
+    first 3,257 bytes. A copy has seen the same bytes.
     """
 
     def __init__(self):
-        self._memory = _SCAN()
-        self._lock = threading.Lock()  # Two calls of the library may not share a scan.
+        super().__init__(_SCAN())
         self.restart()
-
-    def _call(self, name, *arguments):
-        with self._lock:
-            return _call(name, self._memory, *arguments)
 
     def restart(self):
         """Makes the scan new, whatever it has seen."""
@@ -425,7 +454,8 @@ class Scan:
     def feed(self, piece):
         """Takes the bytes of the next piece that belong to the bundle, and returns their number.
 
-        After the end of the bundle and after its first fault, that is 0.
+        After the end of the bundle and after its first fault, that is 0: `restart` comes before the
+        next bundle.
         """
         lent, taken = _Lent(piece), c_uint64()
         if self._call("feed_scan", *lent.slice, byref(taken)) == RANGE:
@@ -451,10 +481,47 @@ class Scan:
         """Whether the bundle goes on after the bytes that were taken."""
         return self._call("judge_scan", byref(_Verdict())) == TRUNCATED
 
+    def block_head(self):
+        """Returns the BlockHead of the canonical block that the bytes taken end in, or None.
+
+        They end in its data, at the beginning of its data, or in its check value. So a block whose
+        data is too long can be refused before the data comes.
+
+            taken = scan.feed(piece)
+            head = scan.block_head()
+            if head is not None and head.data_length > limit:
+                raise ValueError("the bundle is too large")
+        """
+        it = _Block()
+        return _head(it) if self._call("judge_block", byref(it)) == OK else None
+
     def verdict(self):
-        """Returns the verdict on the bytes that were taken."""
+        """Returns the verdict on the bytes that were taken.
+
+        A byte that follows the bundle is no fault, since it is not taken: `end` counts it.
+        """
         it = _Verdict()
         return _verdict(self._call("judge_scan", byref(it)), it)
+
+    def end(self, length):
+        """Returns the verdict on a whole transfer of `length` bytes, after its last byte.
+
+        These are the bytes that were taken, and those that came after them:
+
+            came = 0
+            for piece in pieces:
+                scan.feed(piece)
+                came += len(piece)
+            verdict = scan.end(came)
+
+        Raises ValueError if more than `length` bytes were taken, or fewer, while the bundle needed
+        more: those that are missing were not fed.
+        """
+        it = _Verdict()
+        status = self._call("end_scan", _number("length", length), byref(it))
+        if status == RANGE:
+            raise ValueError(f"length is {length}, and these bytes were not all fed")
+        return _verdict(status, it)
 
     def bundle(self):
         """Returns the good bundle that was taken, or raises the Fault of any other bytes."""
@@ -473,7 +540,8 @@ class Block(NamedTuple):
 
     `flags` are those of the block, or of the bundle if it is the primary block. `check` is the type
     of the check value: 0 for none, 1 for CRC-16/X-25, and 2 for CRC-32C. The payload block has the
-    type 1 and is the last one. `data` has the bytes, or, of a Scan, their place in the bundle.
+    type 1 and is the last one. `data` has the bytes, or, of a Scan, their place in the bundle, and
+    `data_at` is the offset in the bundle where they begin.
     """
     offset: int
     length: int
@@ -482,15 +550,88 @@ class Block(NamedTuple):
     block_type: Optional[int] = None
     number: Optional[int] = None
     data: Optional[Union[bytes, slice]] = None
+    data_at: Optional[int] = None
+
+    def with_data(self, data):
+        """Returns a block of a Scan with the bytes of its data, which the caller has kept.
+
+        Raises ValueError if they are not as many as their place.
+        """
+        if not isinstance(self.data, slice) or len(data) != self.data.stop - self.data.start:
+            raise ValueError("the data of a block has another length")
+        return self._replace(data=data)
+
+    def words(self, primary):
+        """Returns what the data says, as the line of `tcpclkit blocks` for the block has it.
+
+            primary, *others = tcpclkit.blocks_of(content)
+            for it in others:
+                print(it.block_type, it.words(primary))
+
+        `primary` is the primary block of the same bundle. The words are empty for data of a type
+        that is not read, and for a primary block. Of a Scan, `with_data` comes before.
+        """
+        if self.block_type is None:
+            return ""
+        if primary.block_type is not None:
+            raise ValueError("the block that is to be the primary block is another one")
+        if isinstance(self.data, slice):
+            raise ValueError("the data of a block of a Scan is not there: with_data adds it")
+        lent, text, written = _Lent(self.data), _room(WORDS_ROOM), c_uint64()
+        status = _call(
+            "read_block_data", byref(_numbers(primary)), byref(_numbers(self, len(lent.kept))),
+            *lent.slice, text, WORDS_ROOM, byref(written),
+        )
+        if status != OK:
+            raise ValueError("a block has a number that no block has")
+        return text.raw[:written.value].decode()
+
+
+class BlockHead(NamedTuple):
+    """The head of a canonical block that is not whole yet.
+
+    `data_length` is the length of its data by the head, and `data` the place in the bundle of the
+    bytes of it that are there. The other fields are those of a Block.
+    """
+    offset: int
+    flags: int
+    check: int
+    block_type: int
+    number: int
+    data_length: int
+    data: slice
 
 
 def _block(it):
     """Returns the block that the library wrote, or None."""
     block = Block(it.offset, it.length, it.flags, it.check)
     if it.kind == 2:
-        place = slice(it.data_offset, it.data_offset + it.data_length)
-        return block._replace(block_type=it.block_type, number=it.number, data=place)
+        start, end = it.data_offset, it.data_offset + it.data_length
+        return block._replace(
+            block_type=it.block_type, number=it.number, data=slice(start, end), data_at=start,
+        )
     return block if it.kind == 1 else None
+
+
+def _head(it):
+    """Returns the head that the library wrote."""
+    place = slice(it.data_offset, it.data_offset + it.data_seen)
+    return BlockHead(
+        it.offset, it.flags, it.check, it.block_type, it.number, it.data_length, place
+    )
+
+
+def _numbers(block, data_length=0):
+    """Returns a block as the library takes it."""
+    is_primary = block.block_type is None
+    values = {name: getattr(block, name) for name in ("offset", "length", "flags", "check")}
+    if not is_primary:
+        values.update(
+            block_type=block.block_type, number=block.number, data_offset=block.data_at,
+            data_length=data_length, data_seen=data_length,
+        )
+    numbers = {name: _number(name, value) for name, value in values.items()}
+    return _Block(kind=1 if is_primary else 2, **numbers)
 
 
 def blocks_of(content):
@@ -514,19 +655,30 @@ def blocks_of(content):
 
 
 class Item(NamedTuple):
-    """An extension item. `total` is its value as a number, if it is of type 1 and has 8 bytes."""
+    """An extension item. `total` is the length that an item of a segment announces, or None."""
     flags: int
     item_type: int
     value: bytes
     total: Optional[int]
 
 
+class Announced(NamedTuple):
+    """What the items of a transfer's first segment announce.
+
+    `total` is the length of the whole transfer, or None. `is_bad` is whether there is more than one
+    length, or an item of type 1 whose value has not 8 bytes; then `total` is None.
+    """
+    total: Optional[int]
+    is_bad: bool = False
+
+
 class Message(NamedTuple):
     """A message. A field that its kind has not is None.
 
     `length` is the length of a segment's data by its head, or the number of bytes that an XFER_ACK
-    acknowledges. `data` is shorter if the recording ends inside it. `items` is None of a segment
-    without START. `header` is the type byte of a rejected message.
+    acknowledges. `data` is shorter if the recording ends inside it. `items` and `announced` are
+    None of a segment without START. `header` is the type byte of a rejected message. `head_end` is
+    the offset where the head ends, and the data of a segment begins.
     """
     offset: int
     kind: Kind
@@ -541,6 +693,8 @@ class Message(NamedTuple):
     node: Optional[bytes] = None
     items: Optional[Tuple[Item, ...]] = None
     data: Optional[bytes] = None
+    announced: Optional[Announced] = None
+    head_end: Optional[int] = None
 
     @property
     def is_cut(self):
@@ -577,7 +731,7 @@ def messages(content, offset=CONTACT_LENGTH):
     """
     lent, it = _Lent(content), _Message()
     while True:
-        status = _call("read_message", *lent.slice, _number(offset), byref(it))
+        status = _call("read_message", *lent.slice, _number("offset", offset), byref(it))
         if status in (END, RANGE):
             return
         if status in (OK, DATA_TRUNCATED):
@@ -591,6 +745,7 @@ def _message(lent, offset, it):
     """Returns the message that the library wrote."""
     kind = Kind(it.kind)
     fields = {name: getattr(it, name) for name in _FIELDS[kind]}
+    fields["head_end"] = it.data_offset
     if kind == Kind.XFER_ACK:
         fields["length"] = it.acknowledged
     if kind == Kind.XFER_SEGMENT:
@@ -599,14 +754,23 @@ def _message(lent, offset, it):
     if kind == Kind.SESS_INIT:
         fields["node"] = lent[it.node_offset:it.node_offset + it.node_length]
     if kind == Kind.SESS_INIT or kind == Kind.XFER_SEGMENT and it.flags & SEGMENT_START:
-        fields["items"] = tuple(_items(lent, it.items_offset, it.items_length))
+        fields["items"] = tuple(_items(lent, it))
+    if kind == Kind.XFER_SEGMENT and it.flags & SEGMENT_START:
+        fields["announced"] = _announced(lent, it)
     return Message(offset, kind, **fields)
 
 
-def _items(lent, offset, length):
+def _announced(lent, message):
+    """Returns what a segment announces. Its list was judged with it, so the status is OK."""
+    it = _Announced()
+    _call("read_announced", *lent.slice, byref(message), byref(it))
+    return Announced(it.total if it.kind == 1 else None, it.kind == 2)
+
+
+def _items(lent, message):
     """Yields the items of a list that was judged with its message."""
-    end, it = offset + length, _Item()
-    while _call("read_item", *lent.slice, offset, end, byref(it)) == OK:
+    offset, it = message.items_offset, _Item()
+    while _call("read_item", *lent.slice, byref(message), offset, byref(it)) == OK:
         value = lent[it.value_offset:it.value_offset + it.value_length]
         yield Item(it.flags, it.item_type, value, it.total if it.has_total else None)
         offset = it.next
@@ -627,18 +791,19 @@ class Turn(NamedTuple):
     abandoned: Optional[int]
 
 
-class Order:
+class Order(_State):
     """The messages of a session so far, as far as they decide which may come next."""
 
     def __init__(self):
-        self._order = _Order()
+        super().__init__(_Order())
+        self._call("start_order")
 
     def judge(self, message):
         """Counts a message among those that came, and returns its Turn.
 
         Raises a Fault if the message may not come now. The order is then as it was.
         """
-        turn, fault = self._call("judge_order", message)
+        turn, fault = self._answer("judge_message", message)
         if fault is not None:
             raise fault
         return turn
@@ -649,14 +814,12 @@ class Order:
         Returns its Turn, and the Fault or None. The Turn is None for a stray segment, whose data
         belongs nowhere.
         """
-        return self._call("take_message", message)
+        return self._answer("take_message", message)
 
-    def _call(self, name, message):
-        it = _Turn()
-        numbers = map(_number, (message.kind, message.flags or 0, message.id or 0))
-        status = _call(name, byref(self._order), *numbers, byref(it))
-        if status == RANGE:
-            raise ValueError("the flags of a message are at most 255")
+    def _answer(self, name, message):
+        it, flags = _Turn(), _number("flags", message.flags or 0, most=255)
+        read = _Message(kind=Kind(message.kind), flags=flags, id=_number("id", message.id or 0))
+        status = self._call(name, byref(read), byref(it))
         fault = None if status == OK else Fault(it.fault, 0, message.offset)
         return None if it.turn == STRAY else _turn(it), fault
 
@@ -671,33 +834,54 @@ def _turn(it):
 
 
 class Run(NamedTuple):
-    """What a tool wrote on standard output and on standard error, and its exit status."""
+    """What a tool wrote on standard output and on standard error, and its exit status.
+
+    If one of the texts has more than 4,096 bytes, the tool ran twice: once to learn how long both
+    are. So a run takes no more memory than its texts.
+    """
     output: bytes
     report: bytes
     exit_status: int
 
 
+# Returns bytes of a length that are yet to be written. CPython lets its caller write them, as long
+# as nobody else has them. So a text of a tool takes no memory beside what is returned.
+_NEW_BYTES = ctypes.PYFUNCTYPE(py_object, c_char_p, c_size_t)(
+    ("PyBytes_FromStringAndSize", ctypes.pythonapi)
+)
+
+
 def _run(name, content, *arguments):
     """Calls a tool, and if a text does not fit once more with the room that it needs."""
-    lent, it = _Lent(content), _Run()
-    rooms = [len(lent.kept) + 4096] * 2
-    status = TOO_SMALL
+    lent, it, rooms, status = _Lent(content), _Run(), [FIRST_ROOM] * 2, TOO_SMALL
     while status == TOO_SMALL:
-        texts = [_room(room) for room in rooms]
-        lengths = [[1, text, room] for text, room in zip(texts, rooms)]
-        status = _call(name, *lent.slice, *arguments, *lengths[0], *lengths[1], byref(it))
+        texts = [_NEW_BYTES(None, room) for room in rooms]
+        slices = [value for text, room in zip(texts, rooms) for value in (1, text, room)]
+        status = _call(name, *lent.slice, *arguments, *slices, byref(it))
         rooms = [it.output_length, it.report_length]
     if status == RANGE:
-        raise ValueError("an option is out of its range")
+        raise ValueError("libtcpclkit does not know an option, so it is older than this module")
     if status == MEMORY:
         raise MemoryError
-    output, report = (ctypes.string_at(text, room) for text, room in zip(texts, rooms))
+    output, report = (text[:room] for text, room in zip(texts, rooms))
     return Run(output, report, it.exit_status)
 
 
 def _options(*numbers):
     """Returns the options of a tool as the library takes them: numbers, and how many they are."""
     return (c_uint64 * len(numbers))(*numbers), len(numbers)
+
+
+def _optional(name, value):
+    """Returns whether an option has a number, and the number or 0."""
+    return value is not None, _number(name, value or 0)
+
+
+def _only(bundles, **others):
+    """Raises a ValueError with the name of an option for recordings that is set beside bundles."""
+    wrong = [name for name, is_set in others.items() if is_set]
+    if bundles and wrong:
+        raise ValueError(f"{wrong[0]} is an option for recordings, and bundles is set")
 
 
 def list_messages(content):
@@ -712,8 +896,8 @@ def blocks(content, transfer=None, keep_going=False, bundles=False):
     order does not end the run. With `bundles`, the bytes are bundles, one after another, and no
     recording; the other options are then a ValueError.
     """
-    only_one, number = transfer is not None, _number(transfer or 0)
-    options = _options(only_one, number, bool(keep_going), bool(bundles))
+    _only(bundles, transfer=transfer is not None, keep_going=keep_going)
+    options = _options(*_optional("transfer", transfer), bool(keep_going), bool(bundles))
     return _run("blocks", content, *options)
 
 
@@ -725,9 +909,10 @@ def check(content, must=False, peer_segment=None, peer_transfer=None, bundles=Fa
     receives. A limit that is None is not judged. With `bundles`, the bytes are bundles, one after
     another, and no recording; a limit of the peer is then a ValueError.
     """
-    limits = [it for limit in (peer_segment, peer_transfer)
-              for it in (limit is not None, _number(limit or 0))]
-    return _run("check", content, *_options(bool(must), *limits, bool(bundles)))
+    segment = _optional("peer_segment", peer_segment)
+    transfer = _optional("peer_transfer", peer_transfer)
+    _only(bundles, peer_segment=segment[0], peer_transfer=transfer[0])
+    return _run("check", content, *_options(bool(must), *segment, *transfer, bool(bundles)))
 
 
 def unpack(content, transfer=None, payload=False, keep_going=False):
@@ -736,8 +921,7 @@ def unpack(content, transfer=None, payload=False, keep_going=False):
     With `transfer`, only the transfers with this ID are written. With `payload`, only the payloads
     of their bundles are. With `keep_going`, a fault of the order does not end the run.
     """
-    only_one, number = transfer is not None, _number(transfer or 0)
-    options = _options(only_one, number, bool(payload), bool(keep_going))
+    options = _options(*_optional("transfer", transfer), bool(payload), bool(keep_going))
     return _run("unpack", content, *options)
 
 
@@ -748,6 +932,12 @@ def pack(content, node, keepalive=60, segment_mru=65536, transfer_mru=1048576, p
     A line for each bundle is the report. Raises ValueError if an option or the length of the node
     ID is out of its range.
     """
-    numbers = keepalive, segment_mru, transfer_mru, peer_segment, peer_transfer, announce
-    lent, options = _Lent(node), _options(*map(_number, numbers), bool(end))
+    lent = _Lent(node)
+    _number("the length of node", len(lent.kept), most=NODE_ID_LIMIT)
+    options = _options(
+        _number("keepalive", keepalive, most=65535), _number("segment_mru", segment_mru),
+        _number("transfer_mru", transfer_mru), _number("peer_segment", peer_segment, least=1),
+        _number("peer_transfer", peer_transfer), _number("announce", announce, most=2**20),
+        bool(end),
+    )
     return _run("pack", content, *options, *lent.slice)

@@ -188,6 +188,11 @@ static void compare_scan(const struct job *job) {
                                &same) != status ||
       memcmp(&it, &same, sizeof it) != 0 || memcmp(names[0], names[3], 3 * LIMIT) != 0)
     die("the bytes in pieces are another bundle");
+  memset(&it.verdict, 0, sizeof it.verdict);
+  if (tcpclkit_end_scan(&scan, job->length, &it.verdict) !=
+          tcpclkit_judge_bundle(job->bytes, job->length, &same.verdict) ||
+      memcmp(&it.verdict, &same.verdict, sizeof it.verdict) != 0)
+    die("the verdict at the end differs from that on all bytes");
 }
 
 static int judge(const struct job *job) {
@@ -219,10 +224,18 @@ static void put_block(struct text *text, const struct tcpclkit_block *it) {
       it->length, it->flags, it->check);
 }
 
+/* Whether a block that went on is the one that ends next. */
+static int is_begun(const struct tcpclkit_block *begun, const struct tcpclkit_block *ended) {
+  struct tcpclkit_block same = *ended;
+  same.length = 0;
+  same.data_seen = begun->data_seen;
+  return begun->data_seen <= begun->data_length && memcmp(begun, &same, sizeof same) == 0;
+}
+
 /* Takes the bytes block by block, in pieces of this size. Returns whether the bundle is good. */
 static int put_blocks(struct text *text, const struct job *job, size_t size) {
   struct tcpclkit_verdict verdict;
-  struct tcpclkit_block block;
+  struct tcpclkit_block block, begun = {0, 0, 0, 0, 0, 0, 0, 0, 0, 0};
   struct tcpclkit_scan scan;
   size_t at = 0;
   uint64_t taken;
@@ -232,8 +245,12 @@ static int put_blocks(struct text *text, const struct job *job, size_t size) {
     size_t piece = job->length - at < size ? job->length - at : size;
     status = tcpclkit_next_block(&scan, job->bytes + at, piece, &taken, &block);
     at += (size_t)taken;
-    if (block.kind != 0)
+    if (block.kind != 0) {
+      if (begun.kind != 0 && !is_begun(&begun, &block))
+        die("a block ends as another one than it began");
       put_block(text, &block);
+    }
+    tcpclkit_judge_block(&scan, &begun);
   } while (status == TCPCLKIT_TRUNCATED && taken > 0);
   if (tcpclkit_judge_scan(&scan, &verdict) != status)
     die("a scan that was taken block by block has another status");
@@ -244,12 +261,63 @@ static int put_blocks(struct text *text, const struct job *job, size_t size) {
   return status == TCPCLKIT_OK;
 }
 
+/* Appends the end of the line that `blocks` has for a block, from `data-at` on. */
+static void put_words(struct text *text, const struct job *job,
+                      const struct tcpclkit_block *primary, const struct tcpclkit_block *it) {
+  uint8_t words[4500];
+  uint64_t length;
+  if (tcpclkit_read_block_data(primary, it, job->bytes + it->data_offset, (size_t)it->data_length,
+                               words, sizeof words, &length) != TCPCLKIT_OK)
+    die("the data of a block has another status");
+  put(text, " data-at=%" PRIu64 " data-length=%" PRIu64 "%s", it->data_offset, it->data_length,
+      length > 0 ? " " : "");
+  put_bytes(text, words, (size_t)length);
+  put(text, "\n");
+}
+
+/* Compares what the data of the blocks says with the lines of the tool, one after another. */
+static void compare_words(const struct job *job) {
+  const struct tcpclkit_blocks_options bundles = {sizeof bundles, 0, 0, 0, 1};
+  struct text lines = {NULL, 0, 0}, ends = {NULL, 0, 0};
+  struct tcpclkit_block block, primary;
+  struct tcpclkit_scan scan;
+  struct tcpclkit_run run;
+  uint64_t taken, at = 0;
+  const char *line;
+  tcpclkit_blocks(job->bytes, job->length, &bundles, NULL, 0, NULL, TCPCLKIT_UNWANTED, &run);
+  make_room(&lines, (size_t)run.output_length + 1);
+  tcpclkit_blocks(job->bytes, job->length, &bundles, lines.bytes, lines.room, NULL,
+                  TCPCLKIT_UNWANTED, &run);
+  lines.bytes[run.output_length] = 0;
+  line = (const char *)lines.bytes;
+  tcpclkit_start_scan(&scan);
+  for (;;) {
+    tcpclkit_next_block(&scan, job->bytes + at, job->length - at, &taken, &block);
+    at += taken;
+    if (block.kind == 0)
+      break;
+    if (block.kind == TCPCLKIT_BLOCK_PRIMARY) {
+      primary = block;
+      continue;
+    }
+    ends.length = 0;
+    put_words(&ends, job, &primary, &block);
+    put_bytes(&ends, (const uint8_t *)"", 1);
+    line = strstr(line, (const char *)ends.bytes);
+    if (line == NULL)
+      die("the words of a block are not those of its line");
+  }
+  free(lines.bytes);
+  free(ends.bytes);
+}
+
 static int show(const struct job *job) {
   struct text same = {NULL, 0, 0};
   int is_good = put_blocks(&output, job, job->length + 1);
   if (put_blocks(&same, job, 1 + job->length % 13) != is_good || same.length != output.length ||
       (same.length > 0 && memcmp(same.bytes, output.bytes, same.length) != 0))
     die("the blocks in pieces are others");
+  compare_words(job);
   free(same.bytes);
   return is_good ? 0 : 1;
 }
@@ -261,9 +329,9 @@ static void put_items(struct text *text, const struct job *job,
                       const struct tcpclkit_message *message) {
   struct text listed = {NULL, 0, 0};
   struct tcpclkit_item item;
-  uint64_t end = message->items_offset + message->items_length, count = 0;
+  uint64_t count = 0;
   item.next = message->items_offset;
-  while (tcpclkit_read_item(job->bytes, job->length, item.next, end, &item) == TCPCLKIT_OK) {
+  while (tcpclkit_read_item(job->bytes, job->length, message, item.next, &item) == TCPCLKIT_OK) {
     put(&listed, " item=%02x:%04x:%" PRIu64, (unsigned)item.flags, (unsigned)item.item_type,
         item.value_length);
     count++;
@@ -341,7 +409,8 @@ static int read_messages(const struct job *job) {
 
 /* The transfer that is open, or was the last one. */
 struct transfer {
-  uint64_t id, announced, length_items, bad_items;
+  uint64_t id;
+  struct tcpclkit_announced announced;
   size_t start; /* of its data in the output */
   int is_open;
 };
@@ -349,18 +418,12 @@ struct transfer {
 /* Notes what the items of a first segment announce. */
 static void begin(struct transfer *transfer, const struct job *job,
                   const struct tcpclkit_message *message) {
-  struct tcpclkit_item item;
-  uint64_t end = message->items_offset + message->items_length;
   memset(transfer, 0, sizeof *transfer);
   transfer->id = message->id;
   transfer->start = output.length;
-  item.next = message->items_offset;
-  while (tcpclkit_read_item(job->bytes, job->length, item.next, end, &item) == TCPCLKIT_OK) {
-    transfer->length_items += item.item_type == 1;
-    transfer->bad_items += item.item_type == 1 && !item.has_total;
-    if (item.has_total)
-      transfer->announced = item.total;
-  }
+  if (tcpclkit_read_announced(job->bytes, job->length, message, &transfer->announced) !=
+      TCPCLKIT_OK)
+    die("a message that was read announces nothing");
 }
 
 /* Appends the line of a transfer that is over. Returns whether the transfer is good. */
@@ -372,10 +435,10 @@ static int put_transfer(const struct transfer *it) {
       length);
   if (it->is_open)
     put(&report, "abandoned");
-  else if (it->length_items > 1 || it->bad_items > 0)
+  else if (it->announced.kind == TCPCLKIT_ANNOUNCED_BADLY)
     put(&report, "bad-length-item");
-  else if (it->length_items == 1 && it->announced != length)
-    put(&report, "length-differs announced=%" PRIu64, it->announced);
+  else if (it->announced.kind == TCPCLKIT_ANNOUNCED_TOTAL && it->announced.total != length)
+    put(&report, "length-differs announced=%" PRIu64, it->announced.total);
   else
     is_good = put_judgement(&report, output.bytes == NULL ? NULL : output.bytes + it->start, length,
                             &bundle);
@@ -390,9 +453,8 @@ static int take(struct transfer *transfer, struct tcpclkit_order *order, const s
   struct tcpclkit_turn turn;
   struct tcpclkit_fault fault = {0, 0, 0};
   int status = 0;
-  uint32_t judged = goes_on
-                        ? tcpclkit_take_message(order, it->kind, it->flags, it->id, &turn)
-                        : tcpclkit_judge_order(order, it->kind, it->flags, it->id, &turn);
+  uint32_t judged = goes_on ? tcpclkit_take_message(order, it, &turn)
+                            : tcpclkit_judge_message(order, it, &turn);
   if (judged != TCPCLKIT_OK) {
     fault.code = turn.fault;
     fault.offset = offset;
@@ -416,14 +478,15 @@ static int take(struct transfer *transfer, struct tcpclkit_order *order, const s
 }
 
 static int walk(const struct job *job, int goes_on) {
-  struct tcpclkit_order order = {0, 0, 0, 0};
-  struct transfer transfer = {0, 0, 0, 0, 0, 0};
+  struct tcpclkit_order order;
+  struct transfer transfer = {0, {0, 0}, 0, 0};
   struct tcpclkit_message it;
   uint64_t offset = TCPCLKIT_CONTACT_LENGTH;
   uint32_t status;
   int ended = read_contact(job) < 0 ? 3 : 0, taken;
   if (ended == 3)
     return 3;
+  tcpclkit_start_order(&order);
   for (;;) {
     status = tcpclkit_read_message(job->bytes, job->length, offset, &it);
     if (status == TCPCLKIT_END)

@@ -52,6 +52,8 @@ def compare_scan(content):
         at += scan.feed(content[at:at + size])
     if scan.verdict() != tcpclkit.verdict(content[:at]):
         raise ValueError("the bytes in pieces have another verdict")
+    if scan.end(len(content)) != tcpclkit.verdict(content):
+        raise ValueError("the end of the bytes in pieces is another")
     if scan.primary() != tcpclkit.primary(content[:at]):
         raise ValueError("the bytes in pieces have another primary block")
     try:
@@ -90,12 +92,36 @@ def block_line(it):
 
 def blocks_in_pieces(content, size):
     """Returns the blocks of a bundle that comes in pieces of this size, and its fault or None."""
-    scan, blocks, at, taken = tcpclkit.Scan(), [], 0, 1
+    scan, blocks, at, taken, head = tcpclkit.Scan(), [], 0, 1, None
     while scan.is_going and taken:
         taken, it = scan.next_block(content[at:at + size])
         at += taken
+        if head is not None and it is not None and not is_begun(head, it):
+            raise ValueError("a block ends as another one than it began")
         blocks += [] if it is None else [it]
+        head = scan.block_head()
     return blocks, scan.verdict().fault
+
+
+def is_begun(head, it):
+    """Returns whether a block that went on is the one that ends next."""
+    same = it.offset, it.flags, it.check, it.block_type, it.number
+    return (
+        head[:5] == same and head.data_length == it.data.stop - it.data.start
+        and head.data.start == it.data_at == it.data.start and head.data.stop <= it.data.stop
+    )
+
+
+def compare_words(content, blocks):
+    """Compares what the data of the blocks says with the lines of the tool, one after another."""
+    lines = tcpclkit.blocks(content, bundles=True).output.decode()
+    for it in blocks[1:]:
+        data = content[it.data]
+        words = it.with_data(data).words(blocks[0])
+        end = f" data-at={it.data_at} data-length={len(data)}{' ' if words else ''}{words}\n"
+        _, found, lines = lines.partition(end)
+        if not found:
+            raise ValueError("the words of a block are not those of its line")
 
 
 def show(content):
@@ -110,6 +136,7 @@ def show(content):
     # (after a fault, a list has none of the blocks before it)
     if fault is None and whole != [with_data(it, content) for it in blocks]:
         raise ValueError("the blocks in pieces are others")
+    compare_words(content, blocks)
     lines = [block_line(it) for it in blocks]
     lines += [] if fault is None else [f"bad={str(fault).split()[0]} byte={fault.offset}\n"]
     return int(fault is not None), "".join(lines).encode(), b""
@@ -117,7 +144,7 @@ def show(content):
 
 def with_data(it, content):
     """Returns a block with the bytes of its data in place of where they are."""
-    return it if it.data is None else it._replace(data=content[it.data])
+    return it if it.data is None else it.with_data(content[it.data])
 
 
 # ---- messages
@@ -178,13 +205,13 @@ class Walk:
     def end(self):
         """Adds the line of the transfer that is over."""
         data = bytes(self.output[self.start:])
-        totals = [it.total for it in self.first.items if it.item_type == 1]
+        announced = self.first.announced
         if self.is_open:
             words = "abandoned"
-        elif len(totals) > 1 or None in totals:
+        elif announced.is_bad:
             words = "bad-length-item"
-        elif totals and totals[0] != len(data):
-            words = f"length-differs announced={totals[0]}"
+        elif announced.total not in (None, len(data)):
+            words = f"length-differs announced={announced.total}"
         else:
             words = judgement(data)[0]
         length = f"written={len(data)} length={len(data)}"

@@ -7,8 +7,8 @@ use std::io::{BufRead, Read, Write};
 use std::ops::Range;
 use tcpclkit::{
     blocks, blocks_of, bundle, check, contact, list, messages, pack, primary, unpack, verdict,
-    Block, BlockKind, BlocksOptions, Bundle, CheckOptions, CheckType, Fault, Fields, Items,
-    Message, Order, PackOptions, Primary, Run, Scan, ToolError, Turn, UnpackOptions,
+    Announced, Block, BlockHead, BlockKind, BlocksOptions, Bundle, CheckOptions, CheckType, Fault,
+    Fields, Items, Message, Order, PackOptions, Primary, Run, Scan, ToolError, Turn, UnpackOptions,
     CONTACT_LENGTH, SEGMENT_START,
 };
 
@@ -94,6 +94,11 @@ fn compare_scan(bytes: &[u8]) {
         (same.fault, same.payload)
     );
     assert_eq!(scan.primary(), primary(&bytes[..at]));
+    let (end, whole) = (scan.end(bytes.len() as u64), verdict(bytes));
+    assert_eq!(
+        (end.fault, end.payload.map(part)),
+        (whole.fault, whole.payload)
+    );
     match (scan.bundle(), bundle(&bytes[..at])) {
         (Ok(found), Ok(same)) => assert_eq!(
             (
@@ -142,9 +147,11 @@ fn block_line(it: &Block<Range<u64>>) -> String {
         BlockKind::Canonical {
             block_type,
             number,
+            data_at,
             data,
         } => {
             let (start, length) = (data.start, data.end - data.start);
+            assert_eq!(start, *data_at);
             format!("block type={block_type} number={number} data-at={start} data-length={length}")
         }
     };
@@ -158,12 +165,14 @@ fn whole_line(it: Block<&[u8]>, bytes: &[u8]) -> String {
         BlockKind::Canonical {
             block_type,
             number,
+            data_at,
             data,
         } => {
             let start = data.as_ptr() as u64 - bytes.as_ptr() as u64;
             BlockKind::Canonical {
                 block_type,
                 number,
+                data_at,
                 data: start..start + data.len() as u64,
             }
         }
@@ -176,14 +185,42 @@ fn whole_line(it: Block<&[u8]>, bytes: &[u8]) -> String {
     })
 }
 
+/// Whether a block that went on is the one that ends next.
+fn is_begun(head: &BlockHead, ended: &Block<Range<u64>>) -> bool {
+    let BlockKind::Canonical {
+        block_type,
+        number,
+        ref data,
+        ..
+    } = ended.kind
+    else {
+        return false;
+    };
+    let same = BlockHead {
+        offset: ended.place.start,
+        block_type,
+        number,
+        flags: ended.flags,
+        check: ended.check,
+        data_length: data.end - data.start,
+        data: data.start..head.data.end,
+    };
+    *head == same && head.data.end <= data.end
+}
+
 /// The lines of the blocks of a bundle that comes in pieces of this size, and of its fault.
 fn lines_in_pieces(bytes: &[u8], size: usize) -> String {
     let (mut scan, mut at, mut text) = (Scan::new(), 0, String::new());
+    let mut head = None;
     loop {
         let end = bytes.len().min(at + size);
         let (taken, block) = scan.next_block(&bytes[at..end]);
         at += taken;
         text.extend(block.as_ref().map(block_line));
+        if let (Some(head), Some(block)) = (&head, &block) {
+            assert!(is_begun(head, block), "a block ends as another one");
+        }
+        head = scan.block_head();
         match scan.verdict().fault {
             None => return text,
             Some(fault) if taken == 0 || !fault.is_truncated() => {
@@ -194,12 +231,39 @@ fn lines_in_pieces(bytes: &[u8], size: usize) -> String {
     }
 }
 
+/// Compares the words of a block's data with the lines of the tool from some line on, and drops the
+/// lines up to that of the block.
+fn compare_words(block: &Block<&[u8]>, primary: &Block<&[u8]>, lines: &mut &str) {
+    let BlockKind::Canonical { data_at, data, .. } = block.kind else {
+        return;
+    };
+    let words = block.words(primary);
+    let space = if words.is_empty() { "" } else { " " };
+    let line_end = format!(
+        " data-at={data_at} data-length={}{space}{words}\n",
+        data.len()
+    );
+    let at = lines.find(&line_end).expect("the words of a block");
+    *lines = &lines[at + line_end.len()..];
+}
+
 /// The blocks of the bundle that the bytes begin with, and its fault if there is one.
 fn show(bytes: &[u8]) -> Answer {
     let (mut text, mut status) = (String::new(), 0);
+    let options = BlocksOptions {
+        bundles: true,
+        ..BlocksOptions::default()
+    };
+    let run = blocks(bytes, &options).expect("the options are in range");
+    let all_lines = String::from_utf8(run.output).expect("lines are ASCII");
+    let (mut lines, mut primary) = (&all_lines[..], None);
     for block in blocks_of(bytes) {
         match block {
-            Ok(block) => text += &whole_line(block, bytes),
+            Ok(block) => {
+                let primary = primary.get_or_insert_with(|| block.clone());
+                compare_words(&block, primary, &mut lines);
+                text += &whole_line(block, bytes);
+            }
             Err(fault) => {
                 text += &(bad(&fault) + "\n");
                 status = 1;
@@ -305,8 +369,8 @@ struct Walk {
     is_bad: bool,
     id: u64,
     start: usize,
-    /// The length of each Transfer Length item, or `None` of a malformed one.
-    totals: Vec<Option<u64>>,
+    /// What the first segment announces.
+    announced: Option<Announced>,
     is_open: bool,
 }
 
@@ -315,12 +379,13 @@ impl Walk {
     fn end(&mut self) {
         let data = &self.output[self.start..];
         let (length, start, id) = (data.len(), self.start, self.id);
-        let words = match self.totals[..] {
+        let words = match self.announced {
             _ if self.is_open => "abandoned".to_string(),
-            [] => judgement(&bundle(data)),
-            [Some(total)] if total == length as u64 => judgement(&bundle(data)),
-            [Some(total)] => format!("length-differs announced={total}"),
-            _ => "bad-length-item".to_string(),
+            Some(Announced::Badly) => "bad-length-item".to_string(),
+            Some(Announced::Total(total)) if total != length as u64 => {
+                format!("length-differs announced={total}")
+            }
+            _ => judgement(&bundle(data)),
         };
         self.is_bad |= !words.starts_with("good ");
         let place = format!("start={start} written={length} length={length}");
@@ -343,11 +408,7 @@ impl Walk {
                 self.end();
             }
             (self.id, self.start) = (id, self.output.len());
-            self.totals = items
-                .clone()
-                .filter(|it| it.kind == 1)
-                .map(|it| it.total)
-                .collect();
+            self.announced = Some(items.announced());
         }
         self.output.extend(data);
         self.is_open = !matches!(

@@ -4,15 +4,19 @@ PYTHONPATH names the folder of the module. tests/callers runs them with an insta
 """
 
 import array
+import copy
+import inspect
 import mmap
 import os
+import tracemalloc
 import unittest
 
 import tcpclkit
-from tcpclkit import Block, Code, Dtn, Fault, Ipn, Kind
+from tcpclkit import Announced, Block, BlockHead, Code, Dtn, Fault, Ipn, Kind
 
 EXAMPLES = f"{os.path.dirname(os.path.realpath(__file__))}/../../examples"
 NUMBER = 2**64 - 1
+COPIES = (copy.copy, copy.deepcopy)
 
 
 def example(name):
@@ -21,9 +25,20 @@ def example(name):
         return it.read()
 
 
+def shown_in(documented):
+    """Returns the code that a docstring shows."""
+    lines = inspect.getdoc(documented).splitlines(keepends=True)
+    return "".join(line[4:] for line in lines if line.startswith("    "))
+
+
 def taken_of(message):
     """Returns the message of some bytes."""
     return next(tcpclkit.messages(message, 0))
+
+
+def taken_of_first_two():
+    """Returns the SESS_INIT of a recording, and the segment after it that begins a transfer."""
+    return list(tcpclkit.messages(example("transfers.tcpcl")))[:2]
 
 
 HELLO = example("two.bundles")[:34]
@@ -37,8 +52,8 @@ SEVERAL = bytes.fromhex(
     "6dcc850a03000043820401860101010242686944d4a3fe01ff"
 )
 SEVERAL_BLOCKS = [
-    Block(1, 21, 4, 0), Block(22, 10, 16, 1, 7, 2, b"\5"),
-    Block(32, 9, 0, 0, 10, 3, b"\x82\4\1"), Block(41, 13, 1, 2, 1, 1, b"hi"),
+    Block(1, 21, 4, 0), Block(22, 10, 16, 1, 7, 2, b"\5", 28),
+    Block(32, 9, 0, 0, 10, 3, b"\x82\4\1", 38), Block(41, 13, 1, 2, 1, 1, b"hi", 47),
 ]
 
 
@@ -112,7 +127,6 @@ class Bundles(unittest.TestCase):
             self.assertRaises(TypeError, tcpclkit.bundle, content)
 
 
-
 class Scans(unittest.TestCase):
     """Bundles in pieces."""
 
@@ -146,6 +160,61 @@ class Scans(unittest.TestCase):
         self.assertEqual(scan.feed(bytearray(FRAGMENT)), len(FRAGMENT))
         self.assertEqual(scan.bundle().source, Dtn(b"//x"))
 
+    def test_the_loop_that_is_shown(self):
+        loop = shown_in(tcpclkit.Scan)
+        for kind in (bytes, bytearray):
+            pieces = map(kind, [HELLO[:20], HELLO[20:]])
+            names = {"tcpclkit": tcpclkit, "receive": lambda: next(pieces)}
+            exec(loop, names)
+            self.assertEqual((names["taken"], names["bundle"].payload), (14, slice(28, 33)))
+            ended = map(kind, [HELLO[:20], b""])  # The loop may not ask again after the end.
+            with self.assertRaises(Fault) as raised:
+                exec(loop, {"tcpclkit": tcpclkit, "receive": lambda: next(ended)})
+            self.assertEqual(raised.exception, Fault(Code.BUNDLE_CUT, 0, 20))
+
+    def test_the_end_of_a_transfer(self):
+        content = example("two.bundles")
+        for fed in range(35):
+            scan = tcpclkit.Scan()
+            self.assertEqual(scan.feed(content[:fed]), fed)
+            self.assertEqual(scan.end(fed), tcpclkit.verdict(content[:fed]))
+            wrong = [-1, 2**64, fed - 1] + ([fed + 1] if fed < 34 else [])
+            for length in wrong:
+                with self.assertRaisesRegex(ValueError, "^length is "):
+                    scan.end(length)
+        self.assertEqual(scan.feed(content[34:]), 0)
+        for length in range(34, len(content) + 1):
+            self.assertEqual(scan.end(length), tcpclkit.verdict(content[:length]))
+        self.assertEqual(scan.end(NUMBER).fault, Fault(Code.BUNDLE_TRAILING, 0, 34))
+        scan.restart()
+        scan.feed(b"hello")
+        self.assertEqual(scan.end(1), scan.end(NUMBER))
+        self.assertEqual(scan.end(5).fault, Fault(Code.BUNDLE_NOT_A_BUNDLE))
+
+    def test_the_loops_of_docstrings(self):
+        for length in range(37):
+            pieces = [(HELLO + b"more")[at:at + 5] for at in range(0, length, 5)]
+            names = {"scan": tcpclkit.Scan(), "pieces": pieces}
+            exec(shown_in(tcpclkit.Scan.end), names)
+            self.assertEqual(names["verdict"], tcpclkit.verdict(b"".join(pieces)))
+        for limit, words in [(5, None), (4, "^the bundle is too large$")]:
+            names = {"scan": tcpclkit.Scan(), "piece": HELLO[:28], "limit": limit}
+            if words is None:
+                exec(shown_in(tcpclkit.Scan.block_head), names)
+                self.assertEqual(names["taken"], 28)
+            else:
+                with self.assertRaisesRegex(ValueError, words):
+                    exec(shown_in(tcpclkit.Scan.block_head), names)
+
+    def test_copies(self):
+        for copied_by in COPIES:
+            scan = tcpclkit.Scan()
+            self.assertEqual(scan.feed(HELLO[:20]), 20)
+            other = copied_by(scan)
+            self.assertEqual(scan.feed(HELLO[20:]), 14)
+            self.assertEqual(other.verdict().fault, Fault(Code.BUNDLE_CUT, 0, 20))
+            self.assertEqual((other.feed(HELLO[20:]), other.bundle()), (14, scan.bundle()))
+
 
 class Blocks(unittest.TestCase):
     """Blocks, one after another."""
@@ -174,7 +243,7 @@ class Blocks(unittest.TestCase):
                 at += taken
                 if it is not None:
                     self.assertEqual(it.offset + it.length, at)
-                    found.append(it if it.data is None else it._replace(data=SEVERAL[it.data]))
+                    found.append(it if it.data is None else it.with_data(SEVERAL[it.data]))
             self.assertEqual((found, at), (SEVERAL_BLOCKS, len(SEVERAL)))
             self.assertEqual(scan.next_block(SEVERAL), (0, None))
 
@@ -185,6 +254,70 @@ class Blocks(unittest.TestCase):
         self.assertEqual(scan.next_block(SEVERAL[25:]), (7, it))
         self.assertEqual(scan.feed(SEVERAL[32:]), 23)
         self.assertEqual(scan.bundle().blocks, 3)
+
+
+    def test_heads(self):
+        scan, heads = tcpclkit.Scan(), []
+        for at in range(len(SEVERAL) + 1):
+            head = scan.block_head()
+            wanted = None
+            for it in SEVERAL_BLOCKS[1:]:
+                if it.data_at <= at < it.offset + it.length:
+                    end = min(at, it.data_at + len(it.data))
+                    wanted = BlockHead(
+                        it.offset, it.flags, it.check, it.block_type, it.number, len(it.data),
+                        slice(it.data_at, end),
+                    )
+            self.assertEqual(head, wanted)
+            heads += [] if head is None else [head]
+            scan.feed(SEVERAL[at:at + 1])
+        self.assertEqual(len(heads), 4 + 3 + 7)
+
+    def test_a_block_that_is_too_long(self):
+        scan, head = tcpclkit.Scan(), b"\x85\1\1\0\0\x5b" + 8 * b"\xff"
+        self.assertEqual(scan.feed(SEVERAL[:22] + head[:-1]), 35)
+        self.assertIsNone(scan.block_head())
+        self.assertEqual(scan.feed(head[-1:]), 1)
+        self.assertEqual(scan.block_head(), BlockHead(22, 0, 0, 1, 1, NUMBER, slice(36, 36)))
+        self.assertEqual((scan.feed(b"data"), scan.block_head().data), (4, slice(36, 40)))
+
+    def test_words(self):
+        primary, *others = tcpclkit.blocks_of(SEVERAL)
+        self.assertEqual([it.words(primary) for it in others], ["age=5", "limit=4 count=1", ""])
+        self.assertEqual(primary.words(primary), "")
+        bad = others[1]._replace(data=b"\x82\4\x81")
+        self.assertEqual(bad.words(primary), "malformed-at=40")
+        record = primary._replace(flags=2)
+        self.assertEqual(others[2].words(record), "malformed-at=47")
+        self.assertEqual(others[2]._replace(data=b"\x82\2").words(record), "record=2/?")
+        named = others[0]._replace(block_type=6, data=b"\x82\1\x79\4\0" + bytes(1024))
+        self.assertEqual(named.words(primary), "node=dtn:" + 1024 * r"\x00")
+        with self.assertRaisesRegex(ValueError, "^the block that is to be the primary block"):
+            others[0].words(others[1])
+        with self.assertRaisesRegex(ValueError, "^number is -1, "):
+            others[0]._replace(number=-1).words(primary)
+        with self.assertRaisesRegex(ValueError, "^a block has a number that no block has"):
+            others[0]._replace(data_at=NUMBER).words(primary)
+
+    def test_words_of_a_scan(self):
+        scan, at, words, primary = tcpclkit.Scan(), 0, [], None
+        for _ in range(4):
+            taken, it = scan.next_block(SEVERAL[at:])
+            at += taken
+            primary = primary or it
+            if it.data is not None:
+                for wrong in (it, it._replace(data=SEVERAL[it.data])):
+                    self.assertRaises(ValueError, wrong.with_data, b"another")
+                self.assertRaisesRegex(ValueError, "with_data adds it", it.words, primary)
+                words.append(it.with_data(SEVERAL[it.data]).words(primary))
+        self.assertEqual(words, ["age=5", "limit=4 count=1", ""])
+        self.assertRaises(ValueError, primary.with_data, b"")
+
+    def test_the_loop_that_is_shown(self):
+        lines = []
+        names = {"tcpclkit": tcpclkit, "content": SEVERAL, "print": lambda *it: lines.append(it)}
+        exec(shown_in(Block.words), names)
+        self.assertEqual(lines, [(7, "age=5"), (10, "limit=4 count=1"), (1, "")])
 
 
 class Recordings(unittest.TestCase):
@@ -208,9 +341,23 @@ class Recordings(unittest.TestCase):
         self.assertEqual((init.keepalive, init.node), (60, b"ipn:1.0"))
         self.assertEqual([it[:2] for it in init.items], [(1, 0x1234), (0, 0xABCD)])
         self.assertEqual([it.total for it in segment.items], [34])
+        self.assertEqual((segment.announced, init.announced), (Announced(34), None))
+        self.assertEqual((found[2].items, found[2].announced), (None, None))
         self.assertEqual((segment.length, segment.data), (17, content[84:101]))
+        self.assertEqual([it.head_end for it in found[:3]], [49, 84, 119])
         self.assertEqual(ack[:3] + (ack.id, ack.length), (136, Kind.XFER_ACK, 1, 0, 34))
         self.assertEqual((found[4].reason, found[7].header), (2, 0x16))
+
+    def test_announcements(self):
+        one = bytes([1, 0, 1, 0, 8]) + (34).to_bytes(8, "big")
+        short, other = bytes([1, 0, 1, 0, 1, 34]), bytes([1, 0, 2, 0, 1, 34])
+        for items, wanted in [
+            (b"", Announced(None)), (other, Announced(None)), (one, Announced(34)),
+            (other + one, Announced(34)), (short, Announced(None, True)),
+            (one + one, Announced(None, True)), (one + short, Announced(None, True)),
+        ]:
+            message = b"\1\3" + bytes(8) + len(items).to_bytes(4, "big") + items + bytes(8)
+            self.assertEqual(taken_of(message).announced, wanted)
 
     def test_a_cut_segment(self):
         content = example("prelude-and-transfer.tcpcl")
@@ -227,17 +374,32 @@ class Recordings(unittest.TestCase):
         for offset in (len(content), len(content) + 1, NUMBER):
             self.assertEqual(list(tcpclkit.messages(content, offset)), [])
         for offset in (-1, NUMBER + 1):
-            self.assertRaises(ValueError, list, tcpclkit.messages(content, offset))
+            with self.assertRaisesRegex(ValueError, "^offset is "):
+                list(tcpclkit.messages(content, offset))
 
     def test_the_order(self):
         content = example("transfers.tcpcl")
         order = tcpclkit.Order()
         turns = [order.judge(it) for it in tcpclkit.messages(content)]
         self.assertEqual([it.abandoned for it in turns if it.begins], [None, None, None, 2])
-        init, start = list(tcpclkit.messages(content))[:2]
+        init, start = taken_of_first_two()
         self.assertRaises(Fault, tcpclkit.Order().judge, start)
         self.assertRaises(Fault, order.judge, init)
-        self.assertRaises(ValueError, order.judge, start._replace(flags=256))
+        for fields, words in [
+            ({"flags": 256}, "^flags is 256"), ({"id": NUMBER + 1}, "^id is "),
+            ({"kind": 9}, "^9 is not a valid Kind"),
+        ]:
+            for call in (order.judge, order.take):
+                with self.assertRaisesRegex(ValueError, words):
+                    call(start._replace(**fields))
+
+    def test_copies_of_an_order(self):
+        order, (init, start) = tcpclkit.Order(), taken_of_first_two()
+        for copied_by in COPIES:
+            other = copied_by(order)
+            other.judge(init)
+            self.assertRaises(Fault, order.judge, start)
+            self.assertTrue(other.judge(start).begins)
 
     def test_going_on(self):
         order = tcpclkit.Order()
@@ -247,7 +409,6 @@ class Recordings(unittest.TestCase):
         strays = {fault.code for turn, fault in taken if turn is None}
         before = {Code.ORDER_NO_SUCH_OPEN_TRANSFER, Code.ORDER_SEGMENT_BEFORE_SESS_INIT}
         self.assertTrue(strays and strays <= before)
-        self.assertRaises(ValueError, order.take, taken_of(b"\4")._replace(flags=256))
 
 
 class Texts(unittest.TestCase):
@@ -270,7 +431,12 @@ class Texts(unittest.TestCase):
         ]:
             self.assertEqual(str(eid), text)
         self.assertRaises(ValueError, str, Dtn(bytes(1025)))
-        self.assertRaises(ValueError, str, Ipn(None, 0, NUMBER + 1))
+        for eid, name in [
+            (Ipn(-1, 1, 0), "allocator"), (Ipn(1, -1, 0), "node"),
+            (Ipn(None, 0, NUMBER + 1), "service"),
+        ]:
+            with self.assertRaisesRegex(ValueError, f"^{name} is "):
+                str(eid)
 
 
 class Tools(unittest.TestCase):
@@ -322,8 +488,9 @@ class Tools(unittest.TestCase):
         self.assertEqual(tcpclkit.blocks(late, keep_going=True).exit_status, 1)
         run = tcpclkit.blocks(2 * SEVERAL, bundles=True)
         self.assertEqual((run.output.count(b"\n"), run.exit_status), (10, 0))
-        for options in ({"transfer": 0}, {"keep_going": True}):
-            self.assertRaises(ValueError, tcpclkit.blocks, SEVERAL, bundles=True, **options)
+        for name, value in [("transfer", 0), ("keep_going", True)]:
+            with self.assertRaisesRegex(ValueError, f"^{name} is an option for recordings"):
+                tcpclkit.blocks(SEVERAL, bundles=True, **{name: value})
 
     def test_check(self):
         lines = b"38 must primary-check transfer=0\n38 must age transfer=0 blocks=0\n"
@@ -342,18 +509,40 @@ class Tools(unittest.TestCase):
         broken = ["must primary-check bundle={}", "should expired bundle={} lifetime=0 age=5"]
         lines = [f"{55 * n} {rule.format(n)}\n" for n in range(2) for rule in broken]
         self.assertEqual(run, ("".join(lines).encode(), b"", 1))
-        for options in ({"peer_segment": 1}, {"peer_transfer": 0}):
-            self.assertRaises(ValueError, tcpclkit.check, SEVERAL, bundles=True, **options)
+        for name, value in [("peer_segment", 1), ("peer_transfer", 0)]:
+            with self.assertRaisesRegex(ValueError, f"^{name} is an option for recordings"):
+                tcpclkit.check(SEVERAL, bundles=True, **{name: value})
         run = tcpclkit.check(content, peer_segment=0)
         self.assertIn(b"38 must peer-segment length=34 limit=0\n", run.output)
 
     def test_ranges(self):
-        for options in [
-            {"peer_segment": 0}, {"keepalive": 65536}, {"announce": 2**20 + 1},
-            {"segment_mru": -1}, {"peer_transfer": 2**64}, {"node": bytes(1025)},
+        for name, least, most in [
+            ("keepalive", 0, 65535), ("segment_mru", 0, NUMBER), ("transfer_mru", 0, NUMBER),
+            ("peer_segment", 1, NUMBER), ("peer_transfer", 0, NUMBER), ("announce", 0, 2**20),
         ]:
-            self.assertRaises(ValueError, tcpclkit.pack, HELLO, **{"node": b"n", **options})
-        self.assertRaises(ValueError, tcpclkit.unpack, b"", 2**64)
+            for value in (least, most):
+                tcpclkit.pack(b"", b"n", **{name: value})
+            for value in (least - 1, most + 1):
+                with self.assertRaisesRegex(ValueError, f"^{name} is {value}, "):
+                    tcpclkit.pack(b"", b"n", **{name: value})
+        tcpclkit.pack(b"", bytes(1024))
+        with self.assertRaisesRegex(ValueError, "^the length of node is 1025, "):
+            tcpclkit.pack(b"", bytes(1025))
+        for call in (tcpclkit.unpack, tcpclkit.blocks):
+            with self.assertRaisesRegex(ValueError, "^transfer is "):
+                call(b"", NUMBER + 1)
+
+    def test_memory(self):
+        length = 2**22
+        head = b"\1\3" + bytes(12) + length.to_bytes(8, "big")
+        content = example("prelude-and-transfer.tcpcl")[:38] + head + bytes(length)
+        for call, returned in [(tcpclkit.unpack, length), (tcpclkit.list_messages, 0)]:
+            tracemalloc.start()
+            run = call(content)
+            taken = tracemalloc.get_traced_memory()[1]
+            tracemalloc.stop()
+            self.assertLess(taken, returned + 2**16)
+            self.assertGreaterEqual(len(run.output), returned)
 
 
 if __name__ == "__main__":

@@ -4,14 +4,15 @@
 //!     example blocks < BUNDLE      writes the types of its blocks, and the lengths of their data
 //!     example payload < BUNDLE     writes the payload of a bundle while it comes
 //!     example data < RECORDING     writes the data of a recording
+//!     example receive < RECORDING  writes the same as it comes, and judges the order of messages
 //!     example pack < BUNDLES       writes bundles as the stream of a sender
 
 use std::error::Error;
 use std::io::{self, Read, Write};
 use std::process::ExitCode;
 use tcpclkit::{
-    blocks_of, bundle, contact, messages, pack, BlockKind, Fault, Fields, PackOptions, Run, Scan,
-    ToolError, CONTACT_LENGTH,
+    blocks_of, bundle, contact, messages, pack, BlockKind, Code, Fault, Fields, Message, Order,
+    PackOptions, Run, Scan, ToolError, CONTACT_LENGTH,
 };
 
 /// Returns the endpoint IDs and the length of the payload of a good bundle, as a text.
@@ -71,6 +72,58 @@ fn copy_data(recording: &[u8], output: &mut impl Write) -> Result<(), Box<dyn Er
     Ok(())
 }
 
+/// Writes the data of a session's segments as it comes.
+fn receive_data(input: &mut impl Read, output: &mut impl Write) -> Result<(), Box<dyn Error>> {
+    let (mut held, mut piece, mut order) = (Vec::new(), [0; 32], Order::new());
+    input.take(CONTACT_LENGTH as u64).read_to_end(&mut held)?;
+    contact(&held)?;
+    held.clear();
+    // where `held` begins, where the last message began, and its data that is still to come
+    let (mut at, mut begun, mut left) = (CONTACT_LENGTH, CONTACT_LENGTH, 0);
+    loop {
+        let length = input.read(&mut piece)?;
+        held.extend(&piece[..length]);
+        let mut used = usize::try_from(left).map_or(held.len(), |it| held.len().min(it));
+        output.write_all(&held[..used])?;
+        left -= used as u64;
+        // A fault has an offset in `held`.
+        let moved = |it: Fault| Fault {
+            offset: it.offset + at as u64,
+            ..it
+        };
+        for message in messages(&held, used).take_while(|it| !is_cut(it)) {
+            let message = message.map_err(moved)?;
+            order.judge(&message).map_err(moved)?;
+            (begun, used) = (at + message.offset, message.head_end);
+            if let Fields::Segment { length, data, .. } = message.fields {
+                output.write_all(data)?;
+                used += data.len();
+                left = length - data.len() as u64;
+            }
+        }
+        at += used;
+        held.drain(..used);
+        if length == 0 && held.is_empty() && left == 0 {
+            return Ok(());
+        }
+        if length == 0 {
+            let (code, number) = (Code::WireTruncated, 0);
+            let offset = if left > 0 { begun as u64 } else { at as u64 };
+            let cut = Fault {
+                code,
+                number,
+                offset,
+            };
+            return Err(cut.into());
+        }
+    }
+}
+
+/// Whether more bytes may complete a message. Its data that is there came before.
+fn is_cut(message: &Result<Message<'_>, Fault>) -> bool {
+    matches!(message, Err(fault) if fault.is_truncated())
+}
+
 /// Packs bundles as the stream of a sender whose peer takes segments of 20 bytes.
 fn pack_bundles(bundles: &[u8]) -> Result<Run, ToolError> {
     let options = PackOptions {
@@ -85,6 +138,10 @@ fn run() -> Result<u8, Box<dyn Error>> {
     let mut bytes = Vec::new();
     if std::env::args().nth(1).as_deref() == Some("payload") {
         copy_payload(&mut io::stdin(), &mut io::stdout())?;
+        return Ok(0);
+    }
+    if std::env::args().nth(1).as_deref() == Some("receive") {
+        receive_data(&mut io::stdin(), &mut io::stdout())?;
         return Ok(0);
     }
     io::stdin().read_to_end(&mut bytes)?;

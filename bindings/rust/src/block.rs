@@ -45,9 +45,32 @@ pub enum BlockKind<P> {
         block_type: u64,
         /// The block number.
         number: u64,
+        /// The offset in the bundle where the data begins.
+        data_at: u64,
         /// The data.
         data: P,
     },
+}
+
+/// The head of a canonical block that is not whole yet.
+///
+/// [`Scan::block_head`] returns it.
+#[derive(Clone, Debug, PartialEq, Eq)]
+pub struct BlockHead {
+    /// The offset in the bundle where the block begins.
+    pub offset: u64,
+    /// The block type code.
+    pub block_type: u64,
+    /// The block number.
+    pub number: u64,
+    /// The flags of the block.
+    pub flags: u64,
+    /// The type of its check value.
+    pub check: CheckType,
+    /// The length of its data, as the head gives it.
+    pub data_length: u64,
+    /// The place in the bundle of the data that is there.
+    pub data: Range<u64>,
 }
 
 /// The blocks of the bundle that the bytes begin with.
@@ -57,7 +80,7 @@ pub enum BlockKind<P> {
 ///
 /// ```
 /// use tcpclkit::{blocks_of, BlockKind};
-/// let bytes = std::fs::read("../../examples/two.bundles").unwrap();
+/// let bytes = std::fs::read("examples/hello.bundle").unwrap();
 /// for block in blocks_of(&bytes) {
 ///     if let BlockKind::Canonical { block_type: 1, data, .. } = block?.kind {
 ///         assert_eq!(data, b"hello");
@@ -90,7 +113,7 @@ impl<'a> Iterator for Blocks<'a> {
         let (taken, block) = scan.next_block(&self.bytes[self.taken..]);
         self.taken += taken;
         if let Some(block) = block {
-            return Some(Ok(block.with_data(|place| part(self.bytes, place))));
+            return Some(Ok(block.map_data(|place| part(self.bytes, place))));
         }
         self.scan.take()?.verdict().fault.map(Err)
     }
@@ -110,7 +133,72 @@ impl CheckType {
     }
 }
 
+impl BlockHead {
+    /// The head that the library wrote.
+    pub(crate) fn of(it: &raw::Block) -> BlockHead {
+        BlockHead {
+            offset: it.offset,
+            block_type: it.block_type,
+            number: it.number,
+            flags: it.flags,
+            check: CheckType::of(it.check),
+            data_length: it.data_length,
+            data: it.data_offset..it.data_offset + it.data_seen,
+        }
+    }
+}
+
+impl<P> Block<P> {
+    /// The block as the library takes it, with data of this length.
+    pub(crate) fn numbers(&self, data_length: u64) -> raw::Block {
+        let primary = raw::Block {
+            kind: raw::BLOCK_PRIMARY,
+            offset: self.place.start,
+            length: self.place.end.saturating_sub(self.place.start),
+            flags: self.flags,
+            check: match self.check {
+                CheckType::None => raw::CHECK_NONE,
+                CheckType::Crc16 => raw::CHECK_CRC16,
+                CheckType::Crc32 => raw::CHECK_CRC32,
+            },
+            ..Default::default()
+        };
+        match self.kind {
+            BlockKind::Primary => primary,
+            BlockKind::Canonical {
+                block_type,
+                number,
+                data_at,
+                ..
+            } => raw::Block {
+                kind: raw::BLOCK_CANONICAL,
+                block_type,
+                number,
+                data_offset: data_at,
+                data_length,
+                data_seen: data_length,
+                ..primary
+            },
+        }
+    }
+}
+
 impl Block<Range<u64>> {
+    /// The block with its data, which a caller of a [`Scan`] has kept.
+    ///
+    /// A primary block has none, and stays as it is.
+    ///
+    /// # Panics
+    ///
+    /// If the data has another length than its place.
+    pub fn with_data<'a>(&self, data: &'a [u8]) -> Block<&'a [u8]> {
+        self.clone().map_data(|place| {
+            let length = place.end - place.start;
+            assert_eq!(data.len() as u64, length, "the length of a block's data");
+            data
+        })
+    }
+
     /// The block that the library wrote, if it is one.
     pub(crate) fn of(it: &raw::Block) -> Option<Block<Range<u64>>> {
         let kind = match it.kind {
@@ -119,6 +207,7 @@ impl Block<Range<u64>> {
             raw::BLOCK_CANONICAL => BlockKind::Canonical {
                 block_type: it.block_type,
                 number: it.number,
+                data_at: it.data_offset,
                 data: it.data_offset..it.data_offset + it.data_length,
             },
             kind => panic!("libtcpclkit returned a block of the unknown kind {kind}"),
@@ -132,7 +221,7 @@ impl Block<Range<u64>> {
     }
 
     /// The block with what is made of the place of its data.
-    fn with_data<P>(self, data_at: impl FnOnce(Range<u64>) -> P) -> Block<P> {
+    fn map_data<P>(self, data_of: impl FnOnce(Range<u64>) -> P) -> Block<P> {
         Block {
             place: self.place,
             flags: self.flags,
@@ -142,11 +231,13 @@ impl Block<Range<u64>> {
                 BlockKind::Canonical {
                     block_type,
                     number,
+                    data_at,
                     data,
                 } => BlockKind::Canonical {
                     block_type,
                     number,
-                    data: data_at(data),
+                    data_at,
+                    data: data_of(data),
                 },
             },
         }

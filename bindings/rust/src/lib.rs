@@ -2,8 +2,8 @@
 //! functions that are proved to do what their definitions say.
 //!
 //! ```
-//! let bytes = std::fs::read("../../examples/two.bundles").unwrap();
-//! match tcpclkit::bundle(&bytes[..34]) {
+//! let bytes = std::fs::read("examples/hello.bundle").unwrap();
+//! match tcpclkit::bundle(&bytes) {
 //!     Ok(bundle) => assert_eq!(bundle.payload, b"hello"),
 //!     Err(fault) if fault.is_truncated() => println!("more bytes are needed"),
 //!     Err(fault) => println!("byte {}: {fault}", fault.offset),
@@ -15,7 +15,8 @@
 //! itself is tested and not proved.
 //!
 //! The archive `libtcpclkit.a` is linked in. The environment variable `TCPCLKIT_LIB` names its
-//! folder; without it, the archive is looked for in `/usr/local/lib` and `/usr/lib`.
+//! folder; without it, the archive is looked for in `/usr/local/lib`, `/usr/lib/x86_64-linux-gnu`
+//! and `/usr/lib`.
 
 mod block;
 mod bundle;
@@ -27,13 +28,13 @@ mod scan;
 mod text;
 mod tools;
 
-pub use block::{blocks_of, Block, BlockKind, Blocks, CheckType};
+pub use block::{blocks_of, Block, BlockHead, BlockKind, Blocks, CheckType};
 pub use bundle::{bundle, primary, verdict, Bundle, EndpointId, Fragment, Primary, Verdict};
 pub use fault::{Code, Fault};
 pub use order::{Order, Taken, Turn};
 pub use recording::{
-    contact, messages, Contact, Fields, Item, Items, Message, Messages, CONTACT_LENGTH, HEAD_LIMIT,
-    SEGMENT_END, SEGMENT_START,
+    contact, messages, Announced, Contact, Fields, Item, Items, Message, Messages, CONTACT_LENGTH,
+    HEAD_LIMIT, SEGMENT_END, SEGMENT_START,
 };
 pub use scan::Scan;
 pub use tools::{

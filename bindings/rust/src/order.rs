@@ -5,6 +5,17 @@ use crate::raw;
 use crate::recording::{Fields, Message};
 
 /// The messages of a session so far, as far as they decide which may come next.
+///
+/// A node may also judge what it is about to send. Of such a message, the order looks only at the
+/// kind, the flags and the transfer, and a fault has its `offset`.
+///
+/// ```
+/// use tcpclkit::{Fields, Items, Message, Order, SEGMENT_START};
+/// let (flags, id, items, data) = (SEGMENT_START, 0, Items::default(), b"hello");
+/// let fields = Fields::Segment { flags, id, items, length: 5, data };
+/// let segment = Message { offset: 0, head_end: 22, fields };
+/// assert!(Order::new().judge(&segment).is_err()); // A SESS_INIT has to come before it.
+/// ```
 #[derive(Clone, Copy, Debug, Default, PartialEq, Eq)]
 pub struct Order(raw::Order);
 
@@ -38,7 +49,7 @@ pub struct Taken {
 }
 
 /// A function of the library that judges or takes a message.
-type Judge = unsafe extern "C" fn(*mut raw::Order, u64, u64, u64, *mut raw::Turn) -> u32;
+type Judge = unsafe extern "C" fn(*mut raw::Order, *const raw::Message, *mut raw::Turn) -> u32;
 
 impl Order {
     /// The order of a session before its first message.
@@ -52,7 +63,7 @@ impl Order {
     ///
     /// The fault, if it may not. The order is then as it was.
     pub fn judge(&mut self, message: &Message<'_>) -> Result<Turn, Fault> {
-        let taken = self.call(raw::tcpclkit_raw_judge_order, message);
+        let taken = self.call(raw::tcpclkit_raw_judge_message, message);
         match taken.fault {
             Some(fault) => Err(fault),
             None => Ok(taken.turn.expect("a message that may come is not stray")),
@@ -75,9 +86,15 @@ impl Order {
             Fields::Reject { .. } => (raw::MSG_REJECT, 0, 0),
             Fields::SessInit { .. } => (raw::SESS_INIT, 0, 0),
         };
+        let numbers = raw::Message {
+            kind,
+            flags: flags.into(),
+            id,
+            ..Default::default()
+        };
         let (status, it) = raw::answer(|turn: &mut raw::Turn| {
             // SAFETY: the structs are valid, and do not overlap.
-            unsafe { function(&mut self.0, kind, flags.into(), id, turn) }
+            unsafe { function(&mut self.0, &numbers, turn) }
         });
         Taken {
             fault: (status != raw::OK).then(|| Fault {

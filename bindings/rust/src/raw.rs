@@ -6,7 +6,7 @@
 #![allow(dead_code)] // The header is here whole.
 
 /// The version of the interface that these declarations are of.
-pub const ABI: u32 = 3;
+pub const ABI: u32 = 4;
 
 pub const OK: u32 = 0;
 pub const END: u32 = 1;
@@ -16,6 +16,7 @@ pub const FAULT: u32 = 4;
 pub const TOO_SMALL: u32 = 5;
 pub const RANGE: u32 = 6;
 pub const MEMORY: u32 = 8;
+pub const SCAN_ENDED: u32 = 9;
 
 pub const EID_DTN_NONE: u64 = 1;
 pub const EID_DTN: u64 = 2;
@@ -39,6 +40,10 @@ pub const KEEPALIVE: u64 = 4;
 pub const SESS_TERM: u64 = 5;
 pub const MSG_REJECT: u64 = 6;
 pub const SESS_INIT: u64 = 7;
+
+pub const ANNOUNCED_NONE: u64 = 0;
+pub const ANNOUNCED_TOTAL: u64 = 1;
+pub const ANNOUNCED_BADLY: u64 = 2;
 
 pub const TURN_OTHER: u64 = 0;
 pub const TURN_BEGIN: u64 = 1;
@@ -65,7 +70,7 @@ structs! {
     }
     Block {
         kind: u64, offset: u64, length: u64, block_type: u64, number: u64, flags: u64, check: u64,
-        data_offset: u64, data_length: u64,
+        data_offset: u64, data_length: u64, data_seen: u64,
     }
     Contact { fault: Fault, flags: u64 }
     Message {
@@ -78,6 +83,7 @@ structs! {
         fault: Fault, flags: u64, item_type: u64, value_offset: u64, value_length: u64,
         has_total: u64, total: u64, next: u64,
     }
+    Announced { kind: u64, total: u64 }
     Order { initiated: u64, terminated: u64, is_open: u64, transfer: u64 }
     Turn { fault: u64, turn: u64, last: u64, abandons: u64, abandoned: u64 }
     Run { exit_status: u64, output_length: u64, report_length: u64 }
@@ -112,7 +118,9 @@ extern "C" {
         taken: *mut u64,
         block: *mut Block,
     ) -> u32;
+    pub fn tcpclkit_raw_judge_block(memory: *const u64, block: *mut Block) -> u32;
     pub fn tcpclkit_raw_judge_scan(memory: *const u64, verdict: *mut Verdict) -> u32;
+    pub fn tcpclkit_raw_end_scan(memory: *const u64, length: u64, verdict: *mut Verdict) -> u32;
     pub fn tcpclkit_raw_describe_scan(
         memory: *const u64,
         destination_name: *mut u8,
@@ -136,22 +144,25 @@ extern "C" {
     pub fn tcpclkit_raw_read_item(
         bytes: *const u8,
         length: usize,
+        message: *const Message,
         offset: u64,
-        end: u64,
         item: *mut Item,
     ) -> u32;
-    pub fn tcpclkit_raw_judge_order(
+    pub fn tcpclkit_raw_read_announced(
+        bytes: *const u8,
+        length: usize,
+        message: *const Message,
+        announced: *mut Announced,
+    ) -> u32;
+    pub fn tcpclkit_raw_start_order(order: *mut Order) -> u32;
+    pub fn tcpclkit_raw_judge_message(
         order: *mut Order,
-        kind: u64,
-        flags: u64,
-        id: u64,
+        message: *const Message,
         turn: *mut Turn,
     ) -> u32;
     pub fn tcpclkit_raw_take_message(
         order: *mut Order,
-        kind: u64,
-        flags: u64,
-        id: u64,
+        message: *const Message,
         turn: *mut Turn,
     ) -> u32;
     pub fn tcpclkit_raw_write_fault_text(
@@ -165,6 +176,15 @@ extern "C" {
         eid: *const Eid,
         name: *const u8,
         name_length: usize,
+        text: *mut u8,
+        room: usize,
+        written: *mut u64,
+    ) -> u32;
+    pub fn tcpclkit_raw_read_block_data(
+        primary: *const Block,
+        block: *const Block,
+        data: *const u8,
+        length: usize,
         text: *mut u8,
         room: usize,
         written: *mut u64,

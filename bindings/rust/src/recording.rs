@@ -1,6 +1,6 @@
 //! Recordings: the contact header, the messages after it, and their extension items.
 
-use crate::fault::Fault;
+use crate::fault::{Code, Fault};
 use crate::raw;
 
 /// The length of a contact header. The first message begins there.
@@ -105,9 +105,20 @@ pub struct Item<'a> {
     pub kind: u16,
     /// The value.
     pub value: &'a [u8],
-    /// The number that the value is, if the type is 1 and the value has 8 bytes. An item of a
-    /// segment then announces this length of the whole transfer.
+    /// The length of the whole transfer that an item of a segment announces: its value, if the
+    /// type is 1 and the value has 8 bytes.
     pub total: Option<u64>,
+}
+
+/// What the items of a transfer's first segment announce.
+#[derive(Clone, Copy, Debug, PartialEq, Eq, Hash)]
+pub enum Announced {
+    /// No length.
+    Nothing,
+    /// The length of the whole transfer.
+    Total(u64),
+    /// More than one length, or an item of type 1 whose value has not 8 bytes.
+    Badly,
 }
 
 /// The messages of a recording, in order.
@@ -130,12 +141,17 @@ enum State {
     Ended,
 }
 
-/// The extension items of a message, in order.
+/// The extension items of a message, in order. The default is none.
 #[derive(Clone, Debug, PartialEq, Eq)]
 pub struct Items<'a> {
     bytes: &'a [u8],
+    /// The kind of the message.
+    kind: u64,
     offset: usize,
 }
+
+/// How many items a message has at most.
+const ITEM_LIMIT: usize = 64;
 
 /// Reads the contact header that a recording begins with.
 ///
@@ -203,8 +219,11 @@ fn part(bytes: &[u8], offset: u64, length: u64) -> &[u8] {
 
 /// The items of a message.
 fn items<'a>(bytes: &'a [u8], it: &raw::Message) -> Items<'a> {
-    let bytes = part(bytes, it.items_offset, it.items_length);
-    Items { bytes, offset: 0 }
+    Items {
+        bytes: part(bytes, it.items_offset, it.items_length),
+        kind: it.kind,
+        offset: 0,
+    }
 }
 
 /// The fields of a segment.
@@ -217,7 +236,7 @@ fn segment<'a>(bytes: &'a [u8], it: &raw::Message) -> Fields<'a> {
         items: if has_items {
             items(bytes, it)
         } else {
-            Items::none()
+            Items::default()
         },
         length: it.data_length,
         data: part(bytes, it.data_offset, it.data_seen),
@@ -268,10 +287,101 @@ impl<'a> Message<'a> {
 }
 
 impl<'a> Items<'a> {
-    /// No items.
-    fn none() -> Items<'a> {
+    /// The items of a list, as a segment that begins a transfer has it.
+    ///
+    /// # Errors
+    ///
+    /// The fault that a message with this list has. Its offset is 0.
+    pub fn of_segment(list: &'a [u8]) -> Result<Items<'a>, Fault> {
+        Items::judged(list, raw::XFER_SEGMENT)
+    }
+
+    /// The items of a list, as a SESS_INIT has it. None of them announces a length.
+    ///
+    /// # Errors
+    ///
+    /// The fault that a message with this list has. Its offset is 0.
+    pub fn of_session(list: &'a [u8]) -> Result<Items<'a>, Fault> {
+        Items::judged(list, raw::SESS_INIT)
+    }
+
+    /// The length of the transfer that the items announce, wherever the iteration is.
+    ///
+    /// The items of a SESS_INIT announce none.
+    ///
+    /// ```
+    /// use tcpclkit::{Announced, Items};
+    /// let list = [1, 0, 1, 0, 8, 0, 0, 0, 0, 0, 0, 0, 34];
+    /// let items = Items::of_segment(&list)?;
+    /// assert_eq!(items.announced(), Announced::Total(34));
+    /// assert_eq!(Items::default().announced(), Announced::Nothing);
+    /// # Ok::<(), tcpclkit::Fault>(())
+    /// ```
+    pub fn announced(&self) -> Announced {
+        if self.kind != raw::XFER_SEGMENT {
+            return Announced::Nothing;
+        }
+        let (start, length) = (self.bytes.as_ptr(), self.bytes.len());
+        let message = self.message();
+        let (status, it) = raw::answer(|it: &mut raw::Announced| {
+            // SAFETY: the slice and the structs are valid, and do not overlap.
+            unsafe { raw::tcpclkit_raw_read_announced(start, length, &message, it) }
+        });
+        match it.kind {
+            _ if status != raw::OK => panic!("the list of a message has the status {status}"),
+            raw::ANNOUNCED_NONE => Announced::Nothing,
+            raw::ANNOUNCED_TOTAL => Announced::Total(it.total),
+            _ => Announced::Badly,
+        }
+    }
+
+    /// The message whose list this is, as far as its list is read.
+    fn message(&self) -> raw::Message {
+        raw::Message {
+            kind: self.kind,
+            items_length: self.bytes.len() as u64,
+            ..Default::default()
+        }
+    }
+
+    /// Judges the list of a message of this kind.
+    fn judged(list: &'a [u8], kind: u64) -> Result<Items<'a>, Fault> {
+        let items = Items {
+            bytes: list,
+            kind,
+            offset: 0,
+        };
+        let mut rest = items.clone();
+        let count = rest.by_ref().count();
+        let (code, number) = match rest.read().0 {
+            raw::RANGE => (Code::WireListTooLong, list.len() as u64),
+            _ if count > ITEM_LIMIT => (Code::WireTooManyItems, 0),
+            raw::END => return Ok(items),
+            _ => (Code::WireItemsOverrun, 0),
+        };
+        Err(Fault {
+            code,
+            number,
+            offset: 0,
+        })
+    }
+
+    /// Reads the next item, without passing it.
+    fn read(&self) -> (u32, raw::Item) {
+        let (start, length, offset) = (self.bytes.as_ptr(), self.bytes.len(), self.offset as u64);
+        let message = self.message();
+        raw::answer(|it: &mut raw::Item| {
+            // SAFETY: the slice and the structs are valid, and do not overlap.
+            unsafe { raw::tcpclkit_raw_read_item(start, length, &message, offset, it) }
+        })
+    }
+}
+
+impl Default for Items<'_> {
+    fn default() -> Self {
         Items {
             bytes: &[],
+            kind: raw::XFER_SEGMENT,
             offset: 0,
         }
     }
@@ -281,13 +391,9 @@ impl<'a> Iterator for Items<'a> {
     type Item = Item<'a>;
 
     fn next(&mut self) -> Option<Item<'a>> {
-        let (start, length, offset) = (self.bytes.as_ptr(), self.bytes.len(), self.offset as u64);
-        let (status, it) = raw::answer(|it: &mut raw::Item| {
-            // SAFETY: the slice and the struct are valid, and do not overlap.
-            unsafe { raw::tcpclkit_raw_read_item(start, length, offset, length as u64, it) }
-        });
+        let (status, it) = self.read();
         if status != raw::OK {
-            return None; // the end: the list was judged with its message
+            return None; // the end: the list was judged before
         }
         self.offset = it.next as usize;
         let value = it.value_offset as usize..(it.value_offset + it.value_length) as usize;
@@ -295,7 +401,7 @@ impl<'a> Iterator for Items<'a> {
             flags: it.flags as u8,
             kind: it.item_type as u16,
             value: &self.bytes[value],
-            total: (it.has_total == 1).then_some(it.total),
+            total: (it.has_total == 1 && self.kind == raw::XFER_SEGMENT).then_some(it.total),
         })
     }
 }

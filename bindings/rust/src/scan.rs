@@ -1,6 +1,6 @@
 //! Bundles that come in pieces.
 
-use crate::block::Block;
+use crate::block::{Block, BlockHead};
 use crate::bundle::{Bundle, Described, Primary, Verdict};
 use crate::fault::Fault;
 use crate::raw;
@@ -13,7 +13,7 @@ use std::ops::Range;
 /// returns is a place: the offsets in the bundle where it begins and where it ends.
 ///
 /// ```
-/// let bytes = std::fs::read("../../examples/two.bundles").unwrap();
+/// let bytes = std::fs::read("examples/hello.bundle").unwrap();
 /// let mut scan = tcpclkit::Scan::new();
 /// let mut taken = 0;
 /// for piece in bytes.chunks(10) {
@@ -51,8 +51,8 @@ impl Scan {
 
     /// Takes the bytes of the next piece that belong to the bundle, and returns their number.
     ///
-    /// After the end of the bundle and after its first fault, that is 0. The verdict is truncated
-    /// while the bundle goes on.
+    /// After the end of the bundle and after its first fault, that is 0: [`restart`](Scan::restart)
+    /// comes before the next bundle. The verdict is truncated while the bundle goes on.
     ///
     /// # Panics
     ///
@@ -101,12 +101,68 @@ impl Scan {
         (taken as usize, Block::of(&block))
     }
 
+    /// The head of the canonical block that the bytes taken end in: in its data, at the beginning of
+    /// its data, or in its check value. It is `None` if they end elsewhere.
+    ///
+    /// So a block whose data is too long can be refused before the data comes, and the data of any
+    /// block can be handed on while it comes.
+    ///
+    /// ```
+    /// let bytes = std::fs::read("examples/hello.bundle").unwrap();
+    /// let mut scan = tcpclkit::Scan::new();
+    /// scan.feed(&bytes[..30]);
+    /// let head = scan.block_head().unwrap();
+    /// assert_eq!((head.block_type, head.data_length, head.data), (1, 5, 28..30));
+    /// ```
+    pub fn block_head(&self) -> Option<BlockHead> {
+        let (status, it) = raw::answer(|block| {
+            // SAFETY: the memory has a scan, the struct is valid, and they do not overlap.
+            unsafe { raw::tcpclkit_raw_judge_block(self.memory.as_ptr(), block) }
+        });
+        (status == raw::OK).then(|| BlockHead::of(&it))
+    }
+
     /// The verdict on the bytes that were taken.
+    ///
+    /// A byte that follows the bundle is no fault, since it is not taken: [`end`](Scan::end) counts
+    /// it.
     pub fn verdict(&self) -> Verdict<Range<u64>> {
         let (status, it) = raw::answer(|verdict| {
             // SAFETY: the memory has a scan, the struct is valid, and they do not overlap.
             unsafe { raw::tcpclkit_raw_judge_scan(self.memory.as_ptr(), verdict) }
         });
+        Verdict::of(status, &it, |place| place)
+    }
+
+    /// The verdict on a whole transfer, after its last byte: on `length` bytes as one bundle, those
+    /// that were taken and those that came after them.
+    ///
+    /// If the bundle still needed bytes, the fault is [`BundleCut`](crate::Code::BundleCut). If more
+    /// came than the bundle has, it is [`BundleTrailing`](crate::Code::BundleTrailing).
+    ///
+    /// ```
+    /// let bytes = std::fs::read("examples/hello.bundle").unwrap();
+    /// let mut scan = tcpclkit::Scan::new();
+    /// let mut came = 0;
+    /// for piece in [&bytes[..20], &bytes[20..], b"more"] {
+    ///     scan.feed(piece);
+    ///     came += piece.len() as u64;
+    /// }
+    /// assert!(scan.verdict().is_good());
+    /// let fault = scan.end(came).fault.unwrap();
+    /// assert_eq!((fault.code, fault.offset), (tcpclkit::Code::BundleTrailing, 34));
+    /// ```
+    ///
+    /// # Panics
+    ///
+    /// If more than `length` bytes were taken, or fewer, while the bundle needed more: those that
+    /// are missing were not fed.
+    pub fn end(&self, length: u64) -> Verdict<Range<u64>> {
+        let (status, it) = raw::answer(|verdict| {
+            // SAFETY: the memory has a scan, the struct is valid, and they do not overlap.
+            unsafe { raw::tcpclkit_raw_end_scan(self.memory.as_ptr(), length, verdict) }
+        });
+        assert_ne!(status, raw::RANGE, "a transfer that was not all fed");
         Verdict::of(status, &it, |place| place)
     }
 

@@ -2,6 +2,8 @@
 #![tactic(auto)]
 
 #[cfg(test)]
+mod failed_writes;
+#[cfg(test)]
 mod sizes;
 #[cfg(test)]
 mod std_devices;

@@ -136,6 +136,7 @@ impl DataReader {
     }
 
     /// What the data of the latest block says, if it is read, or why it is malformed.
+    #[inline(always)]
     pub fn found(&self) -> Option<Result<DataView<'_>, DataFault>>
         ensures found { (seen : List ℕ) (block : CanonicalBlock)
             → IsReadingBlock self.now seen block

@@ -12,7 +12,7 @@
 //! ```
 //!
 //! [`data_kind`] says which data is read for the last words of a block's line, such as ` age=100`.
-//! [`write_flags`] writes flags as these lines have them.
+//! [`write_words`] writes these words. [`write_flags`] writes flags as the lines have them.
 #![tactic(auto)]
 
 mod blocks;
@@ -23,4 +23,4 @@ mod words;
 pub use blocks::{BlockText, EndText, PrimaryRestText, PrimaryStartText};
 pub use fields::write_flags;
 pub use kinds::data_kind;
-pub use words::write_integer;
+pub use words::{WORDS_MAX, write_integer, write_words};

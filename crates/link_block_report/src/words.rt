@@ -30,7 +30,7 @@ const PART_MAX: usize = 54;
 const SUBJECT_MAX: usize = 73 + EID_MAX + PART_MAX;
 
 /// The greatest length in bytes of the words of a type: those of a status report.
-pub(crate) const WORDS_MAX: usize = 23 + STATUSES_MAX + SUBJECT_MAX;
+pub const WORDS_MAX: usize = 23 + STATUSES_MAX + SUBJECT_MAX;
 
 /// The name of the reason of a status report, or `?` for other codes.
 ///
@@ -234,7 +234,7 @@ fn write_data(page: &mut [u8], at: usize, found: &DataView<'_>) -> usize
 /// There are none if its data is not read.
 #[tactic(auto, unfolding(crate::specs::Words::words_text))]
 #[inline(always)]
-pub(crate) fn write_words(
+pub fn write_words(
     page: &mut [u8],
     at: usize,
     data_start: u64,

@@ -10,7 +10,7 @@ use Rattle.link_judge.proofs.Effects.{Does, Strays, Passes, Begins, Continues}
 use Rattle.link_judge.proofs.Heads.{transfers_same, transfer_begins, transfer_continues}
 use Rattle.link_blocks.specs.{BlockLines.block_lines, Showing.{end_line, transfer_lines, lines_of}}
 use Rattle.link_blocks.specs.Lister.{end_due}
-use Rattle.link_blocks.proofs.Lines.{no_lines}
+use Rattle.link_blocks.specs.LineLaws.{no_lines}
 
 -- lines, if a transfer is selected, and the line of its end
 end_added : (selected : Bool) (lines end : List ℕ)

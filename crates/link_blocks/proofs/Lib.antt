@@ -1,4 +1,3 @@
-pub mod Lines
 pub mod Ended
 mod Told
 pub mod BundleTexts

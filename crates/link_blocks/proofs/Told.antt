@@ -10,6 +10,7 @@ use Rattle.link_run.specs.Run.{Texts, no_texts, ◌then◌}
 use Rattle.link_run.specs.Writers.{on_output, on_report, AfterWrite}
 use Rattle.link_run.specs.declared.writers.Writers.{Writers}
 use Rattle.link_run.proofs.Runs.{texts_as}
+use Rattle.link_bundle_walk.specs.Telling.{Tells as TellsText}
 use Rattle.link_walk.specs.Walk.{Head, WalkEvent, MessageHead, closes as closes_head, is_last, is_beginning, open_with, open_after_event, data_size, has_open, abandons}
 use Rattle.link_walk.specs.Telling.{ComesAfter, Tells, data_ends}
 use Rattle.link_judge.specs.{Transfers.{Transfer, closes, continued}, TransferJudge.{begun, grown}}
@@ -186,33 +187,34 @@ module _ (options : BlockOptions) (before : List WalkEvent) where
 
     pub data_tells : {W E : Type 0} {out_look : W → Output} {report_look : E → Output}
         {from to : Writers W E} {result : Result (Unit {0}) IoFault} (now : BlockLister)
-        (lines : List ℕ)
-        → transfer_lines options.only true new
-        ≡ transfer_lines options.only true at.transfer ++ lines
-        → AfterWrite out_look report_look from to
-        (on_output lines then on_output (end_due options.only whole data_transfers)) result
-        → OnOk result (KnowsShown options now (before ++ data_ends bytes whole))
+        → TellsText out_look report_look (on_output (transfer_lines options.only true at.transfer))
+        (on_output (transfer_lines options.only true new
+        ++ end_due options.only whole data_transfers))
+        (KnowsShown options now (before ++ data_ends bytes whole)) from to result
         → Tells out_look report_look (blocks_telling options) (KnowsShown options now) before
         (data_ends bytes whole) from to result
-    data_tells now lines are wrote known = record {
-      texts = on_output lines then on_output (end_due options.only whole data_transfers);
+    data_tells now told = record {
+      texts = told.texts;
       said = texts_as
           (rw (
             data_next,
             data_open,
             ended_lines options.only whole data_transfers,
             lines_of-more options.only true new at.earlier,
-            are,
             opened,
             at.are,
             lines_of-more options.only true at.transfer at.earlier,
             append_assoc,
             append_assoc,
-            append_assoc,
+            ← ap (λ (texts : Texts). texts.output) told.said,
           ) refl)
-          (rw (flat_map-append, data_orders bytes whole) refl);
-      wrote = wrote;
-      known = known;
+          (rw (
+            flat_map-append,
+            data_orders bytes whole,
+            ap (λ (texts : Texts). texts.report) told.said,
+          ) refl);
+      wrote = told.wrote;
+      known = told.known;
     }
 
 -- ---- a head

@@ -12,10 +12,10 @@
 //! another.
 #![tactic(auto)]
 
+mod block_lines;
 mod bundles;
 pub mod laws;
 mod lister;
-mod piece;
 mod transfer;
 
 pub use bundles::{BundleBlocksRun, BundleLister, bundle_blocks, bundle_blocks_run};

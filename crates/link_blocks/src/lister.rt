@@ -1,7 +1,9 @@
 //! `blocks`: the lines of the blocks in the transfers of a recorded stream.
 
-ghost use Rattle.std.specs.Prelude.{◌≡◌, ◌&&◌, true, false, [], List, if◌then◌else◌};
-ghost use Rattle.link_run.specs.Run.{AfterRun, devices_at, looks};
+ghost use Rattle.std.specs.Prelude.{◌≡◌, ◌&&◌, true, [], List, if◌then◌else◌};
+ghost use Rattle.link_run.specs.Run.{devices, looks, NoneFailed};
+ghost use Rattle.link_run.specs.NewRun.{IsNewRun};
+ghost use Rattle.link_run.specs.WholeRun.{AfterRun};
 ghost use Rattle.link_run.specs.Writers.{AfterWrite, on_output};
 ghost use Rattle.link_judge.specs.Transfers.{Transfer};
 ghost use Rattle.link_report.specs.Judgement.{viewed_judgement};
@@ -177,15 +179,9 @@ pub fn blocks_run<R: InDevice, W: OutDevice, E: OutDevice>(
     output: W,
     report: E,
 ) -> BlocksRun<R, W, E>
-    requires reader { (R.state reader).failed ≡ false }
-    requires output { (W.state output).failed ≡ false }
-    requires report { (E.state report).failed ≡ false }
-    ensures stands { ⟦<BlocksRun<R, W, E> as Run<R, W, E>>⟧.stands result
-        (record { reader = reader; output = output; report = report }) [] }
-    ensures tool { ⟦<BlocksRun<R, W, E> as Run<R, W, E>>⟧.tool result ≡ blocks_tool options }
-    ensures devices { devices_at (⟦<BlocksRun<R, W, E> as Run<R, W, E>>⟧.place result)
-        ≡ record { reader = reader; output = output; report = report } }
-    ensures waits { ⟦<BlocksRun<R, W, E> as Run<R, W, E>>⟧.waits result ≡ [] }
+    requires sound { NoneFailed (looks R.state W.state E.state) (devices reader output report) }
+    ensures { IsNewRun ⟦<BlocksRun<R, W, E> as Run<R, W, E>>⟧ (blocks_tool options)
+        (devices reader output report) result }
 {
     walk_run(options, BlockLister::new(), reader, output, report)
 }
@@ -209,13 +205,9 @@ pub fn blocks<R: InDevice, W: OutDevice, E: OutDevice>(
     output: W,
     report: E,
 ) -> RunEnd<R, W, E>
-    requires reader { (R.state reader).failed ≡ false }
-    requires output { (W.state output).failed ≡ false }
-    requires report { (E.state report).failed ≡ false }
+    requires sound { NoneFailed (looks R.state W.state E.state) (devices reader output report) }
     ensures { AfterRun (looks R.state W.state E.state) (blocks_tool options)
-        (record { reader = reader; output = output; report = report })
-        (record { reader = result.reader; output = result.output; report = result.report })
-        result.waits.items result.answer }
+        (devices reader output report) result }
 {
     blocks_run(options, reader, output, report).run()
 }

@@ -3,8 +3,9 @@
 ghost use Rattle.std.specs.Prelude.{◌≡◌, ◌+◌, ◌^◌, ◌≤◌, ◌<◌, true, length};
 ghost use Rattle.link_block_reader.specs.DataReader.{read_size};
 
-use crate::piece::show_piece;
+use crate::block_lines::BlockLines;
 use link_block_reader::DataReader;
+use link_bundle_walk::tell_piece;
 use link_judge::TransferJudge;
 use link_options::BlockOptions;
 use link_run::Writers;
@@ -19,14 +20,16 @@ pub(crate) struct TransferBlocks {
 }
 
 impl TransferBlocks {
-    ghost use Rattle.std.specs.Prelude.{OnOk};
     ghost use Rattle.link_wire.specs.Codes.{is_start};
     ghost use Rattle.link_wire.specs.MessageBuffer.{SegmentHasTotals, message_of};
     ghost use Rattle.link_wire.specs.declared.message.Message.{Message};
     ghost use Rattle.link_wire.specs.declared.message.SegmentHead.{SegmentHead};
     ghost use Rattle.link_judge.specs.Transfers.{Transfer};
     ghost use Rattle.link_judge.specs.TransferJudge.{begun, grown};
-    ghost use Rattle.link_blocks.specs.TransferBlocks.{IsShowing, Shows};
+    ghost use Rattle.link_run.specs.Writers.{on_output};
+    ghost use Rattle.link_bundle_walk.specs.Telling.{Tells};
+    ghost use Rattle.link_blocks.specs.Showing.{transfer_lines};
+    ghost use Rattle.link_blocks.specs.TransferBlocks.{IsShowing};
 
     /// What is known before the first transfer of a stream.
     pub(crate) fn new() -> TransferBlocks
@@ -62,14 +65,13 @@ impl TransferBlocks {
         piece: &[u8],
         writers: &mut Writers<W, E>,
     ) -> Result<(), IoFault>
-        ensures follows { (transfer : Transfer) (closed : _)
+        ensures gives { (transfer : Transfer) (closed : _)
             → self.old.judge.size + length piece.now < 2 ^ 63
             → IsShowing options.now.only self.old transfer
-            → OnOk result (IsShowing options.now.only self.new (grown transfer piece.now closed)) }
-        ensures gives { (transfer : Transfer) → self.old.judge.size + length piece.now < 2 ^ 63
-            → IsShowing options.now.only self.old transfer
-            → Shows W.state E.state options.now.only transfer piece.now writers.old writers.new
-            result }
+            → Tells W.state E.state (on_output (transfer_lines options.now.only true transfer))
+            (on_output (transfer_lines options.now.only true (grown transfer piece.now closed)))
+            (IsShowing options.now.only self.new (grown transfer piece.now closed))
+            writers.old writers.new result }
         ensures size { self.new.judge.size ≤ self.old.judge.size + length piece.now }
     {
         if piece.len() as u64 > INPUT_LIMIT - self.judge.size {
@@ -81,12 +83,13 @@ impl TransferBlocks {
         }
         let before = self.judge.size;
         self.judge.size += piece.len() as u64;
-        show_piece(
+        tell_piece(
             self.judge.id,
             before,
             piece,
             &mut self.judge.scan,
             &mut self.reader,
+            &mut BlockLines,
             writers,
         )
     }

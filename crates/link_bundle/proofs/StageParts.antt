@@ -42,8 +42,8 @@ pub record ReadsPart (limit : ℕ) (reading : List ℕ → Result ℕ Stop) : Ty
 reads_part : {A : Type 0} {limit : ℕ} {part : List ℕ → ReadAt A} → IsPart limit part
     → ReadsPart limit (λ bytes. end_of (part bytes))
 reads_part {part = reading} part = record {
-  cuts = λ bytes cut. grind (arith, part.spans bytes);
-  within = λ bytes stop is. grind (arith, part.spans bytes);
+  cuts = λ bytes cut. grind (arith, part.reads bytes []);
+  within = λ bytes stop is. grind (arith, part.reads bytes []);
   more = λ front rest.
       ends_later front (reading front) (reading (front ++ rest)) (part-more part front rest);
 }

@@ -1,20 +1,20 @@
 -- A scan that takes the bytes up to the end of a block or of its heads, or a whole bundle.
 
 use Rattle.std.proofs.Common.{◌≡◌, ℕ, ◌+◌, ◌-◌, ◌<◌, Bool, true, false, leb, not, List, [], ◌∷◌, ◌++◌, length, take, drop, Option, None, Ok, Err, refl, sym, ap, subst, ◌∙◌, ⊎_elim, append-nil, append_assoc, take-append-drop, length-append, arith}
-use Rattle.std.specs.{Prelude.{◌==◌, IfOk, IsTrue, is_none, if◌then◌else◌}, Bool.then_some}
+use Rattle.std.specs.{Prelude.{◌==◌, IsTrue, is_none, if◌then◌else◌}, Bool.then_some}
 use Rattle.std.proofs.lemmas.Bool.{and_parts, eqb-true, ne_eqb, le-leb, lt-leb, not-true}
 use Rattle.std.proofs.{lemmas.List.{nil_from_length, length-take-le, Elements.All-take}, Math.Seq.drop-append_seam}
 use Rattle.link_cbor.specs.{Head.AreBytes, declared.check.CheckKind.CheckKind}
 use Rattle.link_bundle_types.specs.declared.fault.BundleFault.TheVariants.{Cut}
-use Rattle.link_bundle_heads.specs.Rows.{◌>>=◌, unsigned, block_data, block, block_number, block_check_type}
+use Rattle.link_bundle_heads.specs.Rows.{◌>>=◌}
 use Rattle.link_bundle_blocks.specs.declared.block.CanonicalBlock.{CanonicalBlock}
-use Rattle.link_bundle_blocks.specs.Reading.{Stop, row_at, stopped}
+use Rattle.link_bundle_blocks.specs.Reading.{stopped}
 use Rattle.link_bundle_blocks.specs.Blocks.{Primary, Block, PrimaryOf, CanonicalOf, ended}
 use Rattle.link_bundle_blocks.specs.Bundle.{Bundle, with_blocks, rest_of, payload_at, blocks_at, bundle_at, judged_bundle}
-use Rattle.link_bundle_blocks.specs.{Canonical.heads_at, Parts.next_block_at, Whole.{whole_primary, whole_canonical, moved}}
+use Rattle.link_bundle_blocks.specs.{Parts.next_block_at, Whole.{whole_primary, whole_canonical, moved}}
 use Rattle.link_bundle_blocks.proofs.{Beginnings.{Begins, block_lasts, primary_lasts}, WholeFields.primary_fields-whole}
 use Rattle.link_bundle_blocks.proofs.{Parts.{blocks-next, next-shifted}, PartsSteady.{part-more, primary-part}}
-use Rattle.link_bundle_blocks.proofs.Readings.{bundle_parts, has_parts, primary_read, then_read, was_read}
+use Rattle.link_bundle_blocks.proofs.{Keeping.{IsBegun, heads_begin}, Readings.{bundle_parts, has_parts, primary_read, was_read}}
 use Rattle.link_bundle_blocks.proofs.Shifting.{whole_canonical-shifted}
 use Rattle.link_bundle.specs.declared.{cursor.Cursor.Cursor, draft.Draft.Draft, scan.BundleScan.BundleScan}
 use Rattle.link_bundle.specs.declared.stage.ScanStage.TheVariants.{PrimaryBlock, BlockHeads, Ended}
@@ -100,20 +100,6 @@ primary_come {old = old} {new = new} {after = after} {before = before} {seen = s
     (primary_lasts bytes more (primary_of after, after.check) (length bytes) whole)))))
 
 -- ---- a canonical block
-
--- a block of which the heads alone were read does not say where it ends
-abbrev pub Open : CanonicalBlock × ℕ → Type 0
-Open read = read.0.end ≡ None
-
-pub open_heads : (numbers bytes : List ℕ) (start : ℕ) → IfOk (heads_at numbers bytes start) Open
-unfolding heads_at
-open_heads numbers bytes start =
-    then_read Open (row_at block bytes start) _
-    (λ (count, offset) _. then_read Open (row_at unsigned bytes offset) _
-    (λ (type, offset) _. then_read Open (row_at (block_number type numbers) bytes offset) _
-    (λ (number, offset) _. then_read Open (row_at unsigned bytes offset) _
-    (λ (flags, offset) _. then_read Open (row_at (block_check_type count) bytes offset) _
-    (λ (check, offset) _. then_read Open (row_at block_data bytes offset) _ (λ (size, end) _. refl))))))
 
 -- the data of the payload block, and of another block
 data_read : (is_payload : Bool) (numbers : List ℕ) (primary : Primary) (block : CanonicalBlock)
@@ -226,7 +212,8 @@ known_block draft bytes start block next none whole room is =
     let heads : next_block_at draft.numbers bytes start ≡ Ok (block, parts.offset) =
     rw few parts.heads in
     heads_left draft bytes start block parts.offset none
-    (was_read _ _ (block, parts.offset) (open_heads draft.numbers bytes start) parts.heads) heads
+    (was_read (IsBegun start) _ (block, parts.offset) (heads_begin draft.numbers bytes start)
+    parts.heads).end heads
     ∙ field_ended {same = parts.same} (with_block draft block) bytes next (has_new draft block whole)
     (rw parts.content refl)
 
@@ -296,13 +283,6 @@ module _ {old mid : BundleScan} (start : old.stage ≡ PrimaryBlock)
 
 -- ---- a whole bundle
 
-alone_after : (test : Bool) (bundle : Bundle) (stop : Stop) (blocks : List Block)
-    → bundle.blocks ≡ [] → stop.blocks ≡ []
-    → (if test then Ok (record bundle { blocks = blocks }) else Err (record stop { blocks = blocks }))
-    ≡ with_blocks blocks (if test then Ok bundle else Err stop)
-alone_after true bundle stop blocks none also_none = rw (none, append-nil blocks) refl
-alone_after false bundle stop blocks none also_none = rw (also_none, append-nil blocks) refl
-
 -- the bytes of a bundle have all of its primary block
 primary_in : (run rest : List ℕ) (bundle : Bundle) (read : (Primary × Option CheckKind) × ℕ)
     → bundle_at run ≡ Ok bundle → whole_primary (run ++ rest) ≡ Ok read
@@ -343,8 +323,8 @@ whole_taken {old = old} {new = new} {blocks = blocks} {piece = piece} {size = si
         count = omega (arith, first.count, ap length none, length-take-le size piece begins.within);
         reads = λ more.
             rw (begins.reads more, end, append-nil blocks)
-            (alone_after (size == length (run ++ more)) (bundle_of new.draft size) _ blocks refl
-            refl);
+            (rw append-nil at
+            (read_alone-blocks None (run ++ more) blocks (Ok (bundle_of new.draft size))));
         stands = nothing;
         primary = rw whole (λ more. primary_fields-whole run more fields has.0.0 has.0.1 primary);
       });

@@ -1,39 +1,32 @@
 -- Bytes that begin with a block.
 
-use Rattle.std.proofs.Common.{◌≡◌, ℕ, zero, suc, ◌<◌, ◌≤◌, List, [], ◌++◌, length, take, drop, Option, Result, Ok, Err, refl, sym, ap, ◌∙◌, append-nil, arith}
+use Rattle.std.proofs.Common.{◌≡◌, ℕ, zero, suc, ◌+◌, ◌<◌, ◌≤◌, List, [], ◌++◌, length, take, drop, Option, Result, Ok, Err, refl, sym, ap, ◌∙◌, append-nil, arith}
 use Rattle.std.proofs.lemmas.List.{length-take-le, take-append-drop}
+use Rattle.link_bundle_types.specs.declared.fault.BundleFault.TheVariants.{Cut}
 use Rattle.link_cbor.specs.{declared.check.CheckKind.CheckKind, Head.head_front}
 use Rattle.link_bundle_blocks.specs.{declared.block.CanonicalBlock.CanonicalBlock, Blocks.Primary}
 use Rattle.link_bundle_blocks.specs.Reading.{Stop, ReadAt, head_at, row_at}
 use Rattle.link_bundle_blocks.specs.Canonical.{heads_at}
 use Rattle.link_bundle_blocks.specs.Bundle.{Bundle, opening_at, bundle_at}
 use Rattle.link_bundle_blocks.specs.Whole.{whole_primary, whole_canonical}
-use Rattle.link_bundle_blocks.proofs.Steady.{EndsCut, Reads, GoesTo, EndsWithin, Lasts, cuts, same, reads_last, ended, reads-then, reads-then-of, content_at-reads, heads_at-reads, data_before}
+use Rattle.link_bundle_blocks.proofs.Steady.{Reads, ended, reads-then, reads-any, content_at-reads, heads_at-reads, data_before}
 use Rattle.link_bundle_blocks.proofs.Elements.{whole_primary-reads}
-use Rattle.link_bundle_blocks.proofs.Keeping.{begun-of-either, bundle_at-lasts}
+use Rattle.link_bundle_blocks.proofs.Keeping.{Lasts, cuts, same, ending, end_of, reads_last, begun-of-either, bundle_at-lasts}
 use Rattle.link_bundle_blocks.proofs.Readings.{was_read, has_parts}
 
 pub whole_canonical-reads : (numbers bytes more : List ℕ) (start : ℕ)
-    → Reads bytes start (whole_canonical numbers bytes start)
+    → Reads (54 + suc (length bytes)) bytes start (whole_canonical numbers bytes start)
     (whole_canonical numbers (bytes ++ more) start)
 unfolding whole_canonical
 whole_canonical-reads numbers bytes more start =
-    reads-then-of bytes start (heads_at numbers bytes start)
-    (heads_at numbers (bytes ++ more) start) _ _
-    (heads_at-reads numbers bytes more start)
-    (λ (block, next) read.
+    reads-then (heads_at-reads bytes more numbers start)
+    (λ (block, next) onward read.
     rw (begun-of-either numbers bytes more start (block, next) read).place
-    (reads-then
-    (content_at-reads block.data_length block.check block.start bytes more block.data_start)
-    (λ (_, next). ended bytes block next)))
+    (reads-any (reads-then
+    (content_at-reads bytes more block.data_length block.check block.start block.data_start)
+    (λ (_, next) onward read. ended block next))))
 
 -- ---- what the bytes begin with
-
-read_on : {A : Type 0} {size : A → ℕ} {bytes : List ℕ} {now later : Result A Stop} (value : A)
-    → Lasts size bytes now later → now ≡ Ok value → later ≡ Ok value
-read_on {now = Ok found} value (cuts cut past) is = absurd cut
-read_on {now = Err stop} value (cuts cut past) is = cc
-read_on value (same stays within) is = stays ∙ is
 
 module _ {A : Type 0} (size : A → ℕ) (read : List ℕ → Result A Stop) (value : A) where
   -- The bytes begin with a part that is read as this value, whatever bytes follow it.
@@ -42,61 +35,67 @@ module _ {A : Type 0} (size : A → ℕ) (read : List ℕ → Result A Stop) (va
     pub within : size value ≤ length bytes
     pub reads : (more : List ℕ) → read (take (size value) bytes ++ more) ≡ Ok value
 
-  ends_within : (bytes : List ℕ) (now later : Result A Stop) → Lasts size bytes now later
-      → now ≡ Ok value → size value ≤ length bytes
-  ends_within bytes (Ok found) later (cuts cut past) is = absurd cut
-  ends_within bytes (Err stop) later (cuts cut past) is = cc
-  ends_within bytes now later (same stays within) is =
-      let here : EndsWithin size bytes (Ok value) = rw is at within in here
+  not_cut : (reading : Result A Stop) → ending size reading ≡ Err Cut → reading ≡ Ok value → ⊥
+  not_cut (Ok found) cut is = cc
+  not_cut (Err stop) cut is = cc
 
-  by_itself : (bytes : List ℕ) (now later : Result A Stop) → Lasts size bytes now later
+  ends_within : {bytes : List ℕ} {now later : Result A Stop} → Lasts size bytes now later
+      → now ≡ Ok value → size value ≤ length bytes
+  ends_within (cuts cut past) is = absurd (not_cut _ cut is)
+  ends_within (same stays within) is = within (size value) (ap (ending size) is)
+
+  by_itself : {bytes : List ℕ} {now later : Result A Stop} → Lasts size bytes now later
       → later ≡ Ok value → size value ≤ length bytes → now ≡ Ok value
-  by_itself bytes now later (cuts cut past) is here =
-      absurd (let beyond : GoesTo size (suc (length bytes)) (Ok value) = rw is at past in omega arith)
-  by_itself bytes now later (same stays within) is here = sym stays ∙ is
+  by_itself (cuts cut past) is here = absurd (omega (arith, past (size value) (ap (ending size) is)))
+  by_itself (same stays within) is here = sym stays ∙ is
+
+  read_on : {bytes : List ℕ} {now later : Result A Stop} → Lasts size bytes now later
+      → now ≡ Ok value → later ≡ Ok value
+  read_on (cuts cut past) is = absurd (not_cut _ cut is)
+  read_on (same stays within) is = stays ∙ is
 
   not_nothing : (count : ℕ) (bytes : List ℕ)
-      → EndsCut (read []) → read (take count bytes) ≡ Ok value → 0 < count
-  not_nothing zero bytes nothing is =
-      absurd (let cut : EndsCut (Ok value) = rw is at nothing in cut)
+      → ending size (read []) ≡ Err Cut → read (take count bytes) ≡ Ok value → 0 < count
+  not_nothing zero bytes nothing is = absurd (not_cut (read []) nothing is)
   not_nothing (suc count) bytes nothing is = omega arith
 
   pub begins : (bytes : List ℕ)
       → ((bytes more : List ℕ) → Lasts size bytes (read bytes) (read (bytes ++ more)))
-      → EndsCut (read []) → read bytes ≡ Ok value → Begins bytes
+      → ending size (read []) ≡ Err Cut → read bytes ≡ Ok value → Begins bytes
   begins bytes lasting nothing is =
       let count = size value in
-      let within = ends_within bytes (read bytes) (read (bytes ++ [])) (lasting bytes []) is in
+      let within = ends_within (lasting bytes []) is in
       let run = take count bytes in
-      let own = by_itself run (read run) (read (run ++ drop count bytes))
-      (lasting run (drop count bytes)) (ap read (take-append-drop count bytes) ∙ is)
+      let own = by_itself (lasting run (drop count bytes))
+      (ap read (take-append-drop count bytes) ∙ is)
       (omega (arith, length-take-le count bytes within)) in
       record {
         some = not_nothing count bytes nothing own;
         within = within;
-        reads = λ more. read_on value (lasting run more) own;
+        reads = λ more. read_on (lasting run more) own;
       }
 
 block_stays : (numbers bytes more : List ℕ)
     → Lasts (λ read. read.1) bytes (whole_canonical numbers bytes 0)
     (whole_canonical numbers (bytes ++ more) 0)
-block_stays numbers bytes more = reads_last bytes _ _ (whole_canonical-reads numbers bytes more 0)
+block_stays numbers bytes more = reads_last (whole_canonical-reads numbers bytes more 0)
 
 primary_stays : (bytes more : List ℕ)
     → Lasts (λ read. read.1) bytes (whole_primary bytes) (whole_primary (bytes ++ more))
-primary_stays bytes more = reads_last bytes _ _ (whole_primary-reads bytes more)
+primary_stays bytes more = reads_last (whole_primary-reads bytes more)
 
 -- a block stays the same, whatever bytes follow it
 pub block_lasts : (numbers run more : List ℕ) (block : CanonicalBlock) (size : ℕ)
     → whole_canonical numbers run 0 ≡ Ok (block, size)
     → whole_canonical numbers (run ++ more) 0 ≡ Ok (block, size)
 block_lasts numbers run more block size is =
-    read_on (block, size) (block_stays numbers run more) is
+    read_on (λ read. read.1) (λ bytes. whole_canonical numbers bytes 0) (block, size)
+    (block_stays numbers run more) is
 
 pub primary_lasts : (run more : List ℕ) (read : Primary × Option CheckKind) (size : ℕ)
     → whole_primary run ≡ Ok (read, size) → whole_primary (run ++ more) ≡ Ok (read, size)
 primary_lasts run more read size is =
-    read_on (read, size) (primary_stays run more) is
+    read_on (λ read. read.1) whole_primary (read, size) (primary_stays run more) is
 
 -- the data of a block begins within the block
 pub data_begins : (numbers bytes : List ℕ) (start : ℕ) (block : CanonicalBlock) (next : ℕ)
@@ -110,7 +109,7 @@ data_begins numbers bytes start block next is =
           parts.content,
     )
 
-no_block : (numbers : List ℕ) → EndsCut (whole_canonical numbers [] 0)
+no_block : (numbers : List ℕ) → ending (λ read. read.1) (whole_canonical numbers [] 0) ≡ Err Cut
 unfolding whole_canonical heads_at row_at head_at head_front
 no_block numbers = refl
 
@@ -121,7 +120,7 @@ begins_block numbers bytes block size is =
     begins (λ read. read.1) (λ bytes. whole_canonical numbers bytes 0) (block, size) bytes
     (block_stays numbers) (no_block numbers) is
 
-no_primary : EndsCut (whole_primary [])
+no_primary : ending (λ read. read.1) (whole_primary []) ≡ Err Cut
 unfolding whole_primary opening_at
 no_primary = refl
 
@@ -142,7 +141,7 @@ read_exactly read value size bytes begins =
 
 -- ---- whole bundles
 
-no_bundle : EndsCut (bundle_at [])
+no_bundle : end_of (bundle_at []) ≡ Err Cut
 unfolding bundle_at opening_at
 no_bundle = refl
 

@@ -1,6 +1,6 @@
 -- The elements of a primary block, and the fields before a stop in them.
 
-use Rattle.std.proofs.Common.{◌≡◌, ℕ, ◌+◌, ◌⊎◌, inl, inr, Bool, true, false, List, [], ◌++◌, Option, None, Some, Result, Ok, Err, refl, ap, ◌∙◌, arith}
+use Rattle.std.proofs.Common.{◌≡◌, ℕ, ◌+◌, ◌⊎◌, inl, inr, Bool, true, false, List, ◌++◌, Option, Some, Result, Ok, Err, refl, ap, ◌∙◌, arith}
 use Rattle.link_cbor.specs.declared.{head.Head.Head}
 use Rattle.link_bundle_types.specs.declared.{eid.Eid.Eid, fault.BundleFault.BundleFault}
 use Rattle.link_bundle_heads.specs.Rows.{◌>>=◌, unsigned, pair, primary_block, version, is_fragment, primary_check_type}
@@ -9,8 +9,7 @@ use Rattle.link_bundle_blocks.specs.Blocks.{Primary}
 use Rattle.link_bundle_blocks.specs.EndpointId.{eid_at}
 use Rattle.link_bundle_blocks.specs.Primary.{PrimaryFields, ElementsAt, first_elements, after, without_fields, fragment_elements, primary_elements, fragment_at, primary_at}
 use Rattle.link_bundle_blocks.specs.{PrimaryFields.whole_elements, Whole.whole_primary}
-use Rattle.link_bundle_blocks.proofs.Steady.{IsCut, Reads, short, whole, reads-then, row_at-reads, eid_at-reads, field_at-reads, opening_at-reads, ended}
-use Rattle.link_bundle_blocks.proofs.Spans.{Spans, is_read, Lasting, spans-then, row_at-spans, eid_at-spans, field_at-spans, opening_at-spans, lasting}
+use Rattle.link_bundle_blocks.proofs.Steady.{IsCut, Reads, is_read, has_fault, is_cut, Lasting, reads-then, row_at-reads, eid_at-reads, field_at-reads, opening_at-reads, ended, lasting}
 
 -- ---- without the fields before a stop
 
@@ -70,12 +69,11 @@ pub ruleset whole_block = (whole_primary-elements)
 
 -- ---- elements of some bytes, and of those bytes with more after them
 
--- Elements that have at most `limit` bytes. If the bytes end inside them, there are fewer. If not,
--- more bytes change neither the elements nor the fields before a stop.
+-- Elements that have at most `limit` bytes. If the bytes do not end inside them, more bytes change
+-- neither the elements nor the fields before a stop.
 pub record AreElements {A : Type 0} (limit : ℕ) (bytes : List ℕ) (offset : ℕ)
     (now later : ElementsAt A) : Type 0 where
-  pub spans : Spans limit bytes offset (without_fields now)
-  pub reads : Reads bytes offset (without_fields now) (without_fields later)
+  pub reads : Reads limit bytes offset (without_fields now) (without_fields later)
   pub same : IsCut bytes (without_fields now) ⊎ (later ≡ now)
 
 elements-then : {A B : Type 0} {limit rest : ℕ} {bytes : List ℕ} {offset : ℕ}
@@ -86,9 +84,8 @@ elements-then : {A B : Type 0} {limit rest : ℕ} {bytes : List ℕ} {offset : �
 elements-then {A = A} {B = B} {bytes = bytes} {now = now} {later = later} {next = next}
     {next_later = next_later} are each =
     record {
-      spans = rw (without-then now next) (spans-then are.spans (λ value. (each value).spans));
       reads = rw (without-then now next, without-then later next_later)
-          (reads-then are.reads (λ value. (each value).reads));
+          (reads-then are.reads (λ value onward read. (each value).reads));
       same = same_then now are.same;
     }
   where
@@ -100,28 +97,18 @@ elements-then {A = A} {B = B} {bytes = bytes} {now = now} {later = later} {next 
     same_then (Err stop) (inr is) = inr (rw is refl)
 
 after_are : {A : Type 0} {limit : ℕ} {bytes : List ℕ} {offset : ℕ} (fields : PrimaryFields)
-    {now later : ReadAt A}
-    → Spans limit bytes offset now → Reads bytes offset now later
+    {now later : ReadAt A} → Reads limit bytes offset now later
     → AreElements limit bytes offset (part_after fields now) (part_after fields later)
-after_are {bytes = bytes} fields {now = now} {later = later} spans reads =
-    record {
-      spans = rw (without-part fields now) spans;
-      reads = rw (without-part fields now, without-part fields later) reads;
-      same = rw (without-part fields now) (same_after reads);
-    }
-  where
-    same_after : {offset : ℕ} → Reads bytes offset now later
-        → IsCut bytes now ⊎ (part_after fields later ≡ part_after fields now)
-    same_after (short cut onward past) = inl cut
-    same_after (whole is onward within) = inr (ap (part_after fields) is)
+after_are fields (is_read onward below within) =
+    record { reads = is_read onward below within; same = inr refl }
+after_are fields (has_fault fault here stays) =
+    record { reads = has_fault fault here stays; same = inr refl }
+after_are fields {later = later} (is_cut short goes) =
+    record { reads = rw (without-part fields later) (is_cut short goes); same = inl refl }
 
 all_read : {A : Type 0} {bytes : List ℕ} (value : A) (offset : ℕ)
     → AreElements 0 bytes offset (Ok (value, offset)) (Ok (value, offset))
-all_read {bytes = bytes} value offset = record {
-  spans = is_read (omega arith) (omega arith);
-  reads = ended bytes value offset;
-  same = inr refl;
-}
+all_read value offset = record { reads = ended value offset; same = inr refl }
 
 module _ (bytes more : List ℕ) where
   row_then : {A B : Type 0} (row : Head → Result A BundleFault) {rest offset : ℕ}
@@ -131,9 +118,7 @@ module _ (bytes more : List ℕ) where
       → AreElements (9 + rest) bytes offset (part_after fields (row_at row bytes offset) >>= next)
       (part_after fields (row_at row (bytes ++ more) offset) >>= next_later)
   row_then row {offset = offset} fields lasting each =
-      elements-then
-      (after_are fields (row_at-spans row bytes offset lasting)
-      (row_at-reads row bytes more offset)) each
+      elements-then (after_are fields (row_at-reads bytes more row offset lasting)) each
 
   eid_then : {B : Type 0} {rest offset : ℕ} (fields : PrimaryFields)
       {next next_later : Eid × ℕ → ElementsAt B}
@@ -141,16 +126,14 @@ module _ (bytes more : List ℕ) where
       → AreElements (1051 + rest) bytes offset (part_after fields (eid_at bytes offset) >>= next)
       (part_after fields (eid_at (bytes ++ more) offset) >>= next_later)
   eid_then {offset = offset} fields each =
-      elements-then
-      (after_are fields (eid_at-spans bytes offset) (eid_at-reads bytes more offset)) each
+      elements-then (after_are fields (eid_at-reads bytes more offset)) each
 
   fragment_are : (is : Bool) (block : Primary) (offset : ℕ)
       → AreElements 18 bytes offset (fragment_elements is block bytes offset)
       (fragment_elements is block (bytes ++ more) offset)
   unfolding fragment_elements
   fragment_are false block offset = record {
-    spans = is_read (omega arith) (omega arith);
-    reads = ended bytes None offset;
+    reads = is_read (omega arith) (λ at. omega arith) (λ at. at);
     same = inr refl;
   }
   fragment_are true block offset =
@@ -180,21 +163,13 @@ module _ (bytes more : List ℕ) where
   pub whole_are : AreElements 3257 bytes 0 (whole_elements bytes) (whole_elements (bytes ++ more))
   unfolding whole_elements
   whole_are =
-      elements-then (after_are _ (opening_at-spans bytes) (opening_at-reads bytes more))
+      elements-then (after_are _ (opening_at-reads bytes more))
       (λ (_, start). elements-then (primary_are start)
       (λ ((block, check), offset).
-      elements-then
-      (after_are _ (field_at-spans check start bytes offset)
-      (field_at-reads check start bytes more offset))
+      elements-then (after_are _ (field_at-reads bytes more check start offset))
       (λ (_, next). all_read _ next)))
 
--- ---- the first byte of a bundle and its primary block
-
-pub whole_primary-spans : (bytes : List ℕ) → Spans 3257 bytes 0 (whole_primary bytes)
-whole_primary-spans bytes = rw (whole_primary-elements bytes) (whole_are bytes []).spans
-
-pub whole_primary-reads : (bytes more : List ℕ)
-    → Reads bytes 0 (whole_primary bytes) (whole_primary (bytes ++ more))
-whole_primary-reads bytes more =
-    rw (whole_primary-elements bytes, whole_primary-elements (bytes ++ more))
-    (whole_are bytes more).reads
+  -- the first byte of a bundle and its primary block
+  pub whole_primary-reads : Reads 3257 bytes 0 (whole_primary bytes) (whole_primary (bytes ++ more))
+  whole_primary-reads =
+      rw (whole_primary-elements bytes, whole_primary-elements (bytes ++ more)) (whole_are).reads

@@ -1,6 +1,6 @@
 -- Heads of known major types, by the numbers that their bytes spell.
 
-use Rattle.std.proofs.Common.{◌≡◌, ℕ, zero, suc, ◌+◌, ◌-◌, ◌*◌, ◌/◌, ◌%◌, ◌^◌, ◌<◌, ◌≤◌, true, false, List, ◌∷◌, length, take, drop, slice_index, get_or, None, Some, Ok, refl, sym, ap, ◌∙◌, arith}
+use Rattle.std.proofs.Common.{◌≡◌, ℕ, zero, suc, ◌+◌, ◌-◌, ◌*◌, ◌/◌, ◌%◌, ◌^◌, ◌<◌, ◌≤◌, true, false, List, ◌∷◌, length, take, drop, slice_index, get_or, None, Some, Result, Ok, refl, sym, ap, ◌∙◌, arith}
 use Rattle.std.specs.Prelude.{◌==◌}
 use Rattle.std.proofs.lemmas.{Bool.ne_eqb, List.{drop_more, get_or-drop, length-drop}}
 use Rattle.std.proofs.{lemmas.Nat.{div-mul-add, pow-add}, Math.Pow.pow_mono}
@@ -8,6 +8,7 @@ use Rattle.byteorder.specs.{Endian.big_from, Numbers.big_from-lt}
 use Rattle.link_cbor.specs.declared.head.Head.{Head}
 use Rattle.link_cbor.specs.Head.{Whole, big_endian, with_argument, no_argument, head_front}
 use Rattle.link_cbor.proofs.HeadLaws.{big_endian-big_from, argument_front-there, front_by-small, front_by-argument, front_by-none}
+use Rattle.link_bundle_types.specs.declared.fault.BundleFault.{BundleFault}
 use Rattle.link_bundle_types.specs.declared.eid.Eid.TheVariants.{DtnNone, Ipn as IpnNumbers}
 use Rattle.link_bundle_heads.specs.declared.endpoint.Scheme.TheVariants.{Dtn, Ipn}
 use Rattle.link_bundle_heads.specs.Rows.{unsigned, array, pair, scheme, dtn_part, ipn_part, is_break, closing}
@@ -134,12 +135,21 @@ head_at-argument major information size argument bytes offset below within is le
 
 -- ---- heads of one byte, which are judged
 
+small_row : {A : Type 0} (row : Head → Result A BundleFault) (major number : ℕ) (value : A)
+    (bytes : List ℕ) (offset next : ℕ) → next ≡ offset + 1
+    → offset < length bytes → get_or bytes offset 0 ≡ 32 * major + number → number < 24
+    → row (record { major = major; value = Some number }) ≡ Ok value
+    → row_at row bytes offset ≡ Ok (value, next)
+small_row row major number value bytes offset next after within is small accepted =
+    rw after
+    (row_at-accepted row bytes offset (offset + 1) (record { major = major; value = Some number })
+    value (head_at-small major number bytes offset within is small) accepted)
+
 pub pair_at-byte : (bytes : List ℕ) (offset : ℕ) → offset < length bytes → get_or bytes offset 0 ≡ 0x82
     → row_at pair bytes offset ≡ Ok (2, offset + 1)
 unfolding pair array
 pair_at-byte bytes offset within is =
-    row_at-accepted pair bytes offset (offset + 1) (record { major = 4; value = Some 2 }) 2
-    (head_at-small 4 2 bytes offset within is (omega arith)) refl
+    small_row pair 4 2 2 bytes offset (offset + 1) refl within is (omega arith) refl
 
 front-break : (rest : List ℕ)
     → head_front (0xff ∷ rest) ≡ Whole (record { major = 7; value = None }) 1
@@ -187,13 +197,6 @@ three_of bytes offset first second third word first_is second_is third_is are sp
     let byte3 = are (offset + 3) in
     record { one = omega arith; two = omega arith; three = omega arith }
 
--- a head of one byte at a later offset
-small_value : (major value from offset next : ℕ) (bytes : List ℕ) → from ≡ offset → next ≡ offset + 1
-    → offset < length bytes → get_or bytes offset 0 ≡ 32 * major + value → value < 24
-    → head_at bytes from ≡ Ok (record { major = major; value = Some value }, next)
-small_value major value from offset next bytes start after within is small =
-    rw (start, after) (head_at-small major value bytes offset within is small)
-
 pub eid_at-ipn : (bytes : List ℕ) (offset word node service after next : ℕ)
     → offset + 4 ≤ length bytes → ((index : ℕ) → slice_index bytes index < 256)
     → word ≡ big_from 0 4 (drop offset bytes) → word / 2 ^ 8 ≡ 0x820282
@@ -206,13 +209,11 @@ eid_at-ipn bytes offset word node service after next within are spells is first 
     three_of bytes offset 0x82 2 0x82 word (omega arith) (omega arith) (omega arith) are spells is in
     let is_pair = pair_at-byte bytes offset (omega arith) begins.one in
     let is_ipn : row_at scheme bytes (offset + 1) ≡ Ok (Ipn, offset + 2) =
-    row_at-accepted scheme bytes (offset + 1) (offset + 2) (record { major = 0; value = Some 2 }) Ipn
-    (small_value 0 2 (offset + 1) (offset + 1) (offset + 2) bytes refl (omega arith)
-    (omega arith) begins.two (omega arith)) refl in
+    small_row scheme 0 2 Ipn bytes (offset + 1) (offset + 2) (omega arith) (omega arith) begins.two
+    (omega arith) refl in
     let is_two : row_at ipn_part bytes (offset + 2) ≡ Ok (2, offset + 3) =
-    row_at-accepted ipn_part bytes (offset + 2) (offset + 3) (record { major = 4; value = Some 2 }) 2
-    (small_value 4 2 (offset + 2) (offset + 2) (offset + 3) bytes refl (omega arith)
-    (omega arith) begins.three (omega arith)) refl in
+    small_row ipn_part 4 2 2 bytes (offset + 2) (offset + 3) (omega arith) (omega arith) begins.three
+    (omega arith) refl in
     rw (is_pair, is_ipn, is_two, first, second) refl
 
 pub eid_at-none : (bytes : List ℕ) (offset word : ℕ)
@@ -225,12 +226,9 @@ eid_at-none bytes offset word within are spells is =
     three_of bytes offset 0x82 1 0 word (omega arith) (omega arith) (omega arith) are spells is in
     let is_pair = pair_at-byte bytes offset (omega arith) begins.one in
     let is_dtn : row_at scheme bytes (offset + 1) ≡ Ok (Dtn, offset + 2) =
-    row_at-accepted scheme bytes (offset + 1) (offset + 2) (record { major = 0; value = Some 1 }) Dtn
-    (small_value 0 1 (offset + 1) (offset + 1) (offset + 2) bytes refl (omega arith)
-    (omega arith) begins.two (omega arith)) refl in
+    small_row scheme 0 1 Dtn bytes (offset + 1) (offset + 2) (omega arith) (omega arith) begins.two
+    (omega arith) refl in
     let is_none : row_at dtn_part bytes (offset + 2) ≡ Ok (None, offset + 3) =
-    row_at-accepted dtn_part bytes (offset + 2) (offset + 3)
-    (record { major = 0; value = Some 0 }) None
-    (small_value 0 0 (offset + 2) (offset + 2) (offset + 3) bytes refl (omega arith)
-    (omega arith) begins.three (omega arith)) refl in
+    small_row dtn_part 0 0 None bytes (offset + 2) (offset + 3) (omega arith) (omega arith)
+    begins.three (omega arith) refl in
     rw (is_pair, is_dtn, is_none) refl

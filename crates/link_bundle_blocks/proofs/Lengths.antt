@@ -10,7 +10,7 @@ use Rattle.link_bundle_types.specs.{declared.info.BundleInfo.BundleInfo, Faults.
 use Rattle.link_bundle_heads.specs.Rows.{◌>>=◌}
 use Rattle.link_bundle_blocks.specs.{Laws.{FaultLasts, TrailingLasts}, Reading.Stop}
 use Rattle.link_bundle_blocks.specs.Bundle.{Bundle, bundle_at, if_alone, judged_bundle, verdict_by, verdict}
-use Rattle.link_bundle_blocks.proofs.{Steady.{Lasts, cuts, same}, Keeping.bundle_at-lasts}
+use Rattle.link_bundle_blocks.proofs.Keeping.{Lasts, cuts, same, bundle_at-lasts}
 
 -- the verdict, by the reading of the bundle
 judgement : List ℕ → Result Bundle Stop → Result BundleInfo (BundleFault × ℕ)
@@ -30,17 +30,19 @@ fault-lasts : (bytes more : List ℕ) (fault : BundleFault) (offset : ℕ)
 unfolding judgement fault_of
 fault-lasts bytes more fault offset (Err stop) later lasting (cuts cut past) fails =
     let is : stop.fault ≡ fault = ap fault_of fails in
-    absurd (false≢true (ap lasts (sym cut ∙ is) ∙ lasting))
+    let now : stop.fault ≡ Cut = cc in
+    absurd (false≢true (ap lasts (sym now ∙ is) ∙ lasting))
 fault-lasts bytes more fault offset (Err stop) later lasting (same is within) fails = rw is fails
-fault-lasts bytes more fault offset (Ok bundle) later lasting (cuts cut past) fails = absurd cut
+fault-lasts bytes more fault offset (Ok bundle) later lasting (cuts cut past) fails = cc
 fault-lasts bytes more fault offset (Ok bundle) later lasting (same is within) fails =
     ⊎_elim
     (λ whole. absurd (let ok : Ok bundle.info ≡ Err (fault, offset) = rw whole at fails in cc))
     (λ other.
     let now : Err (Trailing, bundle.length) ≡ Err (fault, offset) = rw other at fails in
+    let here = within bundle.length refl in
     let beyond : (bundle.length == length (bytes ++ more)) ≡ false =
     ne_eqb bundle.length (length (bytes ++ more))
-    (λ equal. absurd (grind (arith, nat_tests, length-append bytes more, other, within, equal))) in
+    (λ equal. absurd (grind (arith, nat_tests, length-append bytes more, other, here, equal))) in
     rw (is, beyond) now)
     (cases_Bool (bundle.length == length bytes))
 
@@ -50,7 +52,7 @@ trailing-lasts : (bytes more : List ℕ) (byte : ℕ) (info : BundleInfo)
     → judgement (bytes ++ byte ∷ more) later ≡ Err (Trailing, length bytes)
 unfolding judgement
 trailing-lasts bytes more byte info (Err stop) later stays whole = cc
-trailing-lasts bytes more byte info (Ok bundle) later (cuts cut past) whole = absurd cut
+trailing-lasts bytes more byte info (Ok bundle) later (cuts cut past) whole = cc
 trailing-lasts bytes more byte info (Ok bundle) later (same is within) whole =
     ⊎_elim
     (λ ends_here.

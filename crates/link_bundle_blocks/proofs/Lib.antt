@@ -5,7 +5,6 @@ pub mod Seen
 pub mod Readings
 pub mod Items
 pub mod Steady
-pub mod Spans
 pub mod Elements
 pub mod PartsSteady
 pub mod Keeping

@@ -1,20 +1,19 @@
 -- The parts of a bundle that a scan holds.
 
-use Rattle.std.proofs.Common.{◌≡◌, ℕ, suc, ◌+◌, ◌-◌, ◌≤◌, List, [], ◌∷◌, ◌++◌, length, take, drop, true, false, Some, Result, Ok, Err, refl, ap, ⊎_elim, arith, leb, length-append, length-drop}
+use Rattle.std.proofs.Common.{◌≡◌, ℕ, suc, ◌+◌, ◌-◌, ◌≤◌, List, [], ◌∷◌, ◌++◌, length, take, drop, true, false, Some, Result, refl, ap, ⊎_elim, arith, leb, length-append, length-drop}
 use Rattle.std.specs.Prelude.{◌==◌, if◌then◌else◌, replicate, slice_range}
 use Rattle.std.proofs.lemmas.Bool.{cases_lt, le-leb, lt-leb}
 use Rattle.std.proofs.{lemmas.List.{drop-append-le, take_rest}, Math.Seq.take-append-add}
 use Rattle.link_cbor.specs.{Crc.crc, declared.check.CheckKind.CheckKind}
-use Rattle.link_bundle_types.specs.declared.fault.BundleFault.TheVariants.{CheckDiffers}
 use Rattle.link_bundle_heads.specs.Rows.{◌>>=◌, block_too_many, check_width, check_field, closing}
 use Rattle.link_bundle_blocks.specs.declared.block.CanonicalBlock.{CanonicalBlock}
-use Rattle.link_bundle_blocks.specs.Reading.{Stop, stopped, cut_short, row_at, bytes_at}
+use Rattle.link_bundle_blocks.specs.Reading.{Stop, cut_short, row_at}
 use Rattle.link_bundle_blocks.specs.Blocks.{Primary, CanonicalOf, ended}
 use Rattle.link_bundle_blocks.specs.Bundle.{Bundle, with_blocks, rest_of, payload_at, blocks_at}
-use Rattle.link_bundle_blocks.specs.CheckField.{number_from, check_of, field_at}
+use Rattle.link_bundle_blocks.specs.CheckField.{check_of, field_at}
 use Rattle.link_bundle_blocks.specs.{Canonical.heads_at, Whole.moved, Parts.{next_block_at, field_from}}
 use Rattle.link_bundle_blocks.proofs.Readings.{joined}
-use Rattle.link_bundle_blocks.proofs.Shifting.{shifted, same, shifted-then, shifted-if, row_at-shifted, row-then, bytes_at-shifted, heads_at-shifted}
+use Rattle.link_bundle_blocks.proofs.Shifting.{shifted, same, shifted-if, row_at-shifted, row-then, compared-shifted, heads_at-shifted}
 
 -- ---- the canonical blocks, from the heads of the next one on
 
@@ -98,15 +97,8 @@ field-after : (kind : CheckKind) (start : ℕ) (front bytes : List ℕ) → star
 unfolding field_at field_from
 field-after kind start front bytes within =
     row-then (check_field kind) same front bytes 0 _ _
-    (λ _ content. shifted-then (length front) same same
-    (bytes_at (check_width kind) bytes content)
-    (bytes_at (check_width kind) (front ++ bytes) (length front + content)) _ _
-    (bytes_at-shifted (check_width kind) front bytes content)
-    (λ stored next. rw (check-across kind start content front bytes within)
-    (shifted-if (length front) same (number_from 0 stored
-    == crc kind (slice_range front start (length front) ++ take content bytes
-    ++ replicate (check_width kind) 0))
-    (Ok (true, next)) (Err (stopped CheckDiffers 0)) _ _ refl refl)))
+    (λ _ content. rw (check-across kind start content front bytes within)
+    (compared-shifted kind 0 content _ front bytes))
 
 pub field-from : (kind : CheckKind) (start : ℕ) (front bytes : List ℕ) → start ≤ length front
     → field_at (Some kind) start (front ++ bytes) (length front)

@@ -1,15 +1,15 @@
 -- Laws of the bytes of the payload.
 
-use Rattle.std.proofs.Common.{◌≡◌, ℕ, suc, ◌≤◌, Bool, true, false, List, [], ◌++◌, length, take, drop, Option, None, Some, Result, Ok, Err, refl, sym, ap, ◌∙◌, length-drop, arith}
+use Rattle.std.proofs.Common.{◌≡◌, ℕ, ◌+◌, ◌≤◌, ⊎_elim, Bool, true, false, List, [], ◌++◌, length, take, drop, Option, None, Some, Result, Ok, Err, refl, sym, ap, ◌∙◌, length-drop, arith}
 use Rattle.std.specs.Prelude.{◌==◌}
 use Rattle.std.proofs.lemmas.{Bool.false≢true, List.{drop-append-le, take-append-le}}
 use Rattle.std.proofs.Math.{ListN.drop_of_length-le, Seq.take-nil}
 use Rattle.link_bundle_blocks.specs.Laws.{PayloadLasts, PayloadPlaced, PayloadEnds}
+use Rattle.link_bundle_types.specs.declared.fault.BundleFault.TheVariants.{Cut}
 use Rattle.link_bundle_heads.specs.Rows.{◌>>=◌}
 use Rattle.link_bundle_blocks.specs.Reading.{Stop}
 use Rattle.link_bundle_blocks.specs.Bundle.{Bundle, bundle_at, if_alone, judged_bundle, verdict_by, verdict, payload_of, bytes_of, payload_in, state_of, is_going, bundle_goes}
-use Rattle.link_bundle_blocks.proofs.Steady.{EndsCut, of_either}
-use Rattle.link_bundle_blocks.proofs.Keeping.{PayloadFrom, PayloadWithin, Ends, before, inside, after, bundle_at-ends}
+use Rattle.link_bundle_blocks.proofs.{Steady.of_either, Keeping.{end_of, nothing, bundle_at-keeps}}
 
 -- the reading of all of the bytes; bytes after a bundle do not change its payload
 whole_of : List ℕ → Result Bundle Stop → Result Bundle Stop
@@ -33,21 +33,12 @@ payload_of-judged bytes = judged_as payload_of bytes (λ bundle.
 
 -- ---- a known payload lasts
 
-payload_of-lasts : (bytes : List ℕ) (now later : Result Bundle Stop) (payload : ℕ × ℕ)
-    → Ends bytes now later
-    → payload_of now ≡ Some payload → payload_of later ≡ Some payload
-payload_of-lasts bytes (Ok bundle) later payload (before cut from) is = absurd cut
-payload_of-lasts bytes (Err stop) later payload (before cut from) is =
-    absurd (let none : None ≡ Some payload = sym cut.1 ∙ is in cc)
-payload_of-lasts bytes now later payload (inside cut kept past) is = kept ∙ is
-payload_of-lasts bytes now later payload (after kept within) is = ap payload_of kept ∙ is
-
 pub PayloadLasts-holds : PayloadLasts
 PayloadLasts-holds bytes more payload is =
+    let now = sym (payload_of-judged bytes) ∙ is in
     payload_of-judged (bytes ++ more)
-    ∙ payload_of-lasts bytes (bundle_at bytes) (bundle_at (bytes ++ more)) payload
-    (bundle_at-ends bytes more)
-    (sym (payload_of-judged bytes) ∙ is)
+    ∙ ⊎_elim (λ same. same ∙ now) (λ none. absurd (nothing (sym none.0 ∙ now)))
+    (bundle_at-keeps bytes more).ends.pays
 
 -- ---- a known payload determines which of its bytes are there
 
@@ -56,34 +47,26 @@ nothing_from : (bytes : List ℕ) (offset size : ℕ) → length bytes ≤ offse
 nothing_from bytes offset size follows =
     sym (ap (λ (rest : List ℕ). take size rest) (drop_of_length-le bytes follows) ∙ take-nil size)
 
-payload_of-places : (bytes : List ℕ) (now later : Result Bundle Stop) (offset size : ℕ)
-    → Ends bytes now later
-    → payload_of later ≡ Some (offset, size)
-    → bytes_of (payload_of now) bytes ≡ take size (drop offset bytes)
-payload_of-places bytes (Ok bundle) later offset size (before cut from) is = absurd cut
-payload_of-places bytes (Err stop) later offset size (before cut from) is =
-    let plain : stop.payload_span ≡ None = cut.1 in
-    let past : PayloadFrom (suc (length bytes)) (Some (offset, size)) = rw is at from.payload in
-    rw plain (nothing_from bytes offset size (omega arith))
-payload_of-places bytes now later offset size (inside cut kept past) is = rw (sym kept ∙ is) refl
-payload_of-places bytes now later offset size (after kept within) is =
-    rw (ap payload_of (sym kept) ∙ is) refl
-
 pub PayloadPlaced-holds : PayloadPlaced
 unfolding payload_in
 PayloadPlaced-holds bytes more offset size is =
+    let later = sym (payload_of-judged (bytes ++ more)) ∙ is in
     ap (λ (known : Option (ℕ × ℕ)). bytes_of known bytes) (payload_of-judged bytes)
-    ∙ payload_of-places bytes (bundle_at bytes) (bundle_at (bytes ++ more)) offset size
-    (bundle_at-ends bytes more)
-    (sym (payload_of-judged (bytes ++ more)) ∙ is)
+    ∙ ⊎_elim
+    (λ (same : payload_of (bundle_at (bytes ++ more)) ≡ payload_of (bundle_at bytes)).
+    ap (λ (known : Option (ℕ × ℕ)). bytes_of known bytes) (sym same ∙ later))
+    (λ none. ap (λ (known : Option (ℕ × ℕ)). bytes_of known bytes) none.0
+    ∙ nothing_from bytes offset size (omega (arith, none.1 (offset, size) later)))
+    (bundle_at-keeps bytes more).ends.pays
 
 -- ---- no more bytes of it come once the bytes do not end inside the bundle
 
 all_there : (known : Option (ℕ × ℕ)) (bytes more : List ℕ)
-    → PayloadWithin bytes known
+    → ((span : ℕ × ℕ) → known ≡ Some span → span.0 + span.1 ≤ length bytes)
     → bytes_of known (bytes ++ more) ≡ bytes_of known bytes
-all_there None bytes more within = refl
-all_there (Some (offset, size)) bytes more within =
+all_there None bytes more there = refl
+all_there (Some (offset, size)) bytes more there =
+    let within = there (offset, size) refl in
     let here : offset ≤ length bytes = omega arith in
     let fits : size ≤ length (drop offset bytes) = omega (arith, length-drop offset bytes) in
     rw (drop-append-le offset bytes more here, take-append-le size (drop offset bytes) more fits) refl
@@ -92,34 +75,25 @@ all_there (Some (offset, size)) bytes more within =
 goes : List ℕ → Result Bundle Stop → Bool
 goes bytes reading = is_going (state_of (verdict_by (whole_of bytes reading)))
 
-cut_goes : (bytes : List ℕ) (reading : Result Bundle Stop) → EndsCut reading
+cut_goes : (bytes : List ℕ) (reading : Result Bundle Stop) → end_of reading ≡ Err Cut
     → goes bytes reading ≡ true
 unfolding goes whole_of
-cut_goes bytes (Ok bundle) cut = absurd cut
-cut_goes bytes (Err stop) cut = rw cut refl
+cut_goes bytes (Ok bundle) cut = cc
+cut_goes bytes (Err stop) cut = let is : stop.fault ≡ Cut = cc in rw is refl
 
-pub cut_goes-on : (bytes : List ℕ) → EndsCut (bundle_at bytes) → bundle_goes bytes ≡ true
+pub cut_goes-on : (bytes : List ℕ) → end_of (bundle_at bytes) ≡ Err Cut → bundle_goes bytes ≡ true
 unfolding verdict judged_bundle goes whole_of
 cut_goes-on bytes cut = cut_goes bytes (bundle_at bytes) cut
 
-payload_of-ends : (bytes more : List ℕ) (now later : Result Bundle Stop)
-    → Ends bytes now later → goes bytes now ≡ false
-    → bytes_of (payload_of later) (bytes ++ more) ≡ bytes_of (payload_of now) bytes
-payload_of-ends bytes more (Ok bundle) later (before cut from) stops = absurd cut
-payload_of-ends bytes more (Err stop) later (before cut from) stops =
-    absurd (false≢true (sym stops
-    ∙ cut_goes bytes (Err stop) cut.0))
-payload_of-ends bytes more now later (inside cut kept past) stops =
-    absurd (false≢true (sym stops ∙ cut_goes bytes now cut))
-payload_of-ends bytes more now later (after kept within) stops =
-    ap (λ (reading : Result Bundle Stop). bytes_of (payload_of reading) (bytes ++ more)) kept
-    ∙ all_there (payload_of now) bytes more within.payload
-
 pub PayloadEnds-holds : PayloadEnds
-unfolding payload_in verdict judged_bundle goes whole_of
+unfolding payload_in
 PayloadEnds-holds bytes more stops =
+    let ends = (bundle_at-keeps bytes more).ends in
+    let going = λ (cut : end_of (bundle_at bytes) ≡ Err Cut).
+    false≢true (sym stops ∙ cut_goes-on bytes cut) in
     ap (λ (known : Option (ℕ × ℕ)). bytes_of known (bytes ++ more))
-    (payload_of-judged (bytes ++ more))
-    ∙ payload_of-ends bytes more (bundle_at bytes) (bundle_at (bytes ++ more))
-    (bundle_at-ends bytes more) stops
+    (payload_of-judged (bytes ++ more)
+    ∙ ⊎_elim (λ cut. absurd (going cut.0)) (ap payload_of) ends.lasts)
+    ∙ all_there (payload_of (bundle_at bytes)) bytes more
+    (⊎_elim (λ cut. absurd (going cut)) (λ there. there) ends.there)
     ∙ ap (λ (known : Option (ℕ × ℕ)). bytes_of known bytes) (sym (payload_of-judged bytes))

@@ -14,6 +14,7 @@ use Rattle.link_bundle_blocks.specs.Reading.{ReadAt, stopped, head_by, outcome_a
 use Rattle.link_bundle_blocks.specs.CheckField.{number_from, check_of, field_at}
 use Rattle.link_bundle_blocks.specs.Canonical.{heads_at, content_at}
 use Rattle.link_bundle_blocks.specs.Whole.{whole_canonical, moved}
+use Rattle.link_bundle_blocks.proofs.Steady.{compared}
 
 -- a reading whose bytes have `count` more bytes before them, and whose value changes so
 abbrev pub shifted : {A : Type 0} → ℕ → (A → A) → ReadAt A → ReadAt A
@@ -123,6 +124,16 @@ check_of-shifted kind start content front bytes =
     let size : length front + content - (length front + start) ≡ content - start = omega arith in
     rw (drop-front front bytes start, size) refl
 
+pub compared-shifted : (kind : CheckKind) (offset content check : ℕ) (front bytes : List ℕ)
+    → compared kind (length front + offset) (length front + content) check (front ++ bytes)
+    ≡ shifted (length front) same (compared kind offset content check bytes)
+compared-shifted kind offset content check front bytes =
+    shifted-then (length front) same same (bytes_at (check_width kind) bytes content)
+    (bytes_at (check_width kind) (front ++ bytes) (length front + content)) _ _
+    (bytes_at-shifted (check_width kind) front bytes content)
+    (λ stored next. shifted-if (length front) same (number_from 0 stored == check)
+    (Ok (true, next)) (Err (stopped CheckDiffers offset)) _ _ refl refl)
+
 field_at-shifted : (check : Option CheckKind) (start : ℕ) (front bytes : List ℕ) (offset : ℕ)
     → field_at check (length front + start) (front ++ bytes) (length front + offset)
     ≡ shifted (length front) same (field_at check start bytes offset)
@@ -130,13 +141,8 @@ unfolding field_at
 field_at-shifted None start front bytes offset = refl
 field_at-shifted (Some kind) start front bytes offset =
     row-then (check_field kind) same front bytes offset _ _
-    (λ _ content. shifted-then (length front) same same
-    (bytes_at (check_width kind) bytes content)
-    (bytes_at (check_width kind) (front ++ bytes) (length front + content)) _ _
-    (bytes_at-shifted (check_width kind) front bytes content)
-    (λ stored next. rw (check_of-shifted kind start content front bytes)
-    (shifted-if (length front) same (number_from 0 stored == check_of kind start content bytes)
-    (Ok (true, next)) (Err (stopped CheckDiffers offset)) _ _ refl refl)))
+    (λ _ content. rw (check_of-shifted kind start content front bytes)
+    (compared-shifted kind offset content _ front bytes))
 
 content_at-shifted : (size : ℕ) (check : Option CheckKind) (start : ℕ) (front bytes : List ℕ)
     (offset : ℕ)

@@ -1,14 +1,14 @@
 -- The blocks of a good bundle have all bytes between its first byte and its last.
 
-use Rattle.std.proofs.Common.{◌≡◌, ℕ, zero, suc, ◌+◌, ◌/◌, ◌%◌, ◌≤◌, ◌≢◌, Bool, true, false, ◌&&◌, ◌||◌, List, [], ◌∷◌, ◌++◌, map, length, drop, Option, Result, Ok, Err, refl, sym, ap, ◌∙◌, ⊎_elim, zero-add, length-append, arith}
-use Rattle.std.specs.{Prelude.{◌==◌, nat_lt, IfOk, if◌then◌else◌}, List.All}
+use Rattle.std.proofs.Common.{◌≡◌, ℕ, zero, suc, ◌+◌, ◌≤◌, ◌≢◌, Bool, true, false, ◌&&◌, List, [], ◌∷◌, ◌++◌, map, length, drop, Option, Result, Ok, Err, refl, sym, ap, ◌∙◌, ⊎_elim, zero-add, length-append, arith}
+use Rattle.std.specs.{Prelude.{◌==◌, IfOk, if◌then◌else◌}, List.All}
 use Rattle.std.proofs.lemmas.Bool.{cases_Bool, and_parts, eqb-true, eqb-false}
 use Rattle.std.proofs.lemmas.List.Elements.{All-nil, All-cons}
-use Rattle.link_cbor.specs.declared.{check.CheckKind.CheckKind, head.Head.Head}
-use Rattle.link_cbor.specs.Head.{HeadFront, Cut as CutHead, IllFormed, Whole, with_argument, argument_front, no_argument, front_by, head_front}
+use Rattle.link_cbor.specs.declared.check.CheckKind.{CheckKind}
+use Rattle.link_cbor.specs.Head.{HeadFront, Cut as CutHead, IllFormed, Whole, head_front}
 use Rattle.link_bundle_types.specs.declared.fault.BundleFault.{BundleFault}
 use Rattle.link_bundle_types.specs.declared.info.BundleInfo.{BundleInfo}
-use Rattle.link_bundle_heads.specs.Rows.{◌>>=◌, block, is_absent, is_break, block_too_many, closing}
+use Rattle.link_bundle_heads.specs.Rows.{◌>>=◌, is_absent, is_break, block_too_many, closing}
 use Rattle.link_bundle_blocks.specs.declared.block.CanonicalBlock.{CanonicalBlock}
 use Rattle.link_bundle_blocks.specs.Blocks.{Primary, PrimaryOf, CanonicalOf, ended}
 use Rattle.link_bundle_blocks.specs.Reading.{Stop, ReadAt, head_by, outcome_at, head_at, row_at}
@@ -17,80 +17,29 @@ use Rattle.link_bundle_blocks.specs.Canonical.{heads_at, content_at}
 use Rattle.link_bundle_blocks.specs.Bundle.{Bundle, with_payload, with_blocks, inside, info_of, rest_of, payload_at, blocks_at, bundle_at, if_alone, judged_bundle, verdict_by, verdict, blocks_in, blocks_of}
 use Rattle.link_bundle_blocks.specs.Laws.{Fills, Tiles, IsTiled, GoodBlocksTile}
 use Rattle.link_bundle_blocks.proofs.Showing.{blocks_judged}
-use Rattle.link_bundle_blocks.proofs.{Steady.data_before, Keeping.{IsBegun, heads_begin}}
+use Rattle.link_bundle_blocks.proofs.{Steady.{FrontSpans, front-spans, on_by, heads_at-reads, data_before}, Keeping.{IsBegun, heads_begin}}
 use Rattle.link_bundle_blocks.proofs.{Beginnings.begins_primary, Readings.{then_read, was_read, bundle_parts}}
 
 -- ---- the break
 
--- a whole head without a value has one byte
-abbrev IsShortIfBare : HeadFront → Type 0
-IsShortIfBare CutHead = Unit {0}
-IsShortIfBare IllFormed = Unit {0}
-IsShortIfBare (Whole head size) = is_absent head.value ≡ true → size ≡ 1
-
-bare-with : (major size argument : ℕ) → IsShortIfBare (with_argument major size argument)
-unfolding with_argument
-bare-with major size argument =
-    ⊎_elim (λ simple. rw simple tt) (λ plain. rw plain (λ bare. cc))
-    (cases_Bool ((major == 7) && ((size == 1) && nat_lt argument 32)))
-
-bare-argument : (major size : ℕ) (rest : List ℕ) → IsShortIfBare (argument_front major size rest)
-unfolding argument_front
-bare-argument major size rest =
-    ⊎_elim (λ missing. rw missing tt) (λ there. rw there (bare-with major size _))
-    (cases_Bool (nat_lt (length rest) size))
-
-bare-none : (major : ℕ) → IsShortIfBare (no_argument major)
-unfolding no_argument
-bare-none major =
-    ⊎_elim (λ wrong. rw wrong tt) (λ right. rw right (λ bare. refl))
-    (cases_Bool (nat_lt major 2 || (major == 6)))
-
-bare-by : (major information : ℕ) (rest : List ℕ) → IsShortIfBare (front_by major information rest)
-unfolding front_by
-bare-by major information rest =
-    ⊎_elim (λ small. rw small (λ bare. cc))
-    (λ more. rw more
-    (⊎_elim (λ argument. rw argument (bare-argument major _ rest))
-    (λ more. rw more
-    (⊎_elim (λ reserved. rw reserved tt) (λ none. rw none (bare-none major))
-    (cases_Bool (nat_lt information 31))))
-    (cases_Bool (nat_lt information 28))))
-    (cases_Bool (nat_lt information 24))
-
-bare-front : (bytes : List ℕ) → IsShortIfBare (head_front bytes)
-unfolding head_front
-bare-front [] = tt
-bare-front (first ∷ rest) = bare-by (first / 32) (first % 32) rest
-
-absent_of : (head : Head) → is_break head ≡ true → is_absent head.value ≡ true
-unfolding is_break
-absent_of head is = (and_parts (head.major == 7) (is_absent head.value) is).1
-
-closing_end : (start next size : ℕ) (head : Head) → next ≡ start + size
-    → (is_absent head.value ≡ true → size ≡ 1)
-    → IfOk (outcome_at start next (closing head)) (λ value. value.1 ≡ start + 1)
-unfolding closing
-closing_end start next size head is bare =
-    ⊎_elim
-    (λ break. rw break (is ∙ ap (λ n. start + n) (bare (absent_of head break))))
-    (λ other. rw other tt)
-    (cases_Bool (is_break head))
-
-closing_by : (bytes : List ℕ) (start : ℕ) (front : HeadFront) → IsShortIfBare front
-    → IfOk (head_by bytes start front >>= λ (head, next). outcome_at start next (closing head))
-    (λ value. value.1 ≡ start + 1)
-closing_by bytes start CutHead bare = tt
-closing_by bytes start IllFormed bare = tt
-closing_by bytes start (Whole head size) bare =
-    closing_end start (start + size) size head refl bare
-
 -- the break after the payload block has one byte
 closing_one : (bytes : List ℕ) (start : ℕ)
     → IfOk (row_at closing bytes start) (λ value. value.1 ≡ start + 1)
-unfolding row_at head_at
+unfolding row_at head_at closing is_break
 closing_one bytes start =
-    closing_by bytes start (head_front (drop start bytes)) (bare-front (drop start bytes))
+    by_front (head_front (drop start bytes)) (front-spans (drop start bytes))
+  where
+    by_front : (front : HeadFront) → FrontSpans (drop start bytes) front
+        → IfOk (head_by bytes start front >>= λ (head, next). outcome_at start next (closing head))
+        (λ value. value.1 ≡ start + 1)
+    by_front CutHead spans = tt
+    by_front IllFormed spans = tt
+    by_front (Whole head size) spans =
+        ⊎_elim
+        (λ break. rw break
+        (ap (λ n. start + n) (spans.1 (and_parts (head.major == 7) (is_absent head.value) break).1)))
+        (λ other. rw other tt)
+        (cases_Bool ((head.major == 7) && is_absent head.value))
 
 -- ---- a canonical block
 
@@ -101,13 +50,13 @@ inside_before block limit (Ok value) read = read
 inside_before block limit (Err stop) read = tt
 
 block_fills : (block : CanonicalBlock) (start : ℕ) (bytes : List ℕ) (value : Bool × ℕ) {next : ℕ}
-    → IsBegun start (block, next)
+    → IsBegun start (block, next) → start ≤ next
     → rest_of block bytes ≡ Ok value → Fills (CanonicalOf (ended block value.1)) start value.1
-block_fills block start bytes value begins is =
+block_fills block start bytes value begins onward is =
     let limit = block.data_start + block.data_length in
     let reading = content_at block.data_length block.check block.start bytes block.data_start in (
       begins.begins,
-      begins.onward,
+      omega (arith, begins.place),
       was_read (λ value. limit ≤ value.1) (rest_of block bytes) value
           (inside_before block limit reading
           (data_before block.data_length block.check block.start bytes block.data_start)) is,
@@ -162,13 +111,13 @@ more_rest primary count start end block (Ok bundle) other fills rest = record {
 more_rest primary count start end block (Err stop) other fills rest = tt
 
 payload_rest : (primary : Primary) (count start : ℕ) (block : CanonicalBlock) (bytes : List ℕ)
-    {next : ℕ} → block.block_type ≡ 1 → IsBegun start (block, next)
+    {next : ℕ} → block.block_type ≡ 1 → IsBegun start (block, next) → start ≤ next
     → IfOk (payload_at primary (count + 1) block bytes) (IsRest primary count start)
 unfolding payload_at
-payload_rest primary count start block bytes type begins =
+payload_rest primary count start block bytes type begins onward =
     kept_payload (block.data_start, block.data_length) (IsRest primary count start) _
     (then_read (IsRest primary count start) (rest_of block bytes) _
-    (λ (read, end) is. closed end (block_fills block start bytes (read, end) begins is)
+    (λ (read, end) is. closed end (block_fills block start bytes (read, end) begins onward is)
     (row_at closing bytes end) (closing_one bytes end)))
   where
     closed : (end : ℕ) → Fills (CanonicalOf (ended block end)) start end → (reading : ReadAt Bool)
@@ -206,14 +155,16 @@ blocks_rest (suc left) numbers primary bytes start =
     (λ (block, next) begun.
     let begins = was_read (IsBegun start) (heads_at numbers bytes start) (block, next)
     (heads_begin numbers bytes start) begun in
+    let onward = was_read (λ (read : CanonicalBlock × ℕ). start ≤ read.1) _ (block, next)
+    (on_by (heads_at-reads bytes [] numbers start)) begun in
     if-whole (block.block_type == 1) holds _ _
     (λ one. payload_rest primary (length numbers) start block bytes
-    (eqb-true block.block_type 1 one) begins)
+    (eqb-true block.block_type 1 one) begins onward)
     (λ other. then_read holds (rest_of block bytes) _
     (λ (read, end) is.
     more_rest primary (length numbers) start end (ended block end) _
     (eqb-false block.block_type 1 other)
-    (block_fills block start bytes (read, end) begins is)
+    (block_fills block start bytes (read, end) begins onward is)
     (rw (← pushed block.number)
     (blocks_rest left (numbers ++ block.number ∷ []) primary bytes end)))))
   where
@@ -222,71 +173,52 @@ blocks_rest (suc left) numbers primary bytes start =
 
 -- ---- the primary block before them, and the whole
 
--- what is read of a bundle, but for what follows it
-record IsDivided (bundle : Bundle) : Type 0 where
-  pub primary : Primary
-  pub check : Option CheckKind
-  pub end : ℕ
-  pub rest : Bundle
-  pub after : IsRest primary 0 end rest
-  pub late : 1 ≤ end
-  pub is : bundle ≡ record rest { blocks = PrimaryOf primary check end ∷ rest.blocks }
+-- the blocks of a bundle tile the bytes, if the bundle has all of them
+abbrev TilesAll : List ℕ → BundleInfo → Bundle → Type 0
+TilesAll bytes info bundle =
+    bundle.length ≡ length bytes → info ≡ bundle.info → blocks_in bytes ≡ bundle.blocks
+    → IsTiled bytes info
 
-primary_before : (primary : Primary) (check : Option CheckKind) (end : ℕ)
-    (reading : Result Bundle Stop) → 1 ≤ end → IfOk reading (IsRest primary 0 end)
-    → IfOk (with_blocks (PrimaryOf primary check end ∷ []) reading) IsDivided
-primary_before primary check end (Ok bundle) late rest = record {
+primary_tiles : (bytes : List ℕ) (info : BundleInfo) (primary : Primary)
+    (check : Option CheckKind) (end : ℕ) (reading : Result Bundle Stop) → 1 ≤ end
+    → IfOk reading (IsRest primary 0 end)
+    → IfOk (with_blocks (PrimaryOf primary check end ∷ []) reading) (TilesAll bytes info)
+primary_tiles bytes info primary check end (Ok bundle) late after = λ size fields blocks. record {
   primary = primary;
   check = check;
   end = end;
-  rest = bundle;
-  after = rest;
-  late = late;
-  is = refl;
+  others = after.others;
+  payload = after.payload;
+  blocks = blocks ∙ ap (λ blocks. PrimaryOf primary check end ∷ blocks) after.blocks;
+  fields = fields ∙ after.fields
+      ∙ ap (λ n. info_of primary n after.payload.data_length)
+      (zero-add (length (after.others ++ after.payload ∷ [])));
+  payload_type = after.payload_type;
+  other_types = after.other_types;
+  last = after.last;
+  tiles = rw blocks (end, (refl, late, refl), after.tiles);
+  size = sym size ∙ after.size;
 }
-primary_before primary check end (Err stop) late rest = tt
+primary_tiles bytes info primary check end (Err stop) late after = tt
 
-bundle_divided : (bytes : List ℕ) → IfOk (bundle_at bytes) IsDivided
-bundle_divided bytes =
+bundle_tiles : (bytes : List ℕ) (info : BundleInfo) → IfOk (bundle_at bytes) (TilesAll bytes info)
+bundle_tiles bytes info =
     rw (bundle_parts bytes)
-    (then_read IsDivided (whole_primary bytes) _
+    (then_read (TilesAll bytes info) (whole_primary bytes) _
     (λ ((primary, check), end) read.
-    primary_before primary check end _
+    primary_tiles bytes info primary check end _
     (omega (arith, (begins_primary bytes (primary, check) end read).some))
     (blocks_rest 64 [] primary bytes end)))
 
 tiled_by : (bytes : List ℕ) (info : BundleInfo) (reading : Result Bundle Stop)
-    → IfOk reading IsDivided
+    → IfOk reading (TilesAll bytes info)
     → verdict_by (reading >>= λ bundle. if_alone bytes bundle) ≡ Ok info
     → blocks_in bytes ≡ blocks_of reading → IsTiled bytes info
-tiled_by bytes info (Err stop) divided good blocks = absurd (cc)
-tiled_by bytes info (Ok bundle) divided good blocks =
+tiled_by bytes info (Err stop) tiles good blocks = absurd (cc)
+tiled_by bytes info (Ok bundle) tiles good blocks =
     ⊎_elim
     (λ alone.
-    let after = divided.after in
-    let first = PrimaryOf divided.primary divided.check divided.end in
-    let same : blocks_in bytes ≡ first ∷ divided.rest.blocks =
-    blocks ∙ ap (λ (b : Bundle). b.blocks) divided.is in
-    record {
-      primary = divided.primary;
-      check = divided.check;
-      end = divided.end;
-      others = after.others;
-      payload = after.payload;
-      blocks = same ∙ ap (λ blocks. first ∷ blocks) after.blocks;
-      fields = info_is (rw alone at good)
-          ∙ ap (λ (b : Bundle). b.info) divided.is
-          ∙ after.fields
-          ∙ ap (λ n. info_of divided.primary n after.payload.data_length)
-          (zero-add (length (after.others ++ after.payload ∷ [])));
-      payload_type = after.payload_type;
-      other_types = after.other_types;
-      last = after.last;
-      tiles = rw same (divided.end, (refl, divided.late, refl), after.tiles);
-      size = sym (eqb-true bundle.length (length bytes) alone)
-          ∙ ap (λ (b : Bundle). b.length) divided.is
-          ∙ after.size;
-    })
+    tiles (eqb-true bundle.length (length bytes) alone) (info_is (rw alone at good)) blocks)
     (λ other. absurd (let never = rw other at good in cc))
     (cases_Bool (bundle.length == length bytes))
   where
@@ -297,4 +229,4 @@ tiled_by bytes info (Ok bundle) divided good blocks =
 pub GoodBlocksTile-holds : GoodBlocksTile
 unfolding verdict judged_bundle
 GoodBlocksTile-holds bytes info good =
-    tiled_by bytes info (bundle_at bytes) (bundle_divided bytes) good (blocks_judged bytes)
+    tiled_by bytes info (bundle_at bytes) (bundle_tiles bytes info) good (blocks_judged bytes)

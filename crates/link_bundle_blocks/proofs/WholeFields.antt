@@ -8,7 +8,7 @@ use Rattle.link_bundle_blocks.specs.Primary.{all_fields}
 use Rattle.link_bundle_blocks.specs.PrimaryFields.{fields_of, whole_elements, primary_fields}
 use Rattle.link_bundle_blocks.specs.Whole.{whole_primary}
 use Rattle.link_bundle_blocks.proofs.Elements.{elements_read, whole_primary-elements, whole_are}
-use Rattle.link_bundle_blocks.proofs.{Spans.cut-below, Beginnings.primary_lasts}
+use Rattle.link_bundle_blocks.proofs.{Steady.cut-below, Beginnings.primary_lasts}
 
 -- a whole block has all fields
 pub primary_fields-whole : (bytes more : List ℕ) (primary : Primary) (check : Option CheckKind)
@@ -25,7 +25,7 @@ primary_fields-enough : (bytes more : List ℕ) → 3257 ≤ length bytes
 unfolding primary_fields
 primary_fields-enough bytes more enough =
     let are = whole_are bytes more in
-    ⊎_elim (λ cut. absurd (omega (arith, cut-below are.spans cut))) (ap fields_of) are.same
+    ⊎_elim (λ cut. absurd (omega (arith, cut-below are.reads cut))) (ap fields_of) are.same
 
 pub primary_fields-short : (bytes : List ℕ) → primary_fields (take 3257 bytes) ≡ primary_fields bytes
 primary_fields-short bytes =

@@ -1,20 +1,27 @@
 -- How an input is divided into bundles, and what a run of bytes shows of the current one.
-use Rattle.std.proofs.Common.{◌≡◌, ℕ, zero, suc, ◌+◌, ◌-◌, ◌<◌, ◌≤◌, inr, Bool, true, false, List, [], ◌∷◌, ◌++◌, length, take, drop, Some, None, Result, Ok, Err, if◌then◌else◌, refl, ap, sym, ◌∙◌, subst, take_all, append-nil, length-append, length-drop, arith}
+use Rattle.std.proofs.Common.{◌≡◌, ℕ, zero, suc, ◌+◌, ◌-◌, ◌^◌, ◌==◌, ◌<◌, ◌≤◌, inr, Bool, true, false, List, [], ◌∷◌, ◌++◌, length, take, drop, Some, None, Result, Ok, Err, if◌then◌else◌, refl, ap, sym, ◌∙◌, subst, take_all, append-nil, length-append, length-drop, arith}
 use Rattle.std.proofs.Math.Seq.{take-append-add, drop-append_seam, take-append_seam}
 use Rattle.std.proofs.lemmas.Bool.{false≢true, lt-ltb, le-ltb}
-use Rattle.std.proofs.lemmas.List.{length-take, take-take, take-append-le}
+use Rattle.std.proofs.lemmas.List.{length-take, nil_from_length, take-take, take-append-le}
 use Rattle.link_cbor.specs.PieceLaws.{taken-idle, taken-cons, taken-nil, joins_pieces, takes_shortest}
 use Rattle.link_cbor.specs.Pieces.{taken}
 use Rattle.link_bundle_types.specs.{Faults.lasts, declared.fault.BundleFault.BundleFault}
 use Rattle.link_bundle_types.specs.declared.fault.BundleFault.TheVariants.{Cut}
 use Rattle.link_bundle_types.specs.declared.fault.State.TheVariants as state
 use Rattle.link_bundle_types.specs.declared.info.BundleInfo.{BundleInfo}
-use Rattle.link_bundle_blocks.specs.Bundle.{opening_at, bundle_at, judged_bundle, verdict, state_of, is_going, bundle_goes}
+use Rattle.link_bundle_blocks.specs.Bundle.{opening_at, bundle_at, judged_bundle, verdict, state_of, is_going, bundle_goes, blocks_in}
+use Rattle.link_bundle_blocks.proofs.Showing.{BlocksGrow-holds}
 use Rattle.link_bundle_walk.specs.Bundles.{Packed, Refusal, Longer, Faulty, Divided, IsOpen, bundle_prefix, refused_by, judged_front, with_bundle, divided_by, divided_in, divided}
-use Rattle.link_bundle.specs.Scan.{HasScanned}
+use Rattle.link_bundle.specs.{Left.stage_last, Scan.{HasScanned, ending}, Stages.stage_state}
+use Rattle.link_bundle.specs.declared.{draft.Draft.Draft, scan.BundleScan.BundleScan}
+use Rattle.link_bundle.specs.declared.stage.ScanStage.{ScanStage}
+use Rattle.link_bundle.specs.declared.stage.ScanStage.TheVariants as stage
+use Rattle.link_bundle.proofs.Verdicts.{state_of-seen}
+use Rattle.link_block_reader.proofs.Judged.{joined_rest}
 use Rattle.link_report.specs.declared.fault.Fault.TheVariants.{TooLong}
-use Rattle.link_bundle_walk.specs.BundleRun.{Refuses, MakesOf, found_by}
+use Rattle.link_bundle_walk.specs.{BundleRun.{Counts, Refuses, MakesOf, Scans, found_by}, Telling.EndsBlock}
 use Rattle.link_bundle_walk.specs.declared.current.{Current.Current, Found.Found}
+use Rattle.link_bundle_walk.specs.declared.current.Found.TheVariants as found
 
 -- ---- prefixes
 
@@ -220,10 +227,11 @@ divided_open limit part fault offset opened some said =
 
 -- ---- a byte past the limit
 
-pub too_long : (limit number : ℕ) (begun piece : List ℕ) → IsOpen limit begun → 0 < length piece
-    → length begun ≡ limit → Refuses limit number begun (take 1 piece) (TooLong number limit)
-too_long limit number begun [] opened some full = absurd (omega arith)
-too_long limit number begun (byte ∷ bytes) opened some full =
+pub too_long : (limit : ℕ) (by_blocks : Bool) (number : ℕ) (begun piece : List ℕ)
+    → IsOpen limit begun → 0 < length piece → length begun ≡ limit
+    → Refuses limit by_blocks number begun (take 1 piece) (TooLong number limit)
+too_long limit by_blocks number begun [] opened some full = absurd (omega arith)
+too_long limit by_blocks number begun (byte ∷ bytes) opened some full =
     let run = byte ∷ [] in
     let size = length-append begun run in
     let front : bundle_prefix (begun ++ run) ≡ begun ++ run = front_more begun run opened.front
@@ -238,6 +246,7 @@ too_long limit number begun (byte ∷ bytes) opened some full =
           divided_longer limit (begun ++ run) more (omega (arith, ap length front, size, full))
           ∙ rw accepted refl;
       before = run_open limit begun run front (omega (arith, size, full));
+      blocks = λ is. ap blocks_in (append-nil begun);
     }
 
 -- ---- a run that was scanned
@@ -247,6 +256,26 @@ pub taken_some : (begun piece : List ℕ) → bundle_goes begun ≡ true → 0 <
 taken_some begun [] goes some = absurd (omega arith)
 taken_some begun (byte ∷ bytes) goes some = rw (taken-cons bundle_goes begun byte bytes goes) (omega arith)
 
+-- what a scan takes of a piece, if it does not stop at blocks
+pub fed : (by_blocks : Bool) (scan : BundleScan) (begun piece : List ℕ) (count : ℕ)
+    → by_blocks ≡ false → bundle_goes begun ≡ true → 0 < length piece
+    → count ≡ length (taken bundle_goes begun piece)
+    → HasScanned scan (begun ++ taken bundle_goes begun piece)
+    → Scans by_blocks scan begun piece count
+fed by_blocks scan begun piece count not_blocks goes some counted scanned =
+    let run = taken bundle_goes begun piece in
+    let shortest = (takes_shortest bundle_goes begun piece run).1 refl in
+    let same : run ≡ take count piece =
+    shortest.is_front ∙ ap (λ n. take n piece) (sym counted) in
+    record {
+      some = omega (arith, taken_some begun piece goes some);
+      scanned = rw same at scanned;
+      wanted = λ fewer less.
+          rw (same, take-take fewer count piece (omega arith)) at
+          (shortest.wanted fewer (omega arith));
+      blocks = λ is. absurd (false≢true (sym not_blocks ∙ is));
+    }
+
 -- all but the last byte
 but_last : (begun run : List ℕ) → 0 < length run
     → take (length (begun ++ run) - 1) (begun ++ run) ≡ begun ++ take (length run - 1) run
@@ -254,49 +283,104 @@ but_last begun run some =
     let size : length (begun ++ run) - 1 ≡ length begun + (length run - 1) = omega (arith, length-append begun run) in
     ap (λ n. take n (begun ++ run)) size ∙ take-append-add begun run (length run - 1)
 
-module _ (limit : ℕ) (current : Current) (begun run : List ℕ) (some : 0 < length run)
-    (scanned : HasScanned current.scan (begun ++ run))
+-- no block ends with a byte that shows a fault
+none_ends : (stage : ScanStage) (draft : Draft) (count : ℕ) (here : Bool) (fault : BundleFault)
+    (offset : ℕ) → stage_state stage ≡ state.Failed fault offset
+    → (if here then stage_last stage draft count else []) ≡ []
+none_ends stage.BlockHeads draft count here fault offset failed = absurd (let h = failed in cc)
+none_ends stage.Break draft count here fault offset failed = absurd (let h = failed in cc)
+none_ends stage draft count true fault offset failed = refl
+none_ends stage draft count false fault offset failed = refl
+
+-- if no block ends in a run, none ends in fewer bytes
+fewer_blocks : (begun run : List ℕ) (count : ℕ) → blocks_in (begun ++ run) ≡ blocks_in begun
+    → blocks_in (begun ++ take count run) ≡ blocks_in begun
+fewer_blocks begun run count same =
+    let first = BlocksGrow-holds begun (take count run) in
+    let rest = BlocksGrow-holds (begun ++ take count run) (drop count run) in
+    let none : first.0 ≡ [] = nil_from_length first.0 (omega (
+      arith,
+      ap length same,
+      ap length (rw (joined_rest begun run count) at rest.1),
+      ap length first.1,
+      length-append (blocks_in (begun ++ take count run)) rest.0,
+      length-append (blocks_in begun) first.0,
+    )) in
+    first.1 ∙ rw (none, append-nil) refl
+
+module _ (limit : ℕ) (by_blocks : Bool) (current : Current) (begun run : List ℕ)
+    (some : 0 < length run) (scanned : HasScanned current.scan (begun ++ run))
+    (blocks : EndsBlock by_blocks current.scan begun run)
     (front : bundle_prefix (begun ++ run) ≡ begun ++ run)
     (within : length (begun ++ run) ≤ limit) where
   took_fault : (fault : BundleFault) (offset : ℕ) (test : Bool) → lasts fault ≡ test
       → verdict (begun ++ run) ≡ Err (fault, offset)
-      → MakesOf limit current begun run (found_by current.number (if test
+      → MakesOf limit by_blocks current begun run (found_by current.number (if test
       then state.Failed fault offset else state.Going))
-  took_fault fault offset true lasting said = record {
-    refusal = Faulty fault offset;
-    is = refl;
-    lasts = lasting;
-    divides = λ more. rw (sym (but_last begun run some))
-        (divided_faulty limit (begun ++ run) more fault offset front said lasting within);
-    before = run_open limit begun run front (omega arith);
-  }
-  took_fault fault offset false lasting said = record {
-    scanned = scanned;
-    opened = record { front = front; goes = rw (said, lasting) refl; within = within };
-  }
+  took_fault fault offset true lasting said =
+      let none : ending current.scan ≡ [] = none_ends current.scan.stage current.scan.draft
+      current.scan.cursor.count (length current.scan.cursor.hold == 0) fault offset
+      (state_of-seen scanned ∙ rw (said, lasting) refl) in
+      record {
+        refusal = Faulty fault offset;
+        is = refl;
+        lasts = lasting;
+        divides = λ more. rw (sym (but_last begun run some))
+            (divided_faulty limit (begun ++ run) more fault offset front said lasting within);
+        before = run_open limit begun run front (omega arith);
+        blocks = λ is. fewer_blocks begun run (length run - 1)
+            (blocks is ∙ rw (none, append-nil) refl);
+      }
+  took_fault fault offset false lasting said = (
+    record {
+      scanned = scanned;
+      opened = record { front = front; goes = rw (said, lasting) refl; within = within };
+    },
+    blocks,
+  )
 
   took : (said : Result BundleInfo (BundleFault × ℕ)) → verdict (begun ++ run) ≡ said
-      → MakesOf limit current begun run (found_by current.number (state_of said))
+      → MakesOf limit by_blocks current begun run (found_by current.number (state_of said))
   took (Ok info) said =
-      record { scanned = scanned; front = front; within = within; info = info; is = said }
+      (record { scanned = scanned; front = front; within = within; info = info; is = said }, blocks)
   took (Err (fault, offset)) said = took_fault fault offset (lasts fault) refl said
 
--- the run is what a scan takes of the first `size` bytes of a piece
-pub judged : (limit : ℕ) (current : Current) (begun piece : List ℕ) (size count : ℕ) (found : Found)
-    → count ≡ length (taken bundle_goes begun (take size piece))
-    → 0 < count → HasScanned current.scan (begun ++ taken bundle_goes begun (take size piece))
+-- what a scan has taken of the first `size` bytes of a piece
+pub judged : (limit : ℕ) (by_blocks : Bool) (current : Current) (begun piece : List ℕ)
+    (size count : ℕ) (found : Found) → count ≤ length (take size piece)
+    → Scans by_blocks current.scan begun (take size piece) count
     → bundle_prefix begun ≡ begun → length begun + size ≤ limit
     → ((seen : List ℕ) → HasScanned current.scan seen
     → found ≡ found_by current.number (state_of (verdict seen)))
-    → MakesOf limit current begun (take count piece) found
-judged limit current begun piece size count found counted some scanned kept within shows =
-    let part = take size piece in
-    let run = taken bundle_goes begun part in
-    let is = ((takes_shortest bundle_goes begun part run).1 refl).is_front in
-    let few : count ≤ size =
-    omega (arith, ap length is, length-take (length run) part, length-take size piece) in
-    let same : run ≡ take count piece =
-    is ∙ ap (λ n. take n part) (sym counted) ∙ take-take count size piece few in
-    let made = took limit current begun run (omega arith) scanned (front_kept begun part kept)
-    (omega (arith, length-append begun run)) (verdict (begun ++ run)) refl in
-    rw (sym same, shows (begun ++ run) scanned) made
+    → MakesOf limit by_blocks current begun (take count piece) found
+judged limit by_blocks current begun piece size count found fits scans kept within shows =
+    let some = scans.some in
+    let few : count ≤ size = omega (arith, length-take size piece) in
+    let same = take-take count size piece few in
+    let run = take count piece in
+    let run_size : length run ≡ count =
+    omega (arith, length-take count piece, length-take size piece) in
+    let scanned : HasScanned current.scan (begun ++ run) = rw same at scans.scanned in
+    let needed : run ≡ taken bundle_goes begun run =
+    (takes_shortest bundle_goes begun run run).0 (record {
+      is_front = sym (take_all (length run) run (omega arith));
+      wanted = λ fewer less.
+          rw (
+            take-take fewer count piece (omega arith),
+            ← take-take fewer size piece (omega arith),
+          ) (scans.wanted fewer (omega arith));
+      stops = inr refl;
+    }) in
+    let front : bundle_prefix (begun ++ run) ≡ begun ++ run =
+    front_more begun run kept ∙ ap (λ bytes. begun ++ bytes) (sym needed) in
+    let made = took limit by_blocks current begun run (omega arith) scanned
+    (rw same at scans.blocks) front (omega (arith, length-append begun run))
+    (verdict (begun ++ run)) refl in
+    rw (shows (begun ++ run) scanned) made
+
+-- the number of bytes that a scan has seen
+pub counted : (before count after : ℕ) (found : Found) → before + count ≡ after → after < 2 ^ 63
+    → Counts before count after found
+counted before count after found.Part same less = (same, less)
+counted before count after found.Whole same less = (same, less)
+counted before count after (found.Refused fault) same less = omega (arith, same)

@@ -1,5 +1,5 @@
 -- What a consumer has said, and what holds after a step of a walk over bundles.
-use Rattle.std.proofs.Common.{◌≡◌, ℕ, ◌+◌, ◌<◌, ◌≤◌, ◌⊎◌, inl, inr, Bool, true, false, List, [], ◌∷◌, ◌++◌, length, take, Option, Some, None, Result, Ok, Err, refl, ap, sym, ◌∙◌, subst, append-nil, append_assoc, length-append, length-take, arith, ◌-◌, ⊎_elim, if◌then◌else◌}
+use Rattle.std.proofs.Common.{◌≡◌, ℕ, ◌+◌, ◌<◌, ◌≤◌, ◌⊎◌, inl, inr, Bool, true, false, List, [], ◌∷◌, ◌++◌, length, take, Option, Some, Result, Ok, Err, refl, ap, sym, ◌∙◌, subst, append-nil, append_assoc, length-append, length-take, arith, ◌-◌, ⊎_elim, if◌then◌else◌}
 use Rattle.std.proofs.lemmas.Grind.{fold-append}
 use Rattle.std.specs.Result.{result_and}
 use Rattle.link_wire.specs.{Device.Output, Limits.window_size}
@@ -15,8 +15,9 @@ use Rattle.link_run.specs.declared.run.{Progress.Progress, Status.Status}
 use Rattle.link_run.specs.declared.writers.Writers.{Writers}
 use Rattle.link_run.proofs.Runs.{few_over, then_assoc, writes_then, part_of_more}
 use Rattle.link_run.proofs.Stands.{goes_on, loses, ends, last_step}
+use Rattle.link_bundle.specs.Scan.{HasScanned}
 use Rattle.link_bundle_walk.specs.Bundles.{Packed, divided, with_bundles, size_of}
-use Rattle.link_bundle_walk.specs.Telling.{SoFar, BundleTelling, Tells, told_of, with_run, between, ComesAfter, IsAccepted}
+use Rattle.link_bundle_walk.specs.Telling.{SoFar, BundleTelling, Tells, told_of, with_run, with_bytes, between, ComesAfter, EndsBlock, IsAccepted, StopsAfter}
 use Rattle.link_bundle_walk.specs.BundleRun.{before_last, MakesOf, cut_at, Walks, ended_by, GoesOn, Ends, WritesFound, Comes, Refuses}
 use Rattle.link_bundle_walk.specs.declared.current.{Current.Current, Found.Found}
 use Rattle.link_bundle_walk.specs.declared.current.Found.TheVariants as found
@@ -25,7 +26,7 @@ use Rattle.link_bundle_walk.proofs.Outcomes.{whole_of, texts_going, unshown_goin
 use Rattle.std.proofs.{Math.Seq.take-append-add, KnownBytes.Appends-trans}
 use Rattle.link_report.specs.Fault.{fault_text}
 use Rattle.link_run.proofs.Sessions.{then_fault}
-use Rattle.link_bundle_walk.specs.declared.consumer.WholeView.{WholeView}
+use Rattle.link_bundle_walk.specs.declared.consumer.RunView.{RunView}
 
 -- the number of bytes with one more bundle
 size_with : (bundles : List Packed) (bundle : Packed)
@@ -42,17 +43,30 @@ pub between_is : (now : SoFar) → now.begun ≡ [] → now ≡ between now.bund
 between_is now none = ap (λ (begun : List ℕ). record { bundles = now.bundles; begun = begun }) none
 
 -- with these bytes the bundle goes on or is whole
-pub accepted : {limit : ℕ} {current : Current} {before : SoFar} {run : List ℕ}
-    → Comes limit current before run → (whole : Option WholeView)
-    → IsAccepted limit before.begun run whole → ComesAfter limit before current.number run whole
-accepted here whole is =
-    record { numbered = here.numbered; opened = here.opened; accepted = is; few = here.few; sized = here.sized }
+pub accepted : {limit : ℕ} {by_blocks : Bool} {current : Current} {before : SoFar} {place : ℕ}
+    {run : List ℕ} → Comes limit current before place run → HasScanned current.scan (before.begun ++ run)
+    → EndsBlock by_blocks current.scan before.begun run → (view : RunView)
+    → view.number ≡ current.number → view.before ≡ place → view.bytes.now ≡ run
+    → view.scan.now ≡ current.scan → IsAccepted limit before.begun run view.whole
+    → ComesAfter limit by_blocks before view
+accepted {before = before} here scanned blocks view number placed bytes scan is = record {
+  numbered = number ∙ here.numbered;
+  placed = placed ∙ here.placed;
+  some = rw bytes here.some;
+  opened = here.opened;
+  accepted = rw bytes is;
+  scanned = rw (bytes, scan) scanned;
+  blocks = rw (bytes, scan) blocks;
+  few = rw bytes here.few;
+  sized = rw bytes here.sized;
+}
 
 -- the same, for the bytes before the one that shows a fault
-pub refused : {limit : ℕ} {current : Current} {before : SoFar} {run : List ℕ} {why : Fault}
-    (bytes : List ℕ) → bytes ≡ before_last run → Comes limit current before run
-    → Refuses limit current.number before.begun run why
-    → ComesAfter limit before current.number bytes None
+pub refused : {limit : ℕ} {by_blocks : Bool} {current : Current} {before : SoFar} {place : ℕ}
+    {run : List ℕ} {why : Fault} (bytes : List ℕ) → bytes ≡ before_last run
+    → Comes limit current before place run
+    → Refuses limit by_blocks current.number before.begun run why
+    → StopsAfter limit by_blocks before current.number bytes
 refused {before = before} {run = run} bytes is here refuses =
     let some = here.some in
     let few = here.few in
@@ -61,6 +75,7 @@ refused {before = before} {run = run} bytes is here refuses =
       numbered = here.numbered;
       opened = here.opened;
       accepted = rw is (refuses.before (length run - 1) (omega arith));
+      blocks = rw is refuses.blocks;
       few = omega (
         arith,
         length-append before.begun run,
@@ -106,20 +121,20 @@ module _ {W E : Type 0} (out_look : W → Output) (report_look : E → Output) w
 
   -- the bytes before the one that shows a fault were said, and then comes the line of the fault
   module _ (telling : BundleTelling) (before : SoFar) (run : List ℕ) (why : Fault)
-      (bytes : List ℕ) (is : bytes ≡ before_last run) (knows : Type 0) (old mid : Writers W E) where
+      (bytes : List ℕ) (is : bytes ≡ before_last run) (old mid : Writers W E) where
     abbrev Said : Result (Unit {0}) IoFault → Type 0
     Said result = Tells out_look report_look (telling.texts before)
-        (telling.texts (with_run before bytes None)) knows old mid result
+        (telling.texts (with_bytes before bytes)) (Unit {0}) old mid result
 
     abbrev Refused : Writers W E → Result Status IoFault → Type 0
     Refused new answer =
-        Ends out_look report_look telling old new before (with_run before (before_last run) None)
+        Ends out_look report_look telling old new before (with_bytes before (before_last run))
         (Some why) answer
 
     line_said : (texts : Texts)
-        → telling.texts before then texts ≡ telling.texts (with_run before bytes None)
+        → telling.texts before then texts ≡ telling.texts (with_bytes before bytes)
         → telling.texts before then (texts then on_report (fault_text why))
-        ≡ with_fault why (telling.texts (with_run before (before_last run) None))
+        ≡ with_fault why (telling.texts (with_bytes before (before_last run)))
     line_said texts said =
         then_assoc (telling.texts before) texts (on_report (fault_text why))
         ∙ ap (λ (t : Texts). t then on_report (fault_text why)) said ∙ rw is (then_fault why _)
@@ -204,9 +219,6 @@ module _ {R W E : Type 0} {look : Looks R W E} {start : Devices R W E} (telling 
   texts_now : (told_of telling history).texts ≡ telling.texts at.so_far
   texts_now = texts_going telling history at.so_far at.divides at.holds.reading.opened
 
-  abbrev with_bytes : List ℕ → SoFar
-  with_bytes run = with_run at.so_far run None
-
   divides : (run rest : List ℕ)
       → divided telling.limit ((history ++ run) ++ rest)
       ≡ with_bundles at.so_far.bundles (divided telling.limit ((at.so_far.begun ++ run) ++ rest))
@@ -272,24 +284,24 @@ module _ {R W E : Type 0} {look : Looks R W E} {start : Devices R W E} (telling 
           sized = sized;
         }) (λ is. some) (λ may. refl))
 
-    pub came : (mid : Current) → mid.number ≡ current.number → (what : Found)
-        → MakesOf telling.limit mid at.so_far.begun run what
+    pub came : (by_blocks : Bool) (mid : Current) → mid.number ≡ current.number → (what : Found)
+        → MakesOf telling.limit by_blocks mid at.so_far.begun run what
         → WritesFound look.output look.report telling before after at.so_far knows next run what
         result
         → Gives result
-    came mid numbered found.Part took gave =
+    came by_blocks mid numbered found.Part took gave =
         let few = at.few in
-        went (with_bytes run) (divides run)
+        went (with_bytes at.so_far run) (divides run)
         (omega (arith, length-append at.so_far.begun run, length-append history run))
         (omega (arith, at.sized, length-append at.so_far.begun run, length-append history run)) gave
-    came mid numbered found.Whole took gave =
+    came by_blocks mid numbered found.Whole took gave =
         let few = at.few in
         let bundles = at.so_far.bundles in
         let bundle : Packed = record { bytes = at.so_far.begun ++ run; info = gave.0 } in
         went (with_run at.so_far run (Some gave.0))
         (λ rest. divides run rest
         ∙ rw (
-          divided_whole telling.limit bundle.bytes rest gave.0 took.front gave.1 took.within,
+          divided_whole telling.limit bundle.bytes rest gave.0 took.0.front gave.1 took.0.within,
           append_assoc bundles (bundle ∷ []),
         ) refl)
         (omega (arith, length-append bundles (bundle ∷ []), length-append history run))
@@ -300,11 +312,11 @@ module _ {R W E : Type 0} {look : Looks R W E} {start : Devices R W E} (telling 
           length-append at.so_far.begun run,
           length-append history run,
         )) gave.2
-    came mid numbered (found.Refused fault) took gave =
+    came by_blocks mid numbered (found.Refused fault) took gave =
         let bytes = history ++ run in
-        let now = with_bytes run in
+        let now = with_bytes at.so_far run in
         let made = told_refused telling bytes now (divides run) _ took.divides in
-        let last = with_bytes (before_last run) in
+        let last = with_bytes at.so_far (before_last run) in
         subst Gives (sym gave.1)
         (ends_so takes size (takes.window.less some) last (Some fault)
         (rw (made, took.is, numbered, at.holds.number) refl) gave.0 gave.2
@@ -312,5 +324,5 @@ module _ {R W E : Type 0} {look : Looks R W E} {start : Devices R W E} (telling 
           rw made took.lasts,
           told_same telling bytes now (divides run) _ took.divides,
           λ count less. unshown_going telling (history ++ take count run)
-              (with_bytes (take count run)) (divides (take count run)) (took.before count less),
+              (with_bytes at.so_far (take count run)) (divides (take count run)) (took.before count less),
         )))

@@ -4,8 +4,9 @@ use Rattle.std.specs.Prelude.{◌≡◌, ℕ, ◌+◌, ◌-◌, ◌^◌, ◌<◌
 use Rattle.link_wire.specs.Device.{Input as Seen, Output}
 use Rattle.link_wire.specs.Source.{window_of, IsSourceAt, IsLive}
 use Rattle.link_wire.specs.declared.{IoFault.IoFault, Source.Source}
-use Rattle.link_bundle_blocks.specs.Bundle.{verdict}
+use Rattle.link_bundle_blocks.specs.Bundle.{verdict, blocks_in, bundle_goes}
 use Rattle.link_bundle.specs.Scan.{HasScanned}
+use Rattle.link_bundle.specs.declared.scan.BundleScan.{BundleScan}
 use Rattle.link_bundle_types.specs.declared.fault.State.{State}
 use Rattle.link_bundle_types.specs.declared.fault.State.TheVariants as state
 use Rattle.link_bundle_types.specs.declared.info.BundleInfo.{BundleInfo}
@@ -16,7 +17,7 @@ use Rattle.link_run.specs.Writers.{AfterLastWrite}
 use Rattle.link_run.specs.declared.run.{Progress.Progress, Status.Status}
 use Rattle.link_run.specs.declared.writers.Writers.{Writers}
 use Rattle.link_bundle_walk.specs.Bundles.{Refusal, IsOpen, bundle_prefix, divided, with_bundles, size_of}
-use Rattle.link_bundle_walk.specs.Telling.{SoFar, none_yet, BundleTelling, Tells, with_run, refusal_fault, lasting, stop_by, IsShown}
+use Rattle.link_bundle_walk.specs.Telling.{SoFar, none_yet, BundleTelling, Tells, with_run, with_bytes, EndsBlock, refusal_fault, lasting, stop_by, IsShown}
 use Rattle.link_bundle_walk.specs.declared.{consumer.WholeView.WholeView, current.Current.Current}
 use Rattle.link_bundle_walk.specs.declared.current.Found.{Found}
 use Rattle.link_bundle_walk.specs.declared.current.Found.TheVariants as found
@@ -30,9 +31,20 @@ pub record IsReading (limit : ℕ) (current : Current) (begun : List ℕ) : Type
   pub scanned : HasScanned current.scan begun
   pub opened : IsOpen limit begun
 
+-- The scan has taken the first `count` bytes of a piece after the bytes `begun`. Before each of
+-- them, more bytes were needed.
+pub record Scans (by_blocks : Bool) (scan : BundleScan) (begun piece : List ℕ) (count : ℕ)
+    : Type 0 where
+  pub some : 0 < count
+  pub scanned : HasScanned scan (begun ++ take count piece)
+  pub wanted : (fewer : ℕ) → fewer < count → bundle_goes (begun ++ take fewer piece) ≡ true
+  pub blocks : EndsBlock by_blocks scan begun (take count piece)
+
 -- the bytes `run` of the current bundle are added to what has come so far
-pub record Comes (limit : ℕ) (current : Current) (before : SoFar) (run : List ℕ) : Type 0 where
+pub record Comes (limit : ℕ) (current : Current) (before : SoFar) (place : ℕ) (run : List ℕ)
+    : Type 0 where
   pub numbered : current.number ≡ length before.bundles
+  pub placed : place ≡ length before.begun
   pub opened : IsOpen limit before.begun
   pub some : 0 < length run
   pub few : length before.bundles + length (before.begun ++ run) < 2 ^ 63
@@ -52,7 +64,8 @@ before_last run = take (length run - 1) run
 
 -- The bytes `begun` and then `run` are not the start of a bundle that is accepted, whatever
 -- follows. The last byte shows this: before it, the bundle goes on.
-pub record Refuses (limit number : ℕ) (begun run : List ℕ) (fault : Fault) : Type 0 where
+pub record Refuses (limit : ℕ) (by_blocks : Bool) (number : ℕ) (begun run : List ℕ) (fault : Fault)
+    : Type 0 where
   pub refusal : Refusal
   pub is : fault ≡ refusal_fault number refusal
   pub lasts : lasting refusal ≡ true
@@ -63,16 +76,27 @@ pub record Refuses (limit number : ℕ) (begun run : List ℕ) (fault : Fault) :
         rest = Some (record { accepted = begun ++ before_last run; refusal = refusal });
       }
   pub before : (count : ℕ) → count < length run → IsOpen limit (begun ++ take count run)
+  pub blocks : by_blocks ≡ true → blocks_in (begun ++ before_last run) ≡ blocks_in begun
 
 abbrev pub fault_of : Option StreamStop → Option Fault
 fault_of None = None
 fault_of (Some stop) = Some stop.fault
 
 -- what the bytes `run` show of the bundle, after the bytes `begun`
-abbrev pub MakesOf : (limit : ℕ) → Current → (begun run : List ℕ) → Found → Type 0
-MakesOf limit current begun run found.Part = IsReading limit current (begun ++ run)
-MakesOf limit current begun run found.Whole = IsWhole limit current (begun ++ run)
-MakesOf limit current begun run (found.Refused fault) = Refuses limit current.number begun run fault
+abbrev pub MakesOf : (limit : ℕ) → (by_blocks : Bool) → Current → (begun run : List ℕ) → Found
+    → Type 0
+MakesOf limit by_blocks current begun run found.Part =
+    IsReading limit current (begun ++ run) × EndsBlock by_blocks current.scan begun run
+MakesOf limit by_blocks current begun run found.Whole =
+    IsWhole limit current (begun ++ run) × EndsBlock by_blocks current.scan begun run
+MakesOf limit by_blocks current begun run (found.Refused fault) =
+    Refuses limit by_blocks current.number begun run fault
+
+-- How many bytes the scan has seen, `after` a run of `count` bytes that show this. The byte that is
+-- past the limit is not scanned.
+abbrev pub Counts : (before count after : ℕ) → Found → Type 0
+Counts before count after (found.Refused fault) = before ≤ after
+Counts before count after _ = (before + count ≡ after) × (after < 2 ^ 63)
 
 -- what the state of the scan shows of the bundle
 abbrev pub found_by : (number : ℕ) → State → Found
@@ -173,10 +197,10 @@ module _ {W E : Type 0} (out_look : W → Output) (report_look : E → Output)
   abbrev pub WritesFound : (knows : SoFar → Type 0) → Current → (run : List ℕ) → Found
       → Result Progress IoFault → Type 0
   WritesFound knows current run found.Part result =
-      GoesOn knows current (with_run before run None) result
+      GoesOn knows current (with_bytes before run) result
   WritesFound knows current run found.Whole result =
       (info : BundleInfo) × (verdict (before.begun ++ run) ≡ Ok info)
       × GoesOn knows current (with_run before run (Some info)) result
   WritesFound knows current run (found.Refused fault) result =
       (answer : Result Status IoFault) × (result ≡ answer_of answer)
-      × Ends (with_run before (before_last run) None) (Some fault) answer
+      × Ends (with_bytes before (before_last run)) (Some fault) answer

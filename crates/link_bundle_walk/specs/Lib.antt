@@ -1,3 +1,4 @@
+pub mod Blocks
 pub mod Bundles
 pub mod Telling
 pub mod BundleRun

@@ -3,7 +3,9 @@
 use Rattle.std.specs.Prelude.{◌≡◌, ℕ, ◌+◌, ◌^◌, ◌<◌, Bool, true, List, [], ◌∷◌, ◌++◌, length, Option, Some, None, OnOk, Result, Ok}
 use Rattle.link_wire.specs.Device.{Output}
 use Rattle.link_wire.specs.declared.IoFault.{IoFault}
-use Rattle.link_bundle_blocks.specs.Bundle.{verdict}
+use Rattle.link_bundle_blocks.specs.Bundle.{verdict, blocks_in}
+use Rattle.link_bundle.specs.Scan.{HasScanned, ending}
+use Rattle.link_bundle.specs.declared.scan.BundleScan.{BundleScan}
 use Rattle.link_bundle_types.specs.BundleView.{viewed_info}
 use Rattle.link_bundle_types.specs.Faults.{lasts}
 use Rattle.link_bundle_types.specs.declared.info.BundleInfo.{BundleInfo}
@@ -13,7 +15,7 @@ use Rattle.link_run.specs.Run.{Texts, ◌then◌}
 use Rattle.link_run.specs.Writers.{AfterWrite}
 use Rattle.link_run.specs.declared.writers.Writers.{Writers}
 use Rattle.link_bundle_walk.specs.Bundles.{Packed, Refusal, Longer, Faulty, Rest, Divided, IsOpen, divided, size_of}
-use Rattle.link_bundle_walk.specs.declared.consumer.WholeView.{WholeView}
+use Rattle.link_bundle_walk.specs.declared.consumer.{RunView.RunView, WholeView.WholeView}
 
 -- ---- where an input stops
 
@@ -79,13 +81,20 @@ abbrev pub whole_info : Option WholeView → Option BundleInfo
 whole_info None = None
 whole_info (Some whole) = Some (viewed_info whole.info)
 
+-- after these bytes, with which the bundle goes on
+abbrev pub with_bytes : SoFar → (bytes : List ℕ) → SoFar
+with_bytes before bytes = record { bundles = before.bundles; begun = before.begun ++ bytes }
+
 -- after these bytes, with which the bundle goes on or is whole
 abbrev pub with_run : SoFar → (run : List ℕ) → Option BundleInfo → SoFar
-with_run before run None = record { bundles = before.bundles; begun = before.begun ++ run }
+with_run before run None = with_bytes before run
 with_run before run (Some info) = record {
   bundles = before.bundles ++ record { bytes = before.begun ++ run; info = info } ∷ [];
   begun = [];
 }
+
+abbrev pub come_with : SoFar → RunView → SoFar
+come_with before run = with_run before run.bytes.now (whole_info run.whole)
 
 -- what is shown of a bundle that is whole
 abbrev pub IsShown : (bundle : List ℕ) → WholeView → Type 0
@@ -95,16 +104,45 @@ IsShown bundle whole =
 -- with these bytes the bundle goes on or is whole
 abbrev pub IsAccepted : (limit : ℕ) → (begun run : List ℕ) → Option WholeView → Type 0
 IsAccepted limit begun run None = IsOpen limit (begun ++ run)
-IsAccepted limit begun run (Some whole) = (0 < length run) × IsShown (begun ++ run) whole
+IsAccepted limit begun run (Some whole) = IsShown (begun ++ run) whole
 
--- the bytes `run` of the bundle with this number follow the bytes so far
-pub record ComesAfter (limit : ℕ) (before : SoFar) (number : ℕ) (run : List ℕ)
-    (whole : Option WholeView) : Type 0 where
+-- if the scan stops at each block, no block ends in the run before its end
+abbrev pub EndsBlock : (by_blocks : Bool) → BundleScan → (begun run : List ℕ) → Type 0
+EndsBlock by_blocks scan begun run =
+    by_blocks ≡ true → blocks_in (begun ++ run) ≡ blocks_in begun ++ ending scan
+
+-- The bytes of a run follow the bytes so far. The scan has seen them. If the tool is told of each
+-- block by itself, no block ends in the run before its end.
+pub record ComesAfter (limit : ℕ) (by_blocks : Bool) (before : SoFar) (run : RunView)
+    : Type 0 where
+  pub numbered : run.number ≡ length before.bundles
+  pub placed : run.before ≡ length before.begun
+  pub some : 0 < length run.bytes.now
+  pub opened : IsOpen limit before.begun
+  pub accepted : IsAccepted limit before.begun run.bytes.now run.whole
+  pub scanned : HasScanned run.scan.now (before.begun ++ run.bytes.now)
+  pub blocks : EndsBlock by_blocks run.scan.now before.begun run.bytes.now
+  pub few : length before.bundles + length (before.begun ++ run.bytes.now) < 2 ^ 63
+  pub sized : size_of before.bundles + length (before.begun ++ run.bytes.now) < 2 ^ 63
+
+-- These bytes of the bundle with this number follow the bytes so far, and the bundle goes on. If
+-- the tool is told of each block by itself, no block ends in them.
+pub record StopsAfter (limit : ℕ) (by_blocks : Bool) (before : SoFar) (number : ℕ)
+    (bytes : List ℕ) : Type 0 where
   pub numbered : number ≡ length before.bundles
   pub opened : IsOpen limit before.begun
-  pub accepted : IsAccepted limit before.begun run whole
-  pub few : length before.bundles + length (before.begun ++ run) < 2 ^ 63
-  pub sized : size_of before.bundles + length (before.begun ++ run) < 2 ^ 63
+  pub accepted : IsOpen limit (before.begun ++ bytes)
+  pub blocks : by_blocks ≡ true → blocks_in (before.begun ++ bytes) ≡ blocks_in before.begun
+  pub few : length before.bundles + length (before.begun ++ bytes) < 2 ^ 63
+  pub sized : size_of before.bundles + length (before.begun ++ bytes) < 2 ^ 63
+
+abbrev pub read_by : Option WholeView → ℕ → ℕ
+read_by None size = size
+read_by (Some whole) size = 0
+
+-- the number of bytes that the current bundle has after a run: none if the run ended one
+abbrev pub size_after : RunView → ℕ
+size_after run = read_by run.whole (run.before + length run.bytes.now)
 
 -- Of the texts `due`, the part `had` was written before. The rest was written, and `stands` holds;
 -- or a writer failed while writing it.

@@ -25,18 +25,18 @@ pub enum Found {
 pub struct Current {
     /// The number of bundles before it, which is its number.
     pub number: u64,
-    scan: BundleScan,
+    pub(crate) scan: BundleScan,
 }
 
 impl Current {
-    ghost use Rattle.std.specs.Prelude.{◌+◌, ◌-◌, ◌++◌, min, ◌^◌, ◌<◌, ◌≤◌, IfSome, Ok, List, ℕ, [], length, take};
-    ghost use Rattle.link_bundle_blocks.specs.Bundle.{verdict, state_of};
+    ghost use Rattle.std.specs.Prelude.{true, ◌+◌, ◌-◌, ◌++◌, min, ◌^◌, ◌<◌, ◌≤◌, IfSome, Ok, List, ℕ, [], length, take};
+    ghost use Rattle.link_bundle_blocks.specs.Bundle.{bundle_goes, verdict, state_of};
     ghost use Rattle.link_bundle.specs.Scan.{HasScanned, scan_size};
     ghost use Rattle.link_bundle_types.specs.BundleView.{viewed_info};
     ghost use Rattle.link_bundle_types.specs.declared.info.BundleInfo.{BundleInfo};
     ghost use Rattle.link_bundle_types.specs.ShortNames.{HasShortNames};
     ghost use Rattle.link_bundle_walk.specs.Bundles.{IsOpen};
-    ghost use Rattle.link_bundle_walk.specs.BundleRun.{CutShort, IsReading, MakesOf, Shows, found_by};
+    ghost use Rattle.link_bundle_walk.specs.BundleRun.{Counts, CutShort, IsReading, MakesOf, Scans, Shows, found_by};
 
     /// Nothing of the first bundle has come.
     #[inline(always)]
@@ -60,19 +60,28 @@ impl Current {
     /// Scans the next bytes of a nonempty piece, and returns how many these are and what they show.
     ///
     /// They are no more bytes than the limit leaves, and no more than are wanted. If the limit
-    /// leaves none, it is one byte, which shows that the bundle is too long.
+    /// leaves none, it is one byte, which shows that the bundle is too long. If `by_blocks`, no
+    /// block ends before the last of them.
     #[inline(always)]
-    pub fn judge(&mut self, limit: u64, wanted: usize, piece: &[u8]) -> (usize, Found)
+    pub fn judge(
+        &mut self,
+        by_blocks: bool,
+        limit: u64,
+        wanted: usize,
+        piece: &[u8],
+    ) -> (usize, Found)
         requires some { 0 < length piece.now }
         requires wanted { 0 < wanted }
         ensures within { result.0 ≤ length piece.now }
         ensures few { result.0 ≤ wanted }
+        ensures counts { Counts (scan_size self.old.scan) result.0 (scan_size self.new.scan)
+            result.1 }
         ensures some { (begun : List ℕ) → IsReading limit self.old begun
             → length begun + length piece.now < 2 ^ 63
             → 0 < result.0 }
         ensures took { (begun : List ℕ) → IsReading limit self.old begun
             → length begun + length piece.now < 2 ^ 63
-            → MakesOf limit self.new begun (take result.0 piece.now) result.1 }
+            → MakesOf limit by_blocks self.new begun (take result.0 piece.now) result.1 }
         ensures number { self.new.number ≡ self.old.number }
     {
         let room = self.room(limit);
@@ -80,8 +89,30 @@ impl Current {
             return (1, Found::Refused(Fault::TooLong(self.number, limit)));
         }
         let size = room.min(piece.len().min(wanted) as u64) as usize;
-        let count = self.scan.feed(&piece[..size]);
+        let count = self.scan_piece(by_blocks, &piece[..size]);
         (count, self.found())
+    }
+
+    /// Scans the next bytes of a nonempty piece, until no more are needed, or until a block ends if
+    /// `by_blocks`. Returns how many these are.
+    #[inline(always)]
+    fn scan_piece(&mut self, by_blocks: bool, piece: &[u8]) -> usize
+        requires some { 0 < length piece.now }
+        requires room { scan_size self.old.scan + length piece.now ≤ 2 ^ 63 - 1 }
+        ensures within { result ≤ length piece.now }
+        ensures size { scan_size self.new.scan ≡ scan_size self.old.scan + result }
+        ensures number { self.new.number ≡ self.old.number }
+        ensures scans { (begun : List ℕ) → HasScanned self.old.scan begun
+            → bundle_goes begun ≡ true → Scans by_blocks self.new.scan begun piece.now result }
+    {
+        if !by_blocks {
+            return self.scan.feed(piece);
+        }
+        // This never happens: a walk that goes on needs more bytes of its bundle.
+        if !self.scan.going() {
+            return 0;
+        }
+        self.scan.feed_block(piece)
     }
 
     /// What the scanned bytes show of the bundle.
@@ -96,6 +127,14 @@ impl Current {
                 Found::Refused(Fault::Bundle(self.number, offset, fault))
             }
         }
+    }
+
+    /// The number of bytes of the bundle so far.
+    #[inline(always)]
+    pub fn size(&self) -> u64
+        ensures { result ≡ scan_size self.now.scan }
+    {
+        self.scan.count()
     }
 
     /// The bundle, if it is whole.

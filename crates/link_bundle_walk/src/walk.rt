@@ -1,16 +1,18 @@
 //! The stages of a walk over bundles.
 
-ghost use Rattle.std.specs.Prelude.{◌≡◌, ◌<◌, ◌≤◌, false, true, [], if◌then◌else◌, IsTrue, List, length, ℕ};
+ghost use Rattle.std.specs.Prelude.{◌≡◌, ◌<◌, ◌≤◌, ◌&&◌, true, nat_le, if◌then◌else◌, IsTrue, List, length, ℕ};
+ghost use Rattle.link_bundle.specs.Scan.{scan_size};
 ghost use Rattle.link_wire.specs.Source.{at_hand};
 ghost use Rattle.link_run.specs.Made.{tool_of};
 ghost use Rattle.link_run.specs.Reading.{feed_of, CallWaits};
-ghost use Rattle.link_run.specs.Run.{Devices, devices_at, looks};
+ghost use Rattle.link_run.specs.Run.{Devices, devices, looks, NoneFailed};
+ghost use Rattle.link_run.specs.NewRun.{IsNewRun};
 ghost use Rattle.link_run.specs.Stages.{AfterStage, IsMore, Stands};
 ghost use Rattle.link_run.specs.Writers.{place_of};
 ghost use Rattle.link_bundle_walk.specs.Telling.{SoFar, none_yet, told_of};
-ghost use Rattle.link_bundle_walk.specs.BundleRun.{Comes, Ends, Holds, MakesOf, Walks, WritesFound, before_last, cut_at};
+ghost use Rattle.link_bundle_walk.specs.BundleRun.{Comes, Counts, Ends, Holds, MakesOf, Walks, WritesFound, before_last, cut_at};
 
-use crate::consumer::BundleConsumer;
+use crate::consumer::{BundleConsumer, RunView};
 use crate::current::{Current, Found};
 use link_run::{Input, PIECE, Progress, Run, Stages, Status, ToolRun, Writers};
 use link_wire::{InDevice, IoFault, OutDevice, Source, WINDOW};
@@ -50,7 +52,8 @@ impl<R: InDevice, W: OutDevice, E: OutDevice, C: BundleConsumer> Stages<Source<R
 
     ghost begun = { λ tool. has_begun tool.stage };
 
-    ghost fits = { λ tool input. C.fits tool.walker.consumer };
+    ghost fits = { λ tool input. C.fits tool.walker.consumer
+        && nat_le (C.read tool.walker.consumer) (scan_size tool.walker.current.scan) };
 
     ghost knows = { λ tool source history. IsWalking R.state (C.telling tool.options)
         (C.knows tool.options tool.walker.consumer) tool.walker.current source history tool.stage };
@@ -98,7 +101,10 @@ fn take_bytes<R: InDevice, W: OutDevice, E: OutDevice, C: BundleConsumer>(
 ) -> Result<Progress, IoFault>
     requires some { 0 < most }
     requires fits { IsTrue (C.fits walker.old.consumer) }
+    requires read { C.read walker.old.consumer ≤ scan_size walker.old.current.scan }
     ensures fits { IsMore result → IsTrue (C.fits walker.new.consumer) }
+    ensures read { IsMore result
+        → C.read walker.new.consumer ≤ scan_size walker.new.current.scan }
     ensures gives { (start : Devices R W E) (history : List ℕ)
         → Stands (looks R.state W.state E.state) (told_of (C.telling options.now)) start true
         (place_of (feed_of input.old) writers.old) history
@@ -118,10 +124,14 @@ fn take_bytes<R: InDevice, W: OutDevice, E: OutDevice, C: BundleConsumer>(
     };
     let piece = &input.front()[..ready];
     let wanted = walker.consumer.wanted();
-    let (count, found) = walker.current.judge(C::limit(options), wanted, piece);
+    let before = walker.current.size();
+    let (count, found) = walker
+        .current
+        .judge(C::by_blocks(), C::limit(options), wanted, piece);
     let run = &piece[..count];
     let progress = go_on(
         found,
+        before,
         run,
         options,
         writers,
@@ -132,40 +142,60 @@ fn take_bytes<R: InDevice, W: OutDevice, E: OutDevice, C: BundleConsumer>(
     progress
 }
 
-/// Tells the consumer of new bytes of the current bundle. Then it begins the next bundle if this
-/// one is whole, or writes the line of the fault that the last byte shows.
+/// Tells the consumer of new bytes of the current bundle, which follow its first `before` bytes.
+/// Then it begins the next bundle if this one is whole, or writes the line of the fault that the
+/// last byte shows.
 #[inline(always)]
 fn go_on<W: OutDevice, E: OutDevice, C: BundleConsumer>(
     found: Found,
-    run: &[u8],
+    before: u64,
+    bytes: &[u8],
     options: &C::Options,
     writers: &mut Writers<W, E>,
     current: &mut Current,
     consumer: &mut C,
 ) -> Result<Progress, IoFault>
     requires fits { IsTrue (C.fits consumer.old) }
-    requires few { length run.now ≤ C.wants consumer.old }
+    requires few { length bytes.now ≤ C.wants consumer.old }
+    requires counts { Counts before (length bytes.now) (scan_size current.old.scan) found }
+    requires read { C.read consumer.old ≤ before }
     ensures fits { IsMore result → IsTrue (C.fits consumer.new) }
-    ensures gives { (before : SoFar) → C.knows options.now consumer.old before
-        → Comes (C.telling options.now).limit current.old before run.now
-        → MakesOf (C.telling options.now).limit current.old before.begun run.now found
-        → WritesFound W.state E.state (C.telling options.now) writers.old writers.new before
-        (C.knows options.now consumer.new) current.new run.now found result }
+    ensures read { IsMore result → C.read consumer.new ≤ scan_size current.new.scan }
+    ensures gives { (so_far : SoFar) → C.knows options.now consumer.old so_far
+        → Comes (C.telling options.now).limit current.old so_far before bytes.now
+        → MakesOf (C.telling options.now).limit C.tells_blocks current.old so_far.begun
+        bytes.now found
+        → WritesFound W.state E.state (C.telling options.now) writers.old writers.new so_far
+        (C.knows options.now consumer.new) current.new bytes.now found result }
 {
-    let number = current.number;
     match found {
-        Found::Part => Progress::after(consumer.run(options, number, run, None, writers)),
+        Found::Part => {
+            let run = RunView {
+                number: current.number,
+                before,
+                bytes,
+                scan: &current.scan,
+                whole: None,
+            };
+            Progress::after(consumer.run(options, &run, writers))
+        }
         Found::Whole => {
             let Some(whole) = current.whole() else {
                 return Ok(Progress::More);
             };
-            let told = consumer.run(options, number, run, Some(whole), writers);
+            let run = RunView {
+                number: current.number,
+                before,
+                bytes,
+                scan: &current.scan,
+                whole: Some(whole),
+            };
+            let told = consumer.run(options, &run, writers);
             current.next();
             Progress::after(told)
         }
         Found::Refused(fault) => {
-            let accepted = before_last(run);
-            match consumer.run(options, number, accepted, None, writers) {
+            match consumer.stop(options, current.number, before_last(bytes), writers) {
                 Ok(()) => Progress::ended(writers.report_fault(&fault)),
                 Err(fault) => Err(fault),
             }
@@ -220,16 +250,10 @@ pub fn bundle_walk_run<R: InDevice, W: OutDevice, E: OutDevice, C: BundleConsume
 ) -> BundleWalkRun<R, W, E, C>
     requires knows { C.knows options consumer none_yet }
     requires fits { IsTrue (C.fits consumer) }
-    requires reader { (R.state reader).failed ≡ false }
-    requires output { (W.state output).failed ≡ false }
-    requires report { (E.state report).failed ≡ false }
-    ensures stands { ⟦<BundleWalkRun<R, W, E, C> as Run<R, W, E>>⟧.stands result
-        (record { reader = reader; output = output; report = report }) [] }
-    ensures tool { ⟦<BundleWalkRun<R, W, E, C> as Run<R, W, E>>⟧.tool result
-        ≡ tool_of (told_of (C.telling options)) }
-    ensures devices { devices_at (⟦<BundleWalkRun<R, W, E, C> as Run<R, W, E>>⟧.place result)
-        ≡ record { reader = reader; output = output; report = report } }
-    ensures waits { ⟦<BundleWalkRun<R, W, E, C> as Run<R, W, E>>⟧.waits result ≡ [] }
+    requires read { C.read consumer ≡ 0 }
+    requires sound { NoneFailed (looks R.state W.state E.state) (devices reader output report) }
+    ensures { IsNewRun ⟦<BundleWalkRun<R, W, E, C> as Run<R, W, E>>⟧
+        (tool_of (told_of (C.telling options))) (devices reader output report) result }
 {
     let walk = BundleWalk {
         options,

@@ -1,21 +1,21 @@
 -- The whole blocks of a bundle, and what a reader keeps of them, when more bytes follow.
-use Rattle.std.proofs.Common.{◌≡◌, ℕ, ◌+◌, ◌<◌, ◌⊎◌, Bool, true, false, List, [], ◌∷◌, ◌++◌, length, Option, Some, None, fold, All, refl, ap, sym, ◌∙◌, ⊎_elim, append-nil, length-append, arith}
+use Rattle.std.proofs.Common.{◌≡◌, ℕ, ◌+◌, ◌<◌, Bool, true, false, List, [], ◌∷◌, ◌++◌, length, Option, Some, None, fold, All, refl, ap, sym, ◌∙◌, append-nil, length-append, arith}
 use Rattle.std.proofs.lemmas.Grind.{fold-append}
 use Rattle.link_cbor.specs.declared.check.CheckKind.{CheckKind}
 use Rattle.link_bundle_types.specs.declared.info.BundleInfo.{BundleInfo}
 use Rattle.link_bundle_blocks.specs.Blocks.{Primary, Block, PrimaryOf, CanonicalOf, LiesWithin}
-use Rattle.link_bundle_blocks.specs.Bundle.{blocks_in, bundle_goes}
+use Rattle.link_bundle_blocks.specs.Bundle.{blocks_in}
 use Rattle.link_bundle_blocks.specs.declared.block.CanonicalBlock.{CanonicalBlock}
-use Rattle.link_bundle_blocks.proofs.{Few.few_blocks, Lying.BlocksWithin-holds, Showing.BlocksEnd-holds}
+use Rattle.link_bundle_blocks.proofs.{Few.few_blocks, Lying.BlocksWithin-holds}
 use Rattle.link_block_reader.specs.Found.{flags_after, found_in, long_head_in}
-use Rattle.link_block_reader.proofs.{Grown.{all_first, all_rest, data_grown, no_blocks}, Judged.rest_read}
+use Rattle.link_block_reader.proofs.Grown.{all_first, all_rest, data_grown, no_blocks}
 use Rattle.link_rules.specs.Heads.{first_long}
 use Rattle.link_bundle_rules.specs.BundleRules.{broken_bundle_rules}
 use Rattle.link_bundle_rules.specs.{History.bundle_of, ReadBundle.{ReadBundle, begun, block_facts, with_block}}
 use Rattle.link_bundle_rules.specs.declared.history.BundleHistory.{BundleHistory}
-use Rattle.link_check.specs.BundleReader.{HasHistory, IsReadingBlocks}
+use Rattle.link_check.specs.BundleReader.{HasHistory}
 use Rattle.link_check.specs.BundleRules.{bundle_rules, read_bundle, rules_of, with_next}
-use Rattle.link_check.specs.declared.bundle.BundleReader.{BundleReader}
+use Rattle.link_check.specs.HistoryLaws.{read_more}
 
 -- ---- no bytes
 
@@ -29,59 +29,10 @@ no_history history = rw none_read tt
 -- ---- more bytes
 
 module _ (content more : List ℕ) where
-  -- a whole block stays as it is
-  next_grown : (before : Option ReadBundle) (block : Block) → LiesWithin (length content) block
-      → with_next (content ++ more) before block ≡ with_next content before block
-  next_grown before (PrimaryOf primary check end) within = refl
-  next_grown before (CanonicalOf block) within =
-      simp (data_grown content more block within.0)
-
-  all_grown : (before : Option ReadBundle) (blocks : List Block)
-      → All (LiesWithin (length content)) blocks
-      → fold (with_next (content ++ more)) before blocks ≡ fold (with_next content) before blocks
-  all_grown before [] within = refl
-  all_grown before (block ∷ rest) within =
-      rw (next_grown before block (all_first (LiesWithin (length content)) block rest within))
-      (all_grown (with_next content before block) rest
-      (all_rest (LiesWithin (length content)) block rest within))
-
-  -- more bytes add the blocks that they complete
-  read_more : (new : List Block) → blocks_in (content ++ more) ≡ blocks_in content ++ new
-      → read_bundle (content ++ more) ≡ fold (with_next (content ++ more)) (read_bundle content) new
-  unfolding read_bundle
-  read_more new grown =
-      rw (
-        grown,
-        fold-append (with_next (content ++ more)) None (blocks_in content) new,
-        all_grown None (blocks_in content) (BlocksWithin-holds content),
-      ) refl
-
   flags_more : (new : List Block) → blocks_in (content ++ more) ≡ blocks_in content ++ new
       → fold flags_after 0 (blocks_in (content ++ more))
       ≡ fold flags_after (fold flags_after 0 (blocks_in content)) new
   flags_more new grown = rw grown (fold-append flags_after 0 (blocks_in content) new)
-
-  -- ---- no block has ended
-
-  same_by : (begins : Bool) (history : BundleHistory) (read : Option ReadBundle)
-      → blocks_in (content ++ more) ≡ blocks_in content
-      → HasHistory begins history read content → HasHistory begins history read (content ++ more)
-  same_by false history None same was = tt
-  same_by false history (Some bundle) same was = absurd was
-  same_by true history None same was = absurd was
-  same_by true history (Some bundle) same was = record {
-    same = was.same;
-    flags = rw same was.flags;
-    few = rw same was.few;
-  }
-
-  pub history_same : (begins : Bool) (history : BundleHistory)
-      → blocks_in (content ++ more) ≡ blocks_in content
-      → HasHistory begins history (read_bundle content) content
-      → HasHistory begins history (read_bundle (content ++ more)) (content ++ more)
-  history_same begins history same was =
-      rw (read_more [] (same ∙ sym (append-nil (blocks_in content))))
-      (same_by begins history (read_bundle content) same was)
 
   -- ---- the primary block has ended
 
@@ -90,7 +41,7 @@ module _ (content more : List ℕ) where
       → bundle_of history None 0 ≡ begun primary check
       → HasHistory true history (read_bundle (content ++ more)) (content ++ more)
   history_begins history primary check end grown same =
-      rw (read_more (PrimaryOf primary check end ∷ []) grown) (record {
+      rw (read_more content more (PrimaryOf primary check end ∷ []) grown) (record {
         same = same;
         flags = sym (flags_more (PrimaryOf primary check end ∷ []) grown);
         few = omega (
@@ -148,20 +99,8 @@ module _ (content more : List ℕ) where
         → HasHistory begins old (read_bundle content) content → Adds old new
         → HasHistory begins new (read_bundle (content ++ more)) (content ++ more)
     history_adds begins old new was adds =
-        rw (read_more (CanonicalOf block ∷ []) grown)
+        rw (read_more content more (CanonicalOf block ∷ []) grown)
         (adds_by begins old new (read_bundle content) was adds)
-
--- no more blocks come in the rest, or there is none
-pub rest_blocks : (now : BundleReader) (content rest : List ℕ)
-    → (bundle_goes content ≡ false) ⊎ (rest ≡ []) → IsReadingBlocks now content
-    → IsReadingBlocks now (content ++ rest)
-rest_blocks now content rest ends was = record {
-  reading = rest_read now.blocks content rest ends was.reading;
-  history = history_same content rest now.begun now.history (⊎_elim
-      (λ stops. BlocksEnd-holds content rest stops)
-      (λ none. rw none (ap blocks_in (append-nil content)))
-      ends) was.history;
-}
 
 -- ---- the rules
 

@@ -1,19 +1,18 @@
 -- What is kept of bundles and said of them, when more bytes come.
-use Rattle.std.proofs.Common.{◌≡◌, ℕ, suc, ◌+◌, Bool, true, ◌&&◌, List, [], ◌∷◌, ◌++◌, length, Result, Ok, Err, OnOk, refl, ap, sym, ◌∙◌, append-nil, append_assoc, arith}
+use Rattle.std.proofs.Common.{◌≡◌, ℕ, suc, ◌+◌, Bool, true, ◌&&◌, List, [], ◌∷◌, ◌++◌, length, Result, Err, refl, ap, sym, ◌∙◌, append-nil, append_assoc, arith}
 use Rattle.std.proofs.lemmas.List.Sums.{sum_by-cons, sum_by_push}
 use Rattle.link_wire.specs.{Device.Output, declared.IoFault.IoFault}
-use Rattle.link_bundle.specs.Scan.{HasScanned}
-use Rattle.link_bundle.proofs.Pieces.{all_judged}
 use Rattle.link_bundle_types.specs.declared.info.BundleInfo.{BundleInfo}
 use Rattle.link_bundle_walk.specs.Bundles.{Packed, size_of}
-use Rattle.link_bundle_walk.specs.Telling.{SoFar, none_yet, between, Tells}
-use Rattle.link_run.specs.{Run.{Texts, no_texts}, Writers.{AfterWrite, on_output}}
+use Rattle.link_bundle_walk.specs.Telling.{SoFar, none_yet, Tells}
+use Rattle.link_bundle_walk.proofs.Told.{on_ok_by, told_after, told_part}
+use Rattle.link_run.specs.{Run.no_texts, Writers.on_output}
 use Rattle.link_run.specs.declared.writers.Writers.{Writers}
-use Rattle.link_run.proofs.Runs.{texts_as, then_none, writes_none}
+use Rattle.link_run.proofs.Runs.{texts_as}
 use Rattle.link_rule_report.specs.declared.line.RuleText.{RuleText}
-use Rattle.link_check.specs.{BundleChecker.KnowsBundles, BundleReader.IsReadingBundle}
+use Rattle.link_check.specs.{BundleChecker.{KnowsBundles, with_end}, BundleReader.IsReadingBundle}
 use Rattle.link_check.specs.Bundles.{broken_in, broken_bundles, bundle_check_telling}
-use Rattle.link_check.specs.Lines.{lines_of, none_counts}
+use Rattle.link_check.specs.{Lines.{lines_of, none_counts}, Writing.WritesRules}
 use Rattle.link_check.specs.declared.bundles.BundleChecker.{BundleChecker}
 use Rattle.link_check.proofs.Appends.{lines_append, counts_append, no_lines, none_count}
 
@@ -71,76 +70,60 @@ module _ (must : Bool) (bundles : List Packed) (bundle : Packed) (number : ℕ)
 
 -- ---- what is kept
 
--- between two bundles
-pub knows_between : (must : Bool) (now : BundleChecker) (bundles : List Packed)
-    → now.offset ≡ size_of bundles → now.size ≡ 0 → HasScanned now.scan []
-    → IsReadingBundle now.bundle [] → now.good ≡ none_counts must (broken_bundles 0 0 bundles)
-    → KnowsBundles must now (between bundles)
-knows_between must now bundles offset size scanned reading good = record {
-  offset = offset;
-  size = size;
-  judged = all_judged now.scan [] scanned;
+-- before the first bundle
+pub knows_none : (must : Bool) (now : BundleChecker) → now.offset ≡ 0
+    → IsReadingBundle now.bundle [] → now.good ≡ true → KnowsBundles must now none_yet
+knows_none must now offset reading good = record {
+  offset = offset ∙ sym no_size;
   reading = reading;
-  good = good;
+  good = good ∙ sym (ap (none_counts must) none_broken ∙ none_count must);
 }
 
--- before the first bundle
-pub knows_none : (must : Bool) (now : BundleChecker) → now.offset ≡ 0 → now.size ≡ 0
-    → HasScanned now.scan [] → IsReadingBundle now.bundle [] → now.good ≡ true
-    → KnowsBundles must now none_yet
-knows_none must now offset size scanned reading good =
-    knows_between must now [] (offset ∙ sym no_size) size scanned reading
-    (good ∙ sym (ap (none_counts must) none_broken ∙ none_count must))
+pub says_none : (must : Bool) → no_texts ≡ (bundle_check_telling must).texts none_yet
+says_none must = ap on_output (sym (ap (lines_of must) none_broken ∙ no_lines must))
 
 -- The bundle with this number is whole, and the lines of its rules were written. `was` is whether
 -- the bundles before are good.
-module _ (must : Bool) (before : SoFar) (info : BundleInfo) (number : ℕ) where
-  abbrev last : Packed
-  last = record { bytes = before.begun; info = info }
+pub tells_whole : {W E : Type 0} {out_look : W → Output} {report_look : E → Output}
+    {old new : Writers W E} {was : Bool} {result : Result (Unit {0}) IoFault}
+    (must : Bool) (now : BundleChecker) (before : SoFar) (info : BundleInfo) (number : ℕ)
+    → number ≡ length before.bundles
+    → was ≡ none_counts must (broken_bundles 0 0 before.bundles)
+    → WritesRules out_look report_look must old new was now.good result
+    (broken_in number (size_of before.bundles) (record { bytes = before.begun; info = info }))
+    → now.offset ≡ size_of before.bundles + length before.begun → IsReadingBundle now.bundle []
+    → Tells out_look report_look ((bundle_check_telling must).texts before)
+    ((bundle_check_telling must).texts (with_end before info))
+    (KnowsBundles must now (with_end before info)) old new result
+tells_whole {result = result} must now before info number numbered good writes next reading =
+    let last : Packed = record { bytes = before.begun; info = info } in
+    record {
+      texts = on_output (lines_of must (broken_in number (size_of before.bundles) last));
+      said = texts_as (sym (lines_push must before.bundles last number numbered)) refl;
+      wrote = writes.wrote;
+      known = on_ok_by result
+          (λ counted. record {
+            offset = next ∙ sym (size_push before.bundles last);
+            reading = reading;
+            good = rw (counts_push must before.bundles last number numbered, ← good) counted;
+          })
+          writes.counted;
+    }
 
-  pub knows_ended : (now : BundleChecker) (was : Bool) (result : Result (Unit {0}) IoFault)
-      → number ≡ length before.bundles
-      → was ≡ none_counts must (broken_bundles 0 0 before.bundles)
-      → OnOk result (now.good
-      ≡ (was && none_counts must (broken_in number (size_of before.bundles) last)))
-      → now.offset ≡ size_of before.bundles + length before.begun → now.size ≡ 0
-      → HasScanned now.scan [] → IsReadingBundle now.bundle []
-      → OnOk result (KnowsBundles must now (between (before.bundles ++ last ∷ [])))
-  knows_ended now was (Ok done) numbered good counted next size scanned reading =
-      knows_between must now (before.bundles ++ last ∷ []) (next ∙ sym (size_push before.bundles last))
-      size scanned reading
-      (rw (counts_push must before.bundles last number numbered, ← good) counted)
-  knows_ended now was (Err fault) numbered good counted next size scanned reading = tt
+-- ---- more bytes of a bundle
 
--- ---- what is written
+module _ {W E P : Type 0} {out_look : W → Output} {report_look : E → Output}
+    {old new : Writers W E} where
+  -- nothing was said
+  pub tells_on : {result : Result (Unit {0}) IoFault} (said : List ℕ)
+      → Tells out_look report_look no_texts no_texts P old new result
+      → Tells out_look report_look (on_output said) (on_output said) P old new result
+  tells_on said told = rw (append-nil said) at (told_after told (on_output said))
 
-pub says_none : (must : Bool) → no_texts ≡ (bundle_check_telling must).texts none_yet
-says_none must = texts_as (sym (ap (lines_of must) none_broken ∙ no_lines must)) refl
-
-module _ {W E : Type 0} {out_look : W → Output} {report_look : E → Output} where
-  -- all that is due was written before
-  pub tells_none : {had due : Texts} {stands : Type 0} {writers : Writers W E} → had ≡ due → stands
-      → Tells out_look report_look had due stands writers writers (Ok tt)
-  tells_none {had} {writers = writers} same holds = record {
-    texts = no_texts;
-    said = then_none had ∙ same;
-    wrote = writes_none out_look report_look writers;
-    known = holds;
-  }
-
-  -- the next bundle is whole
-  pub tells_whole : (must : Bool) (now : BundleChecker) (bundles : List Packed) (bundle : Packed)
-      (number : ℕ) {old new : Writers W E} {result : Result (Unit {0}) IoFault}
-      → number ≡ length bundles
-      → AfterWrite out_look report_look old new
-      (on_output (lines_of must (broken_in number (size_of bundles) bundle))) result
-      → OnOk result (KnowsBundles must now (between (bundles ++ bundle ∷ [])))
+  -- a writer failed before the lines of the next bundle
+  pub tells_lost : {Q : Type 0} {fault : IoFault} (must : Bool) (bundles : List Packed)
+      (bundle : Packed) → Tells out_look report_look no_texts no_texts P old new (Err fault)
       → Tells out_look report_look (on_output (lines_of must (broken_bundles 0 0 bundles)))
-      (on_output (lines_of must (broken_bundles 0 0 (bundles ++ bundle ∷ []))))
-      (KnowsBundles must now (between (bundles ++ bundle ∷ []))) old new result
-  tells_whole must now bundles bundle number numbered wrote known = record {
-    texts = on_output (lines_of must (broken_in number (size_of bundles) bundle));
-    said = texts_as (sym (lines_push must bundles bundle number numbered)) refl;
-    wrote = wrote;
-    known = known;
-  }
+      (on_output (lines_of must (broken_bundles 0 0 (bundles ++ bundle ∷ [])))) Q old new (Err fault)
+  tells_lost must bundles bundle told =
+      rw (lines_push must bundles bundle (length bundles) refl) (told_part _ (tells_on _ told))

@@ -1,7 +1,6 @@
 -- The lines of a closed transfer.
-use Rattle.std.proofs.Common.{◌≡◌, List, ◌++◌, map, length, Result, Ok, Err, OnOk, refl}
+use Rattle.std.proofs.Common.{◌≡◌, List, ◌++◌, map, length, refl}
 use Rattle.link_bundle_blocks.specs.Bundle.{verdict}
-use Rattle.link_wire.specs.declared.IoFault.{IoFault}
 use Rattle.link_message_rules.specs.TransferRules.{broken_transfer_rules}
 use Rattle.link_message_rules.specs.declared.rule.TransferRule.{TransferRule}
 use Rattle.link_rule_report.specs.declared.line.RuleText.{RuleText}
@@ -9,10 +8,6 @@ use Rattle.link_rule_report.specs.declared.rule.BrokenRule.TheVariants.{Transfer
 use Rattle.link_check.specs.{Checker.IsChecking, Checking.{Begun, closed_rules, data_rules}}
 use Rattle.link_check.specs.{Lines.at_offset, declared.transfer.CheckedTransfer.CheckedTransfer}
 use Rattle.link_check.proofs.Appends.{at_append}
-
-pub on_ok_by : {P Q : Type 0} (result : Result (Unit {0}) IoFault) → (P → Q) → OnOk result P → OnOk result Q
-on_ok_by (Ok done) step holds = step holds
-on_ok_by (Err fault) step holds = tt
 
 module _ (begun : Begun) where
   abbrev pub of_length : List RuleText

@@ -1,17 +1,19 @@
 -- Lines of broken rules, written one after another.
-use Rattle.std.proofs.Common.{◌≡◌, ℕ, ◌+◌, ◌<◌, Bool, ◌&&◌, not, List, [], ◌∷◌, ◌++◌, length, map, take, Result, Ok, Err, sym, arith}
+use Rattle.std.proofs.Common.{◌≡◌, ℕ, ◌+◌, ◌<◌, Bool, ◌&&◌, not, List, [], ◌∷◌, ◌++◌, length, map, take, Result, Ok, Err, sym, subst, arith}
 use Rattle.std.specs.Prelude.{slice_index_or}
 use Rattle.std.proofs.Math.Bool.{and-true, and_assoc}
 use Rattle.std.proofs.lemmas.List.{map-append, map_more, take-append-drop}
 use Rattle.link_wire.specs.{Device.Output, declared.IoFault.IoFault}
 use Rattle.link_run.specs.{Writers.{AfterWrite, on_output}, declared.writers.Writers.Writers}
 use Rattle.link_run.proofs.Runs.{outputs_then, part_of_more, writes_none}
+use Rattle.link_run.specs.Run.{Texts, no_texts}
+use Rattle.link_bundle_walk.specs.Telling.{Tells}
+use Rattle.link_bundle_walk.proofs.Told.{on_ok_by}
 use Rattle.link_judge.proofs.Counts.{on_ok}
 use Rattle.link_rule_report.specs.declared.{line.RuleText.RuleText, rule.BrokenRule.BrokenRule}
 use Rattle.link_check.specs.Lines.{at_offset, counts, line_of, lines_of}
 use Rattle.link_check.specs.Writing.{WritesRules}
 use Rattle.link_check.proofs.Appends.{counts_append, lines_append, no_lines, none_count, one_counts, one_line}
-use Rattle.link_check.proofs.Closed.{on_ok_by}
 
 -- the first of some rules that are broken at an offset
 abbrev first_rules : {A : Type 0} → (A → BrokenRule) → (offset : ℕ) → List A → (count : ℕ)
@@ -24,6 +26,18 @@ module _ {W E : Type 0} {out_look : W → Output} {report_look : E → Output} {
   none_written {writers} {good} = record {
     wrote = rw (no_lines must) (writes_none out_look report_look writers);
     counted = rw none_count (sym (and-true good));
+  }
+
+  -- nothing was to be written
+  pub quiet_written : {P : Type 0} {old new : Writers W E} {good : Bool}
+      {result : Result (Unit {0}) IoFault}
+      → Tells out_look report_look no_texts no_texts P old new result
+      → WritesRules out_look report_look must old new good good result []
+  quiet_written {old = old} {new = new} {good = good} {result = result} told = record {
+    wrote = rw (no_lines must) (subst
+        (λ (texts : Texts). AfterWrite out_look report_look old new texts result)
+        told.said told.wrote);
+    counted = on_ok result (rw none_count (sym (and-true good)));
   }
 
   pub one_written : {old new : Writers W E} {was good : Bool} {result : Result (Unit {0}) IoFault}

@@ -26,17 +26,13 @@ HasHistory false history (Some bundle) content = ⊥
 HasHistory true history None content = ⊥
 HasHistory true history (Some bundle) content = IsHistory history bundle content
 
--- the blocks of this content were read
-pub record IsReadingBlocks (now : BundleReader) (content : List ℕ) : Type 0 where
-  pub reading : IsReading now.blocks content
-  pub history : HasHistory now.begun now.history (read_bundle content) content
-
 -- exactly this content of a bundle was read
 pub record IsReadingBundle (now : BundleReader) (content : List ℕ) : Type 0 where
-  pub blocks : IsReadingBlocks now content
+  pub reading : IsReading now.data content
+  pub history : HasHistory now.blocks.begun now.blocks.history (read_bundle content) content
   pub walked : HasWalked now.heads content
   pub begins : Begins now.prefix content
 
 -- the number of bytes read of the latest block's data
 abbrev pub data_size : BundleReader → ℕ
-data_size now = read_size now.blocks
+data_size now = read_size now.data

@@ -4,5 +4,6 @@ pub mod Writing
 pub mod Checking
 pub mod Bundles
 pub mod BundleReader
+pub mod HistoryLaws
 pub mod Checker
 pub mod BundleChecker

@@ -10,7 +10,7 @@ use crate::lines::write_rules;
 use link_block_reader::DataReader;
 use link_bundle::{BlockView, BundleScan, CanonicalBlock};
 use link_bundle_rules::{BrokenBundleRules, BundleHistory, ReadBlockView};
-use link_cbor::Piecewise;
+use link_bundle_walk::{BlockConsumer, RunView, tell_piece, tell_run};
 use link_rule_report::BundlePlace;
 use link_rules::{HeadWalk, Prefix, Unread};
 use link_run::Writers;
@@ -21,13 +21,53 @@ use link_wire::{IoFault, OutDevice};
 /// It has a fixed size, and keeps no bytes.
 #[derive(Drop)]
 pub(crate) struct BundleReader {
-    blocks: DataReader,
+    data: DataReader,
+    blocks: KeptBlocks,
+    heads: HeadWalk,
+    prefix: Prefix,
+}
+
+/// The whole blocks of a bundle, as far as the rules need them.
+#[derive(Drop)]
+struct KeptBlocks {
     /// The blocks so far, if it has begun.
     history: BundleHistory,
     /// Whether the history has begun: the primary block is whole.
     begun: bool,
-    heads: HeadWalk,
-    prefix: Prefix,
+}
+
+impl BlockConsumer for KeptBlocks {
+    ghost use Rattle.std.specs.Prelude.{refl};
+    ghost use Rattle.link_check.specs.BundleReader.{HasHistory};
+    ghost use Rattle.link_check.specs.BundleRules.{read_bundle};
+    ghost use Rattle.link_check.specs.HistoryLaws.{history_same};
+
+    ghost says = { λ number content. [] };
+
+    ghost knows = { λ kept content. HasHistory kept.begun kept.history (read_bundle content) content };
+
+    #[inline(always)]
+    fn block<W: OutDevice, E: OutDevice>(
+        &mut self,
+        _number: u64,
+        block: &BlockView<'_>,
+        reader: &DataReader,
+        _writers: &mut Writers<W, E>,
+    ) -> Result<(), IoFault> {
+        match block {
+            BlockView::Primary(block) => {
+                self.history.begin(block);
+                self.begun = true;
+            }
+            BlockView::Canonical(block) => add(&mut self.history, block, reader),
+        }
+        Ok(())
+    }
+
+    ghost grows = { λ number before more. record { text = []; is = refl } };
+
+    ghost steady = { λ number kept before more same.
+        (refl, history_same before more kept.begun kept.history same) };
 }
 
 /// Adds a whole block to a history. Its data was read.
@@ -50,12 +90,11 @@ fn add<'a>(history: &mut BundleHistory, block: &'a CanonicalBlock, reader: &'a D
 
 impl BundleReader {
     ghost use Rattle.link_bundle_types.specs.declared.info.BundleInfo.{BundleInfo};
-    ghost use Rattle.std.specs.Prelude.{◌∷◌};
-    ghost use Rattle.link_bundle_blocks.specs.Blocks.{viewed_block};
-    ghost use Rattle.link_bundle_blocks.specs.Bundle.{blocks_in, bundle_goes};
-    ghost use Rattle.link_bundle.specs.Scan.{HasScanned, HasJudged, ending, scan_size};
+    ghost use Rattle.link_bundle.specs.Scan.{HasJudged, scan_size};
+    ghost use Rattle.link_run.specs.Run.{no_texts};
+    ghost use Rattle.link_bundle_walk.specs.Telling.{ComesAfter, SoFar, Tells};
     ghost use Rattle.link_rules.specs.Heads.{unread_of};
-    ghost use Rattle.link_check.specs.BundleReader.{IsReadingBlocks, IsReadingBundle, data_size};
+    ghost use Rattle.link_check.specs.BundleReader.{IsReadingBundle, data_size};
     ghost use Rattle.link_check.specs.BundleRules.{bundle_rules};
     ghost use Rattle.link_check.specs.Lines.{at_offset};
     ghost use Rattle.link_check.specs.Writing.{WritesRules};
@@ -66,12 +105,14 @@ impl BundleReader {
         ensures reads { IsReadingBundle result [] }
         ensures size { data_size result ≡ 0 }
     {
-        let mut blocks = DataReader::new();
-        blocks.restart();
+        let mut data = DataReader::new();
+        data.restart();
         BundleReader {
-            blocks,
-            history: BundleHistory::new(),
-            begun: false,
+            data,
+            blocks: KeptBlocks {
+                history: BundleHistory::new(),
+                begun: false,
+            },
             heads: HeadWalk::new(),
             prefix: Prefix::new(),
         }
@@ -82,99 +123,70 @@ impl BundleReader {
         ensures reads { IsReadingBundle self.new [] }
         ensures size { data_size self.new ≡ 0 }
     {
-        self.blocks.restart();
-        self.begun = false;
+        self.data.restart();
+        self.blocks.begun = false;
         self.heads.restart();
         self.prefix.restart();
     }
 
     /// Scans and reads the next piece of a bundle, which comes after its first `before` bytes.
-    pub(crate) fn take(&mut self, before: u64, piece: &[u8], scan: &mut BundleScan)
+    pub(crate) fn take<W: OutDevice, E: OutDevice>(
+        &mut self,
+        before: u64,
+        piece: &[u8],
+        scan: &mut BundleScan,
+        writers: &mut Writers<W, E>,
+    ) -> Result<(), IoFault>
         requires room { before + length piece.now < 2 ^ 63 }
         requires scanned { scan_size scan.old ≤ before }
         requires read { data_size self.old ≤ before }
         ensures scanned { scan_size scan.new ≤ before + length piece.now }
         ensures read { data_size self.new ≤ before + length piece.now }
-        ensures judged { (content : List ℕ) → length content ≡ before → HasJudged scan.old content
-            → HasJudged scan.new (content ++ piece.now) }
-        ensures reads { (content : List ℕ) → length content ≡ before → HasJudged scan.old content
-            → IsReadingBundle self.old content → IsReadingBundle self.new (content ++ piece.now) }
+        ensures gives { (content : List ℕ) → length content ≡ before → HasJudged scan.old content
+            → IsReadingBundle self.old content
+            → Tells W.state E.state no_texts no_texts (HasJudged scan.new (content ++ piece.now)
+            × IsReadingBundle self.new (content ++ piece.now)) writers.old writers.new result }
     {
         self.heads.take(piece);
         self.prefix.take(piece);
-        self.take_blocks(before, piece, scan);
+        tell_piece(
+            0,
+            before,
+            piece,
+            scan,
+            &mut self.data,
+            &mut self.blocks,
+            writers,
+        )
     }
 
-    /// Scans the next piece, and reads its blocks.
-    fn take_blocks(&mut self, before: u64, piece: &[u8], scan: &mut BundleScan)
-        requires room { before + length piece.now < 2 ^ 63 }
-        requires scanned { scan_size scan.old ≤ before }
-        requires read { data_size self.old ≤ before }
-        ensures scanned { scan_size scan.new ≤ before + length piece.now }
-        ensures read { data_size self.new ≤ before + length piece.now }
-        ensures heads { self.new.heads ≡ self.old.heads }
-        ensures prefix { self.new.prefix ≡ self.old.prefix }
-        ensures judged { (content : List ℕ) → length content ≡ before → HasJudged scan.old content
-            → HasJudged scan.new (content ++ piece.now) }
-        ensures reads { (content : List ℕ) → length content ≡ before → HasJudged scan.old content
-            → IsReadingBlocks self.old content → IsReadingBlocks self.new (content ++ piece.now) }
+    /// Reads a run of a bundle that the scan has seen.
+    #[inline(always)]
+    pub(crate) fn take_run<W: OutDevice, E: OutDevice>(
+        &mut self,
+        run: &RunView<'_, '_>,
+        writers: &mut Writers<W, E>,
+    ) -> Result<(), IoFault>
+        requires room { run.now.before + length run.now.bytes.now < 2 ^ 63 }
+        requires read { data_size self.old ≤ run.now.before }
+        ensures read { data_size self.new ≤ run.now.before + length run.now.bytes.now }
+        ensures gives { (limit : ℕ) (before : SoFar) → IsReadingBundle self.old before.begun
+            → ComesAfter limit true before run.now
+            → Tells W.state E.state no_texts no_texts
+            (IsReadingBundle self.new (before.begun ++ run.now.bytes.now))
+            writers.old writers.new result }
     {
-        let mut taken = 0;
-        while taken < piece.len() && scan.going() {
-            let rest = &piece[taken..];
-            let count = scan.feed_block(rest);
-            self.take_run(before + taken as u64, &rest[..count], scan);
-            taken += count;
-        }
-        scan.judge_piece(&piece[taken..]);
-    }
-
-    /// Reads a run of a bundle that the scan has seen. A block may end with the run, and none ends
-    /// before.
-    fn take_run(&mut self, before: u64, run: &[u8], scan: &BundleScan)
-        requires room { before + length run.now < 2 ^ 63 }
-        requires read { data_size self.old ≤ before }
-        ensures read { data_size self.new ≤ before + length run.now }
-        ensures heads { self.new.heads ≡ self.old.heads }
-        ensures prefix { self.new.prefix ≡ self.old.prefix }
-        ensures reads { (seen : List ℕ) → length seen ≡ before → IsReadingBlocks self.old seen
-            → 0 < length run.now → bundle_goes seen ≡ true
-            → HasScanned scan.now (seen ++ run.now)
-            → blocks_in (seen ++ run.now) ≡ blocks_in seen ++ ending scan.now
-            → IsReadingBlocks self.new (seen ++ run.now) }
-    {
-        let Some(ended) = scan.ended_block() else {
-            self.blocks.follow_cut(before, run, scan);
-            return;
-        };
-        self.take_ended(before, run, &ended, scan);
-    }
-
-    /// Reads a run of a bundle that ends with this block, and with no block before.
-    // Not inlined: most pieces of a bundle in short segments end no block, and should not pay for
-    // it.
-    #[inline(never)]
-    fn take_ended(&mut self, before: u64, run: &[u8], ended: &BlockView<'_>, scan: &BundleScan)
-        requires room { before + length run.now < 2 ^ 63 }
-        requires read { data_size self.old ≤ before }
-        requires ended { ending scan.now ≡ viewed_block ended.now ∷ [] }
-        ensures read { data_size self.new ≤ before + length run.now }
-        ensures heads { self.new.heads ≡ self.old.heads }
-        ensures prefix { self.new.prefix ≡ self.old.prefix }
-        ensures reads { (seen : List ℕ) → length seen ≡ before → IsReadingBlocks self.old seen
-            → 0 < length run.now → bundle_goes seen ≡ true
-            → HasScanned scan.now (seen ++ run.now)
-            → blocks_in (seen ++ run.now) ≡ blocks_in seen ++ ending scan.now
-            → IsReadingBlocks self.new (seen ++ run.now) }
-    {
-        self.blocks.follow(before, run, ended, scan);
-        match ended {
-            BlockView::Primary(block) => {
-                self.history.begin(block);
-                self.begun = true;
-            }
-            BlockView::Canonical(block) => add(&mut self.history, block, &self.blocks),
-        }
+        self.heads.take(run.bytes);
+        self.prefix.take(run.bytes);
+        tell_run(
+            run.number,
+            run.before,
+            run.bytes,
+            run.scan,
+            &mut self.data,
+            &mut self.blocks,
+            writers,
+        )
     }
 
     /// Where the bundle has heads that this toolkit does not read.
@@ -191,10 +203,10 @@ impl BundleReader {
         ensures { (content : List ℕ) (info : BundleInfo) → IsReadingBundle self.now content
             → result ≡ true → bundle_rules content info ≡ [] }
     {
-        if !self.begun {
+        if !self.blocks.begun {
             return true;
         }
-        self.history.keeps_rules(self.heads.first_long())
+        self.blocks.history.keeps_rules(self.heads.first_long())
     }
 
     /// The rules that the bundle breaks, if it is good, whole and has a payload of this length.
@@ -203,10 +215,10 @@ impl BundleReader {
             → payload ≡ info.payload
             → result.items ≡ bundle_rules content info }
     {
-        if !self.begun {
+        if !self.blocks.begun {
             return BrokenBundleRules::new();
         }
-        self.history.rules(self.heads.first_long(), payload)
+        self.blocks.history.rules(self.heads.first_long(), payload)
     }
 
     /// Writes the lines of the rules that the bundle breaks, if it is good and whole.

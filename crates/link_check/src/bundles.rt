@@ -1,74 +1,46 @@
 //! `check --bundles`: the lines of the rules that the bundles of an input break.
 
-ghost use Rattle.std.specs.Prelude.{◌≡◌, ◌^◌, ◌<◌, ◌≤◌, false, []};
-ghost use Rattle.link_bundle.specs.Scan.{scan_size};
-ghost use Rattle.link_run.specs.Run.{AfterRun, devices_at, looks};
+ghost use Rattle.std.specs.Prelude.{◌≡◌, []};
+ghost use Rattle.link_run.specs.Run.{devices, looks, NoneFailed};
+ghost use Rattle.link_run.specs.NewRun.{IsNewRun};
+ghost use Rattle.link_run.specs.WholeRun.{AfterRun};
 ghost use Rattle.link_check.specs.BundleReader.{data_size};
 ghost use Rattle.link_check.specs.Bundles.{bundle_check_tool};
 
 use crate::bundle::BundleReader;
-use link_bundle::BundleScan;
-use link_bundle_walk::{BundleConsumer, BundleWalkRun, WholeView, bundle_walk_run};
+use link_bundle_walk::{BundleConsumer, BundleWalkRun, RunView, WholeView, bundle_walk_run};
 use link_rule_report::BundlePlace;
 use link_run::{Run, RunEnd, Writers};
-use link_wire::{INPUT_LIMIT, InDevice, IoFault, OutDevice};
+use link_wire::{InDevice, IoFault, OutDevice};
 
 /// Judges one bundle after another.
 #[derive(Drop)]
 pub struct BundleChecker {
     bundle: BundleReader,
-    scan: BundleScan,
     /// The offset of the current bundle in the input.
     offset: u64,
-    /// The number of bytes of the current bundle so far.
-    size: u64,
     /// Whether no rule that counts was broken.
     good: bool,
-    ghost read: { data_size bundle ≤ size },
-    ghost scanned: { scan_size scan ≤ size },
-    ghost limit: { size < 2 ^ 63 },
 }
 
 impl BundleChecker {
-    ghost use Rattle.std.specs.Prelude.{◌+◌, ◌++◌, ◌∷◌, OnOk, length};
-    ghost use Rattle.link_bundle_types.specs.declared.info.BundleInfo.{BundleInfo};
+    ghost use Rattle.std.specs.Prelude.{◌+◌, ◌^◌, ◌<◌, length};
+    ghost use Rattle.link_bundle_types.specs.BundleView.{viewed_info};
     ghost use Rattle.link_bundle_walk.specs.Bundles.{size_of};
-    ghost use Rattle.link_bundle_walk.specs.Telling.{SoFar, between, none_yet};
-    ghost use Rattle.link_run.specs.Writers.{AfterWrite, on_output};
-    ghost use Rattle.link_check.specs.BundleChecker.{KnowsBundles};
-    ghost use Rattle.link_check.specs.Bundles.{broken_in};
-    ghost use Rattle.link_check.specs.Lines.{lines_of};
+    ghost use Rattle.link_bundle_walk.specs.Telling.{SoFar, Tells, none_yet};
+    ghost use Rattle.link_check.specs.BundleChecker.{KnowsBundles, with_end};
+    ghost use Rattle.link_check.specs.Bundles.{bundle_check_telling};
 
     /// What is kept before the first bundle.
     pub fn new() -> BundleChecker
-        ensures { (must : _) → KnowsBundles must result none_yet }
+        ensures knows { (must : _) → KnowsBundles must result none_yet }
+        ensures read { data_size result.bundle ≡ 0 }
     {
         BundleChecker {
             bundle: BundleReader::new(),
-            scan: BundleScan::new(),
             offset: 0,
-            size: 0,
             good: true,
         }
-    }
-
-    /// Reads the next bytes of the current bundle.
-    ///
-    /// If the bundle would be longer than any input, it takes nothing. This never happens in a run,
-    /// since the bundle is part of its input.
-    #[inline(always)]
-    fn take(&mut self, bytes: &[u8])
-        ensures follows { (must : _) (before : SoFar)
-            → length (before.begun ++ bytes.now) < 2 ^ 63 → KnowsBundles must self.old before
-            → KnowsBundles must self.new
-            (record before { begun = before.begun ++ bytes.now }) }
-    {
-        if bytes.len() as u64 > INPUT_LIMIT - self.size {
-            return;
-        }
-        let before = self.size;
-        self.size += bytes.len() as u64;
-        self.bundle.take(before, bytes, &mut self.scan);
     }
 
     /// Writes the lines of the rules that the current bundle breaks, which is whole, and begins the
@@ -78,34 +50,30 @@ impl BundleChecker {
         &mut self,
         must: bool,
         number: u64,
-        payload: u64,
+        whole: WholeView<'_>,
         writers: &mut Writers<W, E>,
     ) -> Result<(), IoFault>
-        ensures gives { (now : SoFar) (info : BundleInfo) → KnowsBundles must self.old now
-            → size_of now.bundles + length now.begun < 2 ^ 63 → payload ≡ info.payload
-            → AfterWrite W.state E.state writers.old writers.new (on_output (lines_of must
-            (broken_in number (size_of now.bundles)
-            (record { bytes = now.begun; info = info })))) result }
-        ensures follows { (now : SoFar) (info : BundleInfo) → KnowsBundles must self.old now
-            → size_of now.bundles + length now.begun < 2 ^ 63 → payload ≡ info.payload
-            → number ≡ length now.bundles
-            → OnOk result (KnowsBundles must self.new
-            (between (now.bundles ++ record { bytes = now.begun; info = info } ∷ []))) }
+        ensures gives { (now : SoFar) → KnowsBundles must self.old now
+            → size_of now.bundles + length now.begun < 2 ^ 63
+            → whole.entry.length ≡ length now.begun → number ≡ length now.bundles
+            → Tells W.state E.state ((bundle_check_telling must).texts now)
+            ((bundle_check_telling must).texts (with_end now (viewed_info whole.entry.info)))
+            (KnowsBundles must self.new (with_end now (viewed_info whole.entry.info)))
+            writers.old writers.new result }
+        ensures read { data_size self.new.bundle ≡ 0 }
     {
         let place = BundlePlace::Input(number);
         let written = self
             .bundle
-            .write_rules(must, self.offset, place, payload, writers, &mut self.good);
-        self.offset = self.offset.saturating_add(self.size);
+            .write_rules(must, self.offset, place, whole.info.payload, writers, &mut self.good);
+        self.offset = self.offset.saturating_add(whole.length);
         self.bundle.restart();
-        self.scan.restart();
-        self.size = 0;
         written
     }
 }
 
 impl BundleConsumer for BundleChecker {
-    ghost use Rattle.std.specs.Prelude.{true, ◌-◌};
+    ghost use Rattle.std.specs.Prelude.{true, ◌-◌, ◌^◌};
     ghost use Rattle.link_check.specs.BundleChecker.{KnowsBundles};
     ghost use Rattle.link_check.specs.Bundles.{bundle_check_telling};
 
@@ -120,6 +88,15 @@ impl BundleConsumer for BundleChecker {
 
     ghost wants = { λ checker. 2 ^ 64 - 1 };
 
+    ghost tells_blocks = { true };
+
+    ghost read = { λ checker. data_size checker.bundle };
+
+    #[inline(always)]
+    fn by_blocks() -> bool {
+        true
+    }
+
     #[inline(always)]
     fn limit(_must: &bool) -> u64 {
         u64::MAX
@@ -130,7 +107,6 @@ impl BundleConsumer for BundleChecker {
         usize::MAX
     }
 
-    #[tactic(auto, using(crate::proofs::BundleTexts::tells_none, crate::proofs::BundleTexts::says_none))]
     fn begin<W: OutDevice, E: OutDevice>(
         &mut self,
         _must: &bool,
@@ -143,19 +119,29 @@ impl BundleConsumer for BundleChecker {
     fn run<W: OutDevice, E: OutDevice>(
         &mut self,
         must: &bool,
-        number: u64,
-        bytes: &[u8],
-        whole: Option<WholeView<'_>>,
+        run: &RunView<'_, '_>,
         writers: &mut Writers<W, E>,
     ) -> Result<(), IoFault> {
-        self.take(bytes);
-        match whole {
-            Some(whole) => self.end_bundle(*must, number, whole.info.payload, writers),
-            None => Ok(()),
+        let written = self.bundle.take_run(run, writers);
+        let Some(whole) = run.whole else {
+            return written;
+        };
+        match written {
+            Ok(()) => self.end_bundle(*must, run.number, whole, writers),
+            Err(fault) => Err(fault),
         }
     }
 
-    #[tactic(auto, using(crate::proofs::BundleTexts::tells_none))]
+    fn stop<W: OutDevice, E: OutDevice>(
+        &mut self,
+        _must: &bool,
+        _number: u64,
+        _bytes: &[u8],
+        _writers: &mut Writers<W, E>,
+    ) -> Result<(), IoFault> {
+        Ok(())
+    }
+
     fn end<W: OutDevice, E: OutDevice>(
         &mut self,
         _must: &bool,
@@ -180,16 +166,9 @@ pub fn bundle_check_run<R: InDevice, W: OutDevice, E: OutDevice>(
     output: W,
     report: E,
 ) -> BundleCheckRun<R, W, E>
-    requires reader { (R.state reader).failed ≡ false }
-    requires output { (W.state output).failed ≡ false }
-    requires report { (E.state report).failed ≡ false }
-    ensures stands { ⟦<BundleCheckRun<R, W, E> as Run<R, W, E>>⟧.stands result
-        (record { reader = reader; output = output; report = report }) [] }
-    ensures tool { ⟦<BundleCheckRun<R, W, E> as Run<R, W, E>>⟧.tool result
-        ≡ bundle_check_tool must }
-    ensures devices { devices_at (⟦<BundleCheckRun<R, W, E> as Run<R, W, E>>⟧.place result)
-        ≡ record { reader = reader; output = output; report = report } }
-    ensures waits { ⟦<BundleCheckRun<R, W, E> as Run<R, W, E>>⟧.waits result ≡ [] }
+    requires sound { NoneFailed (looks R.state W.state E.state) (devices reader output report) }
+    ensures { IsNewRun ⟦<BundleCheckRun<R, W, E> as Run<R, W, E>>⟧ (bundle_check_tool must)
+        (devices reader output report) result }
 {
     bundle_walk_run(must, BundleChecker::new(), reader, output, report)
 }
@@ -210,13 +189,9 @@ pub fn bundle_check<R: InDevice, W: OutDevice, E: OutDevice>(
     output: W,
     report: E,
 ) -> RunEnd<R, W, E>
-    requires reader { (R.state reader).failed ≡ false }
-    requires output { (W.state output).failed ≡ false }
-    requires report { (E.state report).failed ≡ false }
+    requires sound { NoneFailed (looks R.state W.state E.state) (devices reader output report) }
     ensures { AfterRun (looks R.state W.state E.state) (bundle_check_tool must)
-        (record { reader = reader; output = output; report = report })
-        (record { reader = result.reader; output = result.output; report = result.report })
-        result.waits.items result.answer }
+        (devices reader output report) result }
 {
     bundle_check_run(must, reader, output, report).run()
 }

@@ -1,13 +1,15 @@
 //! `check`: the lines of the rules that a recorded stream breaks.
 
-ghost use Rattle.std.specs.Prelude.{◌≡◌, ℕ, true, false, [], ◌∷◌, ◌++◌, List, Option, map};
+ghost use Rattle.std.specs.Prelude.{◌≡◌, ℕ, true, [], ◌∷◌, ◌++◌, List, Option, map};
 ghost use Rattle.link_wire.specs.MessageBuffer.{SegmentHasTotals};
 ghost use Rattle.link_message_rules.specs.Flags.{contact_flags};
 ghost use Rattle.link_message_rules.specs.Heads.{JudgedHead, viewed_head};
 ghost use Rattle.link_message_rules.specs.MessageRules.{broken_rules};
 ghost use Rattle.link_message_rules.specs.Remembered.{Remembers};
 ghost use Rattle.link_rule_report.specs.declared.rule.BrokenRule.TheVariants.{Message};
-ghost use Rattle.link_run.specs.Run.{AfterRun, devices_at, looks};
+ghost use Rattle.link_run.specs.Run.{devices, looks, NoneFailed};
+ghost use Rattle.link_run.specs.NewRun.{IsNewRun};
+ghost use Rattle.link_run.specs.WholeRun.{AfterRun};
 ghost use Rattle.link_walk.specs.Telling.{viewed_head as told_head, inner_head};
 ghost use Rattle.link_check.specs.Checker.{IsAtLatest, KnowsChecked, closed_due};
 ghost use Rattle.link_check.specs.Checking.{Begun, check_telling, check_tool, head_rules, judged, optional};
@@ -88,13 +90,17 @@ impl Consumer for Checker {
                 )
             }
             EventView::Inner { head, bytes } => {
-                self.latest.take(bytes);
+                if let Err(fault) = self.latest.take(bytes, writers) {
+                    return Err(fault);
+                }
                 let length = bytes.len() as u64;
                 let history = &mut self.history;
                 judge_inner(options, &head, length, history, writers, &mut self.good)
             }
             EventView::Data { bytes, whole } => {
-                self.latest.take(bytes);
+                if let Err(fault) = self.latest.take(bytes, writers) {
+                    return Err(fault);
+                }
                 close(options.must, whole, &self.latest, writers, &mut self.good)
             }
             EventView::LeftOpen => {
@@ -273,15 +279,9 @@ pub fn check_run<R: InDevice, W: OutDevice, E: OutDevice>(
     output: W,
     report: E,
 ) -> CheckRun<R, W, E>
-    requires reader { (R.state reader).failed ≡ false }
-    requires output { (W.state output).failed ≡ false }
-    requires report { (E.state report).failed ≡ false }
-    ensures stands { ⟦<CheckRun<R, W, E> as Run<R, W, E>>⟧.stands result
-        (record { reader = reader; output = output; report = report }) [] }
-    ensures tool { ⟦<CheckRun<R, W, E> as Run<R, W, E>>⟧.tool result ≡ check_tool options }
-    ensures devices { devices_at (⟦<CheckRun<R, W, E> as Run<R, W, E>>⟧.place result)
-        ≡ record { reader = reader; output = output; report = report } }
-    ensures waits { ⟦<CheckRun<R, W, E> as Run<R, W, E>>⟧.waits result ≡ [] }
+    requires sound { NoneFailed (looks R.state W.state E.state) (devices reader output report) }
+    ensures { IsNewRun ⟦<CheckRun<R, W, E> as Run<R, W, E>>⟧ (check_tool options)
+        (devices reader output report) result }
 {
     walk_run(options, Checker::new(), reader, output, report)
 }
@@ -302,13 +302,9 @@ pub fn check<R: InDevice, W: OutDevice, E: OutDevice>(
     output: W,
     report: E,
 ) -> RunEnd<R, W, E>
-    requires reader { (R.state reader).failed ≡ false }
-    requires output { (W.state output).failed ≡ false }
-    requires report { (E.state report).failed ≡ false }
+    requires sound { NoneFailed (looks R.state W.state E.state) (devices reader output report) }
     ensures { AfterRun (looks R.state W.state E.state) (check_tool options)
-        (record { reader = reader; output = output; report = report })
-        (record { reader = result.reader; output = result.output; report = result.report })
-        result.waits.items result.answer }
+        (devices reader output report) result }
 {
     check_run(options, reader, output, report).run()
 }

@@ -54,6 +54,8 @@ impl CheckedTransfer {
     ghost use Rattle.link_wire.specs.MessageBuffer.{SegmentHasTotals, message_of};
     ghost use Rattle.link_wire.specs.declared.message.Message.{Message};
     ghost use Rattle.link_wire.specs.declared.message.SegmentHead.{SegmentHead};
+    ghost use Rattle.link_run.specs.Run.{no_texts};
+    ghost use Rattle.link_bundle_walk.specs.Telling.{Tells};
     ghost use Rattle.link_check.specs.Checking.{Begun, closed_rules, data_rules, open_rules, with_bytes};
     ghost use Rattle.link_check.specs.Checker.{IsChecking};
     ghost use Rattle.link_check.specs.Lines.{at_offset};
@@ -91,17 +93,23 @@ impl CheckedTransfer {
     /// If the data would be longer than any input, it takes nothing. This never happens in a run,
     /// since the data is part of its input.
     #[inline(always)]
-    pub(crate) fn take(&mut self, bytes: &[u8])
-        ensures follows { (begun : Begun) → self.old.judge.size + length bytes.now < 2 ^ 63
-            → IsChecking self.old begun → IsChecking self.new (with_bytes bytes.now begun) }
+    pub(crate) fn take<W: OutDevice, E: OutDevice>(
+        &mut self,
+        bytes: &[u8],
+        writers: &mut Writers<W, E>,
+    ) -> Result<(), IoFault>
+        ensures gives { (begun : Begun) → self.old.judge.size + length bytes.now < 2 ^ 63
+            → IsChecking self.old begun
+            → Tells W.state E.state no_texts no_texts
+            (IsChecking self.new (with_bytes bytes.now begun)) writers.old writers.new result }
         ensures size { self.new.judge.size ≤ self.old.judge.size + length bytes.now }
     {
         if bytes.len() as u64 > INPUT_LIMIT - self.judge.size {
-            return;
+            return Ok(());
         }
         let before = self.judge.size;
         self.judge.size += bytes.len() as u64;
-        self.bundle.take(before, bytes, &mut self.judge.scan);
+        self.bundle.take(before, bytes, &mut self.judge.scan, writers)
     }
 
     /// Writes the lines of the rules that the transfer breaks, if it is closed and they count. Then

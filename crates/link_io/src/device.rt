@@ -177,8 +177,10 @@ impl<R: Read> InDevice for Reader<R> {
     }
 }
 
-/// A device made of a buffered reader of std, as [`Reader`] makes it. While the buffer has bytes, a
-/// read does not wait.
+/// An input device made of a buffered reader of std.
+///
+/// Each error of the reader is a fault, `Interrupted` too. It holds what is in the reader's buffer:
+/// a read does not wait while the buffer has bytes.
 #[derive(Drop)]
 pub struct BufferedReader<R: Read> {
     buffered: Reader<BufReader<R>>,

@@ -155,9 +155,9 @@ impl<R: InDevice> Source<R> {
         part(&self.window, self.start, self.end)
     }
 
-    /// The bytes at hand: those of the window, or those that the reader holds if it is empty.
+    /// The bytes of the window. If the window is empty, the bytes that the reader holds.
     ///
-    /// They come next. What the reader holds is not taken yet.
+    /// They come next, and lie in one piece. What the reader holds is not taken yet.
     #[inline(always)]
     pub fn front(&self) -> &[u8]
         ensures front { result.now ≡ front_of R.state self.now }
@@ -256,7 +256,7 @@ impl<R: InDevice> Source<R> {
         self.read_on(false)
     }
 
-    /// Reads once if nothing is at hand, and returns how many bytes then are.
+    /// Reads once if nothing is at hand, and returns how many bytes [`Source::front`] then shows.
     ///
     /// This is [`Source::ready`] for a caller that looks at [`Source::front`]. A reader with a
     /// buffer may give one byte only, and hold the others.

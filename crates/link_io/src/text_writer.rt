@@ -11,7 +11,7 @@ use std::alloc::{AllocError, Global};
 /// The size of the page of a [`TextWriter`], in bytes.
 const PAGE: usize = 64 << 10;
 
-/// A [`TextWriter`] does not copy as many bytes as these into its page.
+/// A [`TextWriter`] copies a slice into its page only if the slice is shorter than this.
 const LARGE: usize = 16 << 10;
 
 /// An output device that makes texts in a page of its own.

@@ -13,8 +13,7 @@ use Rattle.link_bundle_walk.proofs.Dividing.{front_more, none_open, whole_stops,
 use Rattle.link_bundle_walk.proofs.Divisions.{IsRefused, StaysDivided, stays_divided}
 use Rattle.link_bundle_walk.proofs.Outcomes.{texts_going, unshown_going, told_same}
 use Rattle.link_laws.specs.Prefix.{IsPrefixed}
-use Rattle.link_laws.proofs.Fronts.{AreFronts, fronts_same, fronts_trans}
-use Rattle.link_laws.proofs.Prefixes.{MadeOn, prefixed}
+use Rattle.link_laws.proofs.Prefixes.{AreFronts, fronts_same, fronts_trans, MadeOn, prefixed}
 
 -- What is said of the bytes so far begins what is said with more bytes of the bundle, also if they
 -- end it. It also begins what is said of an input that ends between two bundles.

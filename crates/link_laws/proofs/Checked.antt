@@ -1,38 +1,98 @@
 -- What `unpack` reports of a recording in which `check --must` finds no rule broken.
 use Rattle.std.specs.List.{All, flat_map}
-use Rattle.std.proofs.Common.{◌≡◌, ℕ, true, false, List, [], ◌∷◌, ◌++◌, map, drop, filter_map, option_map, Option, Some, None, if◌then◌else◌, refl, ap, sym, ◌∙◌, subst, arith}
-use Rattle.std.proofs.lemmas.{Bool.and_parts, Grind.{flat_map-append, fold-append}}
-use Rattle.std.proofs.lemmas.List.Elements.{All-nil, All-append, All-head, All-tail}
-use Rattle.link_options.specs.declared.limits.PeerLimits.{PeerLimits}
-use Rattle.link_options.specs.declared.wanted.Wanted.{Wanted}
+use Rattle.std.proofs.Common.{◌≡◌, ℕ, true, List, [], ◌∷◌, ◌++◌, length, map, filter_map, Option, Result, arith, false, drop, option_map, Some, None, if◌then◌else◌, refl, ap, sym, ◌∙◌, subst}
+use Rattle.std.proofs.lemmas.{Bool.and_parts, List.map-append, Grind.{flat_map-append, fold-append}}
+use Rattle.std.proofs.lemmas.List.Elements.{All-nil, All-cons, All-append, All-head, All-tail}
+use Rattle.link_options.specs.{declared.limits.PeerLimits.PeerLimits, declared.wanted.Wanted.Wanted}
 use Rattle.link_wire.specs.{Message.data_length, Stream.{Entry, End, Reading, reading_of, heads_of}}
-use Rattle.link_wire.specs.declared.message.{Contact.Contact, Message.Message}
-use Rattle.link_transfer.specs.{Event.event_of, Order.{refusal, with_taken}}
+use Rattle.link_wire.specs.{declared.message.Contact.Contact, declared.message.Message.Message}
+use Rattle.link_bundle_types.specs.declared.fault.BundleFault.{BundleFault}
+use Rattle.link_bundle_types.specs.declared.info.BundleInfo.{BundleInfo}
+use Rattle.link_bundle_blocks.specs.Bundle.{verdict}
+use Rattle.link_transfer.specs.{Announced.announced_of, Event.event_of, Order.{refusal, with_taken}}
+use Rattle.link_transfer.specs.declared.announcement.Announced.{Announced}
 use Rattle.link_transfer.specs.declared.fault.OrderFault.{OrderFault}
-use Rattle.link_message_rules.specs.{Flags.item_flags, Heads.{JudgedHead, messages_of}, NodeIds.node_id}
+use Rattle.link_message_rules.specs.{TransferData.data_rule, Flags.item_flags, NodeIds.node_id}
+use Rattle.link_message_rules.specs.TransferRules.{broken_transfer_rules, if_malformed, if_different, length_item, length_differs, length_of_one_segment, transfer_level_of}
+use Rattle.link_message_rules.specs.declared.rule.TransferRule.{TransferRule}
+use Rattle.link_message_rules.specs.{Heads.{JudgedHead, messages_of}, Session.{order, order_level}}
 use Rattle.link_message_rules.specs.MessageRules.{broken_rules, judged_rules, level_of}
-use Rattle.link_message_rules.specs.Session.{order, order_level}
 use Rattle.link_message_rules.specs.declared.rule.MessageRule.{MessageRule}
-use Rattle.link_message_rules.specs.declared.rule.MessageRule.TheVariants as message_rule
+use Rattle.link_report.specs.Judgement.{judged_length, judged_data}
 use Rattle.link_report.specs.declared.fault.Fault.TheVariants.{Order}
 use Rattle.link_rule_report.specs.{Names.rule_level, declared.line.RuleText.RuleText}
-use Rattle.link_rule_report.specs.declared.rule.BrokenRule.TheVariants as rule
 use Rattle.link_run.specs.Made.{StreamStop, stop_of}
 use Rattle.link_walk.specs.Walk.{head_at, WalkEvent, MessageHead, content_events, Walked, none_walked, with_next, walked_of, end_events, stop_by, told_of}
 use Rattle.link_judge.specs.{Transfers.Transfer, Unpacking.Told}
-use Rattle.link_check.specs.Checking.{Begun, heads_with, judged, latest_with, check_tool}
+use Rattle.link_check.specs.Checking.{closed_rules, data_rules, Begun, heads_with, judged, latest_with, check_tool}
 use Rattle.link_check.specs.Lines.{none_counts, at_offset}
-use Rattle.link_laws.specs.Checked.{IsAllowed, IsSecondInit, MayStop, HasOnlyAllowed}
+use Rattle.link_laws.specs.Checked.{MayBeJudged, IsAllowed, IsSecondInit, MayStop, HasOnlyAllowed}
 use Rattle.link_laws.specs.{Cuts.{fault_at, faults_after, lined}, RoundTrip.all}
 use Rattle.link_laws.specs.Transfers.{ordered_by, ordered_after, ordered, transfers_of, unpacked_of}
-use Rattle.link_laws.proofs.Accepted.{accepted_in_order, all_kept}
-use Rattle.link_laws.proofs.BrokenRules.{options, broken_with, broken_from, counts_append, good_kept, none_before}
-use Rattle.link_laws.proofs.{DueRules.{due_choice, none_due, all_allowed}, Following.walk_told}
-use Rattle.link_laws.proofs.{Fronts.front_first, InOrder.{not_stray, taken_more, unpacked_in_order}}
-use Rattle.link_laws.proofs.Placed.{after_events, transfers_in, told_transfers, AfterAll, from_start}
-use Rattle.link_laws.proofs.PlainHeads.{going, content_none, walk_events, walk_is, quieter}
-use Rattle.link_laws.proofs.{Same.heads_said, SameLines.status_clean, Walks.heads_grow}
+use Rattle.link_laws.proofs.Placed.{counts_append, options, broken_with, broken_from, good_kept, none_before, Placed, is_closed, passing, transfers_in, begun_of, due_of, rules_of, told_transfers, AfterAll, from_start}
+use Rattle.link_laws.proofs.Same.{accepted_in_order, all_kept, not_stray, taken_more, unpacked_in_order, heads_said}
+use Rattle.link_laws.proofs.Walks.{walk_told, heads_grow, going, content_none, walk_events, walk_is}
+use Rattle.link_laws.proofs.{Prefixes.front_first, SameRules.status_clean}
 use Rattle.link_laws.proofs.Whole.{AreRead, reading_read}
+use Rattle.link_rule_report.specs.declared.rule.BrokenRule.TheVariants as rule
+use Rattle.link_message_rules.specs.declared.rule.MessageRule.TheVariants as message_rule
+
+-- ---- closed transfers that break no rule of level `must`
+
+-- no rule of this list is of level `must`
+abbrev NoMust : List RuleText → Type 0
+NoMust lines = none_counts true lines ≡ true
+
+pub closed_no_must : (lines : List RuleText) → NoMust lines → NoMust (passing is_closed lines)
+unfolding none_counts
+closed_no_must [] none = none
+closed_no_must (line ∷ more) none = grind (arith, closed_no_must more)
+
+no_must_both : (first second : List RuleText) → NoMust (first ++ second)
+    → (NoMust first) × (NoMust second)
+no_must_both first second none = and_parts _ _ (rw counts_append at none)
+
+-- ---- one transfer
+
+module _ (offset id : ℕ) (content : List ℕ) where
+  data_allowed : (said : Result BundleInfo (BundleFault × ℕ))
+      → NoMust (at_offset offset (data_rules id content said))
+      → MayBeJudged content (judged_data said)
+  unfolding data_rule none_counts rule_level transfer_level_of
+  data_allowed said none = grind arith
+
+  length_allowed : (announced : Announced) (size : ℕ) (single : Option TransferRule)
+      (said : Result BundleInfo (BundleFault × ℕ))
+      → NoMust (at_offset offset (map (λ one. rule.Transfer id one)
+      (filter_map (λ judged. judged)
+      (if_malformed announced ∷ if_different announced size ∷ single ∷ []))))
+      → MayBeJudged content (judged_data said)
+      → MayBeJudged content (judged_length announced size said)
+  unfolding none_counts rule_level transfer_level_of
+  length_allowed announced size single said none may = grind arith
+
+closed_allowed : (placed : Placed)
+    → NoMust (at_offset placed.offset (closed_rules (begun_of placed)))
+    → MayBeJudged placed.transfer.content
+    (judged_length (announced_of placed.transfer.first.items.items)
+    (length placed.transfer.content) (verdict placed.transfer.content))
+unfolding broken_transfer_rules length_item length_differs
+closed_allowed placed none =
+    let transfer = placed.transfer in
+    let id = transfer.first.id in
+    let both = no_must_both _ _ (rw map-append at none) in
+    length_allowed placed.offset id transfer.content (announced_of transfer.first.items.items)
+    (length transfer.content) (length_of_one_segment transfer.first) (verdict transfer.content)
+    both.0 (data_allowed placed.offset id transfer.content (verdict transfer.content) both.1)
+
+-- transfers that break no rule of level `must` once they are closed
+pub all_allowed : (placed : List Placed) → NoMust (rules_of placed)
+    → All IsAllowed (transfers_in placed)
+all_allowed [] none = All-nil IsAllowed
+all_allowed (latest ∷ earlier) none =
+    let both = no_must_both (rules_of earlier) (due_of latest) none in
+    All-cons IsAllowed latest.transfer (transfers_in earlier)
+    (grind (arith, closed_allowed, both.1)) (all_allowed earlier both.0)
 
 -- ---- the transfers of heads
 
@@ -45,23 +105,22 @@ module _ (peer : PeerLimits) (contact : Option Contact) where
   KeepsMusts heads = none_counts true (broken_from peer [] None (every heads).events) ≡ true
 
   module _ (heads : List Entry) (read : AreRead heads) where
-    placed : AfterAll due_choice peer [] [] None (every heads).events
-    placed = grind (arith, due_choice, from_start, walk_told)
+    placed : AfterAll peer [] [] None (every heads).events
+    placed = grind (arith, from_start, walk_told)
 
     same_transfers : (wanted : Wanted)
         → transfers_in placed.after ≡ (unpacked_of wanted heads).transfers
     same_transfers wanted =
         placed.are
-        ∙ ap (after_events []) (sym (quieter contact heads).events)
-        ∙ sym (told_transfers wanted (walked_of (going false) contact heads).events)
-        ∙ ap (λ (told : Told). told.transfers) (heads_said wanted contact heads read)
+        ∙ sym (told_transfers wanted (every heads).events)
+        ∙ ap (λ (told : Told). told.transfers) (heads_said wanted true contact heads read)
 
     transfers_allowed : KeepsMusts heads → (wanted : Wanted)
         → All IsAllowed (unpacked_of wanted heads).transfers
     transfers_allowed keeps wanted =
         subst (All IsAllowed) (same_transfers wanted)
-        (all_allowed peer placed.after
-        (placed.rules ∙ none_due (broken_from peer [] None (every heads).events) keeps))
+        (all_allowed placed.after
+        (rw placed.rules (closed_no_must (broken_from peer [] None (every heads).events) keeps)))
 
   -- the first heads keep what all keep
   first_keep : (first rest : List Entry) → KeepsMusts (first ++ rest) → KeepsMusts first
@@ -93,10 +152,6 @@ walk_faults (head ∷ more) taken =
       content_none faults_of (λ byte. refl) refl at.turn (data_length head.message) head.content,
       walk_faults more (with_taken taken head.message),
     )
-
-heads_faults : (contact : Option Contact) (heads : List Entry)
-    → all_faults (walked_of (going true) contact heads).events ≡ faults_after [] heads
-heads_faults contact heads = grind (arith, walk_faults, walk_is)
 
 -- ---- rules of messages of level `must`
 
@@ -162,21 +217,17 @@ may_refuse : (heads : List Entry) (before : List Message)
 unfolding ordered_after faults_after
 may_refuse [] before faults = tt
 may_refuse (head ∷ more) before faults =
-    by_refusal (refusal before (event_of head.message)) refl
-    (may_refuse more (before ++ head.message ∷ [])) faults
-  where
-    by_refusal : (refused : Option OrderFault) → refusal before (event_of head.message) ≡ refused
-        → (All IsSecondInit (faults_after (before ++ head.message ∷ []) more)
-        → MayRefuse (ordered_after (before ++ head.message ∷ []) more).refused)
-        → All IsSecondInit (fault_at head.offset refused
-        ++ faults_after (with_taken before head.message) more)
-        → MayRefuse (ordered_by refused head
-        (ordered_after (before ++ head.message ∷ []) more)).refused
-    by_refusal (Some fault) is later faults =
-        All-head IsSecondInit (head.offset, fault) _ faults
-    by_refusal None is later faults =
-        let taken = taken_more before head.message (not_stray before (event_of head.message) is) in
-        later (rw taken at faults)
+    let seen = before ++ head.message ∷ [] in
+    let later = faults_after (with_taken before head.message) more in
+    (elim (refusal before (event_of head.message)) as (λ refused.
+    refusal before (event_of head.message) ≡ refused
+    → All IsSecondInit (fault_at head.offset refused ++ later)
+    → MayRefuse (ordered_by refused head (ordered_after seen more)).refused) [
+      | None ↦ λ is all.
+          let belongs = not_stray before (event_of head.message) is in
+          may_refuse more seen (rw (taken_more before head.message belongs) at all)
+      | Some fault ↦ λ is all. All-head IsSecondInit (head.offset, fault) later all
+    ]) refl faults
 
 may_stop : (refused : Option (ℕ × OrderFault)) (end : End) → stop_of end ≡ None
     → MayRefuse refused → MayStop (stop_by refused end)
@@ -212,14 +263,18 @@ module _ (peer : PeerLimits) (bytes : List ℕ)
 
   kept : IsKept
   unfolding told_of
-  kept = grind (arith, good_kept, quieter, status_clean)
+  kept =
+      let unrefused = ap (λ (w : Walked). w.refused) (walk_is true reading.contact heads) in
+      grind (arith, good_kept, status_clean)
 
   keeps : KeepsMusts peer reading.contact heads
   keeps = grind (arith, front_first, kept, none_before)
 
   faults : All IsSecondInit (faults_after [] heads)
   faults =
-      rw (← heads_faults reading.contact heads) (events_allowed peer walk.events [] None keeps)
+      let same : all_faults walk.events ≡ faults_after [] heads =
+      grind (arith, walk_faults, walk_is) in
+      rw (← same) (events_allowed peer walk.events [] None keeps)
 
   -- the heads before the first that is refused
   abbrev accepted : List Entry

@@ -1,35 +1,46 @@
--- The messages of a packed stream break no rule of messages.
+-- The messages of a packed stream: they break no rule of messages, one by one, and what is known
+-- before each segment and after it.
 use Rattle.std.specs.{Prelude.IfSome, List.list_any}
-use Rattle.std.proofs.Common.{◌≡◌, ℕ, zero, suc, ◌+◌, ◌≤◌, Bool, true, false, ◌==◌, is_some, List, [], ◌∷◌, ◌++◌, reverse, take, filter_map, Option, Some, None, refl, sym, ◌∙◌, arith}
-use Rattle.std.proofs.{Math.Bool.and-false, lemmas.Bool.{eq-eqb, ne_eqb, le-ltb}}
-use Rattle.std.proofs.lemmas.List.{map-append, reverse-append}
+use Rattle.std.proofs.Common.{◌≡◌, ℕ, zero, suc, ◌+◌, ◌≤◌, Bool, true, false, ◌==◌, List, [], ◌∷◌, ◌++◌, take, filter_map, Option, Some, None, if◌then◌else◌, refl, ap, arith, ◌*◌, length, sym, ◌∙◌, length-append}
+use Rattle.std.proofs.{Math.Bool.{and-false, and-true}, Math.Seq.take-add}
+use Rattle.std.proofs.lemmas.{Bool.{eq-eqb, ne_eqb, le-ltb}, List.{length-take, reverse-append}}
+use Rattle.std.proofs.lemmas.List.Sums.{sum_by-cons}
 use Rattle.link_options.specs.declared.limits.PeerLimits.{PeerLimits}
-use Rattle.link_wire.specs.{Spelling.{segment_with, sess_init_with}, Stream.Entry}
-use Rattle.link_wire.specs.declared.message.{Message.Message, SegmentHead.SegmentHead}
-use Rattle.link_wire.specs.declared.message.Message.TheVariants as message
-use Rattle.link_transfer.specs.{Event.event_of, Joiner.{IsJoinerAt, joiner_after}}
-use Rattle.link_transfer.specs.Order.{refusal, refusal_by, is_stray, turn_by, effect_of, with_taken, open_of}
-use Rattle.link_transfer.specs.declared.announcement.Announced.{Announced}
+use Rattle.link_wire.specs.{Codes.{is_start, is_end}, Stream.Entry}
+use Rattle.link_wire.specs.Spelling.{segment_with, sess_init_with, announced}
+use Rattle.link_wire.specs.declared.message.Message.{Message}
+use Rattle.link_wire.specs.declared.message.SegmentHead.{SegmentHead}
+use Rattle.link_transfer.specs.{declared.announcement.Announced.Announced, Chunks.chunk_at}
+use Rattle.link_transfer.specs.{declared.joiner.Turn.Turn, Event.event_of}
+use Rattle.link_transfer.specs.{Joiner.{IsJoinerAt, joiner_after}, declared.joiner.Joiner.Joiner}
+use Rattle.link_transfer.specs.declared.fault.OrderFault.{OrderFault}
 use Rattle.link_transfer.specs.declared.announcement.Announced.TheVariants.{Absent, Total, Malformed}
-use Rattle.link_transfer.specs.declared.{event.Event.Event, joiner.Joiner.Joiner, joiner.Turn.Turn}
-use Rattle.link_transfer.proofs.Joining.{refusal-at, stray-at, effect-at, IsJoinerAt-then}
-use Rattle.link_transfer.specs.declared.joiner.Turn.TheVariants as turn
-use Rattle.link_message_rules.specs.Answers.{ack_length, answer_order}
+use Rattle.link_transfer.specs.Order.{refusal, refusal_by, turn_by, effect_of}
+use Rattle.link_transfer.specs.declared.event.Event.TheVariants.{Segment}
+use Rattle.link_transfer.proofs.Joining.{refusal-at, effect-at, not_stray, IsJoinerAt-then}
+use Rattle.link_message_rules.specs.{Answers.{ack_length, answer_order}, MessageRules.broken_rules}
 use Rattle.link_message_rules.specs.Endings.{rejects_type, after_reject, term_order}
 use Rattle.link_message_rules.specs.Assigned.{item_type, reject_known, reason}
 use Rattle.link_message_rules.specs.Flags.{item_flags, segment_flags, term_flags}
-use Rattle.link_message_rules.specs.Heads.{JudgedHead, messages_of, newest, is_sess_term, start_id}
-use Rattle.link_message_rules.specs.Lengths.{peer_segment, size_of, if_exceeded, peer_transfer}
-use Rattle.link_message_rules.specs.{MessageRules.broken_rules, NodeIds.{node_id, node_name}}
+use Rattle.link_message_rules.specs.Heads.{JudgedHead, newest, is_sess_term, start_id}
+use Rattle.link_message_rules.specs.Lengths.{peer_segment, size_of, if_exceeded, peer_transfer, earlier_of, segments_of, first_segment}
+use Rattle.link_message_rules.specs.NodeIds.{node_id, node_name}
 use Rattle.link_message_rules.specs.Session.{order, before_session, keepalive, keepalive_interval}
 use Rattle.link_message_rules.specs.TransferIds.{abandoned_by, interleaved, is_in, runs_of, skips, transfer_id, transfer_id_order}
 use Rattle.link_message_rules.proofs.Pushes.{newest_then}
 use Rattle.link_run.proofs.Continued.{entry}
 use Rattle.link_walk.specs.Walk.{head_at}
+use Rattle.link_judge.specs.Transfers.{Transfer, after_message}
+use Rattle.link_judge.proofs.Heads.{transfer_begins, transfer_continues}
 use Rattle.link_check.specs.Checking.{judged}
-use Rattle.link_pack.specs.Segments.{flags_of}
+use Rattle.link_pack.specs.Segments.{flags_of, Sending, cut_at}
 use Rattle.link_laws.specs.PackedRules.{KeepsInitRules}
-use Rattle.link_laws.proofs.{InOrder.{not_stray, taken_more}, Sent.starts_as}
+use Rattle.link_laws.proofs.Entries.{chunk_of, message_of}
+use Rattle.link_wire.specs.declared.message.Message.TheVariants as message
+use Rattle.link_transfer.specs.declared.joiner.Turn.TheVariants as turn
+
+pub starts_as : (first last : Bool) → is_start (flags_of first last) ≡ first
+starts_as first last = grind arith
 
 -- ---- no end of the session so far
 
@@ -77,24 +88,22 @@ module _ (peer : PeerLimits) (before : List JudgedHead) where
 
   -- ---- messages that are no segments
 
+  abbrev plain : Message → JudgedHead
+  plain sent = record { message = sent; fault = None; turn = Some turn.Other }
+
   module _ (interval segment_mru transfer_mru : ℕ) (node : List ℕ) where
     abbrev init : Message
     init = sess_init_with interval segment_mru transfer_mru node
 
-    abbrev init_head : JudgedHead
-    init_head = record { message = init; fault = None; turn = Some turn.Other }
-
-    pub init_clear : IsOpen before → KeepsInitRules init → broken_rules peer before init_head ≡ []
+    pub init_clear : IsOpen before → KeepsInitRules init
+        → broken_rules peer before (plain init) ≡ []
     unfolding broken_rules item_flags order before_session interleaved segment_flags transfer_id peer_segment peer_transfer ack_length keepalive term_flags item_type transfer_id_order answer_order reject_known reason
     init_clear is_open keeps =
         let unrejected = not_after before init is_open in
         let in_time = not_late before init is_open in
         grind (arith, keeps.id, keeps.name, keeps.interval)
 
-  abbrev term_head : JudgedHead
-  term_head = record { message = message.SessTerm 0 0; fault = None; turn = Some turn.Other }
-
-  pub term_clear : IsOpen before → broken_rules peer before term_head ≡ []
+  pub term_clear : IsOpen before → broken_rules peer before (plain (message.SessTerm 0 0)) ≡ []
   unfolding broken_rules node_id item_flags order before_session interleaved segment_flags transfer_id peer_segment peer_transfer ack_length keepalive term_flags node_name keepalive_interval item_type transfer_id_order answer_order reject_known reason
   term_clear is_open =
       let unrejected = not_after before (message.SessTerm 0 0) is_open in
@@ -105,12 +114,7 @@ module _ (peer : PeerLimits) (before : List JudgedHead) where
 
 -- the IDs of the transfers that began, the newest first
 abbrev pub ids_of : List JudgedHead → List ℕ
-ids_of before = filter_map start_id (reverse (messages_of before))
-
-pub ids_then : (before : List JudgedHead) (head : JudgedHead)
-    → ids_of (before ++ head ∷ [])
-    ≡ filter_map start_id (head.message ∷ reverse (messages_of before))
-ids_then before head = grind (arith, map-append, reverse-append)
+ids_of before = filter_map start_id (newest before)
 
 -- the IDs from this one down to 0
 abbrev pub counts : (next : ℕ) → List ℕ
@@ -135,26 +139,36 @@ is_next : (id : ℕ) → skips (counts id) id ≡ false
 is_next zero = refl
 is_next (suc next) = rw (eq-eqb (suc next) (next + 1) (omega arith)) refl
 
+-- the IDs below which a segment finds those of the transfers that began, if it is the first of its
+-- transfer or not
+abbrev pub next_by : (id : ℕ) (first : Bool) → ℕ
+next_by id first = if first then id else suc id
+
 module _ (before : List JudgedHead) (last : Bool) (id size : ℕ) (announce : Option ℕ) where
-  -- a transfer begins whose ID is the next
-  pub new_id : ids_of before ≡ counts id
-      → transfer_id before (segment_with (flags_of true last) id size announce) ≡ None
+  -- the IDs with the segment
+  pub ids_more : (first : Bool) (fault : Option OrderFault) (does : Option Turn)
+      → ids_of before ≡ counts (next_by id first)
+      → ids_of (before ++ record {
+        message = segment_with (flags_of first last) id size announce;
+        fault = fault;
+        turn = does;
+      } ∷ []) ≡ counts (suc id)
+  ids_more true fault does ids =
+      rw (newest_then before _, starts_as true last) (ap (λ (ids : List ℕ). id ∷ ids) ids)
+  ids_more false fault does ids = rw (newest_then before _, starts_as false last) ids
+
+  -- if a transfer begins, its ID is the next
+  pub new_id : (first : Bool) → ids_of before ≡ counts (next_by id first)
+      → transfer_id before (segment_with (flags_of first last) id size announce) ≡ None
   unfolding transfer_id
-  new_id ids = rw (starts_as true last, ids, is_new id) refl
+  new_id true ids = rw (starts_as true last, ids, is_new id) refl
+  new_id false ids = rw (starts_as false last) refl
 
-  pub next_id : ids_of before ≡ counts id
-      → transfer_id_order before (segment_with (flags_of true last) id size announce) ≡ None
+  pub next_id : (first : Bool) → ids_of before ≡ counts (next_by id first)
+      → transfer_id_order before (segment_with (flags_of first last) id size announce) ≡ None
   unfolding transfer_id_order
-  next_id ids = rw (starts_as true last, ids, is_next id, and-false, and-false) refl
-
-  pub no_id : transfer_id before (segment_with (flags_of false last) id size announce) ≡ None
-  unfolding transfer_id
-  no_id = rw (starts_as false last) refl
-
-  pub no_next_id : transfer_id_order before (segment_with (flags_of false last) id size announce)
-      ≡ None
-  unfolding transfer_id_order
-  no_next_id = rw (starts_as false last) refl
+  next_id true ids = rw (starts_as true last, ids, is_next id, and-false, and-false) refl
+  next_id false ids = rw (starts_as false last) refl
 
 -- ---- lengths
 
@@ -173,46 +187,227 @@ pub short_none : (limit : Option ℕ) (head : SegmentHead) → IfSome limit (λ 
 unfolding peer_segment
 short_none limit head short = grind (arith, le-ltb)
 
--- ---- one head of a walk
+-- ---- a message that may come
 
-module _ (peer : PeerLimits) where
-  abbrev pub judged_at : (taken : List Message) → Entry → JudgedHead
-  judged_at taken head = judged (head_at taken head.offset head.message)
+-- a joiner before the first message
+abbrev pub fresh : Joiner
+fresh = record { initiated = false; terminated = false; transfer = None }
 
-  -- These heads break no rule of messages, and leave no transfer open. They come after these
-  -- messages and heads.
-  abbrev pub AreClear : (taken : List Message) → (before : List JudgedHead) → List Entry → Type 0
-  AreClear taken before [] = is_some (open_of taken) ≡ false
-  AreClear taken before (head ∷ more) =
-      (broken_rules peer before (judged_at taken head) ≡ [])
-      × AreClear (with_taken taken head.message) (before ++ judged_at taken head ∷ []) more
+-- a joiner between SESS_INIT and SESS_TERM, with this transfer open
+abbrev pub carrying : Option ℕ → Joiner
+carrying transfer = record { initiated = true; terminated = false; transfer = transfer }
 
-module _ (joiner : Joiner) (taken : List Message) (offset : ℕ) (sent : Message)
-    (content : List ℕ) (joins : IsJoinerAt joiner taken)
+module _ (joiner : Joiner) (taken : List Message) (sent : Message)
+    (joins : IsJoinerAt joiner taken)
     (may : refusal_by joiner.initiated joiner.terminated joiner.transfer (event_of sent) ≡ None)
   where
-    abbrev here : Entry
-    here = entry offset sent content
-
-    pub in_order : refusal taken (event_of sent) ≡ None
-    in_order = sym (refusal-at joiner taken (event_of sent) joins) ∙ may
-
-    belongs : is_stray taken (event_of sent) ≡ false
-    belongs = not_stray taken (event_of sent) in_order
+    pub may_come : refusal taken (event_of sent) ≡ None
+    may_come = sym (refusal-at joiner taken (event_of sent) joins) ∙ may
 
     pub turn_at : effect_of taken (event_of sent) ≡ Some (turn_by joiner.transfer (event_of sent))
     turn_at =
         sym (effect-at joiner taken (event_of sent) joins false
-        (stray-at joiner taken (event_of sent) joins ∙ belongs))
+        (not_stray joiner.initiated joiner.terminated joiner.transfer (event_of sent) may))
 
-    pub judged_is : judged (head_at taken offset sent) ≡ record {
-      message = sent;
+    pub joins_then : IsJoinerAt (joiner_after joiner (event_of sent)) (taken ++ sent ∷ [])
+    joins_then = IsJoinerAt-then joiner taken sent (event_of sent) refl joins
+
+-- ---- flags
+
+pub ends_as : (first last : Bool) → is_end (flags_of first last) ≡ last
+ends_as first last = grind arith
+
+-- the transfer that is open before a segment, unless it is the first of its transfer, and after it,
+-- unless it is the last
+abbrev open_unless : (id : ℕ) (none : Bool) → Option ℕ
+open_unless id none = if none then None else Some id
+
+abbrev pub turn_for : (first last : Bool) → Turn
+turn_for first last = if first then turn.Begin None last else turn.Continue last
+
+-- the segments of its transfer before it, from those of the transfer that began last
+abbrev back : (first : Bool) → List SegmentHead → List SegmentHead
+back first so_far = if first then [] else so_far
+
+segment_may : (first last : Bool) (id : ℕ)
+    → refusal_by true false (open_unless id first) (Segment (flags_of first last) id) ≡ None
+segment_may first last id = grind (arith, eq-eqb)
+
+turns : (first last : Bool) (id : ℕ)
+    → turn_by (open_unless id first) (Segment (flags_of first last) id) ≡ turn_for first last
+turns first last id = grind (arith, ends_as, starts_as)
+
+pub earlier_is : (first last : Bool) (so_far : List SegmentHead)
+    → earlier_of (Some (turn_for first last)) so_far ≡ Some (back first so_far)
+earlier_is first last so_far = grind arith
+
+pub none_abandoned : (first last : Bool) → abandoned_by (Some (turn_for first last)) ≡ None
+none_abandoned first last = grind arith
+
+-- ---- the data so far
+
+-- one more chunk
+taken_more : (segment k : ℕ) (bundle : List ℕ)
+    → take (k * segment) bundle ++ chunk_at segment k bundle ≡ take (suc k * segment) bundle
+taken_more segment k bundle =
+    sym (take-add (k * segment) segment bundle) ∙ ap (λ n. take n bundle) (omega arith)
+
+taken_first : (segment : ℕ) (bundle : List ℕ)
+    → chunk_at segment 0 bundle ≡ take (1 * segment) bundle
+taken_first segment bundle =
+    ap (λ n. take n bundle ++ chunk_at segment 0 bundle) {x = 0} {y = 0 * segment} (omega arith)
+    ∙ taken_more segment 0 bundle
+
+abbrev pub head_of : (id : ℕ) → Sending → (k : ℕ) → SegmentHead
+head_of id sending k = record {
+  flags = flags_of (cut_at sending k).first (cut_at sending k).last;
+  id = id;
+  items = record { items = announced (cut_at sending k).announce };
+  length = length (chunk_of sending k);
+}
+
+-- a transfer after `count` of its chunks were sent
+abbrev pub sent : (id : ℕ) → Sending → (count : ℕ) → (closed : Bool) → Transfer
+sent id sending count closed = record {
+  first = head_of id sending 0;
+  content = take (count * sending.segment) sending.bundle;
+  closed = closed;
+}
+
+later : (k : ℕ) → (suc k == 0) ≡ false
+later k = ne_eqb (suc k) 0 (λ same. absurd (omega arith))
+
+-- ---- a segment
+
+-- no transfer is open, and their IDs are those below this one
+pub record Between (next : ℕ) (taken : List Message) (before : List JudgedHead) : Type 0 where
+  pub joins : IsJoinerAt (carrying None) taken
+  pub is_open : IsOpen before
+  pub ids : ids_of before ≡ counts next
+
+module _ (id : ℕ) (sending : Sending) where
+  abbrev pub last_at : (k : ℕ) → Bool
+  last_at k = (cut_at sending k).last
+
+  abbrev pub segment_at : (k offset : ℕ) → Entry
+  segment_at k offset = entry offset (message_of id sending k) (chunk_of sending k)
+
+  -- the heads of the first `k` segments, the newest first
+  abbrev pub heads_back : (k : ℕ) → List SegmentHead
+  heads_back zero = []
+  heads_back (suc k) = head_of id sending k ∷ heads_back k
+
+  pub first_back : (k : ℕ)
+      → first_segment (head_of id sending k) (heads_back k) ≡ head_of id sending 0
+  first_back zero = refl
+  first_back (suc k) = first_back k
+
+  pub size_back : (k : ℕ)
+      → size_of (heads_back k) ≡ length (take (k * sending.segment) sending.bundle)
+  size_back zero = omega (arith, length-take (0 * sending.segment) sending.bundle)
+  size_back (suc k) =
+      omega (
+        arith,
+        size_back k,
+        sum_by-cons (λ (segment : SegmentHead). segment.length) (head_of id sending k)
+            (heads_back k),
+        ap length (taken_more sending.segment k sending.bundle),
+        length-append (take (k * sending.segment) sending.bundle) (chunk_of sending k),
+      )
+
+  -- the transfers before chunk number `k`
+  abbrev pub so_far : (k : ℕ) → List Transfer → List Transfer
+  so_far zero earlier = earlier
+  so_far (suc k) earlier = sent id sending (suc k) false ∷ earlier
+
+  pub chunk_sent : (k : ℕ) (earlier : List Transfer)
+      → after_message (so_far k earlier) (message_of id sending k) (chunk_of sending k)
+      ≡ sent id sending (suc k) (last_at k) ∷ earlier
+  chunk_sent zero earlier =
+      grind (arith, and-true, ends_as, eq-eqb, starts_as, taken_first, transfer_begins)
+  chunk_sent (suc k) earlier =
+      let other = later k in
+      grind (arith, and-true, ends_as, eq-eqb, starts_as, taken_more, transfer_continues)
+
+  -- before chunk number `k`
+  pub record At (k : ℕ) (taken : List Message) (before : List JudgedHead) : Type 0 where
+    pub joins : IsJoinerAt (carrying (open_unless id (k == 0))) taken
+    pub is_open : IsOpen before
+    pub ids : ids_of before ≡ counts (next_by id (k == 0))
+    pub segments : back (k == 0) (segments_of before) ≡ heads_back k
+
+  pub begins : {taken : List Message} {before : List JudgedHead}
+      → Between id taken before → At 0 taken before
+  begins at = record {
+    joins = at.joins;
+    is_open = at.is_open;
+    ids = at.ids;
+    segments = refl;
+  }
+
+  module _ (k offset : ℕ) (taken : List Message) (before : List JudgedHead)
+      (at : At k taken before) where
+    abbrev is_first : Bool
+    is_first = k == 0
+
+    abbrev its_message : Message
+    its_message = message_of id sending k
+
+    abbrev pub now : JudgedHead
+    now = judged (head_at taken offset its_message)
+
+    may : refusal_by true false (open_unless id is_first) (event_of its_message) ≡ None
+    may = segment_may is_first (last_at k) id
+
+    pub in_order : refusal taken (event_of its_message) ≡ None
+    in_order = may_come (carrying (open_unless id is_first)) taken its_message at.joins may
+
+    turn_is : effect_of taken (event_of its_message) ≡ Some (turn_for is_first (last_at k))
+    turn_is =
+        turn_at (carrying (open_unless id is_first)) taken its_message at.joins may
+        ∙ ap (λ does. Some does) (turns is_first (last_at k) id)
+
+    pub now_is : now ≡ record {
+      message = its_message;
       fault = None;
-      turn = Some (turn_by joiner.transfer (event_of sent));
+      turn = Some (turn_for is_first (last_at k));
     }
-    judged_is = rw (in_order, turn_at) refl
+    now_is = rw (in_order, turn_is) refl
 
-    pub joins_then : (happened : Event) → event_of sent ≡ happened
-        → IsJoinerAt (joiner_after joiner happened) (with_taken taken sent)
-    joins_then happened is =
-        rw (taken_more taken sent belongs) (IsJoinerAt-then joiner taken sent happened is joins)
+    joined : IsJoinerAt (carrying (open_unless id (last_at k))) (taken ++ its_message ∷ [])
+    joined =
+        rw (ends_as is_first (last_at k)) at
+        (joins_then (carrying (open_unless id is_first)) taken its_message at.joins may)
+
+    opened : IsOpen (before ++ now ∷ [])
+    opened = open_then before now at.is_open refl refl
+
+    counted : ids_of (before ++ now ∷ []) ≡ counts (suc id)
+    counted =
+        ids_more before (last_at k) id (length (chunk_of sending k)) (cut_at sending k).announce
+        is_first _ _ at.ids
+
+    listed : segments_of (before ++ now ∷ []) ≡ heads_back (suc k)
+    listed =
+        rw (
+          reverse-append before (now ∷ []),
+          turn_is,
+          earlier_is is_first (last_at k) (segments_of before),
+          at.segments,
+        ) refl
+
+    -- the transfer is closed with it, or not
+    pub ended : last_at k ≡ true → Between (suc id) (taken ++ its_message ∷ []) (before ++ now ∷ [])
+    ended is = record {
+      joins = rw (ap (open_unless id) is) at joined;
+      is_open = opened;
+      ids = counted;
+    }
+
+    pub goes : last_at k ≡ false → At (suc k) (taken ++ its_message ∷ []) (before ++ now ∷ [])
+    goes is = record {
+      joins = rw (later k) (rw (ap (open_unless id) is) at joined);
+      is_open = opened;
+      ids = rw (later k) counted;
+      segments = rw (later k) listed;
+    }

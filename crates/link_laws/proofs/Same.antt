@@ -1,27 +1,161 @@
--- `unpack` says of the events of a stream what the transfers of the stream make.
+-- `unpack` says of the events of a stream what the transfers of the stream make. If all heads are
+-- in order, it makes no difference whether a fault of the order ends the run.
 use Rattle.std.specs.List.{fold}
-use Rattle.std.proofs.Common.{◌≡◌, ℕ, Bool, true, false, ◌&&◌, List, [], ◌∷◌, ◌++◌, Option, Some, None, if◌then◌else◌, refl, ap, sym, ◌∙◌, append-nil, arith}
-use Rattle.std.proofs.{Math.Bool.and-true, lemmas.List.Folds.list_all-append, Math.Path.fun_ext}
+use Rattle.std.proofs.Common.{◌≡◌, inl, inr, List, [], ◌∷◌, ◌++◌, Option, Some, None, refl, ap, ⊎_elim, arith, true, false, append-nil, ℕ, Bool, ◌&&◌, if◌then◌else◌, sym, ◌∙◌}
+use Rattle.std.proofs.{Math.Bool.and-true, Math.Path.fun_ext}
+use Rattle.std.proofs.lemmas.{List.Concat.flat_map-append, List.Folds.list_all-append}
 use Rattle.link_options.specs.declared.wanted.Wanted.{Wanted}
 use Rattle.link_wire.specs.Stream.{Entry, End, Reading, cut_heads, heads_of}
-use Rattle.link_wire.specs.declared.message.{Contact.Contact, Message.Message}
-use Rattle.link_transfer.specs.{Event.event_of, Order.{refusal, with_taken}}
-use Rattle.link_transfer.specs.declared.fault.OrderFault.{OrderFault}
+use Rattle.link_wire.specs.{declared.message.Message.Message, declared.message.Contact.Contact}
+use Rattle.link_transfer.specs.{Event.event_of, declared.fault.OrderFault.OrderFault}
+use Rattle.link_transfer.specs.declared.event.Event.{Event}
+use Rattle.link_transfer.specs.Order.{refusal, is_stray, has_sess_init, has_sess_term, open_of, appended_unless, with_taken}
+use Rattle.link_transfer.proofs.Joining.{not_stray as never_stray}
 use Rattle.link_run.specs.Made.{StreamStop, Made, whole_by, so_far_by, shows_fault, stop_of, tool_of}
 use Rattle.link_run.specs.Run.{Texts, Outcome, Tool}
-use Rattle.link_walk.specs.Walk.{WalkEvent, LeftOpen, Walked, with_next, contact_events, walked_of, end_events, told_by, told_of, stop_by}
+use Rattle.link_walk.specs.Walk.{WalkEvent, LeftOpen, Walked, with_next, contact_events, walked_of, end_events, told_by, told_of, stop_by, MessageHead, Whole}
 use Rattle.link_walk.specs.declared.consumer.Manner.{Manner}
-use Rattle.link_laws.specs.Transfers.{Ordered, ordered_after, ordered, settled, are_good, abandoned_line, unpacking_by, Unpacked, none_unpacked, with_head, unpacked_of, going_on_by, made_of, by_transfers}
-use Rattle.link_laws.specs.Cuts.{entries_of}
-use Rattle.link_laws.proofs.Accepted.{accepted_in_order, all_kept}
-use Rattle.link_laws.proofs.Due.{all_good, goods_due, settled_all, goods_are}
-use Rattle.link_laws.proofs.InOrder.{not_stray, taken_more, unpacked_in_order, made_in_order}
-use Rattle.link_laws.proofs.OneHead.{KnowsWhole, added, through, heads_whole}
-use Rattle.link_laws.proofs.PlainHeads.{judged_taken, events_at}
-use Rattle.link_laws.proofs.Whole.{FitsData, AreRead, ReadingReads, reading_read}
-use Rattle.link_judge.specs.Transfers.{Transfer}
-use Rattle.link_judge.specs.Unpacking.{parts_of, unpack_tool, Told, told_after, unpack_telling, with_line}
+use Rattle.link_judge.specs.Transfers.{Transfer, after_message}
+use Rattle.link_judge.specs.Unpacking.{parts_of, unpack_tool, Told, told_after, unpack_telling, with_line, line_due, told_event}
 use Rattle.link_judge.proofs.Events.{told_then, told_push}
+use Rattle.link_laws.specs.Transfers.{Ordered, ordered_by, ordered_after, ordered, transfers_of, settled, lines_of, abandoned_line, unpacking_by, Unpacked, with_head, unpacked_of, going_on_by, are_good, none_unpacked, made_of, by_transfers}
+use Rattle.link_laws.specs.Cuts.{entries_of, going_on, stopping, IsSameInOrder}
+use Rattle.link_laws.proofs.Whole.{AreRead, FitsData, ReadingReads, reading_read}
+use Rattle.link_laws.proofs.OneHead.{lines_due, abandoned_due, settled_all, lines_are, all_good, goods_due, goods_are, KnowsWhole, added, through, heads_whole}
+use Rattle.link_laws.proofs.Walks.{going, judged_taken, events_at}
+
+-- ---- the order of heads, and those before the first that is refused
+
+abbrev pub all : List Entry → Ordered
+all heads = record { heads = heads; refused = None }
+
+-- all of these heads are in order
+abbrev pub AreInOrder : List Entry → Type 0
+AreInOrder heads = ordered heads ≡ all heads
+
+-- if a list is in order, its first head is not refused, and the others are in order after it
+pub first_may : (before : List Message) (head : Entry) (more : List Entry)
+    → ordered_after before (head ∷ more) ≡ all (head ∷ more)
+    → (refusal before (event_of head.message) ≡ None)
+    × (ordered_after (before ++ head.message ∷ []) more ≡ all more)
+unfolding ordered_after
+first_may before head more is = grind arith
+
+-- These heads have this order: those of it come first, and are in order themselves. If none is
+-- refused, they are all heads.
+pub record Kept (before : List Message) (heads : List Entry) (order : Ordered) : Type 0 where
+  pub read : AreRead heads → AreRead order.heads
+  pub again : ordered_after before order.heads ≡ all order.heads
+  pub whole : order.refused ≡ None → order ≡ all heads
+  pub none : heads ≡ [] → order.heads ≡ []
+  -- the head that is refused, and those after it
+  pub rest : List Entry
+  pub parts : heads ≡ order.heads ++ rest
+
+kept : (heads : List Entry) (before : List Message) → Kept before heads (ordered_after before heads)
+unfolding ordered_after
+kept [] before =
+    record {
+      read = λ read. tt;
+      again = refl;
+      whole = λ is. refl;
+      none = λ is. refl;
+      rest = [];
+      parts = refl;
+    }
+kept (head ∷ more) before =
+    let seen = before ++ head.message ∷ [] in
+    let later = kept more seen in
+    (elim (refusal before (event_of head.message)) as (λ refused.
+    refusal before (event_of head.message) ≡ refused
+    → Kept before (head ∷ more) (ordered_by refused head (ordered_after seen more))) [
+      | Some fault ↦ λ is. record {
+        read = λ read. tt;
+        again = refl;
+        whole = λ none. absurd (cc);
+        none = λ none. refl;
+        rest = head ∷ more;
+        parts = refl;
+      }
+      | None ↦ λ is. record {
+        read = λ read.
+            (read.0, ⊎_elim inl (λ last. inr (later.none last)) read.1, later.read read.2);
+        again = rw is (ap (ordered_by None head) later.again);
+        whole = λ none. ap (ordered_by None head) (later.whole none);
+        none = λ none. absurd (cc);
+        rest = later.rest;
+        parts = ap (λ heads. head ∷ heads) later.parts;
+      }
+    ]) refl
+
+pub accepted_in_order : (heads : List Entry) → AreInOrder (ordered heads).heads
+unfolding ordered
+accepted_in_order heads = (kept heads []).again
+
+pub all_kept : (heads : List Entry) → Kept [] heads (ordered heads)
+unfolding ordered
+all_kept heads = kept heads []
+
+-- ---- heads that are all in order
+
+-- a stray segment has a fault
+pub not_stray : (before : List Message) (happened : Event) → refusal before happened ≡ None
+    → is_stray before happened ≡ false
+unfolding refusal is_stray
+not_stray before happened may =
+    never_stray (has_sess_init before) (has_sess_term before) (open_of before) happened may
+
+pub taken_more : (before : List Message) (sent : Message)
+    → is_stray before (event_of sent) ≡ false → with_taken before sent ≡ before ++ sent ∷ []
+unfolding with_taken
+taken_more before sent taken = ap (λ stray. appended_unless stray before sent) taken
+
+abbrev pub after_all : List Transfer → List Entry → List Transfer
+after_all transfers heads =
+    fold (λ ts head. after_message ts head.message head.content) transfers heads
+
+module _ (wanted : Wanted) where
+  -- The heads so far are in order, and so are those to come. All together make these transfers.
+  pub record MadeInOrder (makes : List Transfer) (u : Unpacked) (more : List Entry) : Type 0 where
+    pub in_order : u.in_order ≡ true
+    pub report : u.report ≡ lines_of wanted (settled u.transfers)
+    pub rest : ordered_after u.taken more ≡ all more
+    pub made : after_all u.transfers more ≡ makes
+
+  in_order_step : (makes : List Transfer) (u : Unpacked) (head : Entry) (more : List Entry)
+      → KnowsWhole u → FitsData head → MadeInOrder makes u (head ∷ more)
+      → MadeInOrder makes (with_head wanted u head) more
+  in_order_step makes u head more whole fits so =
+      let first = first_may u.taken head more so.rest in
+      let taken = not_stray u.taken (event_of head.message) first.0 in
+      let new = added wanted u head whole fits in
+      record {
+        in_order = rw (first.0, so.in_order) refl;
+        report = grind (arith, append-nil, flat_map-append, lines_are);
+        rest = rw (taken_more u.taken head.message taken) first.1;
+        made = rw taken so.made;
+      }
+
+  pub unpacked_in_order : (heads : List Entry) → AreRead heads → AreInOrder heads
+      → MadeInOrder (transfers_of heads) (unpacked_of wanted heads) []
+  unfolding ordered transfers_of lines_of
+  unpacked_in_order heads read are =
+      through wanted (MadeInOrder (transfers_of heads)) (in_order_step (transfers_of heads)) heads
+      read
+      (record { in_order = refl; report = refl; rest = are; made = refl })
+
+  -- the lines of the transfers that are over, and then that of the open one
+  lines_abandoned : (transfers : List Transfer)
+      → lines_of wanted (settled transfers) ++ abandoned_line wanted transfers
+      ≡ lines_of wanted transfers
+  lines_abandoned transfers =
+      rw (lines_are wanted transfers, ← settled_all wanted transfers)
+      (grind (arith, abandoned_due, flat_map-append, lines_are, lines_due))
+
+  pub made_in_order : (end : End) (heads : List Entry) → AreRead heads → AreInOrder heads
+      → unpacking_by wanted end (ordered heads)
+      ≡ going_on_by wanted end (unpacked_of wanted heads)
+  made_in_order end heads read are = grind (arith, and-true, lines_abandoned, unpacked_in_order)
 
 -- ---- heads that are taken, whether or not they are in order
 
@@ -31,10 +165,10 @@ manner goes_on = record { goes_on = goes_on; all_heads = false }
 abbrev started : List Message → List WalkEvent → Walked
 started taken events = record { taken = taken; events = events; refused = None }
 
-abbrev walk_from : Bool → Walked → List Entry → Walked
-walk_from goes_on from heads = fold (with_next (manner goes_on)) from heads
+abbrev walk_from : Manner → Walked → List Entry → Walked
+walk_from manner from heads = fold (with_next manner) from heads
 
-module _ (wanted : Wanted) where
+module _ (wanted : Wanted) (all_heads : Bool) where
   abbrev settled_good : Unpacked → Bool
   settled_good u = all_good (entries_of wanted (settled u.transfers))
 
@@ -47,7 +181,7 @@ module _ (wanted : Wanted) where
   record TellsAll (all : Walked) (u : Unpacked) (more : List Entry) : Type 0 where
     pub events : List WalkEvent
     pub told : told_after wanted events ≡ said u
-    pub walked : walk_from true (started u.taken events) more ≡ all
+    pub walked : walk_from (going all_heads) (started u.taken events) more ≡ all
 
   tells_step : (all : Walked) (u : Unpacked) (head : Entry) (more : List Entry) → KnowsWhole u
       → FitsData head → TellsAll all u (head ∷ more) → TellsAll all (with_head wanted u head) more
@@ -55,10 +189,14 @@ module _ (wanted : Wanted) where
       let new = added wanted u head whole fits in
       let refused = refusal u.taken (event_of head.message) in
       record {
-        events = so.events ++ events_at false u.taken head;
-        told = rw (told_push wanted so.events (events_at false u.taken head), so.told, new.told)
-            (grind (arith, list_all-append));
-        walked = cc (judged_taken false refused (started u.taken so.events) head, so.walked);
+        events = so.events ++ events_at all_heads u.taken head;
+        told =
+            rw (
+              told_push wanted so.events (events_at all_heads u.taken head),
+              so.told,
+              new.told all_heads,
+            ) (grind (arith, list_all-append));
+        walked = cc (judged_taken all_heads refused (started u.taken so.events) head, so.walked);
       }
 
   none_told : (contact : Option Contact)
@@ -67,16 +205,16 @@ module _ (wanted : Wanted) where
   none_told contact = grind arith
 
   heads_tell : (contact : Option Contact) (heads : List Entry) → AreRead heads
-      → TellsAll (walked_of (manner true) contact heads) (unpacked_of wanted heads) []
+      → TellsAll (walked_of (going all_heads) contact heads) (unpacked_of wanted heads) []
   unfolding walked_of
   heads_tell contact heads read =
-      let all = walk_from true (started [] (contact_events contact)) heads in
+      let all = walk_from (going all_heads) (started [] (contact_events contact)) heads in
       through wanted (TellsAll all) (tells_step all) heads read
       (record { events = contact_events contact; told = none_told contact; walked = refl })
 
   -- all that is said of a stream that goes on, before its end
   pub heads_said : (contact : Option Contact) (heads : List Entry) → AreRead heads
-      → told_after wanted (walked_of (manner true) contact heads).events
+      → told_after wanted (walked_of (going all_heads) contact heads).events
       ≡ said (unpacked_of wanted heads)
   heads_said contact heads read =
       let tells = heads_tell contact heads read in
@@ -89,17 +227,15 @@ abbrev ended_at : Option (ℕ × OrderFault) → Walked → Walked
 ended_at refused walked = record walked { refused = refused }
 
 ended_stays : (more : List Entry) (from : Walked) (fault : ℕ × OrderFault)
-    → walk_from false (ended_at (Some fault) from) more ≡ ended_at (Some fault) from
+    → walk_from (manner false) (ended_at (Some fault) from) more ≡ ended_at (Some fault) from
 ended_stays [] from fault = refl
 ended_stays (head ∷ more) from fault = ended_stays more from fault
 
 -- the walk over the heads that are in order, which ends at the first that is not
-abbrev walk_order : Ordered → Walked → Walked
-walk_order order from = ended_at order.refused (walk_from true from order.heads)
-
 ordered_walk : (heads : List Entry) (taken : List Message) (events : List WalkEvent)
-    → walk_from false (started taken events) heads
-    ≡ walk_order (ordered_after taken heads) (started taken events)
+    → (let order = ordered_after taken heads in
+    walk_from (manner false) (started taken events) heads
+    ≡ ended_at order.refused (walk_from (manner true) (started taken events) order.heads))
 unfolding ordered_after
 ordered_walk [] taken events = refl
 ordered_walk (head ∷ more) taken events =
@@ -156,16 +292,17 @@ module _ (wanted : Wanted) where
   end_by opened transfers report good = grind (arith, and-true, append-nil)
 
   end_said : (u : Unpacked) → KnowsWhole u
-      → told_then wanted (said wanted u) (end_events u.taken) ≡ at_end u
+      → told_then wanted (said wanted false u) (end_events u.taken) ≡ at_end u
   end_said u whole =
       rw (← whole, end_by, goods_are wanted u.transfers, ← settled_all wanted u.transfers)
       (grind (arith, goods_due, list_all-append))
 
-  module _ (walked : Walked) (u : Unpacked) (tells : TellsAll wanted walked u []) where
+  module _ (all_heads : Bool) (walked : Walked) (u : Unpacked)
+      (tells : TellsAll wanted all_heads walked u []) where
     unrefused : walked.refused ≡ None
     unrefused = ap (λ (w : Walked). w.refused) (sym tells.walked)
 
-    walked_told : told_after wanted walked.events ≡ said wanted u
+    walked_told : told_after wanted walked.events ≡ said wanted all_heads u
     walked_told = ap (λ (w : Walked). told_after wanted w.events) (sym tells.walked) ∙ tells.told
 
     end_told : KnowsWhole u
@@ -180,18 +317,19 @@ module _ (wanted : Wanted) where
 
     whole_heads : stop_of reading.end ≡ None → KnowsWhole (unpacked_of wanted heads)
     whole_heads none =
-        rw (clean_end reading.end none, append-nil) (heads_whole wanted reading.entries reads.whole)
+        heads_whole wanted heads reads.heads
+        (rw (clean_end reading.end none, append-nil) reads.whole)
 
     going_same : SameMade (walk_made true reading)
         (going_on_by wanted reading.end (unpacked_of wanted heads))
     going_same =
-        let tells = heads_tell wanted reading.contact heads reads.heads in
-        let stop = ap (λ r. stop_by r reading.end) (unrefused _ _ tells) in
+        let tells = heads_tell wanted false reading.contact heads reads.heads in
+        let stop = ap (λ r. stop_by r reading.end) (unrefused false _ _ tells) in
         record {
           stop = stop;
-          texts = ap text_of (walked_told _ _ tells);
+          texts = ap text_of (walked_told false _ _ tells);
           clean = λ none.
-              let told = end_told _ _ tells (whole_heads (sym stop ∙ none)) in
+              let told = end_told false _ _ tells (whole_heads (sym stop ∙ none)) in
               (ap text_of told, ap (λ (t : Told). t.good) told);
         }
 
@@ -211,40 +349,36 @@ module _ (wanted : Wanted) where
         → walked_of (manner false) reading.contact heads
         ≡ walked_of (manner true) reading.contact heads
     walked_same none =
-        let tells = heads_tell wanted reading.contact heads reads.heads in
-        cc (walked_ordered, (all_kept heads).whole none, unrefused _ _ tells)
+        let tells = heads_tell wanted false reading.contact heads reads.heads in
+        cc (walked_ordered, (all_kept heads).whole none, unrefused false _ _ tells)
 
-    -- the same, if no head ended the walk
-    pub walked_on : (walked_of (manner false) reading.contact heads).refused ≡ None
-        → walked_of (manner false) reading.contact heads
-        ≡ walked_of (manner true) reading.contact heads
-    walked_on unrefused =
-        walked_same (ap (λ (w : Walked). w.refused) (sym walked_ordered) ∙ unrefused)
+    -- all that is said of a stream that goes on and ends without a fault
+    pub every_told : (all_heads : Bool) → stop_of reading.end ≡ None
+        → (let was = walked_of (going all_heads) reading.contact heads in
+        told_after wanted (was.events ++ end_events was.taken) ≡ at_end (unpacked_of wanted heads))
+    every_told all_heads none =
+        end_told all_heads _ _ (heads_tell wanted all_heads reading.contact heads reads.heads)
+        (whole_heads none)
 
-    -- all that is said of a stream that ends without a fault
+    -- the same of a stream that might end at a fault of the order
     pub clean_told : (walked_of (manner false) reading.contact heads).refused ≡ None
         → stop_of reading.end ≡ None
         → (let was = walked_of (manner false) reading.contact heads in
         told_after wanted (was.events ++ end_events was.taken) ≡ at_end (unpacked_of wanted heads))
-    clean_told unrefused none = search (end_told, heads_tell, unrefused, walked_on, whole_heads)
-
-    abbrev made_at : Option (ℕ × OrderFault) → List Entry → Made
-    made_at refused taken =
-        told_by (unpack_telling wanted) reading.end
-        (ended_at refused (walked_of (manner true) reading.contact taken))
+    clean_told unrefused none =
+        let in_order = ap (λ (w : Walked). w.refused) (sym walked_ordered) ∙ unrefused in
+        rw (walked_same in_order) (every_told false none)
 
     ending_same : (refused : Option (ℕ × OrderFault)) → order.refused ≡ refused
         → SameMade (walk_made false reading) (unpacking_by wanted reading.end order)
     ending_same None is =
         grind (arith, (all_kept heads).whole, going_same, made_in_order, walked_same)
     ending_same (Some fault) is =
-        let made : walk_made false reading ≡ made_at order.refused order.heads =
-        ap (told_by (unpack_telling wanted) reading.end) walked_ordered in
-        let tells = heads_tell wanted reading.contact order.heads kept_heads in
+        let tells = heads_tell wanted false reading.contact order.heads kept_heads in
         let so = unpacked_in_order wanted order.heads kept_heads (accepted_in_order heads) in
-        rw made (record {
+        rw walked_ordered (record {
           stop = rw is refl;
-          texts = ap text_of (walked_told _ _ tells) ∙ rw (so.report, so.made) refl;
+          texts = ap text_of (walked_told false _ _ tells) ∙ rw (so.report, so.made) refl;
           clean = λ none. absurd (let never = rw is at none in cc);
         })
 
@@ -261,3 +395,36 @@ module _ (wanted : Wanted) where
   pub whole_is : (bytes : List ℕ) → (unpack_tool wanted).whole bytes
       ≡ whole_by (by_transfers wanted bytes).stop (by_transfers wanted bytes)
   whole_is bytes = ap (λ (t : Tool). t.whole bytes) same_tool
+
+-- ---- streams in order
+
+module _ (wanted : Wanted) where
+  parts_same : (transfers : List Transfer)
+      → parts_of (going_on wanted) transfers ≡ parts_of (stopping wanted) transfers
+  unfolding parts_of
+  parts_same transfers = grind arith
+
+  line_same : (due : Bool) (transfers : List Transfer)
+      → line_due (going_on wanted) due transfers ≡ line_due (stopping wanted) due transfers
+  line_same due transfers = grind (arith, parts_same)
+
+  event_same : (told : Told) (event : WalkEvent)
+      → told_event (going_on wanted) told event ≡ told_event (stopping wanted) told event
+  event_same told (MessageHead head) = rw (line_same, line_same) refl
+  event_same told Whole = rw line_same refl
+  event_same told LeftOpen = rw line_same refl
+  event_same told event = refl
+
+  told_same : (events : List WalkEvent)
+      → told_after (going_on wanted) events ≡ told_after (stopping wanted) events
+  unfolding told_after
+  told_same events =
+      cc (fun_ext (λ told. fun_ext (event_same told)))
+
+  made_same : (end : End) (walked : Walked) → told_by (unpack_telling (going_on wanted)) end walked
+      ≡ told_by (unpack_telling (stopping wanted)) end walked
+  made_same end walked = rw (told_same, told_same, parts_same, parts_same) refl
+
+  pub same : (bytes : List ℕ) → IsSameInOrder wanted bytes
+  unfolding told_of
+  same bytes none = grind (arith, made_same, reading_read, walked_same)

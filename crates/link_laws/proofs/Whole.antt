@@ -61,9 +61,7 @@ ReadingReads reading = StreamReads (record { entries = reading.entries; end = re
 contact_read : (read : Result (Contact × List ℕ) WireFault) → ReadingReads (reading_by read)
 unfolding stream_at
 contact_read (Err fault) = record { heads = tt; whole = tt }
-contact_read (Ok (contact, bytes)) =
-    let stream = messages_read (length bytes) 6 bytes in
-    record { heads = stream.heads; whole = stream.whole }
+contact_read (Ok (contact, bytes)) = messages_read (length bytes) 6 bytes
 
 pub reading_read : (bytes : List ℕ) → ReadingReads (reading_of bytes)
 unfolding reading_of

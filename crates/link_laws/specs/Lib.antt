@@ -9,3 +9,4 @@ pub mod RoundTrip
 pub mod Listed
 pub mod Cuts
 pub mod Checked
+pub mod Withheld

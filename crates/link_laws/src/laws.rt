@@ -71,6 +71,7 @@ pub fn keeps_limits(options: &PackOptions, bytes: &[u8])
 ///
 /// The output of unpacking the stream is then the input. The report has one line for each bundle,
 /// numbered from 0, and each line says that the bundle is good.
+#[tactic(auto, using(crate::proofs::Packed::is_packed, crate::proofs::Packed::gives_back))]
 pub fn unpack_of_pack(options: &PackOptions, bytes: &[u8])
     ensures { ((pack_tool options.now).whole bytes.now).status ≡ 0
         → GivesBack options.now bytes.now ((pack_tool options.now).whole bytes.now).texts.output }
@@ -86,6 +87,7 @@ pub fn unpack_of_pack(options: &PackOptions, bytes: &[u8])
 /// packing. Let the node ID keep `node-id` and `node-name`, and the interval `keepalive-interval`.
 /// Then `check` of the stream has a line for each rule that a bundle of the input breaks, and no
 /// other line.
+#[tactic(auto, using(crate::proofs::Packed::is_packed, crate::proofs::PackedRules::breaks_no_more))]
 pub fn check_of_pack(options: &PackOptions, bytes: &[u8])
     ensures { (peer : PeerLimits) → ((pack_tool options.now).whole bytes.now).status ≡ 0
         → AllowsLimits options.now peer → KeepsRules options.now
@@ -101,6 +103,7 @@ pub fn check_of_pack(options: &PackOptions, bytes: &[u8])
 /// The listing has the lines of the contact header, of SESS_INIT, of one segment for each chunk of
 /// each bundle, and of SESS_TERM if it was asked for. The line of a segment shows its flags, ID,
 /// length and offset.
+#[tactic(auto, using(crate::proofs::Packed::is_packed, crate::proofs::Packed::listed))]
 pub fn list_of_pack(options: &PackOptions, bytes: &[u8])
     ensures { ((pack_tool options.now).whole bytes.now).status ≡ 0
         → IsListed options.now bytes.now ((pack_tool options.now).whole bytes.now).texts.output }
@@ -118,6 +121,7 @@ pub fn list_of_pack(options: &PackOptions, bytes: &[u8])
 /// `blocks` writes the lines of these bundles, each under the ID of its transfer.
 /// `blocks --bundles`, for the output of `unpack`, writes the same lines under the numbers from 0.
 /// Both have status 0.
+#[tactic(auto, using(crate::proofs::SameRules::same_lines))]
 pub fn bundles_of_unpack(bytes: &[u8])
     ensures { ((unpack_tool all).whole bytes.now).status ≡ 0 → HasSameLines bytes.now }
 {
@@ -131,6 +135,7 @@ pub fn bundles_of_unpack(bytes: &[u8])
 /// options has status 0. Then `check --bundles`, for the output of `unpack`, writes the lines of
 /// the rules of bundles that `check` writes for the recording, in the same order. Only two things
 /// differ: the offset, and the number of the bundle, which replaces the ID of its transfer.
+#[tactic(auto, using(crate::proofs::SameRules::same_rules))]
 pub fn check_of_unpack(bytes: &[u8])
     ensures { (peer : PeerLimits) → ((unpack_tool all).whole bytes.now).status ≡ 0
         → HasSameRules peer bytes.now }
@@ -155,6 +160,7 @@ pub fn unpack_of_checked()
 /// For all transfers, and without `--payload`, its output is the data of the segments that were
 /// accepted, in order. If a fault of the order does not end the run, its output is the data of the
 /// segments that are not stray, in order.
+#[tactic(auto, using(crate::proofs::Cuts::every_byte, crate::proofs::Cuts::every_taken_byte))]
 pub fn every_byte_once()
     ensures stopping { (bytes : List ℕ) → HasEveryByte bytes }
     ensures going_on { (bytes : List ℕ) → HasEveryTakenByte bytes }
@@ -175,6 +181,7 @@ pub fn report_cuts_output()
 
 /// If all messages are in order, `unpack` makes the same of a stream, whether or not a fault of the
 /// order would end the run.
+#[tactic(auto, using(crate::proofs::Same::same))]
 pub fn same_in_order()
     ensures { (wanted : Wanted) (bytes : List ℕ) → IsSameInOrder wanted bytes }
 {}

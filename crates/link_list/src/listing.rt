@@ -1,9 +1,11 @@
 //! `list`: a line for the contact header and for each message of a recorded stream.
 
-ghost use Rattle.std.specs.Prelude.{◌≡◌, ◌<◌, true, false, [], IsTrue, List, ℕ};
+ghost use Rattle.std.specs.Prelude.{◌≡◌, ◌<◌, true, false, IsTrue, List, ℕ};
 ghost use Rattle.link_wire.specs.Session.{may_open, may_read, is_opened, left_of, source_of};
 ghost use Rattle.link_run.specs.Reading.{feed_of, SessionWaits, Unread};
-ghost use Rattle.link_run.specs.Run.{Texts, Devices, devices_at, looks, AfterRun};
+ghost use Rattle.link_run.specs.Run.{Texts, Devices, devices, looks, NoneFailed};
+ghost use Rattle.link_run.specs.NewRun.{IsNewRun};
+ghost use Rattle.link_run.specs.WholeRun.{AfterRun};
 ghost use Rattle.link_run.specs.Stages.{Stands, AfterStage, IsMore};
 ghost use Rattle.link_run.specs.Writers.{AfterWrite, on_output, place_of};
 ghost use Rattle.link_list.specs.Listing.{listing_of, list_tool};
@@ -319,15 +321,9 @@ pub fn list_run<R: InDevice, W: OutDevice, E: OutDevice>(
     output: W,
     report: E,
 ) -> ListRun<R, W, E>
-    requires reader { (R.state reader).failed ≡ false }
-    requires output { (W.state output).failed ≡ false }
-    requires report { (E.state report).failed ≡ false }
-    ensures stands { ⟦<ListRun<R, W, E> as Run<R, W, E>>⟧.stands result
-        (record { reader = reader; output = output; report = report }) [] }
-    ensures tool { ⟦<ListRun<R, W, E> as Run<R, W, E>>⟧.tool result ≡ list_tool }
-    ensures waits { ⟦<ListRun<R, W, E> as Run<R, W, E>>⟧.waits result ≡ [] }
-    ensures devices { devices_at (⟦<ListRun<R, W, E> as Run<R, W, E>>⟧.place result)
-        ≡ record { reader = reader; output = output; report = report } }
+    requires sound { NoneFailed (looks R.state W.state E.state) (devices reader output report) }
+    ensures { IsNewRun ⟦<ListRun<R, W, E> as Run<R, W, E>>⟧ list_tool
+        (devices reader output report) result }
 {
     let tool = Listing {
         stage: Stage::Contact,
@@ -353,13 +349,9 @@ pub fn list<R: InDevice, W: OutDevice, E: OutDevice>(
     output: W,
     report: E,
 ) -> RunEnd<R, W, E>
-    requires reader { (R.state reader).failed ≡ false }
-    requires output { (W.state output).failed ≡ false }
-    requires report { (E.state report).failed ≡ false }
+    requires sound { NoneFailed (looks R.state W.state E.state) (devices reader output report) }
     ensures { AfterRun (looks R.state W.state E.state) list_tool
-        (record { reader = reader; output = output; report = report })
-        (record { reader = result.reader; output = result.output; report = result.report })
-        result.waits.items result.answer }
+        (devices reader output report) result }
 {
     list_run(reader, output, report).run()
 }

@@ -10,6 +10,7 @@ use Rattle.link_transfer.specs.declared.fault.OrderFault.TheVariants.{SecondSess
 use Rattle.link_transfer.specs.declared.joiner.Turn as effect
 use Rattle.link_transfer.specs.declared.joiner.Turn.TheVariants.{Other, Begin, Continue}
 use Rattle.link_numbers.specs.declared.order.{Order.Order, Turn.Turn}
+use Rattle.link_numbers.specs.declared.recording.Message as numbers
 
 abbrev pub order_code : OrderFault → ℕ
 order_code SecondSessInit = 51
@@ -18,35 +19,34 @@ order_code NoSuchOpenTransfer = 53
 order_code StartRepeatsOpenId = 54
 order_code StartAfterSessTerm = 55
 
--- the event of a message of this kind
-abbrev pub event_by : (kind flags id : ℕ) → Event
-event_by kind flags id =
-    if kind == 7 then event.SessInit
-    else if kind == 5 then event.SessTerm
-    else if kind == 1 then event.Segment flags id
+-- the event of a message with these numbers
+abbrev pub event_by : numbers.Message → Event
+event_by it =
+    if it.kind == 7 then event.SessInit
+    else if it.kind == 5 then event.SessTerm
+    else if it.kind == 1 then event.Segment it.flags it.id
     else event.Other
 
--- The message has this kind and, if it is a segment, these flags and this ID. The order depends on
--- nothing else. Flags have one byte.
-pub record IsKind (wanted kind flags : ℕ) : Type 0 where
-  pub same : kind ≡ wanted
+-- The message has these numbers: its kind and, if it is a segment, its flags and its ID. The order
+-- depends on nothing else. Flags have one byte.
+pub record IsKind (wanted : ℕ) (it : numbers.Message) : Type 0 where
+  pub same : it.kind ≡ wanted
+  pub byte : it.flags ≤ 255
+
+pub record IsSegment (flags id : ℕ) (it : numbers.Message) : Type 0 where
+  pub same : it.kind ≡ 1
+  pub same_flags : it.flags ≡ flags
+  pub same_id : it.id ≡ id
   pub byte : flags ≤ 255
 
-pub record IsSegment (own id flags wanted kind : ℕ) : Type 0 where
-  pub same : kind ≡ 1
-  pub same_flags : flags ≡ own
-  pub same_id : wanted ≡ id
-  pub byte : own ≤ 255
-
-abbrev pub HasNumbers : Message → (kind flags id : ℕ) → Type 0
-HasNumbers (message.SessInit interval segment_mru transfer_mru node items) kind flags id =
-    IsKind 7 kind flags
-HasNumbers (message.Segment head) kind flags id = IsSegment head.flags head.id flags id kind
-HasNumbers (message.Ack own acked size) kind flags id = IsKind 2 kind flags
-HasNumbers (message.Refuse reason refused) kind flags id = IsKind 3 kind flags
-HasNumbers message.Keepalive kind flags id = IsKind 4 kind flags
-HasNumbers (message.SessTerm own reason) kind flags id = IsKind 5 kind flags
-HasNumbers (message.MsgReject reason header) kind flags id = IsKind 6 kind flags
+abbrev pub HasNumbers : Message → numbers.Message → Type 0
+HasNumbers (message.SessInit interval segment_mru transfer_mru node items) it = IsKind 7 it
+HasNumbers (message.Segment head) it = IsSegment head.flags head.id it
+HasNumbers (message.Ack own acked size) it = IsKind 2 it
+HasNumbers (message.Refuse reason refused) it = IsKind 3 it
+HasNumbers message.Keepalive it = IsKind 4 it
+HasNumbers (message.SessTerm own reason) it = IsKind 5 it
+HasNumbers (message.MsgReject reason header) it = IsKind 6 it
 
 abbrev pub bit : Bool → ℕ
 bit true = 1
@@ -79,9 +79,9 @@ pub record IsOrderAt (order : Order) (before : List Message) : Type 0 where
   pub is_bit : order.is_open ≤ 1
 
 -- the kind and the flags are those of a message, and each field that may only be 0 or 1 is 0 or 1
-abbrev pub is_in_range : Order → (kind flags : ℕ) → Bool
-is_in_range order kind flags =
-    nat_le 1 kind && (nat_le kind 7 && (nat_le flags 255
+abbrev pub is_in_range : Order → numbers.Message → Bool
+is_in_range order it =
+    nat_le 1 it.kind && (nat_le it.kind 7 && (nat_le it.flags 255
     && (nat_le order.initiated 1 && (nat_le order.terminated 1 && nat_le order.is_open 1))))
 
 -- the answer, by the judgement of the message; a refused message does nothing

@@ -1,5 +1,5 @@
 -- A contact header, a message and an extension item as numbers.
-use Rattle.std.specs.Prelude.{◌≡◌, ℕ, ◌+◌, ◌-◌, nat_le, min, List, length, Option, Some, None, Ok, Err, if◌then◌else◌}
+use Rattle.std.specs.Prelude.{◌≡◌, ℕ, ◌+◌, ◌-◌, ◌^◌, ◌==◌, ◌&&◌, ◌||◌, Bool, nat_le, min, List, length, Option, Some, None, Ok, Err, if◌then◌else◌}
 use Rattle.link_wire.specs.InSlice.{LiesAt, ItemLies}
 use Rattle.link_wire.specs.Message.{item_head_at, total_at}
 use Rattle.link_wire.specs.Part.{Part, ◌>>=◌}
@@ -7,7 +7,7 @@ use Rattle.link_wire.specs.declared.fault.{WireFault.WireFault, WireFault.TheVar
 use Rattle.link_wire.specs.declared.message.Contact as wire
 use Rattle.link_wire.specs.declared.message.Fields.{Fields}
 use Rattle.link_wire.specs.declared.message.Fields.TheVariants.{SessInit, Segment, Ack, Refuse, Keepalive, SessTerm, MsgReject}
-use Rattle.link_wire.specs.declared.message.ListOf.TheVariants.{Transfer}
+use Rattle.link_wire.specs.declared.message.{ListOf.ListOf, ListOf.TheVariants.Session, ListOf.TheVariants.Transfer}
 use Rattle.link_wire.specs.declared.message.Message as read
 use Rattle.link_wire.specs.declared.slices.{ItemAt.ItemAt, MessageAt.MessageAt, Span.Span}
 use Rattle.link_numbers.specs.Fault.{no_fault, wire_status, wire_fault}
@@ -101,7 +101,8 @@ abbrev pub data_fault : (size offset : ℕ) → MessageAt → Fault
 data_fault size offset found =
     if nat_le (size_of found) (size - found.end) then no_fault else wire_fault Truncated offset
 
--- a message at this offset among this many bytes, with its places
+-- A message at this offset among this many bytes, with its places. If its data is cut, the next
+-- message begins after all of it, past the bytes. Numbers stop at 2^64 - 1.
 abbrev pub message_shown : (size offset : ℕ) → MessageAt → Message
 message_shown size offset found =
     record (fields_shown found.fields) {
@@ -112,7 +113,7 @@ message_shown size offset found =
       items_length = (items_of found.fields found.items).length;
       data_offset = found.end;
       data_seen = min (size_of found) (size - found.end);
-      next = if nat_le (size_of found) (size - found.end) then found.end + size_of found else 0;
+      next = min (found.end + size_of found) (2 ^ 64 - 1);
     }
 
 -- TCPCLKIT_OK, or TCPCLKIT_DATA_TRUNCATED if the bytes end inside the data
@@ -134,6 +135,21 @@ pub record ReturnsMessage (bytes : List ℕ) (offset : ℕ) (part : Part read.Me
       → ShowsMessage bytes offset part answer status
   pub fault : (fault : WireFault) → part ≡ Err fault
       → (status ≡ wire_status fault) × (answer ≡ no_message (wire_fault fault offset))
+
+-- whose list the extension items of a message are
+abbrev pub list_of : Message → ListOf
+list_of it = if it.kind == 7 then Session else Transfer
+
+-- the offset after these items
+abbrev pub items_end : Message → ℕ
+items_end it = it.items_offset + it.items_length
+
+-- Among `size` bytes, the message has a list of items, and the offset is in the list or at its end.
+abbrev pub has_list_at : (size : ℕ) → Message → (offset : ℕ) → Bool
+has_list_at size it offset =
+    (it.kind == 7 || it.kind == 1) && (nat_le it.items_length 65536
+    && (nat_le (items_end it) size
+    && (nat_le it.items_offset offset && nat_le offset (items_end it))))
 
 -- whether there is a total, and which
 abbrev pub total_shown : Option ℕ → ℕ × ℕ
@@ -169,21 +185,21 @@ item_shown found =
     }
 
 -- the total of the item that begins some bytes, in a list that has `left` more bytes
-abbrev pub item_part : ℕ → List ℕ → Part (Option ℕ)
-item_part left bytes = item_head_at left bytes >>= λ (head, rest). total_at Transfer head.kind head.length rest
+abbrev pub item_part : ListOf → ℕ → List ℕ → Part (Option ℕ)
+item_part owner left bytes = item_head_at left bytes >>= λ (head, rest). total_at owner head.kind head.length rest
 
 -- the numbers are those of the item, and its value lies where they say
-pub record ShowsItem (bytes : List ℕ) (offset left : ℕ) (answer : Item)
+pub record ShowsItem (owner : ListOf) (bytes : List ℕ) (offset left : ℕ) (answer : Item)
     (status : ℕ) : Type 0 where
   pub found : ItemAt
-  pub lies : ItemLies Transfer bytes left offset found
+  pub lies : ItemLies owner bytes left offset found
   pub numbers : answer ≡ item_shown found
   pub gives : status ≡ 0
 
 -- the answer, by the reading of the item at the offset
-pub record ReturnsItem (bytes : List ℕ) (offset left : ℕ) (part : Part (Option ℕ)) (answer : Item)
-    (status : ℕ) : Type 0 where
+pub record ReturnsItem (owner : ListOf) (bytes : List ℕ) (offset left : ℕ)
+    (part : Part (Option ℕ)) (answer : Item) (status : ℕ) : Type 0 where
   pub whole : (total : Option ℕ) (rest : List ℕ) → part ≡ Ok (total, rest)
-      → ShowsItem bytes offset left answer status
+      → ShowsItem owner bytes offset left answer status
   pub fault : (fault : WireFault) → part ≡ Err fault
       → (status ≡ wire_status fault) × (answer ≡ no_item (wire_fault fault offset))

@@ -1,8 +1,8 @@
 //! A block of a bundle as numbers.
 
 ghost use Rattle.std.specs.Prelude.{◌≡◌};
-ghost use Rattle.link_bundle_blocks.specs.Blocks.{viewed_primary, viewed_blocks, PrimaryOf, CanonicalOf};
-ghost use Rattle.link_numbers.specs.Block.{check_type, no_block, block_shown, first_shown};
+ghost use Rattle.link_bundle_blocks.specs.Blocks.{viewed_primary, viewed_blocks, PrimaryOf};
+ghost use Rattle.link_numbers.specs.Block.{check_type, no_block, canonical_shown, block_shown, first_shown, cut_shown};
 
 use link_bundle_blocks::{BlockView, CanonicalBlock, PrimaryBlock};
 use link_cbor::CheckKind;
@@ -15,7 +15,7 @@ pub struct BlockNumbers {
     pub kind: u64,
     /// The offset of the block's first byte in the bundle.
     pub offset: u64,
-    /// The number of the block's bytes.
+    /// The number of the block's bytes, or 0 if the block is not whole.
     pub length: u64,
     /// The block type code of a canonical block.
     pub block_type: u64,
@@ -27,8 +27,10 @@ pub struct BlockNumbers {
     pub check: u64,
     /// The offset of the first byte of a canonical block's data.
     pub data_offset: u64,
-    /// The number of bytes of a canonical block's data.
+    /// The number of bytes of a canonical block's data, by its head.
     pub data_length: u64,
+    /// The number of these bytes that are there: all of them if the block is whole.
+    pub data_seen: u64,
 }
 
 /// The check type code (RFC 9171 section 4.2.1).
@@ -56,6 +58,7 @@ fn no_block() -> BlockNumbers
         check: 0,
         data_offset: 0,
         data_length: 0,
+        data_seen: 0,
     }
 }
 
@@ -74,9 +77,9 @@ fn primary_shown(block: &PrimaryBlock<'_>) -> BlockNumbers
     }
 }
 
-/// The numbers of a canonical block.
-fn canonical_shown(block: &CanonicalBlock) -> BlockNumbers
-    ensures { result ≡ block_shown (CanonicalOf block.now) }
+/// The numbers of a canonical block, of whose data that many bytes are there.
+fn canonical_shown(block: &CanonicalBlock, data_seen: u64) -> BlockNumbers
+    ensures { result ≡ canonical_shown block.now data_seen }
 {
     BlockNumbers {
         kind: 2,
@@ -88,6 +91,7 @@ fn canonical_shown(block: &CanonicalBlock) -> BlockNumbers
         check: check_type(block.check),
         data_offset: block.data_start,
         data_length: block.data_length,
+        data_seen,
     }
 }
 
@@ -98,6 +102,19 @@ pub fn block_numbers(block: Option<BlockView<'_>>) -> BlockNumbers
     match block {
         None => no_block(),
         Some(BlockView::Primary(block)) => primary_shown(&block),
-        Some(BlockView::Canonical(block)) => canonical_shown(&block),
+        Some(BlockView::Canonical(block)) => canonical_shown(&block, block.data_length),
+    }
+}
+
+/// The numbers of the block in whose data or check field the first `count` bytes of a bundle end.
+pub fn cut_numbers(count: u64, block: Option<CanonicalBlock>) -> BlockNumbers
+    ensures { result ≡ cut_shown count block }
+{
+    match block {
+        None => no_block(),
+        Some(block) => {
+            let there = count.saturating_sub(block.data_start);
+            canonical_shown(&block, block.data_length.min(there))
+        }
     }
 }

@@ -1,6 +1,6 @@
 //! The verdict on a bundle, its endpoint IDs and its fields as numbers.
 
-ghost use Rattle.std.specs.Prelude.{◌≡◌, option_map, IfSome};
+ghost use Rattle.std.specs.Prelude.{◌≡◌, min, option_map, IfSome};
 ghost use Rattle.link_bundle_types.specs.BundleView.{viewed_info, viewed_verdict};
 ghost use Rattle.link_bundle_types.specs.EidView.{viewed_eid};
 ghost use Rattle.link_bundle_types.specs.ShortNames.{IsShort};
@@ -169,6 +169,18 @@ fn eid_or_none(eid: &Option<EidView<'_>>) -> EidNumbers
     match eid {
         None => no_eid(),
         Some(eid) => eid_shown(eid),
+    }
+}
+
+impl EidNumbers {
+    /// The same endpoint ID, with the length of a name that is cut to `room` bytes.
+    pub fn cut_to(self, room: usize) -> EidNumbers
+        ensures { result ≡ record self { name_length = min self.name_length room } }
+    {
+        EidNumbers {
+            name_length: self.name_length.min(room as u64),
+            ..self
+        }
     }
 }
 

@@ -1,12 +1,13 @@
 //! The order of messages as numbers.
 
-ghost use Rattle.std.specs.Prelude.{◌≡◌, ◌<◌, List, ◌++◌, ◌∷◌, []};
+ghost use Rattle.std.specs.Prelude.{◌≡◌, ◌<◌, ◌≤◌, List, ◌++◌, ◌∷◌, []};
 ghost use Rattle.link_wire.specs.declared.message.Message.{Message};
 ghost use Rattle.link_transfer.specs.Event.{event_of};
 ghost use Rattle.link_transfer.specs.Order.{judged_message, refusal, effect_of, with_taken};
 ghost use Rattle.link_transfer.specs.Joiner.{IsJoinerAt};
 ghost use Rattle.link_numbers.specs.Order.{order_code, event_by, no_turn, turn_shown, effect_shown, fault_shown, IsOrderAt, is_in_range, ReturnsTurn, ReturnsTaken};
 
+use crate::recording;
 use crate::status::{FAULT, OK};
 use link_transfer::{Event, Joiner, OrderFault, Turn as Effect};
 
@@ -40,14 +41,18 @@ pub struct Turn {
     pub abandoned: u64,
 }
 
-/// The event of a message of this kind; no other kind is 7, 5 or 1.
-pub fn event_by(kind: u64, flags: u8, id: u64) -> Event
-    ensures { result ≡ event_by kind flags id }
+/// The event of a message with these numbers; no other kind is 7, 5 or 1.
+pub fn event_by(message: &recording::Message) -> Event
+    requires { message.now.flags ≤ 255 }
+    ensures { result ≡ event_by message.now }
 {
-    match kind {
+    match message.kind {
         7 => Event::SessInit,
         5 => Event::SessTerm,
-        1 => Event::Segment { flags, id },
+        1 => Event::Segment {
+            flags: message.flags as u8,
+            id: message.id,
+        },
         _ => Event::Other,
     }
 }
@@ -121,6 +126,13 @@ fn joiner_of(order: &Order) -> Joiner
         None
     };
     Joiner::from_parts(order.initiated == 1, order.terminated == 1, transfer)
+}
+
+/// The numbers of a session before its first message.
+pub fn new_order() -> Order
+    ensures { IsOrderAt result [] }
+{
+    order_of(&Joiner::new())
 }
 
 /// The numbers of a joiner.
@@ -214,12 +226,12 @@ pub fn take(order: &mut Order, event: Event, answer: &mut Turn) -> u32
 }
 
 /// Whether these are the kind and the flags of a message, and the bits of a session.
-pub fn is_in_range(order: &Order, kind: u64, flags: u64) -> bool
-    ensures { result ≡ is_in_range order.now kind flags }
+pub fn is_in_range(order: &Order, message: &recording::Message) -> bool
+    ensures { result ≡ is_in_range order.now message.now }
 {
-    kind >= 1
-        && kind <= 7
-        && flags <= 255
+    message.kind >= 1
+        && message.kind <= 7
+        && message.flags <= 255
         && order.initiated <= 1
         && order.terminated <= 1
         && order.is_open <= 1

@@ -1,11 +1,11 @@
 //! A contact header, a message and an extension item as numbers.
 
-ghost use Rattle.std.specs.Prelude.{◌≡◌, ◌^◌, ◌≤◌};
-ghost use Rattle.link_numbers.specs.Recording.{nothing, fields_shown, node_of, items_of, message_shown, data_status, no_item, item_shown};
+ghost use Rattle.std.specs.Prelude.{◌≡◌, ◌^◌, ◌≤◌, ◌-◌, true, length};
+ghost use Rattle.link_numbers.specs.Recording.{nothing, fields_shown, node_of, items_of, message_shown, data_status, list_of, items_end, has_list_at, no_item, item_shown};
 
 use crate::fault::Fault;
 use crate::status::{DATA_TRUNCATED, OK};
-use link_wire::{Fields, ItemAt, MessageAt, Span, WireFault};
+use link_wire::{Fields, ItemAt, ListOf, MAX_LIST_LENGTH, MessageAt, Span, WireFault};
 
 /// `struct tcpclkit_contact`: a contact header, or its fault.
 #[repr(C)]
@@ -55,7 +55,7 @@ pub struct Message {
     pub data_length: u64,
     /// The number of the data's bytes that are there.
     pub data_seen: u64,
-    /// The offset after the message.
+    /// The offset after the message and all of its data, which stops at `u64::MAX`.
     pub next: u64,
 }
 
@@ -209,15 +209,42 @@ pub fn shown(found: &MessageAt, size: usize, offset: u64) -> (Message, u32)
         items_length: items.length as u64,
         data_offset: found.end as u64,
         data_seen: fields.data_length.min(there),
+        next: (found.end as u64).saturating_add(fields.data_length),
         ..fields
     };
     if fields.data_length <= there {
-        let next = found.end as u64 + fields.data_length;
-        (Message { next, ..placed }, OK)
+        (placed, OK)
     } else {
         let fault = Fault::of_wire(WireFault::Truncated, offset);
         (Message { fault, ..placed }, DATA_TRUNCATED)
     }
+}
+
+/// Whether a message has a list of items in these bytes, and the offset is in it or at its end.
+pub fn has_list_at(bytes: &[u8], message: &Message, offset: u64) -> bool
+    ensures { result ≡ has_list_at (length bytes.now) message.now offset }
+{
+    let end = message.items_offset.saturating_add(message.items_length);
+    (message.kind == 7 || message.kind == 1)
+        && message.items_length <= u64::from(MAX_LIST_LENGTH)
+        && end <= bytes.len() as u64
+        && message.items_offset <= offset
+        && offset <= end
+}
+
+/// Whose list the items of a message are, and how many bytes of it are left at the offset.
+pub fn list_left(bytes: &[u8], message: &Message, offset: u64) -> (ListOf, u32)
+    requires { has_list_at (length bytes.now) message.now offset ≡ true }
+    ensures owner { result.0 ≡ list_of message.now }
+    ensures left { result.1 ≡ items_end message.now - offset }
+{
+    let owner = if message.kind == 7 {
+        ListOf::Session
+    } else {
+        ListOf::Transfer
+    };
+    let end = message.items_offset + message.items_length;
+    (owner, (end - offset) as u32)
 }
 
 /// A fault in place of an item; each field of the item is 0.

@@ -16,3 +16,5 @@ pub const TOO_SMALL: u32 = 5;
 pub const RANGE: u32 = 6;
 /// A request for memory was refused.
 pub const MEMORY: u32 = 8;
+/// The scan needed no more bytes, and took none.
+pub const SCAN_ENDED: u32 = 9;

@@ -6,7 +6,7 @@ use Rattle.link_run.specs.Run.{Texts, Outcome, Tool, ◌then◌}
 use Rattle.link_run.proofs.Runs.{texts_as, part_of_more, output_then}
 use Rattle.link_bundle_walk.specs.Bundles.{Packed, Rest, Divided, divided}
 use Rattle.link_bundle_walk.specs.Telling.{SoFar, BundleTelling, stop_by, told_by, told_of, between, Tells, with_run}
-use Rattle.link_bundle_walk.proofs.Outcomes.{whole_of}
+use Rattle.link_bundle_walk.proofs.{Outcomes.whole_of, Told.on_ok_by}
 use Rattle.link_pack.specs.Packing.{prelude_bytes, segment_size, sending, transfer_bytes, report_lines, packing_of, packing_by, pack_tool, report_line}
 use Rattle.link_pack.specs.PackRun.{texts_of, pack_telling, Sends}
 use Rattle.link_pack.specs.Segments.{segments_of, segments_left}
@@ -150,10 +150,6 @@ chunks_counted segment size some =
 
 -- ---- the bytes of a run
 
-then_if : {A E P Q : Type 0} (result : Result A E) → OnOk result P → (P → Q) → OnOk result Q
-then_if (Ok value) holds goes = goes holds
-then_if (Err fault) holds goes = tt
-
 kept_as : (options : PackOptions) (cutter : Cutter) (begun : List ℕ) (cuts : Cutting)
     → cuts ≡ cutting options begun → IsCutterAt cutter cuts → Keeps options cutter begun
 kept_as options cutter begun cuts is at =
@@ -179,7 +175,7 @@ module _ {W E : Type 0} (out_look : W → Output) (report_look : E → Output) (
     texts = on_output (segments_left number (pushed false));
     said = rw numbered (texts_grown options before.bundles before.begun run);
     wrote = sends.wrote;
-    known = then_if result sends.after (kept_as _ cutter _ _ (all_given_open _ _ _ run));
+    known = on_ok_by result (kept_as _ cutter _ _ (all_given_open _ _ _ run)) sends.after;
   }
 
   -- the bundle is whole: its last segments are written, and then its line

@@ -8,7 +8,8 @@ use Rattle.link_transfer.specs.Cutting.{Cutting}
 use Rattle.link_transfer.specs.declared.cutter.Cutter.{Cutter}
 use Rattle.link_run.specs.Run.{Texts, ◌then◌, Devices}
 use Rattle.link_run.specs.Writers.{on_output, AfterWrite}
-use Rattle.link_run.specs.declared.{run.Status.Status, writers.Writers.Writers}
+use Rattle.link_run.specs.WholeRun.{devices_of}
+use Rattle.link_run.specs.declared.{run.RunEnd.RunEnd, writers.Writers.Writers}
 use Rattle.link_bundle_walk.specs.Bundles.{Packed}
 use Rattle.link_bundle_walk.specs.Telling.{BundleTelling}
 use Rattle.link_pack.specs.Segments.{segments_of, segments_left, all_given}
@@ -41,7 +42,6 @@ pub record Sends {W E : Type 0} (out_look : W → Output) (report_look : E → O
   pub after : OnOk result (IsCutterAt cutter (all_given so_far))
 
 -- the request for memory was refused, and nothing was read or written
-pub record LacksMemory {R W E : Type 0} (start now : Devices R W E)
-    (answer : Result Status IoFault) : Type 0 where
-  pub unchanged : now ≡ start
-  pub is : answer ≡ Err io.Memory
+pub record LacksMemory {R W E : Type 0} (start : Devices R W E) (end : RunEnd R W E) : Type 0 where
+  pub unchanged : devices_of end ≡ start
+  pub is : end.answer ≡ Err io.Memory

@@ -1,9 +1,11 @@
 //! What `pack` makes of the bundles that it reads: segments, and a line for each.
 
-ghost use Rattle.std.specs.Prelude.{◌≡◌, ◌<◌, IfErr, IfOk, false, [], length};
+ghost use Rattle.std.specs.Prelude.{◌≡◌, ◌<◌, IfErr, IfOk, [], length};
 ghost use Rattle.link_bundle_types.specs.BundleView.{viewed_info};
 ghost use Rattle.link_bundle_types.specs.ShortNames.{HasShortNames};
-ghost use Rattle.link_run.specs.Run.{AfterRun, devices_at, looks};
+ghost use Rattle.link_run.specs.Run.{devices, looks, NoneFailed};
+ghost use Rattle.link_run.specs.NewRun.{IsNewRun};
+ghost use Rattle.link_run.specs.WholeRun.{AfterRun};
 ghost use Rattle.link_run.specs.Writers.{AfterWrite, on_output, on_report};
 ghost use Rattle.link_bundle_walk.specs.Bundles.{Packed};
 ghost use Rattle.link_pack.specs.Packer.{IsCutterFor};
@@ -11,7 +13,7 @@ ghost use Rattle.link_pack.specs.Packing.{pack_tool, prelude_bytes, end_bytes, r
 ghost use Rattle.link_pack.specs.PackRun.{LacksMemory};
 
 use crate::segments::write_run;
-use link_bundle_walk::{BundleConsumer, BundleWalkRun, WholeView, bundle_walk_run};
+use link_bundle_walk::{BundleConsumer, BundleWalkRun, RunView, WholeView, bundle_walk_run};
 use link_options::PackOptions;
 use link_report::{PackedText, PackedView};
 use link_run::{Run, RunEnd, Writers};
@@ -68,7 +70,7 @@ impl Packer {
 }
 
 impl BundleConsumer for Packer {
-    ghost use Rattle.std.specs.Prelude.{not};
+    ghost use Rattle.std.specs.Prelude.{false, not};
     ghost use Rattle.link_transfer.specs.Cutter.{cut_waits, wanted_by};
     ghost use Rattle.link_pack.specs.Packer.{Keeps};
     ghost use Rattle.link_pack.specs.PackRun.{pack_telling};
@@ -82,6 +84,15 @@ impl BundleConsumer for Packer {
     ghost fits = { λ packer. not (cut_waits packer.cutter) };
 
     ghost wants = { λ packer. wanted_by packer.cutter };
+
+    ghost tells_blocks = { false };
+
+    ghost read = { λ packer. 0 };
+
+    #[inline(always)]
+    fn by_blocks() -> bool {
+        false
+    }
 
     #[inline(always)]
     fn limit(options: &PackOptions) -> u64 {
@@ -110,18 +121,27 @@ impl BundleConsumer for Packer {
     fn run<W: OutDevice, E: OutDevice>(
         &mut self,
         options: &PackOptions,
-        number: u64,
-        bytes: &[u8],
-        whole: Option<WholeView<'_>>,
+        run: &RunView<'_, '_>,
         writers: &mut Writers<W, E>,
     ) -> Result<(), IoFault> {
-        let Some(whole) = whole else {
-            return write_run(number, bytes, false, &mut self.cutter, writers);
+        let Some(whole) = run.whole else {
+            return write_run(run.number, run.bytes, false, &mut self.cutter, writers);
         };
-        match write_run(number, bytes, true, &mut self.cutter, writers) {
-            Ok(()) => write_line(number, options, whole, writers),
+        match write_run(run.number, run.bytes, true, &mut self.cutter, writers) {
+            Ok(()) => write_line(run.number, options, whole, writers),
             Err(fault) => Err(fault),
         }
+    }
+
+    /// Writes the segments that the bytes make due.
+    fn stop<W: OutDevice, E: OutDevice>(
+        &mut self,
+        _options: &PackOptions,
+        number: u64,
+        bytes: &[u8],
+        writers: &mut Writers<W, E>,
+    ) -> Result<(), IoFault> {
+        write_run(number, bytes, false, &mut self.cutter, writers)
     }
 
     /// Writes SESS_TERM, if the options ask for it.
@@ -213,15 +233,9 @@ pub fn pack_run<R: InDevice, W: OutDevice, E: OutDevice>(
     report: E,
 ) -> PackRun<R, W, E>
     requires cutter { IsCutterFor options cutter }
-    requires reader { (R.state reader).failed ≡ false }
-    requires output { (W.state output).failed ≡ false }
-    requires report { (E.state report).failed ≡ false }
-    ensures stands { ⟦<PackRun<R, W, E> as Run<R, W, E>>⟧.stands result
-        (record { reader = reader; output = output; report = report }) [] }
-    ensures tool { ⟦<PackRun<R, W, E> as Run<R, W, E>>⟧.tool result ≡ pack_tool options }
-    ensures devices { devices_at (⟦<PackRun<R, W, E> as Run<R, W, E>>⟧.place result)
-        ≡ record { reader = reader; output = output; report = report } }
-    ensures waits { ⟦<PackRun<R, W, E> as Run<R, W, E>>⟧.waits result ≡ [] }
+    requires sound { NoneFailed (looks R.state W.state E.state) (devices reader output report) }
+    ensures { IsNewRun ⟦<PackRun<R, W, E> as Run<R, W, E>>⟧ (pack_tool options)
+        (devices reader output report) result }
 {
     bundle_walk_run(options, Packer::new(cutter), reader, output, report)
 }
@@ -245,18 +259,10 @@ pub fn pack<R: InDevice, W: OutDevice, E: OutDevice>(
     report: E,
 ) -> RunEnd<R, W, E>
     requires cutter { IfOk memory (IsCutterFor options) }
-    requires reader { (R.state reader).failed ≡ false }
-    requires output { (W.state output).failed ≡ false }
-    requires report { (E.state report).failed ≡ false }
-    ensures ran { IfOk memory (λ _. AfterRun (looks R.state W.state E.state)
-        (pack_tool options)
-        (record { reader = reader; output = output; report = report })
-        (record { reader = result.reader; output = result.output; report = result.report })
-        result.waits.items result.answer) }
-    ensures lacked { IfErr memory
-        (λ _. LacksMemory (record { reader = reader; output = output; report = report })
-        (record { reader = result.reader; output = result.output; report = result.report })
-        result.answer) }
+    requires sound { NoneFailed (looks R.state W.state E.state) (devices reader output report) }
+    ensures ran { IfOk memory (λ _. AfterRun (looks R.state W.state E.state) (pack_tool options)
+        (devices reader output report) result) }
+    ensures lacked { IfErr memory (λ _. LacksMemory (devices reader output report) result) }
 {
     match memory {
         Ok(cutter) => pack_run(cutter, options, reader, output, report).run(),

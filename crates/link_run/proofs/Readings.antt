@@ -5,7 +5,7 @@ use Rattle.link_wire.specs.declared.{fault.Stop.Stop, message.Message.Message}
 use Rattle.link_wire.specs.declared.session.Session.{Session}
 use Rattle.link_run.specs.{Run.Looks, Reading.{ReadsMessage, ReadsData}}
 use Rattle.link_run.specs.{Writers.{on_output, Writes}, declared.input.Input.Input}
-use Rattle.link_run.specs.declared.{input.Position.Position, log.Log.Log, writers.Writers.Writers}
+use Rattle.link_run.specs.declared.{log.Log.Log, writers.Writers.Writers}
 
 -- the results of the session, once what was written was handed on
 module _ {R W E : Type 0} (look : Looks R W E)
@@ -22,9 +22,8 @@ module _ {R W E : Type 0} (look : Looks R W E)
   data_given (Ok n) gives = (writes, gives)
   data_given (Err why) gives = inl (writes, gives)
 
--- inputs are equal if what they read and their waits are
-pub input_as : {S W E : Type 0} {p q : Input S W E} → p.feed ≡ q.feed → p.waits ≡ q.waits → p ≡ q
-input_as {S} {W} {E} feed waits =
-    let made : S → Log Position (Writers W E) → Input S W E =
-    λ feed waits. record { feed = feed; waits = waits } in
-    ap₂ made feed waits
+-- inputs are equal if what they read and their logs are
+pub input_as : {S W E : Type 0} {p q : Input S W E} → p.feed ≡ q.feed → p.log ≡ q.log → p ≡ q
+input_as {S} {W} {E} feed log =
+    let made : S → Log S W E → Input S W E = λ feed log. record { feed = feed; log = log } in
+    ap₂ made feed log

@@ -6,8 +6,10 @@ use Rattle.std.proofs.lemmas.List.Elements.{All-nil, All-push, All-weaker}
 use Rattle.link_wire.specs.{Device.{Input as Seen, Output}, declared.IoFault.IoFault}
 use Rattle.link_wire.specs.declared.Source.{Source}
 use Rattle.link_run.specs.{Made.{Made, tool_of}, Reading.{Unread, CallWaits}}
-use Rattle.link_run.specs.Run.{Texts, Tool, Looks, Devices, Place, Wait, HasShown, IsWaitAt, IsPrompt, WasPrompt, WaitsOnce, LastStep, AfterRunFrom}
-use Rattle.link_run.specs.{Stages.Stands, declared.input.Input.Input, declared.run.Status.Status}
+use Rattle.link_run.specs.Run.{Texts, Tool, Looks, Devices, Place, Wait, Waits, then_waits, noted, waits_by, HasShown, IsWaitAt, IsPrompt, WasPrompt, WaitsOnce, LastStep}
+use Rattle.link_run.specs.WholeRun.{devices_of, ran_of, IsLogOf, AfterRunFrom}
+use Rattle.link_run.specs.{Stages.Stands, declared.input.Input.Input}
+use Rattle.link_run.specs.declared.run.{Status.Status, RunEnd.RunEnd}
 use Rattle.link_run.specs.declared.writers.Writers.{Writers}
 use Rattle.link_run.proofs.Ends.{unshown_sofar}
 
@@ -23,7 +25,7 @@ module _ {S R W E : Type 0} {look : R → Seen} {source : S → Source R} where
   }
 
 -- enough bytes at hand spare a wait
-pub waits_enough : {W E : Type 0} {enough other : Type 0} {before after : List (Wait W E)}
+pub waits_enough : {R W E : Type 0} {enough other : Type 0} {before after : Waits R W E}
     {is : Wait W E → Type 0} → WaitsOnce enough before after is
     → WaitsOnce (enough ⊎ other) before after is
 waits_enough waits = ⊎_elim (λ none. inl (none.0, inl none.1)) (λ waited. inr waited) waits
@@ -39,11 +41,11 @@ module _ {S R W E : Type 0} {look : Looks R W E} {source : S → Source R} {enou
       (λ waited. inr (waited.0, later.waits ∙ waited.1, waited.2))
       first
 
--- no list is one longer than itself
-never_longer : {A : Type 0} (before after : List A) (last : A) → after ≡ before
-    → after ≡ before ++ last ∷ [] → ⊥
-never_longer before after last same more =
-    omega (arith, ap length (sym same ∙ more), length-append before (last ∷ []))
+-- no waits are one more than themselves
+never_longer : {R W E : Type 0} (before after : Waits R W E) (last : Wait W E) → after ≡ before
+    → after ≡ noted before last → ⊥
+never_longer {R} {W} {E} before after last same more =
+    omega (arith, ap (λ (waits : Waits R W E). length waits.each) (sym same ∙ more), length-append before.each (last ∷ []))
 
 -- a text was written, and later all was handed on
 shown_after : {start now later : Output} (text due : List ℕ)
@@ -75,17 +77,17 @@ module _ {R W E : Type 0} {look : Looks R W E} {made : List ℕ → Made} {start
       }
 
   -- a stage waits before it is given a byte and before it writes, so its run has nothing in hand
-  pub prompt_once : (begun : Bool) {place : Place R W E} {history : List ℕ} {spared : Type 0}
-      {before after : List (Wait W E)} → Stands look made start begun place history
-      → (begun ≡ false → after ≡ before)
+  pub prompt_once : {S : Type 0} (reader_of : S → R) (begun : Bool) {place : Place R W E}
+      {history : List ℕ} {spared : Type 0} {before after : Waits S W E}
+      → Stands look made start begun place history → (begun ≡ false → after ≡ before)
       → WaitsOnce spared before after (IsWaitAt look place)
-      → WaitsOnce spared before after
+      → WaitsOnce spared (waits_by reader_of before) (waits_by reader_of after)
       (λ wait. IsWaitAt look place wait × IsPrompt look (tool_of made) start history wait)
-  prompt_once true stands begins waits =
-      ⊎_elim (λ none. inl none)
-      (λ waited. inr (waited.0, waited.1, (waited.2, prompt_at stands waited.2))) waits
-  prompt_once false {before} {after} stands begins waits =
-      ⊎_elim (λ none. inl none)
+  prompt_once reader_of true stands begins waits =
+      ⊎_elim (λ none. inl (ap (waits_by reader_of) none.0, none.1))
+      (λ waited. inr (waited.0, ap (waits_by reader_of) waited.1, (waited.2, prompt_at stands waited.2))) waits
+  prompt_once reader_of false {before} {after} stands begins waits =
+      ⊎_elim (λ none. inl (ap (waits_by reader_of) none.0, none.1))
       (λ waited. absurd (never_longer before after waited.0 (begins refl) waited.1)) waits
 
 module _ {R W E : Type 0} (look : Looks R W E) (tool : Tool) (start : Devices R W E) where
@@ -106,20 +108,20 @@ module _ {R W E : Type 0} (look : Looks R W E) (tool : Tool) (start : Devices R 
       }) waits were
 
   -- the waits of a run since it began: those before a stride, and the one in it
-  pub record Waited (given : List ℕ) (before now : List (Wait W E)) : Type 0 where
+  pub record Waited (given : List ℕ) (before now : Waits R W E) : Type 0 where
     pub since : List (Wait W E)
-    pub are : now ≡ before ++ since
+    pub are : now ≡ then_waits before since
     pub prompt : ArePrompt given since
 
-  pub waited_none : (before : List (Wait W E)) → Waited [] before before
+  pub waited_none : (before : Waits R W E) → Waited [] before before
   waited_none before = record {
     since = [];
-    are = sym (append-nil before);
+    are = ap (λ each. record { from = before.from; each = each }) (sym (append-nil before.each));
     prompt = All-nil (WasPrompt look tool start []);
   }
 
   pub waited_more : {spared : Type 0} {place : Place R W E} (given more : List ℕ)
-      (before now later : List (Wait W E)) → Waited given before now
+      (before now later : Waits R W E) → Waited given before now
       → WaitsOnce spared now later
       (λ wait. IsWaitAt look place wait × IsPrompt look tool start given wait)
       → Waited (given ++ more) before later
@@ -129,8 +131,8 @@ module _ {R W E : Type 0} (look : Looks R W E) (tool : Tool) (start : Devices R 
       (λ none. record { since = waited.since; are = none.0 ∙ waited.are; prompt = still })
       (λ once. record {
         since = waited.since ++ once.0 ∷ [];
-        are = once.1 ∙ ap (λ all. all ++ once.0 ∷ []) waited.are
-            ∙ append_assoc before waited.since (once.0 ∷ []);
+        are = once.1 ∙ ap (λ all. noted all once.0) waited.are
+            ∙ ap (λ each. record { from = before.from; each = each }) (append_assoc before.each waited.since (once.0 ∷ []));
         prompt = All-push (WasPrompt look tool start (given ++ more)) waited.since once.0 still
             (record { front = given; rest = more; parts = refl; prompt = once.2.1 });
       })
@@ -138,19 +140,22 @@ module _ {R W E : Type 0} (look : Looks R W E) (tool : Tool) (start : Devices R 
 
   -- the last stride of a run: what it gave, and all waits since the run began
   pub ran_on : {now : Devices R W E} {most : ℕ} {spared : Type 0} {place : Place R W E}
-      {before between later : List (Wait W E)} {answer : Result Status IoFault} (history : List ℕ)
-      → LastStep look tool start now most history answer → Waited history before between
+      {before between later : Waits R W E} {answer : Result Status IoFault} (history : List ℕ)
+      (end : RunEnd R W E) → devices_of end ≡ now → end.answer ≡ answer
+      → IsLogOf later (devices_of end) (ran_of end)
+      → LastStep look tool start now most history answer
+      → Waited history before between
       → WaitsOnce spared between later
       (λ wait. IsWaitAt look place wait × IsPrompt look tool start history wait)
-      → AfterRunFrom look tool start now before later answer
-  ran_on history last waited waits =
+      → AfterRunFrom look tool start before end
+  ran_on history end returned answered log last waited waits =
       let all = waited_more history last.given _ _ _ waited waits in
       record {
-        waits = all.since;
-        are = all.are;
-        ran = record {
+        since = all.since;
+        log = rw all.are at log;
+        rest = record {
           given = history ++ last.given;
-          gave = last.gave;
+          gave = rw (returned, answered) last.gave;
           ends = last.ends;
           prompt = all.prompt;
         };

@@ -1,4 +1,6 @@
 pub mod Run
+pub mod WholeRun
+pub mod NewRun
 pub mod Made
 pub mod Writers
 pub mod Reading

@@ -12,7 +12,7 @@ use Rattle.link_wire.specs.declared.{Source.Source, fault.Stop.Stop}
 use Rattle.link_wire.specs.declared.fault.Stop.TheVariants as stop
 use Rattle.link_wire.specs.declared.message.{Message.Message, MessageBuffer.MessageBuffer}
 use Rattle.link_wire.specs.declared.session.Session.{Session}
-use Rattle.link_run.specs.Run.{Looks, Wait, IsWaitAt, WaitsOnce, IsSpared}
+use Rattle.link_run.specs.Run.{Looks, Waits, IsWaitAt, WaitsOnce, IsSpared}
 use Rattle.link_run.specs.Writers.{place_of, on_output, next_line, Writes, Unsettled}
 use Rattle.link_run.specs.declared.{input.Input.Input, writers.Writers.Writers}
 
@@ -21,9 +21,9 @@ module _ {S W E : Type 0} where
   abbrev pub feed_of : Input S W E → S
   feed_of input = input.feed
 
-  -- when the run had to wait for this input
-  abbrev pub waits_of : Input S W E → List (Wait W E)
-  waits_of input = input.waits.items
+  -- with which feed and writers the run was made, and when it had to wait for this input
+  abbrev pub waits_of : Input S W E → Waits S W E
+  waits_of input = input.log.waits
 
 -- The session has enough bytes at hand for what comes next. Before the contact header this always
 -- holds, since a run has written nothing yet.

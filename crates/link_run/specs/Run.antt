@@ -1,5 +1,5 @@
 -- What a run of a tool has written, and how it ends.
-use Rattle.std.specs.Prelude.{◌≡◌, ℕ, ◌+◌, ◌<◌, ◌≤◌, ◌⊎◌, Bool, true, false, List, [], ◌∷◌, ◌++◌, All, length, take, Result, Ok, Err}
+use Rattle.std.specs.Prelude.{◌≡◌, ℕ, ◌+◌, ◌<◌, ◌≤◌, ◌⊎◌, Bool, true, false, List, [], ◌∷◌, ◌++◌, length, take, Result, Ok, Err}
 use Rattle.std.specs.Io.KnownBytes.{Consumes, Appends, IsAtEnd}
 use Rattle.link_wire.specs.Device.{Input, Output}
 use Rattle.link_wire.specs.Limits.{longest_input, window_size}
@@ -44,6 +44,9 @@ pub record Devices (R W E : Type 0) : Type 0 where
   pub output : W
   pub report : E
 
+abbrev pub devices : {R W E : Type 0} → R → W → E → Devices R W E
+devices reader output report = record { reader = reader; output = output; report = report }
+
 -- what is known of each device: the bytes left or written, and whether it has failed
 pub record Looks (R W E : Type 0) : Type 0 where
   pub input : R → Input
@@ -60,8 +63,7 @@ pub record Place (R W E : Type 0) : Type 0 where
   pub report : E
 
 abbrev pub devices_at : {R W E : Type 0} → Place R W E → Devices R W E
-devices_at place =
-    record { reader = reader_of place.source; output = place.output; report = place.report }
+devices_at place = devices (reader_of place.source) place.output place.report
 
 -- the answer of a run, as its last step returns it
 abbrev pub answer_of : Result Status IoFault → Result Progress IoFault
@@ -86,6 +88,29 @@ pub record IsBehind (tool : Tool) (given : List ℕ) (output_count report_count 
 -- A wait: how far the input had been read, and the writers, when a run had to wait for input.
 abbrev pub Wait : (W E : Type 0) → Type 0
 Wait W E = Position × Writers W E
+
+-- When a run had to wait for input, since it was made with these devices.
+pub record Waits (R W E : Type 0) : Type 0 where
+  pub from : Devices R W E
+  pub each : List (Wait W E)
+
+abbrev pub no_waits : {R W E : Type 0} → Devices R W E → Waits R W E
+no_waits start = record { from = start; each = [] }
+
+-- more waits after these
+abbrev pub then_waits : {R W E : Type 0} → Waits R W E → List (Wait W E) → Waits R W E
+then_waits waits more = record { from = waits.from; each = waits.each ++ more }
+
+-- these waits, and then one more
+abbrev pub noted : {R W E : Type 0} → Waits R W E → Wait W E → Waits R W E
+noted waits wait = then_waits waits (wait ∷ [])
+
+-- the waits of a run, from those of its input, which knows the feed in place of the reader
+abbrev pub waits_by : {S R W E : Type 0} → (S → R) → Waits S W E → Waits R W E
+waits_by reader_of waits = record {
+  from = devices (reader_of waits.from.reader) waits.from.output waits.from.report;
+  each = waits.each;
+}
 
 -- Since the device was as in `start`, exactly this text was written, and all of it was handed on.
 pub record HasShown (start now : Output) (text : List ℕ) : Type 0 where
@@ -126,11 +151,11 @@ module _ {R W E : Type 0} (look : Looks R W E) where
       pub prompt : IsPrompt front wait
 
 -- There was at most one wait, and `is` holds of it. If there was none, it was spared.
-abbrev pub WaitsOnce : {W E : Type 0} → (spared : Type 0) → (before after : List (Wait W E))
+abbrev pub WaitsOnce : {R W E : Type 0} → (spared : Type 0) → (before after : Waits R W E)
     → (is : Wait W E → Type 0) → Type 0
 WaitsOnce {W} {E} spared before after is =
     ((after ≡ before) × spared)
-    ⊎ ((wait : Wait W E) × (after ≡ before ++ wait ∷ []) × is wait)
+    ⊎ ((wait : Wait W E) × (after ≡ noted before wait) × is wait)
 
 -- No wait is needed: the bytes at hand are enough, or nothing is read.
 abbrev pub IsSpared : {R : Type 0} → (R → Input) → (enough : Type 0) → (old new : Source R) → Type 0
@@ -140,7 +165,7 @@ IsSpared look enough old new = enough ⊎ (reach look new ≡ reach look old)
 -- before it writes.
 abbrev pub StepWaits : {R W E : Type 0} → Looks R W E → Tool → (start : Devices R W E)
     → (given : List ℕ) → (enough : Type 0) → (old new : Place R W E)
-    → (before after : List (Wait W E)) → Type 0
+    → (before after : Waits R W E) → Type 0
 StepWaits look tool start given enough old new before after =
     WaitsOnce (IsSpared look.input enough old.source new.source) before after
     (λ wait. IsWaitAt look old wait × IsPrompt look tool start given wait)
@@ -276,22 +301,6 @@ module _ {R W E : Type 0} (look : Looks R W E) where
       → Result Status IoFault → Type 0
   EndedRun tool start now given (Ok status) = FinishedRun tool start now given status
   EndedRun tool start now given (Err fault) = FailedRun tool start now given fault
-
-  -- What holds after a whole run. Whenever it waited, it had handed on all text that the bytes
-  -- given until that wait determine.
-  pub record AfterRun (tool : Tool) (start now : Devices R W E) (waits : List (Wait W E))
-      (answer : Result Status IoFault) : Type 0 where
-    pub given : List ℕ
-    pub gave : EndedRun tool start now given answer
-    pub ends : EndsAtFault tool given
-    pub prompt : All (WasPrompt look tool start given) waits
-
-  -- what holds after a run that had waited before it began
-  pub record AfterRunFrom (tool : Tool) (start now : Devices R W E)
-      (before after : List (Wait W E)) (answer : Result Status IoFault) : Type 0 where
-    pub waits : List (Wait W E)
-    pub are : after ≡ before ++ waits
-    pub ran : AfterRun tool start now waits answer
 
   -- a step was the last of its run, and was given at most `most` bytes
   pub record LastStep (tool : Tool) (start now : Devices R W E) (most : ℕ) (history : List ℕ)

@@ -2,7 +2,7 @@
 //!
 //! A stage of a tool reads only through the calls of an [`Input`]. Before a read that may have to
 //! wait, these calls hand on what was written, and note that they did. So a reader of the output
-//! and the report sees everything that the bytes so far determine.
+//! and the report sees the texts that the bytes so far determine.
 
 ghost use Rattle.std.specs.Prelude.{◌≡◌, ◌<◌, ◌⊎◌, ℕ, List, [], length, Err, IfErr, IfOk, IfSome, IsOk, IsTrue, OnOk, MatchResult};
 ghost use Rattle.link_wire.specs.MessageBuffer.{message_of, SegmentHasTotals};
@@ -68,36 +68,30 @@ pub struct Position {
     pub ahead: usize,
 }
 
-/// The moments at which a run had to wait for its input: how far it had read, and its writers.
-pub type Waits<W, E> = Log<Position, Writers<W, E>>;
-
 /// The input of a tool's stages.
 ///
 /// The fields are private, so a stage can read only by the calls below, and these note each wait.
 #[derive(Drop)]
 pub struct Input<S, W, E> {
     feed: S,
-    waits: Waits<W, E>,
+    log: Log<S, W, E>,
 }
 
 impl<S, W, E> Input<S, W, E> {
-    pub(crate) fn new(feed: S) -> Input<S, W, E>
+    pub(crate) fn new(feed: S, log: Log<S, W, E>) -> Input<S, W, E>
         ensures feed { feed_of result ≡ feed }
-        ensures waits { waits_of result ≡ [] }
+        ensures waits { waits_of result ≡ log.waits }
     {
-        Input {
-            feed,
-            waits: Log::new(),
-        }
+        Input { feed, log }
     }
 
-    /// Returns the session or the source, and the waits.
-    pub(crate) fn into_parts(self) -> (S, Waits<W, E>)
+    /// Returns the session or the source, and the log.
+    pub(crate) fn into_parts(self) -> (S, Log<S, W, E>)
         ensures feed { result.0 ≡ feed_of self }
-        ensures waits { result.1.items ≡ waits_of self }
+        ensures waits { result.1.waits ≡ waits_of self }
     {
-        let Input { feed, waits } = self;
-        (feed, waits)
+        let Input { feed, log } = self;
+        (feed, log)
     }
 }
 
@@ -297,8 +291,11 @@ fn read_message<R: InDevice, W: OutDevice, E: OutDevice>(
     ensures { GetsMessage (looks R.state W.state E.state)
         input.old input.new writers.old writers.new message.new result }
 {
-    settle_before(&input.feed, writers, &mut input.waits)?;
-    input.feed.next(message)
+    if let Some(offset) = input.feed.next_ahead(message) {
+        return Ok(Some(offset));
+    }
+    settle_before(&input.feed, writers, &mut input.log)?;
+    input.feed.next_fields(message)
 }
 
 /// Makes data of the segment ready if none is at hand.
@@ -312,7 +309,7 @@ fn load_on<R: InDevice, W: OutDevice, E: OutDevice>(
     ensures { GetsData (looks R.state W.state E.state)
         input.old input.new writers.old writers.new result }
 {
-    settle_before(&input.feed, writers, &mut input.waits)?;
+    settle_before(&input.feed, writers, &mut input.log)?;
     input.feed.load()
 }
 
@@ -327,7 +324,7 @@ fn read_bytes<R: InDevice, W: OutDevice, E: OutDevice>(
     ensures { GetsBytes (looks R.state W.state E.state)
         input.old input.new writers.old writers.new result }
 {
-    settle_before_bytes(&input.feed, writers, &mut input.waits)?;
+    settle_before_bytes(&input.feed, writers, &mut input.log)?;
     input.feed.ready_front()
 }
 
@@ -338,20 +335,20 @@ fn read_bytes<R: InDevice, W: OutDevice, E: OutDevice>(
 fn settle_before<R: InDevice, W: OutDevice, E: OutDevice>(
     session: &Session<R>,
     writers: &mut Writers<W, E>,
-    waits: &mut Waits<W, E>,
+    log: &mut Log<Session<R>, W, E>,
 ) -> Result<(), Stop>
     ensures gives { MatchResult result
         (λ _. Writes W.state E.state writers.old writers.new (on_output []))
         (NotHandedOn (looks R.state W.state E.state) session.now session.now
         writers.old writers.new) }
     ensures waits { IfOk result (λ _. (history : List ℕ) → IsSessionAt R.state session.now history
-        → WaitsOnce (HasEnough R.state session.now) waits.old.items waits.new.items
+        → WaitsOnce (HasEnough R.state session.now) log.old.waits log.new.waits
         (IsWaitAt (looks R.state W.state E.state)
         (place_of (source_of session.now) writers.old))) }
-    ensures none { IfErr result (λ _. waits.new ≡ waits.old) }
+    ensures none { IfErr result (λ _. log.new ≡ log.old) }
     ensures line { next_line writers.new ≡ next_line writers.old }
     ensures stopped { (stop : _) → HasStopped session.now stop
-        → (writers.new ≡ writers.old) × (waits.new ≡ waits.old) × (IsOk result) }
+        → (writers.new ≡ writers.old) × (log.new ≡ log.old) × (IsOk result) }
 {
     if !session.may_wait() {
         return Ok(());
@@ -362,7 +359,7 @@ fn settle_before<R: InDevice, W: OutDevice, E: OutDevice>(
                 given: session.given(),
                 ahead: session.ahead(),
             };
-            *waits = waits.and(&position, writers);
+            *log = log.and(&position, writers);
             Ok(())
         }
         Err(fault) => Err(Stop::Io(fault)),
@@ -376,7 +373,7 @@ fn settle_before<R: InDevice, W: OutDevice, E: OutDevice>(
 fn settle_before_bytes<R: InDevice, W: OutDevice, E: OutDevice>(
     source: &Source<R>,
     writers: &mut Writers<W, E>,
-    waits: &mut Waits<W, E>,
+    log: &mut Log<Source<R>, W, E>,
 ) -> Result<(), IoFault>
     requires { length (window_of source.now) ≡ 0 }
     ensures gives { MatchResult result
@@ -384,9 +381,9 @@ fn settle_before_bytes<R: InDevice, W: OutDevice, E: OutDevice>(
         (λ fault. (length (window_of source.now) < window_size)
         × Unsettled W.state E.state writers.old writers.new fault) }
     ensures waits { IfOk result (λ _. WaitsOnce (0 < length (at_hand R.state source.now))
-        waits.old.items waits.new.items
+        log.old.waits log.new.waits
         (IsWaitAt (looks R.state W.state E.state) (place_of source.now writers.old))) }
-    ensures none { IfErr result (λ _. waits.new ≡ waits.old) }
+    ensures none { IfErr result (λ _. log.new ≡ log.old) }
     ensures line { next_line writers.new ≡ next_line writers.old }
 {
     if !source.may_wait() {
@@ -397,7 +394,7 @@ fn settle_before_bytes<R: InDevice, W: OutDevice, E: OutDevice>(
         given: source.given(),
         ahead: source.window().len(),
     };
-    *waits = waits.and(&position, writers);
+    *log = log.and(&position, writers);
     Ok(())
 }
 

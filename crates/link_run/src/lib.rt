@@ -21,8 +21,8 @@ mod run;
 mod stages;
 mod writers;
 
-pub use input::{Feed, Input, Position, Waits};
-pub use log::Log;
+pub use input::{Feed, Input, Position};
+pub use log::Ran;
 pub use next::Next;
 pub use run::{Progress, Run, RunEnd, Status};
 pub use stages::{PIECE, Stages, ToolRun};

@@ -2,11 +2,11 @@
 
 ghost use Rattle.std.specs.Prelude.{◌≡◌, ◌<◌, ℕ, List, [], Result, Err};
 ghost use Rattle.link_wire.specs.declared.IoFault.{IoFault};
-ghost use Rattle.link_run.specs.Run.{Tool, Devices, Place, Wait, answer_of, devices_at, looks, AfterStep, AfterStride, AfterRunFrom, EndsRun, StepWaits};
+ghost use Rattle.link_run.specs.Run.{Tool, Devices, Place, Waits, answer_of, devices, devices_at, looks, AfterStep, AfterStride, EndsRun, StepWaits};
+ghost use Rattle.link_run.specs.WholeRun.{AfterRunFrom, IsLogOf, devices_of, ran_of};
 ghost use Rattle.link_run.specs.declared.run.Progress.{Progress};
 
-use crate::input::Waits;
-use crate::log::Log;
+use crate::log::{Log, Ran};
 use link_wire::{InDevice, IoFault, OutDevice};
 
 /// How a run ended, as the program's exit status: 0, 1 or 3.
@@ -69,27 +69,46 @@ pub struct RunEnd<R, W, E> {
     pub report: E,
     /// The exit status, or the failure that stopped the run.
     pub answer: Result<Status, IoFault>,
-    /// When the run had to wait for its input. Only proofs read it.
-    pub waits: Waits<W, E>,
+    /// The log of the run.
+    pub(crate) ran: Ran<R, W, E>,
 }
 
 impl<R, W, E> RunEnd<R, W, E> {
     /// The end of a run that has not begun, so its devices are as they were.
     ///
-    /// No clause says that it has not waited. So it cannot be passed off as the end of a run.
+    /// No clause says what its log is. So it cannot be passed off as the end of a run.
     pub fn unbegun(reader: R, output: W, report: E, fault: IoFault) -> RunEnd<R, W, E>
-        ensures devices { ◌≡◌ {A = Devices R W E}
-            (record { reader = result.reader; output = result.output; report = result.report })
-            (record { reader = reader; output = output; report = report }) }
+        ensures devices { devices_of result ≡ devices reader output report }
         ensures answer { result.answer ≡ Err fault }
     {
+        let log = Log::new(&reader, &output, &report);
+        let ran = Ran::new(&log, &reader, &output, &report);
         RunEnd {
             reader,
             output,
             report,
             answer: Err(fault),
-            waits: Log::new(),
+            ran,
         }
+    }
+
+    /// Returns the devices, the answer and the log, which only proofs read.
+    #[inline(always)]
+    pub fn into_parts(self) -> (R, W, E, Result<Status, IoFault>, Ran<R, W, E>)
+        ensures reader { result.0 ≡ self.reader }
+        ensures output { result.1 ≡ self.output }
+        ensures report { result.2 ≡ self.report }
+        ensures answer { result.3 ≡ self.answer }
+        ensures ran { result.4 ≡ ran_of self }
+    {
+        let RunEnd {
+            reader,
+            output,
+            report,
+            answer,
+            ran,
+        } = self;
+        (reader, output, report, answer, ran)
     }
 }
 
@@ -108,8 +127,8 @@ pub trait Run<R: InDevice, W: OutDevice, E: OutDevice>: Sized {
     // The next step is given at most this many bytes: 0 if it reads nothing.
     ghost most: { Self → ℕ };
 
-    // when it had to wait for its input
-    ghost waits: { Self → List (Wait W E) };
+    // with which devices it was made, and when it had to wait for its input
+    ghost waits: { Self → Waits R W E };
 
     // the bytes at hand are enough for the next step
     ghost has_next: { Self → Type 0 };
@@ -120,7 +139,7 @@ pub trait Run<R: InDevice, W: OutDevice, E: OutDevice>: Sized {
     /// Reads the next bytes of the input, and writes what the bytes given determine.
     ///
     /// Before a read that may have to wait, it hands on what was written. So a reader of the output
-    /// and the report sees everything that the bytes so far determine. After the end or a failure,
+    /// and the report sees the texts that the bytes so far determine. After the end or a failure,
     /// each call returns the same result and does no I/O.
     ///
     /// # Errors
@@ -164,22 +183,18 @@ pub trait Run<R: InDevice, W: OutDevice, E: OutDevice>: Sized {
     /// Returns the devices with this answer, which is that of the last step. Bytes that were read
     /// ahead and not given are dropped.
     ///
-    /// Only of a run that has ended a clause says when it waited.
+    /// Only of a run that has ended a clause says what its log is.
     fn into_end(self, answer: Result<Status, IoFault>) -> RunEnd<R, W, E>
-        ensures devices { record {
-          reader = result.reader;
-          output = result.output;
-          report = result.report;
-        } ≡ devices_at (place self) }
+        ensures devices { devices_of result ≡ devices_at (place self) }
         ensures answer { result.answer ≡ answer }
-        ensures waits { has_ended self (answer_of answer) → result.waits.items ≡ waits self };
+        ensures ran { has_ended self (answer_of answer)
+            → IsLogOf (waits self) (devices_of result) (ran_of result) };
 
     /// Takes strides until the run has ended.
     final fn run(self) -> RunEnd<R, W, E>
         requires { stands self (devices_at (place self)) [] }
-        ensures { AfterRunFrom (looks R.state W.state E.state) (tool self) (devices_at (place self))
-            (record { reader = result.reader; output = result.output; report = result.report })
-            (waits self) result.waits.items result.answer }
+        ensures { AfterRunFrom (looks R.state W.state E.state) (tool self)
+            (devices_at (place self)) (waits self) result }
     {
         let mut run = self;
         'strides: loop {

@@ -9,6 +9,7 @@ ghost use Rattle.link_run.specs.Stages.{Stands, AfterStage, AfterStageStride, Is
 ghost use Rattle.link_run.specs.Writers.{place_of};
 
 use crate::input::{Feed, Input};
+use crate::log::{Log, Ran};
 use crate::run::{Progress, Run, RunEnd, Status};
 use crate::writers::Writers;
 use link_wire::{InDevice, IoFault, OutDevice};
@@ -98,8 +99,9 @@ pub struct ToolRun<S: Feed, W: OutDevice, E: OutDevice, T: Stages<S, W, E>> {
 
 impl<S: Feed, W: OutDevice, E: OutDevice, T: Stages<S, W, E> + Drop> ToolRun<S, W, E, T> {
     ghost use Rattle.link_wire.specs.Source.{is_fresh, reader_of};
-    ghost use Rattle.link_run.specs.Run.{devices_at};
+    ghost use Rattle.link_run.specs.Run.{NoneFailed, devices};
     ghost use Rattle.link_run.specs.Stages.{MayBegin};
+    ghost use Rattle.link_run.specs.NewRun.{IsNewRun};
 
     /// Makes a run that has read and written nothing.
     pub fn new(tool: T, feed: S, output: W, report: E) -> ToolRun<S, W, E, T>
@@ -107,19 +109,14 @@ impl<S: Feed, W: OutDevice, E: OutDevice, T: Stages<S, W, E> + Drop> ToolRun<S, 
         requires knows { T.knows tool feed [] }
         requires begins { MayBegin (T.made tool) (T.begun tool) }
         requires fresh { IsTrue (is_fresh (S.source feed)) }
-        requires reader { (S.Reader.state (reader_of (S.source feed))).failed ≡ false }
-        requires output { (W.state output).failed ≡ false }
-        requires report { (E.state report).failed ≡ false }
-        ensures tool { ⟦<ToolRun<S, W, E, T> as Run<S::Reader, W, E>>⟧.tool result
-            ≡ tool_of (T.made tool) }
-        ensures devices { devices_at (⟦<ToolRun<S, W, E, T> as Run<S::Reader, W, E>>⟧.place result)
-            ≡ record { reader = reader_of (S.source feed); output = output; report = report } }
-        ensures stands { ⟦<ToolRun<S, W, E, T> as Run<S::Reader, W, E>>⟧.stands result
-            (record { reader = reader_of (S.source feed); output = output; report = report }) [] }
-        ensures waits { ⟦<ToolRun<S, W, E, T> as Run<S::Reader, W, E>>⟧.waits result ≡ [] }
+        requires sound { NoneFailed (looks S.Reader.state W.state E.state)
+            (devices (reader_of (S.source feed)) output report) }
+        ensures { IsNewRun ⟦<ToolRun<S, W, E, T> as Run<S::Reader, W, E>>⟧
+            (tool_of (T.made tool)) (devices (reader_of (S.source feed)) output report) result }
     {
+        let log = Log::new(&feed, &output, &report);
         ToolRun {
-            input: Input::new(feed),
+            input: Input::new(feed, log),
             writers: Writers::new(output, report),
             tool,
             answer: None,
@@ -145,6 +142,8 @@ impl<S: Feed, W: OutDevice, E: OutDevice, T: Stages<S, W, E> + Drop> ToolRun<S, 
 
 impl<S: Feed, W: OutDevice, E: OutDevice, T: Stages<S, W, E> + Drop> Run<S::Reader, W, E>
     for ToolRun<S, W, E, T> {
+    ghost use Rattle.link_wire.specs.Source.{reader_of};
+    ghost use Rattle.link_run.specs.Run.{waits_by};
     ghost use Rattle.link_run.specs.Stages.{most_unless_ended};
 
     ghost tool = { λ run. tool_of (T.made run.tool) };
@@ -158,7 +157,7 @@ impl<S: Feed, W: OutDevice, E: OutDevice, T: Stages<S, W, E> + Drop> Run<S::Read
 
     ghost most = { λ run. most_unless_ended run.answer (T.most run.tool) };
 
-    ghost waits = { λ run. waits_of run.input };
+    ghost waits = { λ run. waits_by (λ feed. reader_of (S.source feed)) (waits_of run.input) };
 
     ghost has_next = { λ run. S.has_next (feed_of run.input) };
 
@@ -191,14 +190,16 @@ impl<S: Feed, W: OutDevice, E: OutDevice, T: Stages<S, W, E> + Drop> Run<S::Read
             tool: _,
             answer: _,
         } = self;
-        let (feed, waits) = input.into_parts();
+        let (feed, log) = input.into_parts();
         let (output, report) = writers.into_parts();
+        let reader = feed.into_source().into_reader();
+        let ran = Ran::new(&log, &reader, &output, &report);
         RunEnd {
-            reader: feed.into_source().into_reader(),
+            reader,
             output,
             report,
             answer,
-            waits,
+            ran,
         }
     }
 }

@@ -1,7 +1,8 @@
 -- A run over slices: it never fails, and what it has written is in its slices.
 use Rattle.std.proofs.Common.{◌≡◌, ◌≤◌, ◌⊎◌, ◌==◌, Bool, if◌then◌else◌, ℕ, true, false, List, [], ◌++◌, length, Option, Some, None, Result, Ok, Err, refl, ap, sym, ◌∙◌, inl, inr, ⊎_elim, append-nil, append_assoc, length-append, arith}
-use Rattle.link_run.specs.Run.{Tool, Texts, Looks, Devices, HandedBack, FinishedRun, EndedRun, Wait}
-use Rattle.link_run.specs.declared.run.Status.{Status}
+use Rattle.link_run.specs.Run.{Tool, Texts, Looks, Devices, HandedBack, FinishedRun, EndedRun}
+use Rattle.link_run.specs.WholeRun.{devices_of}
+use Rattle.link_run.specs.declared.run.{RunEnd.RunEnd, Status.Status}
 use Rattle.link_tools.specs.Options.{AfterTool}
 use Rattle.link_wire.specs.{Limits.longest_input, declared.IoFault.IoFault}
 use Rattle.link_wire.specs.declared.IoFault.TheVariants.{Read, InputTooLong, Write, Memory}
@@ -26,24 +27,24 @@ pub record Ran (tool : Option Tool)
   pub wrote : HasWritten tool bytes output report answer
 
 module _ {R W E : Type 0} (look : Looks R W E)
-    (start now : Devices R W E)
+    (start : Devices R W E) (end : RunEnd R W E)
     (bytes left output_start output_end report_start report_end : List ℕ)
     (full : (look.input start.reader).left ≡ Some bytes)
-    (rest : (look.input now.reader).left ≡ Some left)
+    (rest : (look.input end.reader).left ≡ Some left)
     (had_output : (look.output start.output).written ≡ Some output_start)
-    (has_output : (look.output now.output).written ≡ Some output_end)
+    (has_output : (look.output end.output).written ≡ Some output_end)
     (had_report : (look.report start.report).written ≡ Some report_start)
-    (has_report : (look.report now.report).written ≡ Some report_end)
-    (sound_reader : (look.input now.reader).failed ≡ false)
-    (sound_output : (look.output now.output).failed ≡ false)
-    (sound_report : (look.report now.report).failed ≡ false)
+    (has_report : (look.report end.report).written ≡ Some report_end)
+    (sound_reader : (look.input end.reader).failed ≡ false)
+    (sound_output : (look.output end.output).failed ≡ false)
+    (sound_report : (look.report end.report).failed ≡ false)
     (short : length bytes ≤ longest_input) where
   module _ (tool : Tool) where
-    bytes_are : (given : List ℕ) (texts : Texts) → HandedBack look start now given texts
+    bytes_are : (given : List ℕ) (texts : Texts) → HandedBack look start (devices_of end) given texts
         → bytes ≡ given ++ left
     bytes_are given texts back = rw (full, rest) at back.takes
 
-    finished : (given : List ℕ) (status : Status) → FinishedRun look tool start now given status
+    finished : (given : List ℕ) (status : Status) → FinishedRun look tool start (devices_of end) given status
         → Ran (Some tool) bytes output_start output_end report_start report_end (Ok status)
     finished given status run =
         let parts = bytes_are (given ++ run.unread) (tool.whole given).texts run.written in
@@ -66,7 +67,7 @@ module _ {R W E : Type 0} (look : Looks R W E)
         }
 
     no_fault : (fault : IoFault) (given : List ℕ)
-        → EndedRun look tool start now given (Err fault) → ⊥
+        → EndedRun look tool start (devices_of end) given (Err fault) → ⊥
     no_fault Read given run = cc (sound_reader, run.failed)
     no_fault InputTooLong given run =
         let parts = bytes_are (given ++ run.past) (tool.so_far given) run.written in
@@ -75,17 +76,22 @@ module _ {R W E : Type 0} (look : Looks R W E)
         (λ lost. cc (sound_report, lost.0)) run.failed
     no_fault Memory given run = absurd run
 
-  -- a run of the tool, or of one that was refused its memory
-  pub tool_ran : (tool : Option Tool) (answer : Result Status IoFault) (waits : List (Wait W E))
-      → AfterTool look tool start now waits answer
-      → Ran tool bytes output_start output_end report_start report_end answer
-  tool_ran (Some tool) (Ok status) waits run = finished tool run.given status run.gave
-  tool_ran (Some tool) (Err fault) waits run = absurd (no_fault tool fault run.given run.gave)
-  tool_ran None (Ok status) waits run = let never : Ok status ≡ Err Memory = run.is in cc
-  tool_ran None (Err fault) waits run =
-      let refused : Err fault ≡ Err Memory = run.is in
-      let output : output_end ≡ output_start = cc (rw run.unchanged at has_output) in
-      let report : report_end ≡ report_start = cc (rw run.unchanged at has_report) in
+    ran : (answer : Result Status IoFault) (given : List ℕ)
+        → EndedRun look tool start (devices_of end) given answer
+        → Ran (Some tool) bytes output_start output_end report_start report_end answer
+    ran (Ok status) given run = finished given status run
+    ran (Err fault) given run = absurd (no_fault fault given run)
+
+  -- the memory was refused
+  lacked : (answer : Result Status IoFault) → answer ≡ Err Memory → devices_of end ≡ start
+      → Ran None bytes output_start output_end report_start report_end answer
+  lacked (Ok status) is unchanged = let never : Ok status ≡ Err Memory = is in cc
+  lacked (Err fault) is unchanged =
+      let refused : Err fault ≡ Err Memory = is in
+      let output : output_end ≡ output_start =
+      cc (ap (λ (d : Devices R W E). (look.output d.output).written) unchanged, had_output, has_output) in
+      let report : report_end ≡ report_start =
+      cc (ap (λ (d : Devices R W E). (look.report d.report).written) unchanged, had_report, has_report) in
       record {
         output = [];
         report = [];
@@ -93,6 +99,12 @@ module _ {R W E : Type 0} (look : Looks R W E)
         report_is = rw append-nil report;
         wrote = record { no_output = refl; no_report = refl; lacks = cc };
       }
+
+  -- a run of the tool, or of one that was refused its memory
+  pub tool_ran : (tool : Option Tool) → AfterTool look tool start end
+      → Ran tool bytes output_start output_end report_start report_end end.answer
+  tool_ran (Some tool) run = ran tool end.answer run.whole.given run.whole.gave
+  tool_ran None run = lacked end.answer run.is run.unchanged
 
 -- ---- what is returned of a run
 

@@ -20,6 +20,10 @@ has_nonzero words = list_any (λ word. nat_lt 0 word) words
 abbrev pub number_if : (is_set number : ℕ) → Option ℕ
 number_if is_set number = if is_set == 1 then Some number else None
 
+-- the switch of a number is 1, or it is 0 and so is the number
+abbrev pub switch_fits : (is_set number : ℕ) → Bool
+switch_fits is_set number = is_set == 1 || (is_set == 0 && number == 0)
+
 -- ---- unpack
 
 -- the options that the words encode
@@ -34,7 +38,8 @@ unpack_numbers words =
 
 abbrev pub unpack_numbers_fit : UnpackNumbers → Bool
 unpack_numbers_fit numbers =
-    nat_le numbers.only_one 1 && (nat_le numbers.payload 1 && nat_le numbers.keep_going 1)
+    switch_fits numbers.only_one numbers.transfer
+    && (nat_le numbers.payload 1 && nat_le numbers.keep_going 1)
 
 -- what is wanted of the recording
 abbrev pub wanted_of : UnpackNumbers → Wanted
@@ -68,7 +73,8 @@ blocks_numbers words =
 -- with `bundles`, the options for a recording are not set
 abbrev pub blocks_numbers_fit : BlocksNumbers → Bool
 blocks_numbers_fit numbers =
-    nat_le numbers.only_one 1 && (nat_le numbers.keep_going 1 && (nat_le numbers.bundles 1
+    switch_fits numbers.only_one numbers.transfer
+    && (nat_le numbers.keep_going 1 && (nat_le numbers.bundles 1
     && (numbers.bundles == 0 || (numbers.only_one == 0 && numbers.keep_going == 0))))
 
 -- the words are in their ranges
@@ -109,8 +115,8 @@ check_numbers words =
 -- With `bundles`, no limit of the peer is set.
 abbrev pub check_numbers_fit : CheckNumbers → Bool
 check_numbers_fit numbers =
-    nat_le numbers.must 1 && (nat_le numbers.has_peer_segment 1
-    && (nat_le numbers.has_peer_transfer 1 && (nat_le numbers.bundles 1
+    nat_le numbers.must 1 && (switch_fits numbers.has_peer_segment numbers.peer_segment
+    && (switch_fits numbers.has_peer_transfer numbers.peer_transfer && (nat_le numbers.bundles 1
     && (numbers.bundles == 0
     || (numbers.has_peer_segment == 0 && numbers.has_peer_transfer == 0)))))
 

@@ -1,7 +1,7 @@
 //! The options of the whole tools, as numbers.
 
 ghost use Rattle.std.specs.Prelude.{◌≡◌, true, List, length, drop, get_or};
-ghost use Rattle.link_slices.specs.Options.{has_nonzero, number_if, unpack_numbers, unpack_numbers_fit, wanted_of, wanted_in, blocks_numbers, blocks_numbers_fit, blocks_of, blocks_in, check_numbers, check_numbers_fit, check_options_of, check_of, check_in, pack_numbers, pack_numbers_fit, pack_in_range, HasOptions};
+ghost use Rattle.link_slices.specs.Options.{has_nonzero, number_if, switch_fits, unpack_numbers, unpack_numbers_fit, wanted_of, wanted_in, blocks_numbers, blocks_numbers_fit, blocks_of, blocks_in, check_numbers, check_numbers_fit, check_options_of, check_of, check_in, pack_numbers, pack_numbers_fit, pack_in_range, HasOptions};
 
 use crate::reading::Reading;
 use link_options::{BlockOptions, CheckOptions, PackOptions, PeerLimits, Wanted};
@@ -33,7 +33,7 @@ pub struct BlocksNumbers {
     pub bundles: u64,
 }
 
-/// The options of `check`, in the order of `struct link_slicesheck_options`.
+/// The options of `check`, in the order of `struct tcpclkit_check_options`.
 #[derive(Clone, Copy, Debug, PartialEq, Eq)]
 pub struct CheckNumbers {
     /// 1 for the rules of level `must` alone, and else 0.
@@ -108,6 +108,13 @@ fn number_if(is_set: u64, number: u64) -> Option<u64>
     if is_set == 1 { Some(number) } else { None }
 }
 
+/// Whether a switch is 1 or 0, and a number that is not set is 0.
+fn switch_fits(is_set: u64, number: u64) -> bool
+    ensures { result ≡ switch_fits is_set number }
+{
+    is_set == 1 || (is_set == 0 && number == 0)
+}
+
 /// The options of `unpack` that these words are.
 fn unpack_numbers(words: &[u64]) -> UnpackNumbers
     ensures { result ≡ unpack_numbers words.now }
@@ -124,7 +131,9 @@ fn unpack_numbers(words: &[u64]) -> UnpackNumbers
 fn unpack_numbers_fit(numbers: &UnpackNumbers) -> bool
     ensures { result ≡ unpack_numbers_fit numbers.now }
 {
-    numbers.only_one <= 1 && numbers.payload <= 1 && numbers.keep_going <= 1
+    switch_fits(numbers.only_one, numbers.transfer)
+        && numbers.payload <= 1
+        && numbers.keep_going <= 1
 }
 
 /// What these options of `unpack` want of a recording.
@@ -168,7 +177,7 @@ fn blocks_numbers(words: &[u64]) -> BlocksNumbers
 fn blocks_numbers_fit(numbers: &BlocksNumbers) -> bool
     ensures { result ≡ blocks_numbers_fit numbers.now }
 {
-    numbers.only_one <= 1
+    switch_fits(numbers.only_one, numbers.transfer)
         && numbers.keep_going <= 1
         && numbers.bundles <= 1
         && (numbers.bundles == 0 || numbers.only_one == 0 && numbers.keep_going == 0)
@@ -220,8 +229,8 @@ fn check_numbers_fit(numbers: &CheckNumbers) -> bool
     ensures { result ≡ check_numbers_fit numbers.now }
 {
     numbers.must <= 1
-        && numbers.has_peer_segment <= 1
-        && numbers.has_peer_transfer <= 1
+        && switch_fits(numbers.has_peer_segment, numbers.peer_segment)
+        && switch_fits(numbers.has_peer_transfer, numbers.peer_transfer)
         && numbers.bundles <= 1
         && (numbers.bundles == 0 || numbers.has_peer_segment == 0 && numbers.has_peer_transfer == 0)
 }

@@ -1,7 +1,7 @@
 //! A run of a whole tool over a slice, into two slices.
 
 ghost use Rattle.std.specs.Prelude.{◌≡◌, [], length, Option};
-ghost use Rattle.link_run.specs.Run.{Tool, looks};
+ghost use Rattle.link_run.specs.Run.{Tool, devices, looks};
 ghost use Rattle.link_tools.specs.Options.{AfterTool};
 ghost use Rattle.link_slices.specs.Tool.{texts_status};
 ghost use Rattle.link_slices.specs.Run.{HasWritten, IsWrittenOver, RanWhole, ReturnsTool};
@@ -31,10 +31,7 @@ pub trait SliceTool: Sized {
         ensures { AfterTool
             (looks ⟦<SliceReader<'static> as InDevice>⟧.state ⟦<SliceWriter<'static> as OutDevice>⟧.state
             ⟦<SliceWriter<'static> as OutDevice>⟧.state)
-            (tool self)
-            (record { reader = reader.entry; output = output.entry; report = report.entry })
-            (record { reader = result.reader; output = result.output; report = result.report })
-            result.waits.items result.answer };
+            (tool self) (devices reader.entry output.entry report.entry) result };
 }
 
 /// `struct tcpclkit_run`: what a run did.

@@ -1,10 +1,10 @@
 -- The tools by their options: when a tool is ready to run, and what a whole run does.
-use Rattle.std.specs.Prelude.{List, Option, Some, None, Result, Ok, Err, IfOk, ⊤}
+use Rattle.std.specs.Prelude.{Option, Some, None, Ok, Err, IfOk, ⊤}
 use Rattle.link_options.specs.declared.options.Options.{Options}
 use Rattle.link_options.specs.declared.options.Options.TheVariants as chosen
-use Rattle.link_wire.specs.declared.IoFault.{IoFault}
-use Rattle.link_run.specs.Run.{Tool, Looks, Devices, Wait, AfterRun}
-use Rattle.link_run.specs.declared.run.Status.{Status}
+use Rattle.link_run.specs.Run.{Tool, Looks, Devices}
+use Rattle.link_run.specs.WholeRun.{AfterRun}
+use Rattle.link_run.specs.declared.run.RunEnd.{RunEnd}
 use Rattle.link_list.specs.Listing.{list_tool}
 use Rattle.link_unpack.specs.Unpacking.{unpack_tool}
 use Rattle.link_blocks.specs.Showing.{blocks_tool}
@@ -45,14 +45,13 @@ job_tool (job.Pack options (Ok cutter)) = Some (pack_tool options)
 job_tool (job.Pack options (Err refused)) = None
 
 -- what a whole run of the tool did; `None` is a tool that was refused its memory
-abbrev pub AfterTool : {R W E : Type 0} → Looks R W E → Option Tool → (start now : Devices R W E)
-    → List (Wait W E) → Result Status IoFault → Type 0
-AfterTool look (Some tool) start now waits answer = AfterRun look tool start now waits answer
-AfterTool look None start now waits answer = LacksMemory start now answer
+abbrev pub AfterTool : {R W E : Type 0} → Looks R W E → Option Tool → (start : Devices R W E)
+    → RunEnd R W E → Type 0
+AfterTool look (Some tool) start end = AfterRun look tool start end
+AfterTool look None start end = LacksMemory start end
 
--- A whole run of the tool took the devices from `start` to `now`, with these waits, and returned
--- this answer (`AfterRun`). If the memory of `pack` was refused, nothing was read or written, and
--- the answer is that fault.
-abbrev pub AfterJob : {R W E : Type 0} → Looks R W E → Job → (start now : Devices R W E)
-    → List (Wait W E) → Result Status IoFault → Type 0
-AfterJob look job start now waits answer = AfterTool look (job_tool job) start now waits answer
+-- What a whole run of the job did (`AfterRun`). If the memory of `pack` was refused, nothing was
+-- read or written, and the answer is that fault.
+abbrev pub AfterJob : {R W E : Type 0} → Looks R W E → Job → (start : Devices R W E)
+    → RunEnd R W E → Type 0
+AfterJob look job start end = AfterTool look (job_tool job) start end

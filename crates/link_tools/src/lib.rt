@@ -23,6 +23,6 @@ pub use link_check::{BundleCheckRun, CheckRun, bundle_check, bundle_check_run, c
 pub use link_list::{ListRun, list, list_run};
 pub use link_options::{BlockOptions, CheckOptions, Options, PackOptions, PeerLimits, Wanted};
 pub use link_pack::{PackRun, cutter_for, pack, pack_run};
-pub use link_run::{Progress, Run, RunEnd, Status, Waits};
+pub use link_run::{Progress, Ran, Run, RunEnd, Status};
 pub use link_unpack::{UnpackRun, unpack, unpack_run};
 pub use options::{Job, run_tool};

@@ -1,7 +1,7 @@
 //! One call that runs any of the tools.
 
-ghost use Rattle.std.specs.Prelude.{◌≡◌, false};
-ghost use Rattle.link_run.specs.Run.{looks};
+ghost use Rattle.std.specs.Prelude.{◌≡◌};
+ghost use Rattle.link_run.specs.Run.{devices, looks, NoneFailed};
 ghost use Rattle.link_tools.specs.Options.{AfterJob, IsReady, options_of};
 
 use link_blocks::{blocks, bundle_blocks};
@@ -68,13 +68,8 @@ pub fn run_tool<R: InDevice, W: OutDevice, E: OutDevice>(
     report: E,
 ) -> RunEnd<R, W, E>
     requires ready { IsReady job }
-    requires reader { (R.state reader).failed ≡ false }
-    requires output { (W.state output).failed ≡ false }
-    requires report { (E.state report).failed ≡ false }
-    ensures { AfterJob (looks R.state W.state E.state) job
-        (record { reader = reader; output = output; report = report })
-        (record { reader = result.reader; output = result.output; report = result.report })
-        result.waits.items result.answer }
+    requires sound { NoneFailed (looks R.state W.state E.state) (devices reader output report) }
+    ensures { AfterJob (looks R.state W.state E.state) job (devices reader output report) result }
 {
     match job {
         Job::List => list(reader, output, report),

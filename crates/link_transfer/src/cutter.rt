@@ -156,11 +156,10 @@ impl Cutter {
     /// Cuts a chunk where it lies, if these bytes are a whole chunk. The cutter then takes none of
     /// them.
     ///
-    /// `last` is whether the last byte of the slice is the bundle's last. This is the case if the
-    /// cutter holds nothing and a chunk is ready after these bytes, but not before the last of them
-    /// and not after the cut. The effect is that of pushing the bytes, of the cut, and of one more
-    /// call of `cut`. In all other cases nothing changes. It may be called only if no chunk is
-    /// ready.
+    /// `last` is whether the last byte of the slice is the bundle's last. The bytes are a whole
+    /// chunk if the cutter holds nothing and a chunk is ready after them, but not before the last
+    /// of them and not after the cut. The effect is that of pushing the bytes and of two calls of
+    /// `cut`. In all other cases nothing changes. It may be called only if no chunk is ready.
     #[inline(always)]
     pub fn cut_slice(&mut self, bytes: &[u8], last: bool) -> Option<Cut>
         requires { cut_waits self.old ≡ false }

@@ -1,7 +1,9 @@
 //! `unpack`: the data of the transfers of a recorded stream, and a line for each transfer.
 
-ghost use Rattle.std.specs.Prelude.{◌≡◌, ◌&&◌, true, false, not, [], List};
-ghost use Rattle.link_run.specs.Run.{AfterRun, devices_at, looks};
+ghost use Rattle.std.specs.Prelude.{◌≡◌, ◌&&◌, true, not, [], List};
+ghost use Rattle.link_run.specs.Run.{devices, looks, NoneFailed};
+ghost use Rattle.link_run.specs.NewRun.{IsNewRun};
+ghost use Rattle.link_run.specs.WholeRun.{AfterRun};
 ghost use Rattle.link_run.specs.Writers.{AfterWrite, on_report};
 ghost use Rattle.link_judge.specs.Transfers.{Transfer};
 ghost use Rattle.link_judge.specs.Unpacking.{line_of, is_good, judgement_of, unpack_telling, unpack_tool, line_due, good_due};
@@ -152,15 +154,9 @@ pub fn unpack_run<R: InDevice, W: OutDevice, E: OutDevice>(
     output: W,
     report: E,
 ) -> UnpackRun<R, W, E>
-    requires reader { (R.state reader).failed ≡ false }
-    requires output { (W.state output).failed ≡ false }
-    requires report { (E.state report).failed ≡ false }
-    ensures stands { ⟦<UnpackRun<R, W, E> as Run<R, W, E>>⟧.stands result
-        (record { reader = reader; output = output; report = report }) [] }
-    ensures tool { ⟦<UnpackRun<R, W, E> as Run<R, W, E>>⟧.tool result ≡ unpack_tool wanted }
-    ensures devices { devices_at (⟦<UnpackRun<R, W, E> as Run<R, W, E>>⟧.place result)
-        ≡ record { reader = reader; output = output; report = report } }
-    ensures waits { ⟦<UnpackRun<R, W, E> as Run<R, W, E>>⟧.waits result ≡ [] }
+    requires sound { NoneFailed (looks R.state W.state E.state) (devices reader output report) }
+    ensures { IsNewRun ⟦<UnpackRun<R, W, E> as Run<R, W, E>>⟧ (unpack_tool wanted)
+        (devices reader output report) result }
 {
     walk_run(wanted, Unpacker::new(), reader, output, report)
 }
@@ -183,13 +179,9 @@ pub fn unpack<R: InDevice, W: OutDevice, E: OutDevice>(
     output: W,
     report: E,
 ) -> RunEnd<R, W, E>
-    requires reader { (R.state reader).failed ≡ false }
-    requires output { (W.state output).failed ≡ false }
-    requires report { (E.state report).failed ≡ false }
+    requires sound { NoneFailed (looks R.state W.state E.state) (devices reader output report) }
     ensures { AfterRun (looks R.state W.state E.state) (unpack_tool wanted)
-        (record { reader = reader; output = output; report = report })
-        (record { reader = result.reader; output = result.output; report = result.report })
-        result.waits.items result.answer }
+        (devices reader output report) result }
 {
     unpack_run(wanted, reader, output, report).run()
 }

@@ -1,5 +1,5 @@
 -- What holds after a step of a walk, or after inner segments, by what its consumer has written.
-use Rattle.std.proofs.Common.{◌≡◌, ℕ, ◌+◌, ◌^◌, ◌<◌, ◌≤◌, inl, inr, Bool, true, false, ◌||◌, ◌&&◌, ◌==◌, not, nat_lt, List, [], ◌∷◌, ◌++◌, length, Some, None, Result, Ok, Err, Option, if◌then◌else◌, refl, ap, sym, ◌∙◌, append-nil, append_assoc, length-append, arith}
+use Rattle.std.proofs.Common.{◌≡◌, ℕ, zero, suc, ◌+◌, ◌^◌, ◌<◌, ◌≤◌, inl, inr, Bool, true, false, ◌||◌, ◌&&◌, ◌==◌, not, nat_lt, List, [], ◌∷◌, ◌++◌, length, Some, None, Result, Ok, Err, Option, if◌then◌else◌, refl, ap, sym, ◌∙◌, append-nil, append_assoc, length-append, arith}
 use Rattle.std.proofs.KnownBytes.{Consumes-trans}
 use Rattle.link_io.proofs.Sources.{Takes-none, Takes-then}
 use Rattle.link_wire.specs.{Device.Input, Inner.{PassedInner, inner_segment}, Limits.longest_head}
@@ -29,7 +29,7 @@ use Rattle.link_run.proofs.Runs.{few_over, sound_given, writer_lost, written_giv
 use Rattle.link_run.proofs.{Sessions.{then_fault, part_unshown}, Stands.{ends, stands_on}}
 use Rattle.link_walk.specs.Telling.{ComesAfter, Tells, data_ends, inner_events, inner_head}
 use Rattle.link_walk.specs.Walk.{head_at, is_plain, WalkEvent, ContactHeader, MessageHead, Whole, data_events, data_size, data_size_of, has_open, Walked, walked, head_events, Telling, told_of}
-use Rattle.link_walk.specs.WalkRun.{Walks, WalkStands, StandsAt, StandsNext, At, AfterWalkStep, IsWaitingAfter, Finishes, TakesAll, most_by, stage_in, stage_by}
+use Rattle.link_walk.specs.WalkRun.{Walks, WalkStands, StandsNext, At, AfterWalkStep, IsWaitingAfter, Finishes, TakesAll, most_by, stage_in, stage_by}
 use Rattle.link_walk.specs.declared.walk.Stage.{Stage}
 use Rattle.link_walk.specs.declared.walk.Stage.TheVariants as stage
 use Rattle.link_walk.proofs.Comes.{Comes, MayTake, told_at, knows_at, told_in, contact_comes, head_comes, data_comes, quiet_comes, stage_some}
@@ -272,25 +272,6 @@ pub waits_after : (offset : ℕ) (sent : Message) (reading after : Reading)
 waits_after offset sent reading after is =
     rw is (none_in offset sent (nat_lt 0 (data_length sent)) reading.entries)
 
--- passing over quiet messages is a step that is not told
-pub passed_on : {R W E C : Type 0} {look : Looks R W E} {start : Devices R W E}
-    {telling : Telling} (knows : C → List WalkEvent → Type 0) {old new : Session R}
-    (writers : Writers W E) {joiner : Joiner} {consumer : C} {history : List ℕ}
-    → telling.manner.all_heads ≡ false → (count : ℕ) → 0 < count
-    → StandsAt look start telling knows stage.Message old writers joiner consumer history
-    → PassedQuiet look.input old new history count
-    → AfterWalkStep look start telling knows count stage.Stray old new writers joiner consumer
-    history (next.Stage stage.Message)
-passed_on {look = look} {telling = telling} knows {old = old} writers {consumer = consumer}
-    {history = history} unwanted count some stands got =
-    let walks = stands.1 in
-    let size = got.size in
-    told_step knows old writers stands.0 got.passed.takes (omega arith)
-    (quiet_come (come_at walks) unwanted got) writers consumer count stage.Stray (omega arith) tt
-    (Ok tt)
-    (tells_none look.output look.report telling (knows consumer) (events_at telling history) writers
-    walks.at.known)
-
 -- ---- the end
 
 module _ {R W E : Type 0} {look : Looks R W E} {start : Devices R W E} (telling : Telling)
@@ -400,7 +381,7 @@ module _ {R W E C : Type 0} {look : Looks R W E} {start : Devices R W E} {tellin
       let fits = end.size in
       record { given = end.given; size = omega arith; gave = end.gave; ends = end.ends }
 
--- ---- a loop over inner segments
+-- ---- messages that lie whole in the window
 
 module _ {R W E C : Type 0} {look : Looks R W E} {telling : Telling}
     {knows : C → List WalkEvent → Type 0} where
@@ -414,18 +395,41 @@ module _ {R W E C : Type 0} {look : Looks R W E} {telling : Telling}
     };
   }
 
-  -- One more is taken. Its head is at the next offset, and comes after the events so far.
+  -- quiet messages were passed over, if any
+  pub quiet_taken : {old : At R W E C} {input : _} (count : ℕ)
+      → telling.manner.all_heads ≡ false → (count ≡ 0 → input ≡ old.input)
+      → ((history : List ℕ) → IsSessionAt look.input (feed_of old.input) history
+      → PassedQuiet look.input (feed_of old.input) (feed_of input) history count)
+      → TakesAll look telling knows old (record old { input = input }) (next.Stage stage.Message)
+  quiet_taken {old} zero unwanted none passed = rw (none refl) (none_taken old)
+  quiet_taken {old} (suc count) unwanted none passed = record {
+    holds = λ start history stood walks.
+        let got = passed history walks.session_at in
+        let size = got.size in
+        record {
+          given = got.given;
+          takes = got.passed.takes;
+          stands = told_next knows (feed_of old.input) old.writers stood got.passed.takes
+              (omega arith) (quiet_come (come_at walks) unwanted got) old.writers old.consumer
+              (Ok tt)
+              (tells_none look.output look.report telling (knows old.consumer)
+              (events_at telling history) old.writers walks.at.known);
+        };
+  }
+
+  -- One more inner segment is taken. Its head is at the next offset, and comes after the events so
+  -- far.
   pub turn_taken : {first old new : At R W E C} (offset id : ℕ) (content : List ℕ)
       → TakesAll look telling knows first old (next.Stage stage.Message)
-      → new.walker.joiner ≡ old.walker.joiner → offset ≡ given_by (source_of (feed_of old.input))
-      → ((taken : List Message) → IsJoinerAt old.walker.joiner taken → Some id ≡ continuable taken)
+      → new.joiner ≡ old.joiner → offset ≡ given_by (source_of (feed_of old.input))
+      → ((taken : List Message) → IsJoinerAt old.joiner taken → Some id ≡ continuable taken)
       → ((history : List ℕ) → IsSessionAt look.input (feed_of old.input) history
       → PassedInner look.input (feed_of old.input) (feed_of new.input) history id content)
       → (result : Result (Unit {0}) IoFault)
-      → ((events : List WalkEvent) → knows old.walker.consumer events
+      → ((events : List WalkEvent) → knows old.consumer events
       → ComesAfter events (inner_head offset id (length content))
       → has_open events ≡ true → data_size events + length content < 2 ^ 63
-      → Tells look.output look.report telling (knows new.walker.consumer) events
+      → Tells look.output look.report telling (knows new.consumer) events
       (inner_events telling.manner.all_heads (inner_head offset id (length content)) content)
       old.writers new.writers result)
       → TakesAll look telling knows first new (next_of stage.Message result)
@@ -456,7 +460,7 @@ module _ {R W E C : Type 0} {look : Looks R W E} {telling : Telling}
           stands = rw (← append_assoc history so_far.given more, same)
               (told_next knows (feed_of old.input) old.writers so_far.stands.0 takes
               (omega (arith, length-append got.read.given content))
-              (inner_come (come_at had) id content is_open got) new.writers new.walker.consumer
+              (inner_come (come_at had) id content is_open got) new.writers new.consumer
               result
               (rw here_is at (tells (events_at telling here) had.at.known
               (record {

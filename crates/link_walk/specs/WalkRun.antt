@@ -1,11 +1,10 @@
 -- Relations, but for Begins, Walks, most_given: the state of a walk over the transfers of a stream.
-use Rattle.std.specs.Prelude.{◌≡◌, ℕ, ◌<◌, ◌≤◌, ◌⊎◌, Bool, true, is_some, if◌then◌else◌, zero, suc, List, [], ◌++◌, length, Option, Some, None, Result}
+use Rattle.std.specs.Prelude.{◌≡◌, ℕ, ◌<◌, ◌≤◌, Bool, true, is_some, if◌then◌else◌, zero, suc, List, [], ◌++◌, length, Option, Some, None, Result}
 use Rattle.link_wire.specs.Device.{Input as Seen, Output}
 use Rattle.link_wire.specs.Limits.{longest_head}
 use Rattle.link_wire.specs.Session.{source_of, IsSessionAt, may_open, may_read, is_opened}
 use Rattle.link_wire.specs.Source.{Takes}
 use Rattle.link_wire.specs.Stream.{End, Clean, Cut, Fault, Reading, reading_of}
-use Rattle.link_wire.specs.Whole.{PassedQuiet}
 use Rattle.link_wire.specs.declared.{IoFault.IoFault, message.Message.Message}
 use Rattle.link_wire.specs.declared.session.Session.{Session}
 use Rattle.link_transfer.specs.Event.{event_of}
@@ -157,14 +156,20 @@ abbrev pub WalkStands : {R W E : Type 0} → Looks R W E → Devices R W E → T
 WalkStands look start telling session writers history =
     Stands look (told_of telling) start true (place_of (source_of session) writers) history
 
--- what a function of the walk is given and returns: the input, the writers and the walker
+-- what a function of the walk reads, writes and changes
 pub record At (R W E C : Type 0) : Type 0 where
   pub input : Input (Session R) W E
   pub writers : Writers W E
-  pub walker : Walker C
+  pub joiner : Joiner
+  pub consumer : C
 
 abbrev pub at : {R W E C : Type 0} → Input (Session R) W E → Writers W E → Walker C → At R W E C
-at input writers walker = record { input = input; writers = writers; walker = walker }
+at input writers walker = record {
+  input = input;
+  writers = writers;
+  joiner = walker.joiner;
+  consumer = walker.consumer;
+}
 
 abbrev pub place_at : {R W E C : Type 0} → At R W E C → Place R W E
 place_at now = place_of (source_of (feed_of now.input)) now.writers
@@ -191,7 +196,7 @@ module _ {R W E C : Type 0} (look : Looks R W E) (start : Devices R W E) (tellin
   -- the state of the walk if a stage comes next
   abbrev pub StandsIf : At R W E C → Next Stage → (history : List ℕ) → Type 0
   StandsIf new (next.Stage now) history =
-      StandsAt now (feed_of new.input) new.writers new.walker.joiner new.walker.consumer history
+      StandsAt now (feed_of new.input) new.writers new.joiner new.consumer history
   StandsIf new (next.Ended answer) history = Unit {0}
 
   -- what holds after a stride, which was given at most some number of bytes
@@ -201,7 +206,7 @@ module _ {R W E C : Type 0} (look : Looks R W E) (start : Devices R W E) (tellin
       × AfterStep look (tool_of (told_of telling)) start (place_at old) (place_at new)
       (StandsIf new next) size history (progress_of next)
 
--- ---- inner segments
+-- ---- messages that lie whole in the window
 
 module _ {R W E C : Type 0} (look : Looks R W E) (start : Devices R W E) (telling : Telling)
     (knows : C → List WalkEvent → Type 0) where
@@ -216,12 +221,12 @@ module _ {R W E C : Type 0} (look : Looks R W E) (start : Devices R W E) (tellin
       × EndsAtFault (tool_of (told_of telling)) history
 
   -- some bytes were given, or none; then a stage comes next, or the run has ended
-  pub record TakesInner (old new : At R W E C) (history : List ℕ) (result : Next Stage)
+  pub record TakesWhole (old new : At R W E C) (history : List ℕ) (result : Next Stage)
       : Type 0 where
     pub given : List ℕ
     pub takes : Takes look.input (source_of (feed_of old.input)) (source_of (feed_of new.input))
         given
-    pub stands : StandsNext (feed_of new.input) new.writers new.walker.joiner new.walker.consumer
+    pub stands : StandsNext (feed_of new.input) new.writers new.joiner new.consumer
         (history ++ given) result
 
 -- ---- what the functions of the walk do
@@ -233,38 +238,34 @@ module _ {R W E C : Type 0} (look : Looks R W E) (telling : Telling)
       → (after : Type 0) → Type 0
   ComesTo start now old history after =
       WalkStands look start telling (feed_of old.input) old.writers history
-      → IsWalking look.input telling knows now old.walker.joiner old.walker.consumer
+      → IsWalking look.input telling knows now old.joiner old.consumer
       (feed_of old.input) history
       → after
 
+  -- a call at the stage `now` waits at most once
+  abbrev pub WalkWaits : (now : Stage) → (old new : At R W E C) → Type 0
+  WalkWaits now old new =
+      (history : List ℕ)
+      → IsWalking look.input telling knows now old.joiner old.consumer
+      (feed_of old.input) history
+      → SessionWaits look old.input new.input old.writers
+
   -- a step at the stage `now`
-  abbrev pub Steps : (piece : ℕ) → (now : Stage) → (old new : At R W E C) → Next Stage → Type 0
-  Steps piece now old new result =
-      (start : Devices R W E) (history : List ℕ) → ComesTo start now old history
-      (AfterWalkStep look start telling knows piece now (feed_of old.input) (feed_of new.input)
-      new.writers new.walker.joiner new.walker.consumer history result)
+  pub record Steps (piece : ℕ) (now : Stage) (old new : At R W E C) (result : Next Stage)
+      : Type 0 where
+    pub holds : (start : Devices R W E) (history : List ℕ) → ComesTo start now old history
+        (AfterWalkStep look start telling knows piece now (feed_of old.input) (feed_of new.input)
+        new.writers new.joiner new.consumer history result)
+    pub waits : WalkWaits now old new
 
   -- a stride that begins at the stage `now`
   pub record Strides (now : Stage) (old new : At R W E C) (result : Next Stage) : Type 0 where
     pub holds : (start : Devices R W E) (history : List ℕ) → ComesTo start now old history
         (AfterWalkStride look start telling knows old new history result)
+    pub waits : WalkWaits now old new
 
-  -- inner segments are taken
+  -- messages that lie whole in the window are taken, or none
   pub record TakesAll (old new : At R W E C) (result : Next Stage) : Type 0 where
     pub holds : (start : Devices R W E) (history : List ℕ)
         → ComesTo start stage.Message old history
-        (TakesInner look start telling knows old new history result)
-
-  -- a step or a stride waits at most once
-  abbrev pub WalkWaits : (now : Stage) → (old new : At R W E C) → Type 0
-  WalkWaits now old new =
-      (history : List ℕ)
-      → IsWalking look.input telling knows now old.walker.joiner old.walker.consumer
-      (feed_of old.input) history
-      → SessionWaits look old.input new.input old.writers
-
--- quiet messages were passed over, or nothing was given
-abbrev pub PassesQuiet : {R : Type 0} → (R → Seen) → (old new : Session R) → (history : List ℕ)
-    → Type 0
-PassesQuiet look old new history =
-    (new ≡ old) ⊎ ((count : ℕ) × (0 < count) × PassedQuiet look old new history count)
+        (TakesWhole look start telling knows old new history result)

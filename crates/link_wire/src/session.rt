@@ -118,8 +118,7 @@ impl<R: InDevice> Session<R> {
         }
         let mut front = [0; FRONT];
         let count = self.source.peek(&mut front);
-        // The tests of the window's length are for the clause `few`. The window is never full here,
-        // since the session has not stopped (`few` of `IsSessionAt`).
+        // The window is never full here. Only `IsSessionAt` says so, which `few` does not assume.
         if let Phase::Unopened = self.phase {
             return !has_contact(&front[..count]) && self.source.window().len() < WINDOW;
         }
@@ -160,22 +159,25 @@ impl<R: InDevice> Session<R> {
         requires { IsTrue (may_read self.old) }
         ensures { ReadsNext R.state self.old self.new message.new result }
     {
-        match self.next_here(message) {
+        if let Some(offset) = self.next_here(message) {
+            return Ok(Some(offset));
+        }
+        match self.next_ahead(message) {
             Some(offset) => Ok(Some(offset)),
-            None => self.read_rest(message),
+            None => self.next_fields(message),
         }
     }
 
-    /// `next` where [`Session::next_here`] has given nothing.
-    #[cold]
-    #[inline(never)]
-    fn read_rest(&mut self, message: &mut MessageBuffer) -> Result<Option<u64>, Stop>
-        requires { IsTrue (may_read self.old) }
-        ensures { ReadsNext R.state self.old self.new message.new result }
+    /// The frequent head that is whole in the window, and its length; after a stop `None`.
+    #[inline(always)]
+    fn head_here(&self) -> Option<(Fields, usize)>
+        ensures head { IfSome result (λ head. IsHead (window_of self.now.source) head.0 head.1) }
+        ensures again { HasEndedBetween self.now → result ≡ None }
+        ensures stopped { (stop : _) → HasStopped self.now stop → result ≡ None }
     {
-        match self.next_ahead(message) {
-            Some(offset) => Ok(Some(offset)),
-            None => self.read_fields(message),
+        match self.phase {
+            Phase::Stopped(_) => None,
+            _ => plain(self.source.window()),
         }
     }
 
@@ -197,24 +199,28 @@ impl<R: InDevice> Session<R> {
         ensures stopped { (stop : _) → HasStopped self.old stop → result ≡ None }
         ensures unread { reach R.state (source_of self.new) ≡ reach R.state (source_of self.old) }
     {
-        if let Phase::Stopped(_) = self.phase {
+        let Some((fields, size)) = self.head_here() else {
             return None;
-        }
-        match plain(self.source.window()) {
-            Some((fields, size)) => Some(self.give_head(fields, size, message)),
-            None => None,
-        }
+        };
+        let offset = self.source.given();
+        self.source.give(size);
+        message.set(fields);
+        self.offset = offset;
+        self.left = message.data_length();
+        Some(offset)
     }
 
-    /// Gives the next message if its head is frequent and at hand, and its data is longer than a
-    /// window. Otherwise, and after a stop, it returns `None` and gives nothing.
+    /// Gives the next message if the window is empty, its head is frequent and lies whole in the
+    /// memory of the reader, and its data is longer than a window.
     ///
-    /// The head is read where it lies, also in the memory of the reader. [`Session::read_fields`]
-    /// would first fill the window, and so copy data that the caller can take in place.
+    /// This is [`Session::next`] for such a head, and it does not read from the reader. Without
+    /// such a head, and after a stop, it returns `None` and gives nothing.
+    /// [`Session::next_fields`] would first fill the window, and so copy data that the caller can
+    /// take in place.
     #[tactic(auto, using(link_io::proofs::Sources::front_ended))]
     #[cold]
     #[inline(never)]
-    fn next_ahead(&mut self, message: &mut MessageBuffer) -> Option<u64>
+    pub fn next_ahead(&mut self, message: &mut MessageBuffer) -> Option<u64>
         requires { IsTrue (may_read self.old) }
         ensures none { result ≡ None → (self.new ≡ self.old) × (message.new ≡ message.old) }
         ensures gives { (history : List ℕ) → IsSessionAt R.state self.old history
@@ -224,60 +230,31 @@ impl<R: InDevice> Session<R> {
         ensures opened { IsTrue (is_opened self.new) }
         ensures again { HasEndedBetween self.old → result ≡ None }
         ensures stopped { (stop : _) → HasStopped self.old stop → result ≡ None }
+        ensures unread { reach R.state (source_of self.new) ≡ reach R.state (source_of self.old) }
     {
-        let going = matches!(self.phase, Phase::Reading);
-        match plain(self.source.front()) {
-            Some((fields, size)) if going && fields.data_length() > WINDOW as u64 => {
-                Some(self.give_ahead(fields, size, message))
-            }
-            _ => None,
+        match self.phase {
+            Phase::Reading if self.source.window().is_empty() => (),
+            _ => return None,
         }
-    }
-
-    /// [`Session::give_head`] for a head that is at hand.
-    fn give_ahead(&mut self, fields: Fields, size: usize, message: &mut MessageBuffer) -> u64
-        requires may_read { IsTrue (may_read self.old) }
-        requires head { IsHead (front_of R.state self.old.source) fields size }
-        ensures opened { IsTrue (is_opened self.new) }
-        ensures gives { (history : List ℕ) → IsSessionAt R.state self.old history
-            → ReadMessage R.state self.old self.new history result (message_of message.new) }
-        ensures totals { SegmentHasTotals message.new }
-    {
+        let Some((fields, size)) = plain(self.source.front()) else {
+            return None;
+        };
+        if fields.data_length() <= WINDOW as u64 {
+            return None;
+        }
         let offset = self.source.given();
         self.source.give_front(size);
         message.set(fields);
-        let left = message.data_length();
-        self.offset = offset;
-        self.left = left;
-        offset
-    }
-
-    /// Gives a head that is whole in the window, and returns its offset.
-    ///
-    /// The message has these numbers, and no node ID or items. It is put into `message`.
-    #[inline(always)]
-    fn give_head(&mut self, fields: Fields, size: usize, message: &mut MessageBuffer) -> u64
-        requires may_read { IsTrue (may_read self.old) }
-        requires head { IsHead (window_of self.old.source) fields size }
-        ensures opened { IsTrue (is_opened self.new) }
-        ensures reader { reader_of self.new.source ≡ reader_of self.old.source }
-        ensures gives { (history : List ℕ) → IsSessionAt R.state self.old history
-            → ReadMessage R.state self.old self.new history result (message_of message.new) }
-        ensures totals { SegmentHasTotals message.new }
-        ensures unread { reach R.state self.new.source ≡ reach R.state self.old.source }
-    {
-        let offset = self.source.given();
-        self.source.give(size);
-        message.set(fields);
         self.offset = offset;
         self.left = message.data_length();
-        offset
+        Some(offset)
     }
 
-    /// `next` for a head that is read field by field, or after a stop.
+    /// [`Session::next`] for any head, read field by field. Where the window ends, it reads from
+    /// the reader.
     #[cold]
     #[inline(never)]
-    fn read_fields(&mut self, message: &mut MessageBuffer) -> Result<Option<u64>, Stop>
+    pub fn next_fields(&mut self, message: &mut MessageBuffer) -> Result<Option<u64>, Stop>
         requires { IsTrue (may_read self.old) }
         ensures { ReadsNext R.state self.old self.new message.new result }
     {
@@ -346,37 +323,17 @@ impl<R: InDevice> Session<R> {
         ensures unread { reach R.state (source_of self.new) ≡ reach R.state (source_of self.old) }
     {
         let window = self.source.window();
-        match self.phase {
-            Phase::Stopped(_) => None,
-            _ => match plain(window) {
-                Some((fields, size)) if fields.data_length() <= (window.len() - size) as u64 => {
-                    Some(self.give_whole(fields, size, message))
-                }
-                _ => None,
-            },
+        let Some((fields, size)) = self.head_here() else {
+            return None;
+        };
+        let content = fields.data_length();
+        if content > (window.len() - size) as u64 {
+            return None;
         }
-    }
-
-    /// Gives a message that lies whole in the window, and returns its offset.
-    #[inline(always)]
-    fn give_whole(&mut self, fields: Fields, size: usize, message: &mut MessageBuffer) -> u64
-        requires may_read { IsTrue (may_read self.old) }
-        requires head { IsHead (window_of self.old.source) fields size }
-        requires within { size + data_length (message_with fields message.old.node message.old.items)
-            ≤ length (window_of self.old.source) }
-        ensures reader { reader_of self.new.source ≡ reader_of self.old.source }
-        ensures may_read { IsTrue (may_read self.new) }
-        ensures opened { IsTrue (is_opened self.new) }
-        ensures shrinks { length (window_of self.new.source) < length (window_of self.old.source) }
-        ensures gives { (history : List ℕ) → IsSessionAt R.state self.old history
-            → ReadWhole R.state self.old self.new history result (message_of message.new) }
-        ensures totals { SegmentHasTotals message.new }
-        ensures unread { reach R.state self.new.source ≡ reach R.state self.old.source }
-    {
         let offset = self.source.given();
-        self.source.give(size + fields.data_length() as usize);
+        self.source.give(size + content as usize);
         message.set(fields);
-        offset
+        Some(offset)
     }
 
     /// Passes over the quiet messages that lie whole in the window. Returns how many bytes they

@@ -3,8 +3,9 @@ use Rattle.std.specs.Prelude.{◌≡◌, ℕ, ◌⊎◌, true, ◌&&◌, not, Li
 use Rattle.std.specs.{Option.option_map, Io.KnownBytes.Keeps}
 use Rattle.link_wire.specs.Device.{Output}
 use Rattle.link_wire.specs.declared.IoFault.{IoFault}
-use Rattle.link_run.specs.Run.{Looks, Devices, Wait}
-use Rattle.link_run.specs.declared.run.Status.{Status}
+use Rattle.link_run.specs.Run.{Looks, Devices}
+use Rattle.link_run.specs.WholeRun.{ran_of}
+use Rattle.link_run.specs.declared.{run.{RunEnd.RunEnd, Status.Status}, log.Ran.Ran}
 use Rattle.link_tools.specs.Options.{AfterJob}
 use Rattle.link_tools.specs.declared.options.Job.{Job}
 use Rattle.tcpclkit.specs.Ending.{answer_after_flush}
@@ -20,15 +21,16 @@ pub record HandsOver (written handed : Output) : Type 0 where
       ⊎ ((handed.failed ≡ true) × AreFirst written.written handed.written)
 
 module _ {R W E : Type 0} (look : Looks R W E) where
-  -- The tool was run over the devices `start`. What it wrote was handed on, and nothing was read
-  -- after the run. `run_answer` is the tool's own answer, and `answer` also counts a failed stream.
+  -- The tool was run over the devices `start`, with this log. What it wrote was handed on, and
+  -- nothing was read after the run. `end` has the tool's own answer. `answer` also counts a failed
+  -- stream.
   pub record AfterBufferedRun (job : Job) (start : Devices R W E) (input : R)
-      (output report : Output) (waits : List (Wait W E)) (answer : Result Status IoFault)
+      (output report : Output) (ran : Ran R W E) (answer : Result Status IoFault)
       : Type 0 where
-    pub now : Devices R W E
-    pub run_answer : Result Status IoFault
-    pub run : AfterJob look job start now waits run_answer
-    pub reads : input ≡ now.reader
-    pub writes : HandsOver (look.output now.output) output
-    pub reports : HandsOver (look.report now.report) report
-    pub answers : answer ≡ answer_after_flush run_answer (not output.failed && not report.failed)
+    pub end : RunEnd R W E
+    pub run : AfterJob look job start end
+    pub log : ran ≡ ran_of end
+    pub reads : input ≡ end.reader
+    pub writes : HandsOver (look.output end.output) output
+    pub reports : HandsOver (look.report end.report) report
+    pub answers : answer ≡ answer_after_flush end.answer (not output.failed && not report.failed)

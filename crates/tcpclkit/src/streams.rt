@@ -2,12 +2,12 @@
 
 ghost use Rattle.std.specs.Prelude.{◌≡◌, [], false, Err, IfOk, IfErr, IsOkAnd};
 ghost use Rattle.std.specs.IoError.{error_kind};
-ghost use Rattle.link_run.specs.Run.{Devices, NoneFailed, looks};
+ghost use Rattle.link_run.specs.Run.{devices, looks, NoneFailed};
 ghost use Rattle.link_tools.specs.Options.{IsReady};
 ghost use Rattle.tcpclkit.specs.BufferedEnd.{AfterBufferedRun, HandsOver};
 
 use crate::ending::after_flush;
-use link_tools::{Job, Status, Waits, run_tool};
+use link_tools::{Job, Ran, Status, run_tool};
 use link_wire::{BufferedReader, InDevice, IoFault, OutDevice, TextWriter, Writer};
 use std::alloc::Global;
 use std::io;
@@ -34,8 +34,8 @@ pub struct BufferedEnd<R: Read, W: Write, E: Write> {
     pub output: Writer<W>,
     /// The device to which the report was handed on.
     pub report: Writer<E>,
-    /// When the run had to wait for its input. Only proofs read it.
-    pub waits: Waits<TextWriter<Writer<W>>, TextWriter<Writer<E>>>,
+    /// The log of the run. Only proofs read it.
+    pub ran: Ran<BufferedReader<R>, TextWriter<Writer<W>>, TextWriter<Writer<E>>>,
 }
 
 /// Puts buffers over an input, an output and a report.
@@ -53,7 +53,7 @@ pub fn buffered<R: Read + Drop, W: Write + Drop, E: Write + Drop>(
         (looks ⟦<BufferedReader<R> as InDevice>⟧.state
         ⟦<TextWriter<Writer<W>> as OutDevice>⟧.state
         ⟦<TextWriter<Writer<E>> as OutDevice>⟧.state)
-        (record { reader = streams.input; output = streams.output; report = streams.report })) }
+        (devices streams.input streams.output streams.report)) }
     ensures input { IfOk result (λ streams. ⟦<BufferedReader<R> as InDevice>⟧.state streams.input
         ≡ record { left = R.remaining input; failed = false; held = [] }) }
     ensures output { IfOk result
@@ -95,14 +95,14 @@ pub fn run_over<R: Read + Drop, W: Write + Drop, E: Write + Drop>(
         (looks ⟦<BufferedReader<R> as InDevice>⟧.state
         ⟦<TextWriter<Writer<W>> as OutDevice>⟧.state
         ⟦<TextWriter<Writer<E>> as OutDevice>⟧.state)
-        (record { reader = streams.input; output = streams.output; report = streams.report })) }
+        (devices streams.input streams.output streams.report)) }
     ensures ran { IfOk streams (λ streams. IsOkAnd result (λ end. AfterBufferedRun
         (looks ⟦<BufferedReader<R> as InDevice>⟧.state
         ⟦<TextWriter<Writer<W>> as OutDevice>⟧.state
         ⟦<TextWriter<Writer<E>> as OutDevice>⟧.state) job
-        (record { reader = streams.input; output = streams.output; report = streams.report })
+        (devices streams.input streams.output streams.report)
         end.input (⟦<Writer<W> as OutDevice>⟧.state end.output)
-        (⟦<Writer<E> as OutDevice>⟧.state end.report) end.waits.items end.answer)) }
+        (⟦<Writer<E> as OutDevice>⟧.state end.report) end.ran end.answer)) }
     ensures lacked { IfErr streams (λ _. result ≡ Err IoFault.Memory) }
 {
     match streams {
@@ -119,16 +119,18 @@ pub fn run_buffered<R: Read + Drop, W: Write + Drop, E: Write + Drop>(
     streams: Streams<R, W, E>,
 ) -> BufferedEnd<R, W, E>
     requires ready { IsReady job }
-    requires input { (⟦<BufferedReader<R> as InDevice>⟧.state streams.input).failed ≡ false }
-    requires output { (⟦<TextWriter<Writer<W>> as OutDevice>⟧.state streams.output).failed ≡ false }
-    requires report { (⟦<TextWriter<Writer<E>> as OutDevice>⟧.state streams.report).failed ≡ false }
+    requires sound { NoneFailed
+        (looks ⟦<BufferedReader<R> as InDevice>⟧.state
+        ⟦<TextWriter<Writer<W>> as OutDevice>⟧.state
+        ⟦<TextWriter<Writer<E>> as OutDevice>⟧.state)
+        (devices streams.input streams.output streams.report) }
     ensures { AfterBufferedRun
         (looks ⟦<BufferedReader<R> as InDevice>⟧.state
         ⟦<TextWriter<Writer<W>> as OutDevice>⟧.state
         ⟦<TextWriter<Writer<E>> as OutDevice>⟧.state) job
-        (record { reader = streams.input; output = streams.output; report = streams.report })
+        (devices streams.input streams.output streams.report)
         result.input (⟦<Writer<W> as OutDevice>⟧.state result.output)
-        (⟦<Writer<E> as OutDevice>⟧.state result.report) result.waits.items result.answer }
+        (⟦<Writer<E> as OutDevice>⟧.state result.report) result.ran result.answer }
 {
     let Streams {
         input,
@@ -136,15 +138,16 @@ pub fn run_buffered<R: Read + Drop, W: Write + Drop, E: Write + Drop>(
         report,
     } = streams;
     let end = run_tool(job, input, output, report);
-    let output = handed_on(end.output);
-    let report = handed_on_after(&output, end.report);
+    let (input, output, report, answer, ran) = end.into_parts();
+    let output = handed_on(output);
+    let report = handed_on_after(&output, report);
     let flushed = !output.failed() && !report.failed();
     BufferedEnd {
-        answer: after_flush(end.answer, flushed),
-        input: end.reader,
+        answer: after_flush(answer, flushed),
+        input,
         output,
         report,
-        waits: end.waits,
+        ran,
     }
 }
 

@@ -25,6 +25,10 @@ added_are : (seen run : List ℕ) (last : List Block)
     → blocks_in (seen ++ run) ≡ blocks_in seen ++ last → added seen run ≡ last
 added_are seen run last adds = rw adds (drop-append_seam (blocks_in seen) last)
 
+-- no bytes add no block
+pub none_added : (seen : List ℕ) → added seen [] ≡ []
+none_added seen = added_are seen [] [] (simp append-nil)
+
 -- nothing is taken of no bytes, and nothing after the end of the bundle or a fault
 none_taken : (seen piece : List ℕ) → (piece ≡ []) ⊎ (bundle_goes seen ≡ false)
     → taken (goes_in_block seen) seen piece ≡ []
@@ -42,7 +46,7 @@ takes_none scan piece why = record {
   seen = λ seen come. rw (none_taken seen piece (why seen come), append-nil seen) come;
   counts = λ seen come. rw (none_taken seen piece (why seen come));
   adds = λ seen come. rw (none_taken seen piece (why seen come))
-      (added_are seen [] [] (simp append-nil));
+      (none_added seen);
 }
 
 module _ (old new : BundleScan) (piece : List ℕ) (count : ℕ)

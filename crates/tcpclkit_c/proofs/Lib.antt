@@ -1,4 +1,8 @@
 mod Packed
 mod Blocks
+mod Ends
+mod Primaries
+mod Items
 mod Walks
+mod AnyShare
 mod Lending

@@ -1,12 +1,14 @@
 -- What the calls return about a bundle: its numbers, and its names in slices.
-use Rattle.std.specs.Prelude.{◌≡◌, ℕ, ◌&&◌, nat_le, List, length, Option, Result, Ok, Err, if◌then◌else◌}
+use Rattle.std.specs.Prelude.{◌≡◌, ℕ, ◌&&◌, nat_le, min, List, length, Option, Result, Ok, Err, if◌then◌else◌}
 use Rattle.link_bundle_types.specs.declared.fault.BundleFault.{BundleFault}
+use Rattle.link_bundle_types.specs.declared.eid.Eid.{Eid}
 use Rattle.link_bundle_types.specs.declared.fault.State.{State}
 use Rattle.link_bundle_types.specs.declared.info.BundleInfo.{BundleInfo}
 use Rattle.link_bundle_blocks.specs.Bundle.{state_of}
 use Rattle.link_bundle_blocks.specs.Primary.{PrimaryFields}
-use Rattle.link_numbers.specs.Bundle.{state_status, verdict_shown, name_of, name_or_none, primary_shown, bundle_shown}
+use Rattle.link_numbers.specs.Bundle.{state_status, verdict_shown, eid_or_none, name_of, name_or_none, primary_shown, bundle_shown}
 use Rattle.link_numbers.specs.declared.bundle.Bundle.{Bundle}
+use Rattle.link_numbers.specs.declared.bundle.EidNumbers.{EidNumbers}
 use Rattle.link_numbers.specs.declared.bundle.Verdict.{Verdict}
 use Rattle.link_slices.specs.Slice.{HoldsFront, KeepsRest}
 
@@ -52,10 +54,24 @@ pub record ReturnsBundle (info : BundleInfo) (verdict : Verdict) (primary : Prim
   pub names : GivesNames (names_of info) old new
   pub fits : status ≡ names_status (names_of info) new
 
+-- an endpoint ID whose name is cut to the slice for it
+abbrev pub cut_eid : Option Eid → (slice : List ℕ) → EidNumbers
+cut_eid eid slice =
+    record (eid_or_none eid) { name_length = min (eid_or_none eid).name_length (length slice) }
+
+-- the fields of a primary block up to its first fault, with the lengths of the names in the slices
+abbrev pub cut_primary : Verdict → PrimaryFields → (slices : Names) → Bundle
+cut_primary verdict primary slices =
+    record (primary_shown verdict primary) {
+      destination = cut_eid primary.destination slices.destination;
+      source = cut_eid primary.source slices.source;
+      report_to = cut_eid primary.report_to slices.report_to;
+    }
+
 -- the bytes are no good bundle: the numbers and the names are those up to the first fault
 pub record ReturnsStop (verdict : Verdict) (state : State) (primary : PrimaryFields)
     (old new : Names) (bundle : Bundle) (status : ℕ) : Type 0 where
-  pub numbers : bundle ≡ primary_shown verdict primary
+  pub numbers : bundle ≡ cut_primary verdict primary new
   pub names : GivesNames (primary_names primary) old new
   pub stops : status ≡ state_status state
 

@@ -1,3 +1,4 @@
+pub mod Announced
 pub mod Bundle
 pub mod Scan
 pub mod NextBlock

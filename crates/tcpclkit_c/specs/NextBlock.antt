@@ -5,7 +5,7 @@ use Rattle.link_bundle_blocks.specs.Blocks.{Block}
 use Rattle.link_bundle_blocks.specs.Bundle.{bundle_goes, blocks_in}
 use Rattle.link_bundle.specs.Scan.{HasScanned, ending}
 use Rattle.link_bundle.specs.declared.scan.BundleScan.{BundleScan}
-use Rattle.link_numbers.specs.Block.{first_shown}
+use Rattle.link_numbers.specs.Block.{no_block, first_shown}
 use Rattle.link_numbers.specs.declared.block.BlockNumbers.{BlockNumbers}
 use Rattle.tcpclkit_c.specs.Scan.{IsScan, mark, has_room, status_after}
 use Rattle.tcpclkit_c.specs.declared.scan.MarkedScan.{MarkedScan}
@@ -24,30 +24,28 @@ fed_block seen piece = if has_room seen piece then taken (goes_in_block seen) se
 abbrev pub added : (seen run : List ℕ) → List Block
 added seen run = drop (length (blocks_in seen)) (blocks_in (seen ++ run))
 
--- the block that ends with the bytes taken; after TCPCLKIT_RANGE the struct is as it was
-abbrev pub added_block : (seen piece : List ℕ) → BlockNumbers → BlockNumbers
-added_block seen piece old =
-    if has_room seen piece then first_shown (added seen (fed_block seen piece)) else old
+-- the block that ends with the bytes taken, or no block
+abbrev pub added_block : (seen piece : List ℕ) → BlockNumbers
+added_block seen piece = first_shown (added seen (fed_block seen piece))
 
--- the status of the bytes that were seen then, or TCPCLKIT_RANGE
+-- the status of the bytes that were seen then, or TCPCLKIT_SCAN_ENDED, or TCPCLKIT_RANGE
 abbrev pub fed_block_status : (seen piece : List ℕ) → ℕ
 fed_block_status seen piece = status_after seen piece (fed_block seen piece)
 
 -- a scan that had seen some bytes has taken its bytes of the next piece, up to the end of a block
-pub record FeedsBlock (seen piece : List ℕ) (old : BlockNumbers) (scan : MarkedScan)
-    (taken : ℕ) (block : BlockNumbers) (status : ℕ) : Type 0 where
+pub record FeedsBlock (seen piece : List ℕ) (scan : MarkedScan) (taken : ℕ) (block : BlockNumbers)
+    (status : ℕ) : Type 0 where
   pub scanned : IsScan scan (seen ++ fed_block seen piece)
   pub counts : taken ≡ length (fed_block seen piece)
-  pub gives : block ≡ added_block seen piece old
+  pub gives : block ≡ added_block seen piece
   pub answers : status ≡ fed_block_status seen piece
 
 -- the same for memory that may have no scan
-pub record FeedsMarkedBlock (old : MarkedScan) (piece : List ℕ) (old_block : BlockNumbers)
-    (new : MarkedScan) (taken : ℕ) (block : BlockNumbers) (status : ℕ) : Type 0 where
-  pub scan : (seen : List ℕ) → IsScan old seen
-      → FeedsBlock seen piece old_block new taken block status
+pub record FeedsMarkedBlock (old : MarkedScan) (piece : List ℕ) (new : MarkedScan) (taken : ℕ)
+    (block : BlockNumbers) (status : ℕ) : Type 0 where
+  pub scan : (seen : List ℕ) → IsScan old seen → FeedsBlock seen piece new taken block status
   pub other : (old.mark ≡ mark → ⊥)
-      → (status ≡ 6) × (taken ≡ 0) × (new ≡ old) × (block ≡ old_block)
+      → (status ≡ 6) × (taken ≡ 0) × (new ≡ old) × (block ≡ no_block)
 
 -- The same for a scan without its mark. If bytes were taken, the block that they add ends with the
 -- last of them.

@@ -1,13 +1,15 @@
 -- A scan of a bundle in pieces, in memory that C lends.
-use Rattle.std.specs.Prelude.{◌≡◌, Bool, ℕ, ◌+◌, ◌-◌, ◌^◌, nat_le, List, [], ◌++◌, length, take, if◌then◌else◌}
-use base.Fml.{Fml, fex, fsep, ftrue}
+use Rattle.std.specs.Prelude.{◌≡◌, Bool, true, false, not, ◌&&◌, ◌||◌, ◌==◌, ℕ, ◌+◌, ◌-◌, ◌^◌, nat_lt, nat_le, List, [], ◌++◌, length, is_some, if◌then◌else◌}
+use base.Fml.{Fml, Share, fex, fsep, ftrue}
 use base.Fraction.{full_share}
 use denote.RawPtr.{Ptr, lies_at}
 use Rattle.link_cbor.specs.Pieces.{taken}
-use Rattle.link_bundle_blocks.specs.Bundle.{verdict, payload_seen, state_of, bundle_goes}
+use Rattle.link_bundle_blocks.specs.Bundle.{verdict, payload_seen, state_of, bundle_goes, cut_block_in}
 use Rattle.link_bundle.specs.Scan.{HasScanned}
 use Rattle.link_bundle_blocks.specs.PrimaryFields.{primary_fields}
+use Rattle.link_numbers.specs.Block.{no_block, cut_shown}
 use Rattle.link_numbers.specs.Bundle.{state_status, ReturnsVerdict}
+use Rattle.link_numbers.specs.declared.block.BlockNumbers.{BlockNumbers}
 use Rattle.tcpclkit_c.specs.Bundle.{Names, ReturnsInfo}
 use Rattle.tcpclkit_c.specs.contracts.scan.MarkedScan.{the_row}
 use Rattle.link_numbers.specs.declared.bundle.Bundle.{Bundle}
@@ -23,10 +25,19 @@ pub record IsScan (held : MarkedScan) (seen : List ℕ) : Type 0 where
   pub marked : held.mark ≡ mark
   pub scanned : HasScanned held.scan seen
 
--- a scan that has seen exactly these bytes lies at the pointer
+-- a scan that has seen exactly these bytes lies at the pointer, and this share of it may be read
+abbrev pub ReadsScan : Share → Ptr → List ℕ → Fml
+ReadsScan share at seen =
+    fex MarkedScan (λ held. fsep (lies_at the_row share at held) (fex (IsScan held seen) (λ _. ftrue)))
+
+-- a scan that has seen exactly these bytes lies at the pointer, and may be written
 abbrev pub HoldsScan : Ptr → List ℕ → Fml
-HoldsScan at seen =
-    fex MarkedScan (λ held. fsep (lies_at the_row full_share at held) (fex (IsScan held seen) (λ _. ftrue)))
+HoldsScan at seen = ReadsScan full_share at seen
+
+-- what a call that only reads a scan is lent: a share of the scan, which has seen these bytes
+pub record Reading : Type 0 where
+  pub share : Share
+  pub seen : List ℕ
 
 -- whether a scan that has seen some bytes may see the next piece too
 abbrev pub has_room : (seen piece : List ℕ) → Bool
@@ -36,10 +47,15 @@ has_room seen piece = nat_le (length seen + length piece) (2 ^ 63 - 1)
 abbrev pub fed : (seen piece : List ℕ) → List ℕ
 fed seen piece = if has_room seen piece then taken bundle_goes seen piece else []
 
--- the status after these bytes of the piece, or TCPCLKIT_RANGE
+-- whether the piece has bytes, and no more bytes are needed after those seen
+abbrev pub is_late : (seen piece : List ℕ) → Bool
+is_late seen piece = not (bundle_goes seen) && nat_lt 0 (length piece)
+
+-- the status after these bytes of the piece, or TCPCLKIT_SCAN_ENDED, or TCPCLKIT_RANGE
 abbrev pub status_after : (seen piece run : List ℕ) → ℕ
 status_after seen piece run =
-    if has_room seen piece then state_status (state_of (verdict (seen ++ run))) else 6
+    if has_room seen piece
+    then (if is_late seen piece then 9 else state_status (state_of (verdict (seen ++ run)))) else 6
 
 abbrev pub fed_status : (seen piece : List ℕ) → ℕ
 fed_status seen piece = status_after seen piece (fed seen piece)
@@ -49,6 +65,23 @@ pub record Feeds (seen piece : List ℕ) (scan : MarkedScan) (taken status : ℕ
   pub scanned : IsScan scan (seen ++ fed seen piece)
   pub counts : taken ≡ length (fed seen piece)
   pub answers : status ≡ fed_status seen piece
+
+-- Whether the verdict on a number of bytes is known, of which a scan has taken the first: it has
+-- taken all, or it needs no more.
+abbrev pub may_end : (seen : List ℕ) → ℕ → Bool
+may_end seen count =
+    (count == length seen) || (nat_lt (length seen) count && not (bundle_goes seen))
+
+-- the verdict on the bytes seen and any that came after them, or TCPCLKIT_RANGE
+pub record EndsScan (seen : List ℕ) (count : ℕ) (old new : Verdict) (status : ℕ) : Type 0 where
+  pub range : may_end seen count ≡ false → (status ≡ 6) × (new ≡ old)
+  pub gives : may_end seen count ≡ true → (rest : List ℕ) → length (seen ++ rest) ≡ count
+      → ReturnsVerdict (seen ++ rest) new status
+
+-- the block in whose data or check field the bytes seen end, or TCPCLKIT_END
+pub record ReturnsCut (seen : List ℕ) (block : BlockNumbers) (status : ℕ) : Type 0 where
+  pub numbers : block ≡ cut_shown (length seen) (cut_block_in seen)
+  pub gives : status ≡ (if is_some (cut_block_in seen) then 0 else 1)
 
 -- ---- memory that may have no scan
 
@@ -61,6 +94,14 @@ pub record FeedsMarked (old : MarkedScan) (piece : List ℕ) (new : MarkedScan)
 pub record JudgesMarked (held : MarkedScan) (old new : Verdict) (status : ℕ) : Type 0 where
   pub scan : (seen : List ℕ) → IsScan held seen → ReturnsVerdict seen new status
   pub other : (held.mark ≡ mark → ⊥) → (status ≡ 6) × (new ≡ old)
+
+pub record EndsMarked (held : MarkedScan) (count : ℕ) (old new : Verdict) (status : ℕ) : Type 0 where
+  pub scan : (seen : List ℕ) → IsScan held seen → EndsScan seen count old new status
+  pub other : (held.mark ≡ mark → ⊥) → (status ≡ 6) × (new ≡ old)
+
+pub record CutsMarked (held : MarkedScan) (block : BlockNumbers) (status : ℕ) : Type 0 where
+  pub scan : (seen : List ℕ) → IsScan held seen → ReturnsCut seen block status
+  pub other : (held.mark ≡ mark → ⊥) → (status ≡ 6) × (block ≡ no_block)
 
 pub record DescribesMarked (held : MarkedScan) (old_names names : Names) (old new : Bundle)
     (status : ℕ) : Type 0 where

@@ -1,9 +1,13 @@
--- The texts of faults and of endpoint IDs.
-use Rattle.std.specs.Prelude.{◌≡◌, ℕ, nat_le, min, List, ◌++◌, length, codes, Option, Some, None, if◌then◌else◌}
+-- The texts of faults, of endpoint IDs, and of the data of blocks.
+use Rattle.std.specs.Prelude.{◌≡◌, ℕ, ◌-◌, ◌^◌, ◌==◌, ◌&&◌, Bool, nat_le, min, List, ◌++◌, length, drop, codes, Option, Some, None, option_map, if◌then◌else◌}
+use Rattle.link_block_data.specs.BlockData.{data_of}
+use Rattle.link_block_report.specs.Kinds.{kind_of}
+use Rattle.link_block_report.specs.Words.{words_text}
 use Rattle.link_bundle_types.specs.declared.eid.Eid.{Eid}
 use Rattle.link_report.specs.BundleFault.{code_text, bundle_fault_text}
 use Rattle.link_report.specs.Eid.{eid_text}
 use Rattle.link_report.specs.Fault.{wire_text, order_text}
+use Rattle.link_numbers.specs.declared.block.BlockNumbers.{BlockNumbers}
 use Rattle.link_numbers.specs.declared.named.Named.{Named}
 use Rattle.link_numbers.specs.declared.named.Named.TheVariants as named
 use Rattle.link_slices.specs.Slice.{HoldsFront, KeepsRest}
@@ -21,6 +25,19 @@ option_text (Some fault) = Some (named_text fault)
 abbrev pub option_eid_text : Option Eid → Option (List ℕ)
 option_eid_text None = None
 option_eid_text (Some eid) = Some (eid_text eid)
+
+-- a primary block, a canonical block, and the number of bytes of its data
+abbrev pub is_data_of : (primary block : BlockNumbers) → (size : ℕ) → Bool
+is_data_of primary block size =
+    primary.kind == 1 && (block.kind == 2 && (block.data_length == size
+    && nat_le block.data_offset (2 ^ 64 - 1 - block.data_length)))
+
+-- the words that the line of the block ends with, after their first space; none if its data is not
+-- read
+abbrev pub data_words : (primary block : BlockNumbers) → (content : List ℕ) → List ℕ
+data_words primary block content =
+    drop 1 (words_text block.data_offset
+    (option_map (λ kind. data_of kind content) (kind_of primary.flags block.block_type)))
 
 -- The slice begins with the text, or has the text's first bytes. As many bytes as that were
 -- written, and the bytes after them are as they were.

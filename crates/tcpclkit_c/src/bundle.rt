@@ -10,7 +10,7 @@ ghost use Rattle.link_numbers.specs.Bundle.{state_status, verdict_shown, Returns
 ghost use Rattle.tcpclkit_c.specs.Bundle.{three_names, GivesNames, names_status, ReturnsBundle, ReturnsStop, ReturnsInfo};
 
 use link_bundle::{BundleScan, BundleView, State};
-use link_bundle_blocks::{PrimaryView, primary_fields};
+use link_bundle_blocks::PrimaryView;
 use link_numbers::bundle::{
     Bundle, Verdict, bundle_shown, fault_of, name_of, name_or_none, primary_shown, state_status,
     with_span,
@@ -99,6 +99,8 @@ fn give_good(
 }
 
 /// Gives the fields and the names that a bundle in this state has before its first fault.
+///
+/// The length of a name is that of its bytes in the slice: the status does not say that it is cut.
 fn give_bad(
     state: State,
     verdict: Verdict,
@@ -113,7 +115,13 @@ fn give_bad(
         (three_names destination_name.new source_name.new report_to_name.new)
         answer.new result }
 {
-    *answer = primary_shown(verdict, primary);
+    let shown = primary_shown(verdict, primary);
+    *answer = Bundle {
+        destination: shown.destination.cut_to(destination_name.len()),
+        source: shown.source.cut_to(source_name.len()),
+        report_to: shown.report_to.cut_to(report_to_name.len()),
+        ..shown
+    };
     give_names(
         name_or_none(&primary.destination),
         name_or_none(&primary.source),
@@ -179,10 +187,9 @@ pub extern "C" fn tcpclkit_raw_describe_bundle(
 {
     let mut scan = BundleScan::new();
     scan.judge_piece(bytes);
-    let primary = primary_fields(bytes);
     give_info(
         &scan,
-        &primary,
+        &scan.primary(),
         destination_name,
         source_name,
         report_to_name,

@@ -12,6 +12,7 @@
 
 ghost use Rattle.std.specs.Prelude.{◌≡◌};
 
+mod announced;
 mod bundle;
 mod order;
 mod recording;
@@ -20,12 +21,12 @@ mod text;
 mod tool;
 
 /// The version of the interface, `TCPCLKIT_ABI`.
-const ABI: u32 = 3;
+const ABI: u32 = 4;
 
 /// The version of the interface of the header that this library belongs to.
 #[unsafe(no_mangle)]
 pub extern "C" fn tcpclkit_abi() -> u32
-    ensures { result ≡ 3 }
+    ensures { result ≡ 4 }
 {
     ABI
 }

@@ -6,55 +6,61 @@ ghost use Rattle.link_transfer.specs.Event.{event_of};
 ghost use Rattle.link_transfer.specs.Order.{judged_message, refusal, effect_of, with_taken};
 ghost use Rattle.link_numbers.specs.Order.{HasNumbers, IsOrderAt, is_in_range, ReturnsTurn, ReturnsTaken};
 
-use link_numbers::order::{Order, Turn, event_by, is_in_range, judge, take};
-use link_numbers::status::RANGE;
+use link_numbers::order::{Order, Turn, event_by, is_in_range, judge, new_order, take};
+use link_numbers::recording;
+use link_numbers::status::{OK, RANGE};
+
+/// Makes the order of a session before its first message.
+#[unsafe(no_mangle)]
+pub extern "C" fn tcpclkit_raw_start_order(order: &mut Order) -> u32
+    ensures order { IsOrderAt order.new [] }
+    ensures status { result ≡ 0 }
+{
+    *order = new_order();
+    OK
+}
 
 /// Judges whether a message may come now. If so, the numbers then describe it too.
 #[unsafe(no_mangle)]
-pub extern "C" fn tcpclkit_raw_judge_order(
+pub extern "C" fn tcpclkit_raw_judge_message(
     order: &mut Order,
-    kind: u64,
-    flags: u64,
-    id: u64,
+    message: &recording::Message,
     answer: &mut Turn,
 ) -> u32
-    ensures judged { (before : List Message) (message : Message) → HasNumbers message kind flags id
+    ensures judged { (before : List Message) (read : Message) → HasNumbers read message.now
         → IsOrderAt order.old before
-        → ReturnsTurn (judged_message before (event_of message)) answer.new result }
-    ensures accepted { (before : List Message) (message : Message)
-        → HasNumbers message kind flags id → IsOrderAt order.old before → result ≡ 0
-        → IsOrderAt order.new (before ++ message ∷ []) }
+        → ReturnsTurn (judged_message before (event_of read)) answer.new result }
+    ensures accepted { (before : List Message) (read : Message) → HasNumbers read message.now
+        → IsOrderAt order.old before → result ≡ 0
+        → IsOrderAt order.new (before ++ read ∷ []) }
     ensures refused { 0 < result → order.new ≡ order.old }
-    ensures range { is_in_range order.old kind flags ≡ false
+    ensures range { is_in_range order.old message.now ≡ false
         → (result ≡ 6) × (answer.new ≡ answer.old) }
 {
-    if !is_in_range(order, kind, flags) {
+    if !is_in_range(order, message) {
         return RANGE;
     }
-    judge(order, event_by(kind, flags as u8, id), answer)
+    judge(order, event_by(message), answer)
 }
 
 /// Takes a message as `unpack --keep-going` does, whether or not it may come now.
 #[unsafe(no_mangle)]
 pub extern "C" fn tcpclkit_raw_take_message(
     order: &mut Order,
-    kind: u64,
-    flags: u64,
-    id: u64,
+    message: &recording::Message,
     answer: &mut Turn,
 ) -> u32
-    ensures taken { (before : List Message) (message : Message) → HasNumbers message kind flags id
+    ensures taken { (before : List Message) (read : Message) → HasNumbers read message.now
         → IsOrderAt order.old before
-        → ReturnsTaken (refusal before (event_of message)) (effect_of before (event_of message))
+        → ReturnsTaken (refusal before (event_of read)) (effect_of before (event_of read))
         answer.new result }
-    ensures after { (before : List Message) (message : Message)
-        → HasNumbers message kind flags id → IsOrderAt order.old before
-        → IsOrderAt order.new (with_taken before message) }
-    ensures range { is_in_range order.old kind flags ≡ false
+    ensures after { (before : List Message) (read : Message) → HasNumbers read message.now
+        → IsOrderAt order.old before → IsOrderAt order.new (with_taken before read) }
+    ensures range { is_in_range order.old message.now ≡ false
         → (result ≡ 6) × (answer.new ≡ answer.old) × (order.new ≡ order.old) }
 {
-    if !is_in_range(order, kind, flags) {
+    if !is_in_range(order, message) {
         return RANGE;
     }
-    take(order, event_by(kind, flags as u8, id), answer)
+    take(order, event_by(message), answer)
 }

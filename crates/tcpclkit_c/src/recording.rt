@@ -1,13 +1,15 @@
 //! Exports about a recording that lies in one slice.
 
-ghost use Rattle.std.specs.Prelude.{◌≡◌, ◌-◌, ◌<◌, ◌≤◌, length, drop};
+ghost use Rattle.std.specs.Prelude.{◌≡◌, ◌-◌, ◌<◌, true, false, length, drop};
 ghost use Rattle.link_wire.specs.Message.{contact_at, message_at};
-ghost use Rattle.link_numbers.specs.Recording.{ReturnsContact, ReturnsMessage, item_part, ReturnsItem};
+ghost use Rattle.link_numbers.specs.Recording.{ReturnsContact, ReturnsMessage, list_of, items_end, has_list_at, item_part, ReturnsItem};
 
 use link_numbers::fault::{Fault, wire_status};
-use link_numbers::recording::{Contact, Item, Message, item_shown, no_item, nothing, shown};
+use link_numbers::recording::{
+    Contact, Item, Message, has_list_at, item_shown, list_left, no_item, nothing, shown,
+};
 use link_numbers::status::{END, OK, RANGE};
-use link_wire::{ListOf, MAX_LIST_LENGTH, contact_in, item_in, message_in};
+use link_wire::{contact_in, item_in, message_in};
 
 /// Reads the contact header that the bytes begin with.
 #[unsafe(no_mangle)]
@@ -63,37 +65,32 @@ pub extern "C" fn tcpclkit_raw_read_message(bytes: &[u8], offset: u64, answer: &
     }
 }
 
-/// Reads the extension item at an offset of a list that ends before the offset `end`.
+/// Reads the extension item at an offset of a message's list.
 #[unsafe(no_mangle)]
 pub extern "C" fn tcpclkit_raw_read_item(
     bytes: &[u8],
+    message: &Message,
     offset: u64,
-    end: u64,
     answer: &mut Item,
 ) -> u32
-    ensures past { length bytes.now < end → (result ≡ 6) × (answer.new ≡ answer.old) }
-    ensures turned { end < offset → (result ≡ 6) × (answer.new ≡ answer.old) }
-    ensures long { 65536 < end - offset → (result ≡ 6) × (answer.new ≡ answer.old) }
-    ensures ended { offset ≡ end → end ≤ length bytes.now
-        → (result ≡ 1) × (answer.new ≡ answer.old) }
-    ensures item { offset < end → end ≤ length bytes.now → end - offset ≤ 65536
-        → ReturnsItem bytes.now offset (end - offset)
-        (item_part (end - offset) (drop offset bytes.now)) answer.new result }
+    ensures range { has_list_at (length bytes.now) message.now offset ≡ false
+        → (result ≡ 6) × (answer.new ≡ answer.old) }
+    ensures ended { has_list_at (length bytes.now) message.now offset ≡ true
+        → offset ≡ items_end message.now → (result ≡ 1) × (answer.new ≡ answer.old) }
+    ensures item { has_list_at (length bytes.now) message.now offset ≡ true
+        → offset < items_end message.now
+        → ReturnsItem (list_of message.now) bytes.now offset (items_end message.now - offset)
+        (item_part (list_of message.now) (items_end message.now - offset) (drop offset bytes.now))
+        answer.new result }
 {
-    if end > bytes.len() as u64 {
+    if !has_list_at(bytes, message, offset) {
         return RANGE;
     }
-    if offset > end {
-        return RANGE;
-    }
-    let left = end - offset;
-    if left > u64::from(MAX_LIST_LENGTH) {
-        return RANGE;
-    }
+    let (owner, left) = list_left(bytes, message, offset);
     if left == 0 {
         return END;
     }
-    match item_in(bytes, offset as usize, left as u32, ListOf::Transfer) {
+    match item_in(bytes, offset as usize, left, owner) {
         Ok(found) => {
             *answer = item_shown(&found);
             OK

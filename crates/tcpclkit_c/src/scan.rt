@@ -1,26 +1,27 @@
 //! Exports about a bundle that comes in pieces: a scan in memory that the caller lends.
 
-ghost use Rattle.std.specs.Prelude.{◌≡◌, ℕ, ◌+◌, ◌-◌, ◌^◌, ◌≤◌, false, List, [], ◌++◌, length};
+ghost use Rattle.std.specs.Prelude.{◌≡◌, ℕ, ◌+◌, ◌-◌, ◌^◌, ◌<◌, ◌≤◌, true, false, if◌then◌else◌, List, [], ◌++◌, length};
 ghost use Rattle.std.specs.Bool.{OnTrue};
 ghost use Rattle.std.specs.Borrow.{sem};
 ghost use prog.Memory.{size, align};
 ghost use denote.Memory.{lone};
 ghost use denote.RawPtr.{room_at};
-ghost use Rattle.link_bundle_blocks.specs.Bundle.{verdict, payload_seen, state_of};
-ghost use Rattle.link_bundle.specs.Scan.{scan_size};
+ghost use Rattle.link_bundle_blocks.specs.Bundle.{verdict, payload_seen, state_of, bundle_goes};
+ghost use Rattle.link_bundle.specs.Scan.{HasScanned, scan_size};
 ghost use Rattle.link_bundle_blocks.specs.PrimaryFields.{primary_fields};
-ghost use Rattle.link_numbers.specs.Bundle.{verdict_shown, state_status};
+ghost use Rattle.link_numbers.specs.Bundle.{verdict_shown, state_status, ReturnsVerdict};
 ghost use Rattle.tcpclkit_c.specs.Bundle.{three_names, ReturnsInfo};
-ghost use Rattle.tcpclkit_c.specs.Scan.{IsScan, HoldsScan, mark, has_room, fed, fed_status, FeedsMarked, JudgesMarked, DescribesMarked};
+ghost use Rattle.tcpclkit_c.specs.Scan.{IsScan, Reading, ReadsScan, HoldsScan, mark, has_room, is_late, fed, fed_status, may_end, EndsScan, ReturnsCut, FeedsMarked, JudgesMarked, EndsMarked, CutsMarked, DescribesMarked};
 ghost use Rattle.tcpclkit_c.specs.NextBlock.{TakesBlock, fed_block, fed_block_status, added_block, FeedsMarkedBlock};
 ghost use Rattle.tcpclkit_c.specs.contracts.scan.MarkedScan.{the_row};
 
 use crate::bundle::{give_info, give_verdict};
-use link_bundle::BundleScan;
+use link_bundle::{BundleFault, BundleScan};
 use link_cbor::Piecewise;
-use link_numbers::block::{BlockNumbers, block_numbers};
-use link_numbers::bundle::{Bundle, Verdict, state_status};
-use link_numbers::status::{OK, RANGE};
+use link_numbers::block::{BlockNumbers, block_numbers, cut_numbers};
+use link_numbers::bundle::{Bundle, Verdict, state_status, with_span};
+use link_numbers::fault::Fault;
+use link_numbers::status::{END, FAULT, OK, RANGE, SCAN_ENDED};
 use link_wire::INPUT_LIMIT;
 
 /// The first word of each scan. It was drawn at random, so other memory hardly begins with it.
@@ -81,6 +82,27 @@ fn may_feed(scan: &MarkedScan, piece: &[u8]) -> bool
     scan.mark == MARK && scan.scan.count().saturating_add(piece.len() as u64) <= INPUT_LIMIT
 }
 
+/// Whether the piece has bytes, and the scan needs none.
+#[inline(always)]
+fn is_late(scan: &BundleScan, piece: &[u8]) -> bool
+    ensures { (seen : List ℕ) → HasScanned scan.now seen → result ≡ is_late seen piece.now }
+{
+    !scan.going() && piece.len() > 0
+}
+
+/// The status after a piece.
+#[inline(always)]
+fn piece_status(scan: &BundleScan, late: bool) -> u32
+    ensures { (seen : List ℕ) → HasScanned scan.now seen
+        → result ≡ (if late then 9 else state_status (state_of (verdict seen))) }
+{
+    if late {
+        SCAN_ENDED
+    } else {
+        state_status(scan.state())
+    }
+}
+
 /// Takes bytes of the piece while more are needed.
 fn feed(scan: &mut MarkedScan, piece: &[u8], taken: &mut u64) -> u32
     ensures { FeedsMarked scan.old piece.now scan.new taken.new result }
@@ -89,9 +111,10 @@ fn feed(scan: &mut MarkedScan, piece: &[u8], taken: &mut u64) -> u32
     if !may_feed(scan, piece) {
         return RANGE;
     }
+    let late = is_late(&scan.scan, piece);
     let count = scan.scan.feed(piece);
     *taken = count as u64;
-    state_status(scan.scan.state())
+    piece_status(&scan.scan, late)
 }
 
 /// Takes the bytes of the piece that belong to the bundle.
@@ -123,12 +146,14 @@ fn take_block(scan: &mut BundleScan, piece: &[u8]) -> usize
 
 /// Takes bytes of the piece up to the end of a block, and gives this block.
 fn next_block(scan: &mut MarkedScan, piece: &[u8], taken: &mut u64, block: &mut BlockNumbers) -> u32
-    ensures { FeedsMarkedBlock scan.old piece.now block.old scan.new taken.new block.new result }
+    ensures { FeedsMarkedBlock scan.old piece.now scan.new taken.new block.new result }
 {
     *taken = 0;
     if !may_feed(scan, piece) {
+        *block = block_numbers(None);
         return RANGE;
     }
+    let late = is_late(&scan.scan, piece);
     let count = take_block(&mut scan.scan, piece);
     *taken = count as u64;
     // A block that ended before this call is not given again.
@@ -138,7 +163,7 @@ fn next_block(scan: &mut MarkedScan, piece: &[u8], taken: &mut u64, block: &mut 
         None
     };
     *block = block_numbers(ended);
-    state_status(scan.scan.state())
+    piece_status(&scan.scan, late)
 }
 
 /// Takes the bytes of the piece up to the end of a block, and gives this block.
@@ -153,7 +178,7 @@ pub unsafe extern "C" fn tcpclkit_raw_next_block(
     requires* { sem 𝓛 (HoldsScan memory seen) }
     ensures* scan { sem 𝓛 (HoldsScan memory (seen ++ fed_block seen piece.now)) }
     ensures taken { taken.new ≡ length (fed_block seen piece.now) }
-    ensures block { block.new ≡ added_block seen piece.now block.old }
+    ensures block { block.new ≡ added_block seen piece.now }
     ensures status { result ≡ fed_block_status seen piece.now }
 {
     next_block(&mut *(memory as *mut MarkedScan), piece, taken, block)
@@ -173,13 +198,102 @@ fn judge(scan: &MarkedScan, answer: &mut Verdict) -> u32
 /// The verdict on the bytes seen.
 #[unsafe(no_mangle)]
 pub unsafe extern "C" fn tcpclkit_raw_judge_scan(memory: *const u64, answer: &mut Verdict) -> u32
-    ghost seen: { List ℕ }
-    requires* { sem 𝓛 (HoldsScan memory seen) }
-    ensures* scan { sem 𝓛 (HoldsScan memory seen) }
-    ensures status { result ≡ state_status (state_of (verdict seen)) }
-    ensures answer { answer.new ≡ verdict_shown (verdict seen) (payload_seen seen) }
+    ghost lent: { Reading }
+    requires* { sem 𝓛 (ReadsScan lent.share memory lent.seen) }
+    ensures* scan { sem 𝓛 (ReadsScan lent.share memory lent.seen) }
+    ensures status { result ≡ state_status (state_of (verdict lent.seen)) }
+    ensures answer { answer.new ≡ verdict_shown (verdict lent.seen) (payload_seen lent.seen) }
 {
     judge(&*(memory as *const MarkedScan), answer)
+}
+
+/// Whether the verdict on `count` bytes is known, of which the scan has seen the first.
+fn may_end(scan: &BundleScan, count: u64) -> bool
+    ensures { (seen : List ℕ) → HasScanned scan.now seen → result ≡ may_end seen count }
+{
+    count == scan.count() || (count > scan.count() && !scan.going())
+}
+
+/// Gives the verdict on the bytes that the scan has seen, and bytes after them, which it did not
+/// need.
+fn give_late(scan: &BundleScan, answer: &mut Verdict) -> u32
+    ensures { (seen rest : List ℕ) → HasScanned scan.now seen → bundle_goes seen ≡ false
+        → 0 < length rest → ReturnsVerdict (seen ++ rest) answer.new result }
+{
+    match scan.view() {
+        Ok(_) => {
+            let fault = Fault::of_bundle(BundleFault::Trailing, scan.count());
+            *answer = with_span(fault, scan.payload_seen());
+            FAULT
+        }
+        Err(_) => give_verdict(scan, answer),
+    }
+}
+
+/// Gives the verdict on `count` bytes: those that the scan has seen, and those after them.
+fn give_end(scan: &BundleScan, count: u64, answer: &mut Verdict) -> u32
+    ensures { (seen rest : List ℕ) → HasScanned scan.now seen → may_end seen count ≡ true
+        → length (seen ++ rest) ≡ count → ReturnsVerdict (seen ++ rest) answer.new result }
+{
+    if count > scan.count() {
+        return give_late(scan, answer);
+    }
+    give_verdict(scan, answer)
+}
+
+/// Gives the verdict on `count` bytes, of which the scan has seen the first.
+fn end(scan: &MarkedScan, count: u64, answer: &mut Verdict) -> u32
+    ensures { EndsMarked scan.now count answer.old answer.new result }
+{
+    if scan.mark != MARK {
+        return RANGE;
+    }
+    if !may_end(&scan.scan, count) {
+        return RANGE;
+    }
+    give_end(&scan.scan, count, answer)
+}
+
+/// The verdict on `count` bytes as one bundle: those seen, and those that came after them.
+#[unsafe(no_mangle)]
+pub unsafe extern "C" fn tcpclkit_raw_end_scan(
+    memory: *const u64,
+    count: u64,
+    answer: &mut Verdict,
+) -> u32
+    ghost lent: { Reading }
+    requires* { sem 𝓛 (ReadsScan lent.share memory lent.seen) }
+    ensures* scan { sem 𝓛 (ReadsScan lent.share memory lent.seen) }
+    ensures verdict { EndsScan lent.seen count answer.old answer.new result }
+{
+    end(&*(memory as *const MarkedScan), count, answer)
+}
+
+/// Gives the block in whose data or check field the bytes seen end.
+fn judge_block(scan: &MarkedScan, block: &mut BlockNumbers) -> u32
+    ensures { CutsMarked scan.now block.new result }
+{
+    if scan.mark != MARK {
+        *block = block_numbers(None);
+        return RANGE;
+    }
+    let cut = scan.scan.cut_block();
+    *block = cut_numbers(scan.scan.count(), cut);
+    if cut.is_some() { OK } else { END }
+}
+
+/// The block in whose data or check field the bytes seen end.
+#[unsafe(no_mangle)]
+pub unsafe extern "C" fn tcpclkit_raw_judge_block(
+    memory: *const u64,
+    block: &mut BlockNumbers,
+) -> u32
+    ghost lent: { Reading }
+    requires* { sem 𝓛 (ReadsScan lent.share memory lent.seen) }
+    ensures* scan { sem 𝓛 (ReadsScan lent.share memory lent.seen) }
+    ensures block { ReturnsCut lent.seen block.new result }
+{
+    judge_block(&*(memory as *const MarkedScan), block)
 }
 
 /// Gives the verdict on the bytes seen, and the fields that were accepted.
@@ -217,10 +331,10 @@ pub unsafe extern "C" fn tcpclkit_raw_describe_scan(
     report_to_name: &mut [u8],
     answer: &mut Bundle,
 ) -> u32
-    ghost seen: { List ℕ }
-    requires* { sem 𝓛 (HoldsScan memory seen) }
-    ensures* scan { sem 𝓛 (HoldsScan memory seen) }
-    ensures answer { ReturnsInfo (verdict seen) (payload_seen seen) (primary_fields seen)
+    ghost lent: { Reading }
+    requires* { sem 𝓛 (ReadsScan lent.share memory lent.seen) }
+    ensures* scan { sem 𝓛 (ReadsScan lent.share memory lent.seen) }
+    ensures answer { ReturnsInfo (verdict lent.seen) (payload_seen lent.seen) (primary_fields lent.seen)
         (three_names destination_name.old source_name.old report_to_name.old)
         (three_names destination_name.new source_name.new report_to_name.new)
         answer.new result }

@@ -1,10 +1,15 @@
-//! Exports that write the texts of faults and endpoint IDs.
+//! Exports that write the texts of faults, of endpoint IDs, and of the data of blocks.
 
-ghost use Rattle.std.specs.Prelude.{◌≡◌, ◌++◌, [], length, codes};
+ghost use Rattle.std.specs.Prelude.{◌≡◌, ◌≤◌, ◌-◌, ◌^◌, ◌++◌, true, false, [], length, take, drop, codes, option_map};
+ghost use Rattle.link_block_data.specs.BlockData.{data_of};
+ghost use Rattle.link_block_report.specs.Words.{words_text};
 ghost use Rattle.link_numbers.specs.Bundle.{eid_by};
 ghost use Rattle.link_numbers.specs.Named.{named_by};
-ghost use Rattle.tcpclkit_c.specs.Text.{named_text, option_text, option_eid_text, HoldsText, ReturnsText};
+ghost use Rattle.tcpclkit_c.specs.Text.{named_text, option_text, option_eid_text, is_data_of, data_words, HoldsText, ReturnsText};
 
+use link_block_data::{DataKind, DataScan};
+use link_block_report::{WORDS_MAX, data_kind, write_words};
+use link_numbers::block::BlockNumbers;
 use link_numbers::bundle::{EidNumbers, eid_by};
 use link_numbers::named::{Named, named_by};
 use link_numbers::status::{OK, RANGE, TOO_SMALL};
@@ -81,4 +86,64 @@ pub extern "C" fn tcpclkit_raw_write_eid_text(
             give(line.as_slice(), text, written)
         }
     }
+}
+
+/// Whether these are a primary block, a whole canonical block or one that is cut, and all of its
+/// data.
+fn is_data_of(primary: &BlockNumbers, block: &BlockNumbers, content: &[u8]) -> bool
+    ensures { result ≡ is_data_of primary.now block.now (length content.now) }
+{
+    primary.kind == 1
+        && block.kind == 2
+        && block.data_length == content.len() as u64
+        && block.data_offset <= u64::MAX - block.data_length
+}
+
+/// Writes the words of the data of a block, which begins at `start` in its bundle.
+fn write_data(page: &mut [u8], kind: Option<DataKind>, start: u64, content: &[u8]) -> usize
+    requires room { WORDS_MAX ≤ length page.old }
+    requires start { start ≤ 2 ^ 64 - 1 - length content.now }
+    ensures text { take result page.new
+        ≡ words_text start (option_map (λ kind. data_of kind content.now) kind) }
+    ensures size { length page.new ≡ length page.old }
+    ensures within { result ≤ length page.old }
+{
+    match kind {
+        None => 0,
+        Some(kind) => {
+            let mut scan = DataScan::new(kind);
+            scan.take(content);
+            write_words(page, 0, start, &Some(scan.view()))
+        }
+    }
+}
+
+/// The words without the space before them.
+fn without_space(words: &[u8]) -> &[u8]
+    ensures { result.now ≡ drop 1 words.now }
+{
+    &words[1.min(words.len())..]
+}
+
+/// Writes what the data of a block says.
+#[unsafe(no_mangle)]
+pub extern "C" fn tcpclkit_raw_read_block_data(
+    primary: &BlockNumbers,
+    block: &BlockNumbers,
+    content: &[u8],
+    text: &mut [u8],
+    written: &mut u64,
+) -> u32
+    ensures text { is_data_of primary.now block.now (length content.now) ≡ true
+        → HoldsText (data_words primary.now block.now content.now) text.old text.new written.new result }
+    ensures range { is_data_of primary.now block.now (length content.now) ≡ false
+        → (result ≡ 6) × (text.new ≡ text.old) × (written.new ≡ written.old) }
+{
+    if !is_data_of(primary, block, content) {
+        return RANGE;
+    }
+    let kind = data_kind(primary.flags, block.block_type);
+    let mut page = [0; WORDS_MAX];
+    let end = write_data(&mut page, kind, block.data_offset, content);
+    give(without_space(&page[..end]), text, written)
 }

@@ -32,16 +32,16 @@ pub enum Tool {
 
 impl Tool {
     /// Runs the tool in one call.
-    pub fn run<R: InDevice>(
+    pub fn run<R: InDevice, W: OutDevice, E: OutDevice>(
         self,
         alloc: Global,
         reader: R,
-        output: TestWriter,
-        report: TestWriter,
-    ) -> RunEnd<R, TestWriter, TestWriter>
+        output: W,
+        report: E,
+    ) -> RunEnd<R, W, E>
         requires reader { (R.state reader).failed ≡ false }
-        requires output { (⟦<TestWriter as OutDevice>⟧.state output).failed ≡ false }
-        requires report { (⟦<TestWriter as OutDevice>⟧.state report).failed ≡ false }
+        requires output { (W.state output).failed ≡ false }
+        requires report { (E.state report).failed ≡ false }
     {
         match self {
             Tool::List => list(reader, output, report),

@@ -5,10 +5,13 @@ ghost use Rattle.arrayvec.specs.ArrayVec.{array_vec_len};
 ghost use Rattle.link_wire.specs.Session.{may_read};
 
 use link_wire::{
-    Contact, END, HeadBuf, InDevice, Item, Items, Message, MessageBuffer, NodeId, Reader, START,
-    SegmentHead, Session, Source, put_contact, put_segment_head, put_sess_init, put_sess_term,
+    BufferedReader, Contact, END, HeadBuf, InDevice, Item, Items, Message, MessageBuffer, NodeId,
+    Reader, START, SegmentHead, Session, Source, put_contact, put_segment_head, put_sess_init,
+    put_sess_term,
 };
+use std::io::BufReader;
 use std::process::Abort;
+use std::test::Fail;
 
 /// A session over these bytes whose contact header was read.
 fn opened<'a>(rt: &impl Abort, bytes: &'a [u8]) -> Session<Reader<&'a [u8]>>
@@ -387,4 +390,23 @@ fn whole_messages(rt: HostRuntime) {
     for (stream, _, given) in &GIVEN {
         is_given_whole(&rt, stream, *given);
     }
+}
+
+/// Checks the head of a segment that begins after a window, where it lies in the reader's buffer.
+///
+/// KEEPALIVEs fill the window after the contact header. The data is longer than a window.
+#[test]
+fn head_in_the_buffer(rt: HostRuntime) -> Result<(), Fail> {
+    let mut stream = [4; 8210];
+    stream[..6].copy_from_slice(b"dtn!\x04\x00");
+    stream[8192..].copy_from_slice(
+        b"\x01\x01\x00\x00\x00\x00\x00\x00\x00\x07\x00\x00\x00\x00\x00\x00\x20\x01",
+    );
+    let reader = BufReader::with_capacity(rt.alloc(), stream.len(), &stream[..])?;
+    let mut session = Session::new(Source::new(BufferedReader::new(reader)));
+    assert!(rt; session.open().is_ok());
+    assert_eq!(rt; session.pass_quiet(), 8186);
+    assert_eq!(rt; session.next_ahead(&mut MessageBuffer::new()), Some(8192));
+    assert_eq!(rt; (session.given(), session.left()), (8210, 8193));
+    Ok(())
 }

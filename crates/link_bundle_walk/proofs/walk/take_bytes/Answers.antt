@@ -72,7 +72,8 @@ returns-clause-gives g c = λ start history stood at.
     let same : take count (front_of look mid) ≡ run =
     sym (take-take count ready shown (omega (arith, sizes))
     ∙ ap (take count) c.front.ensures.front) in
-    let took = rw c.limit.ensures at (c.judge-count.ensures.took at.so_far.begun reading short) in
+    let took = rw (c.limit.ensures, c.by_blocks.ensures) at
+    (c.judge-count.ensures.took at.so_far.begun reading short) in
     came telling (g.C.BundleConsumer.knows c.args.options.now c.args.walker.now.consumer)
     (g.C.BundleConsumer.knows c.args.options.now c.go_on-progress.new.consumer)
     c.args.most old new writers c.go_on-progress.new.writers current c.go_on-progress.new.current
@@ -80,9 +81,10 @@ returns-clause-gives g c = λ start history stood at.
     (Readies-takes look old mid new run read.1.readies
     (rw (sym same) c.give.ensures.takes) some)
     (c.give.ensures.live read.1.live) some size c.go_on-progress.result
-    c.judge-count.new.self c.judge-count.ensures.number c.judge-count.result.1 took
+    g.C.BundleConsumer.tells_blocks c.judge-count.new.self c.judge-count.ensures.number c.judge-count.result.1 took
     (c.go_on-progress.ensures.gives at.so_far at.holds.known (record {
       numbered = c.judge-count.ensures.number ∙ at.holds.number;
+      placed = c.size-before.ensures ∙ at.holds.reading.scanned.come.count;
       opened = at.holds.reading.opened;
       some = some;
       few = omega (arith, bound, length-append at.so_far.begun run, run_size);

@@ -1,9 +1,8 @@
-use Rattle.std.proofs.Common.{◌++◌, ap, ◌∙◌}
 use Rattle.link_check.proofs.checker.check.Goals as goal
 
+-- the log of a new run has no wait before
 pub returns : goal.returns
 returns g c =
-    let ran = c.run.ensures.ran in
-    let none = c.check_run.ensures.waits in
-    let waits = c.run.ensures.are ∙ ap (λ before. before ++ c.run.ensures.waits) none in
-    rw (waits, ← c.check_run.ensures.tool, ← c.check_run.ensures.devices) ran
+    let new = c.check_run.ensures in
+    let ran = rw (new.tool_is, new.devices, new.waits) at c.run.ensures in
+    record { from = ran.log.from; to = ran.log.to; whole = rw ran.log.waits ran.rest }

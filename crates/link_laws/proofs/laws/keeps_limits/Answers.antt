@@ -1,4 +1,4 @@
-use Rattle.link_laws.proofs.{Limits.keeps, Readings.is_packed}
+use Rattle.link_laws.proofs.Packed.{keeps, is_packed}
 use Rattle.link_laws.proofs.laws.keeps_limits.Goals as goal
 
 pub returns : goal.returns

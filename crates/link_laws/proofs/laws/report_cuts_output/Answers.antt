@@ -1,4 +1,4 @@
-use Rattle.link_laws.proofs.{Cut.cuts, ReportLines.cuts_on}
+use Rattle.link_laws.proofs.Cuts.{cuts, cuts_on}
 use Rattle.link_laws.proofs.laws.report_cuts_output.Goals as goal
 
 pub returns-clause-stopping : goal.returns-clause-stopping

@@ -1,6 +1,4 @@
-use Rattle.link_laws.proofs.BlockTexts.{blocks_prefix, bundle_blocks_prefix}
-use Rattle.link_laws.proofs.{CheckTexts.{check_prefix, bundle_check_prefix}, Listings.list_prefix}
-use Rattle.link_laws.proofs.{Packings.pack_prefix, Unpackings.unpack_prefix}
+use Rattle.link_laws.proofs.Texts.{blocks_prefix, bundle_blocks_prefix, check_prefix, bundle_check_prefix, list_prefix, pack_prefix, unpack_prefix}
 use Rattle.link_laws.proofs.laws.sofar_is_prefix.Goals as goal
 
 pub returns-clause-list : goal.returns-clause-list

@@ -1,6 +1,5 @@
-use Rattle.std.proofs.Common.{◌∙◌}
 use Rattle.link_pack.proofs.Outcomes.{same_tool}
 use Rattle.link_pack.proofs.packer.pack_run.Goals as goal
 
-pub returns-clause-tool : goal.returns-clause-tool
-returns-clause-tool g c = c.bundle_walk_run.ensures.tool ∙ same_tool c.args.options
+pub returns : goal.returns
+returns g c = rw (same_tool c.args.options) at c.bundle_walk_run.ensures

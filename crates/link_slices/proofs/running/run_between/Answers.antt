@@ -24,11 +24,9 @@ ran g c =
     let end = c.run.result in
     let start : Devices SliceReader SliceWriter SliceWriter =
     record { reader = c.new.result; output = c.args.output; report = c.args.report } in
-    let now : Devices SliceReader SliceWriter SliceWriter =
-    record { reader = end.reader; output = end.output; report = end.report } in
-    tool_ran (looks reader_look writer_look writer_look) start now c.args.bytes.now _ _ _ _ _
+    tool_ran (looks reader_look writer_look writer_look) start end c.args.bytes.now _ _ _ _ _
     (ap (λ (state : Input). state.left) c.new.ensures) refl refl refl refl refl refl refl refl
-    (omega arith) (g.T.SliceTool.tool c.args.tool) end.answer end.waits.items c.run.ensures
+    (omega arith) (g.T.SliceTool.tool c.args.tool) c.run.ensures
 
 pub returns : goal.returns
 returns g c =

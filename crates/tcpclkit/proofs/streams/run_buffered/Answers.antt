@@ -10,12 +10,14 @@ returns g c =
       | then-not-failed w ↦ rw (w.flushed-is, w.failed-then-not-failed.ensures, sym c.failed.ensures ∙ w.if-not-failed.true) refl
       | else-not-failed w ↦ rw (w.flushed-is, w.if-not-failed.false, sym c.failed.ensures ∙ w.if-not-failed.false) refl
     ] in
+    let end = c.run_tool-end.result in
+    let parts = c.into_parts-input.ensures in
     record {
-      now = record { reader = c.run_tool-end.result.reader; output = c.run_tool-end.result.output; report = c.run_tool-end.result.report };
-      run_answer = c.run_tool-end.result.answer;
+      end = end;
       run = c.run_tool-end.ensures;
-      reads = refl;
-      writes = c.handed_on-output.ensures;
-      reports = c.handed_on_after-report.ensures;
-      answers = c.after_flush.ensures ∙ ap (λ b. answer_after_flush c.run_tool-end.result.answer b) flushed;
+      log = parts.ran;
+      reads = parts.reader;
+      writes = rw parts.output at c.handed_on-output.ensures;
+      reports = rw parts.report at c.handed_on_after-report.ensures;
+      answers = c.after_flush.ensures ∙ rw parts.answer (ap (λ b. answer_after_flush end.answer b) flushed);
     }

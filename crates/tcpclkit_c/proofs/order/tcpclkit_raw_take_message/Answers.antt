@@ -2,6 +2,6 @@ use Rattle.link_numbers.proofs.Orders.{same_event}
 use Rattle.tcpclkit_c.proofs.order.tcpclkit_raw_take_message.Goals as goal
 
 pub returns-clause-after : goal.returns-clause-after
-returns-clause-after c = λ before message has order.
-    c.take.ensures.after before message
-    (rw c.event_by.ensures (same_event message c.args.kind c.args.flags c.args.id has)) order
+returns-clause-after c = λ before read has order.
+    c.take.ensures.after before read
+    (rw c.event_by.ensures (same_event read c.args.message.now has)) order

@@ -12,7 +12,7 @@ returns c = record {
       record {
         scanned = rw room (record { marked = has.marked; scanned = come });
         counts = rw room counts;
-        answers = rw (room, ← c.state.ensures.seen _ come) c.state_status.ensures;
+        answers = rw (room, ← c.is_late-late.ensures seen has.scanned) (c.piece_status.ensures _ come);
       };
   other = search rules;
 }

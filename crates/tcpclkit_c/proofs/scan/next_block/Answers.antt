@@ -28,8 +28,9 @@ returns c =
           record {
             scanned = rw room (record { marked = has.marked; scanned = come });
             counts = rw room counts;
-            gives = rw (room, took.ensures.adds seen has.scanned, ← shown) c.block_numbers.ensures;
-            answers = rw (room, ← c.state.ensures.seen _ come) c.state_status.ensures;
+            gives = rw (room, took.ensures.adds seen has.scanned, ← shown) c.block_numbers-2.ensures;
+            answers = rw (room, ← c.is_late-late.ensures seen has.scanned)
+                (c.piece_status.ensures _ come);
           };
       other = search rules;
     }

@@ -58,7 +58,7 @@ tcpclkit_raw_feed_scan_spec 𝓤 𝓛 𝓜 𝓡 wired =
     -- [the scan; what is left of the parameters; the result; the tokens]
     let end = gives.scan seen has in
     use1 𝓛 (‵ (HoldsScan (block_ptr b o) (seen ++ fed seen piece.now)))
-    (held_scan 𝓛 ws.0 b o (seen ++ fed seen piece.now) end.scanned) $
+    (held_scan 𝓛 full_share ws.0 b o (seen ++ fed seen piece.now) end.scanned) $
     move ! (1 ∷ []) $ nothing ! $ join ! $
     -- [what is left of the parameters; the scan; the result; the tokens]
     states ! end.answers $ states ! end.counts $ move ! (5 ∷ 2 ∷ 4 ∷ 3 ∷ []) $

@@ -1,7 +1,7 @@
 -- The memory is lent to `judge` as a scan to look at, for a lifetime that ends with the call.
 use Rattle.tcpclkit_c.proofs.Walks.{ℕ, [], ◌∷◌, ◌++◌, refl, w32, Bor, proved, full_share, id⊢, ftrue, flft, named, vptr, fact, tables, lft_new, lft_end, lent_back, ‵, raw, ◌⊛◌, some, later, prop, ◌$◌, ◌∵◌, !, qed, done, move, drop, use1, use2, split, join, fsplit, fpick, pick, await, regoal, suffices, group, enter, of_opd, addr, stop, no_more, and_then, returns, alloc_all, pass_all, free_all, look_at, get, through, sets, lands_as, u32, shows, Is, uint_Lawful, Ptr, RawPtr, block_ptr, lies_at, in_a_block, rawptr_vals, rawptr_Tells, MutRef, mut_vals, mut_Tells, nothing, heard, peeks, calls_at, Lasts, lasts, triple_of, walk_of, ends_at, framed, states, passed, passed-go}
 use prog.Wp.{WpFn}
-use Rattle.tcpclkit_c.specs.{declared.scan.MarkedScan.MarkedScan, Scan.{HoldsScan, JudgesMarked}}
+use Rattle.tcpclkit_c.specs.{declared.scan.MarkedScan.MarkedScan, Scan.{ReadsScan, JudgesMarked}}
 use Rattle.tcpclkit_c.specs.contracts.scan.MarkedScan.{the_row as R}
 use Rattle.tcpclkit_c.proofs.Lending.{lent_scan, lends_scan, held_scan}
 use Rattle.link_numbers.specs.contracts.bundle.Verdict.{the_row as V}
@@ -18,22 +18,23 @@ tcpclkit_raw_judge_scan_spec 𝓤 𝓛 𝓜 𝓡 wired =
     proved 𝓛 f.ended stayed c 𝓜 𝓡 (passed-go 𝓛 f.ended)
     f.Key.name code.function (code.unfolded 𝓤 𝓛.H 𝓜 𝓡 wired)
     (λ κs. (rawptr_vals, (mut_vals, tt)))
-    (λ κs. (rawptr_Tells, (mut_Tells (named 0) κs.0 V, tt))) (λ κs qs bounds a seen are.
+    (λ κs. (rawptr_Tells, (mut_Tells (named 0) κs.0 V, tt))) (λ κs qs bounds a lent are.
+    let share = lent.share in let seen = lent.seen in
     let answer = a.1.0 in
-    let y : Ptr → W.Ghost = λ p. ((κs, qs, bounds, (p, a.1), (rawptr_vals p, (mut_vals answer, tt))), seen) in
+    let y : Ptr → W.Ghost = λ p. ((κs, qs, bounds, (p, a.1), (rawptr_vals p, (mut_vals answer, tt))), lent) in
     let Tokens = (‵ (flft κs.0 qs.0) ⊛ ‵ ftrue) in
     let Rest = (‵ ((MutRef (named 0) κs.0 V).own_val answer (mut_vals answer)) ⊛ ‵ ftrue) in
-    qed 𝓛 ((Tokens ⊛ (‵ (RawPtr.own_val a.0 (rawptr_vals a.0)) ⊛ Rest)) ∷ ‵ (HoldsScan a.0 seen) ∷ []) ∵
+    qed 𝓛 ((Tokens ⊛ (‵ (RawPtr.own_val a.0 (rawptr_vals a.0)) ⊛ Rest)) ∷ ‵ (ReadsScan share a.0 seen) ∷ []) ∵
     split ! $ move ! (1 ∷ []) $ split ! $ drop ! $ move ! (2 ∷ []) $ fpick ! (λ scan. fsplit ! $ move ! (1 ∷ []) $ fpick ! (λ has. drop ! $
     -- [the scan; what the other parameters own; the tokens]
-    in_a_block ! a.0 (λ p. lies_at R full_share p scan) (id⊢ 𝓤 _) (λ b o e.
+    in_a_block ! a.0 (λ p. lies_at R share p scan) (id⊢ 𝓤 _) (λ b o e.
     regoal ! (λ p. prop (WpFn 𝓤 𝓛.H 𝓣.C 𝓣.Λ code.function (rawptr_vals p ++ (vptr answer.ref_ptr.0 answer.ref_ptr.1 ∷ [])) (W.post (y p)))) e refl $
     enter ! _ _ _ _ _ $ alloc_all ! (λ l. pass_all ! refl ((tt, tt), ((tt, tt), tt)) $
     sets ! (of_opd ! (get ! refl)) refl (tt, tt) $
     sets ! (addr ! (through ! refl (stop !))) refl (tt, tt) $
     sets ! (addr ! (through ! refl (stop !))) refl (tt, tt) $
     lft_new ! tt (λ α. let κ = α ∷ [] in move ! (1 ∷ 0 ∷ []) $
-    use2 𝓛 (lent_scan 𝓛 scan b o κ) (lends_scan 𝓛 scan b o κ) $ await ! tt $ split ! $ split ! $
+    use2 𝓛 (lent_scan 𝓛 share scan b o κ) (lends_scan 𝓛 share scan b o κ) $ await ! tt $ split ! $ split ! $
     -- [the loan; the lender's part; the loan's token; what the other parameters own; the tokens]
     let loan : Bor MarkedScan = record { ref_ptr = (b, o); now = scan } in
     let G = triple_of 𝓛 g.signature (g.spec 𝓛 𝓜.mem 𝓡.returns) in
@@ -52,7 +53,7 @@ tcpclkit_raw_judge_scan_spec 𝓤 𝓛 𝓜 𝓡 wired =
     move ! (2 ∷ 4 ∷ []) $ lent_back ! tt $ returns ! (look_at ! 0 refl) $ free_all ! refl $
     -- [the scan; what is left of the parameters; the result; the tokens]
     let end = gives.scan seen has in
-    use1 𝓛 (‵ (HoldsScan (block_ptr b o) seen)) (held_scan 𝓛 scan b o seen has) $
+    use1 𝓛 (‵ (ReadsScan share (block_ptr b o) seen)) (held_scan 𝓛 share scan b o seen has) $
     states ! end.numbers $ states ! end.answers $ move ! (5 ∷ 3 ∷ 4 ∷ 2 ∷ []) $
     suffices ! _ (ends_at 𝓛 f.ended stayed c (y (block_ptr b o)) v r (tt, ws.1) (tt, (tt, tt))) $
     group ! 3 $ done !)))))))))))

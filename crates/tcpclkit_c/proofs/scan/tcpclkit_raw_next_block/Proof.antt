@@ -50,7 +50,7 @@ tcpclkit_raw_next_block_spec 𝓤 𝓛 𝓜 𝓡 wired =
     (and_then ! (get ! refl) (and_then ! (get ! refl) (and_then ! (get ! refl) (and_then ! (get ! refl) (no_more !))))) (λ v.
     use1 𝓛 (later (some (λ (r : ℕ). ((‵ (flft κ full_share) ⊛ Tokens) ⊛ ‵ (u32.own_val r (v ∷ []))) ⊛
     some (λ (ws : Lasts g.ended z.0.0 z.0.3). ‵ (lasts g.ended z.0.0 z.0.3 ws) ⊛
-    raw (fact 𝓤 (FeedsMarkedBlock scan piece.now block.now ws.0 ws.1.1.0 ws.1.1.1.0 r)))))) (id⊢ 𝓤 _) $
+    raw (fact 𝓤 (FeedsMarkedBlock scan piece.now ws.0 ws.1.1.0 ws.1.1.1.0 r)))))) (id⊢ 𝓤 _) $
     await ! tt $ pick ! (λ r. split ! $ split ! $ split ! $ lft_end ! tt $
     move ! (2 ∷ []) $ peeks ! u32 (Is u32) (shows 𝓛 u32) r (v ∷ []) (λ is. lands_as ! refl refl ((uint_Lawful 𝓛 w32).typed r _ is).0 $
     move ! (3 ∷ []) $ pick ! (λ ws. split ! $ move ! (1 ∷ []) $ heard ! _ (λ gives. fsplit ! $
@@ -61,7 +61,7 @@ tcpclkit_raw_next_block_spec 𝓤 𝓛 𝓜 𝓡 wired =
     -- [the scan; what is left of the parameters; the result; the tokens]
     let end = gives.scan seen has in
     use1 𝓛 (‵ (HoldsScan (block_ptr b o) (seen ++ fed_block seen piece.now)))
-    (held_scan 𝓛 ws.0 b o (seen ++ fed_block seen piece.now) end.scanned) $
+    (held_scan 𝓛 full_share ws.0 b o (seen ++ fed_block seen piece.now) end.scanned) $
     move ! (1 ∷ []) $ nothing ! $ join ! $
     -- [what is left of the parameters; the scan; the result; the tokens]
     states ! end.answers $ states ! end.gives $ states ! end.counts $ move ! (6 ∷ 3 ∷ 5 ∷ 4 ∷ []) $

@@ -8,6 +8,7 @@ use Rattle.link_transfer.specs.declared.joiner.Turn.{Turn}
 use Rattle.link_judge.specs.Transfers.{Transfer}
 use Rattle.link_judge.specs.Unpacking.{order_line, good_due, transfers_at, told_after}
 use Rattle.link_judge.proofs.{Counts.on_ok, Effects.comes_does}
+use Rattle.link_bundle_walk.proofs.Told.{told_then, told_part}
 use Rattle.link_blocks.specs.{Lister.{KnowsShown, end_due}, Showing.unpacking_by}
 use Rattle.link_blocks.specs.declared.lister.BlockLister.{BlockLister}
 use Rattle.link_blocks.specs.declared.transfer.TransferBlocks.{TransferBlocks}
@@ -159,11 +160,8 @@ returns-in-Err-take g c = rw c.in-Data.is (λ before knows may.
     let fits : c.args.self.now.latest.judge.size + length bytes < 2 ^ 63 =
     let few = may.1 in omega (arith, knows.size) in
     let latest = at options before bytes whole c.args.self.now knows may.0 in
-    let shows = c.in-Err-take.ensures.gives latest.transfer fits latest.shows in
-    data_tells options before bytes whole c.args.self.now knows may.0 _ shows.lines
-    (shows.are whole)
-    (part_of_more _ _ _ _ (on_output shows.lines) _ c.in-Err-take.fault
-    (λ some. absurd (omega arith)) shows.wrote) tt)
+    data_tells options before bytes whole c.args.self.now knows may.0 _
+    (told_part _ (c.in-Err-take.ensures.gives latest.transfer whole fits latest.shows)))
 
 pub returns-in_default-take : goal.returns-in_default-take
 returns-in_default-take g c = rw c.in-Data.is (λ before knows may.
@@ -175,17 +173,20 @@ returns-in_default-take g c = rw c.in-Data.is (λ before knows may.
     let fits : old.latest.judge.size + length bytes < 2 ^ 63 =
     let few = may.1 in omega (arith, knows.size) in
     let latest = at options before bytes whole old knows may.0 in
-    let shows = c.in_default-take.ensures.gives latest.transfer fits latest.shows in
-    let follows = c.in_default-take.ensures.follows latest.transfer whole fits latest.shows in
+    let told = c.in_default-take.ensures.gives latest.transfer whole fits latest.shows in
     let later = data_transfers options before bytes whole old knows may.0 in
     let same = c.show_end-in-Data.ensures.latest in
     let closed = λ (due : whole ≡ true).
-    data_latest options before bytes whole old knows may.0 c.take.new.self follows (ap not (sym due)) in
-    data_tells options before bytes whole old knows may.0 now shows.lines (shows.are whole)
-    (output_then _ _ _ _ _ _ _ _ shows.wrote (c.show_end-in-Data.ensures.gives later closed))
-    (on_ok _ (data_known options before bytes whole old knows may.0 now
-    (rw same c.take.ensures.size) (c.show_end-in-Data.ensures.good later closed)
-    (rw same follows))))
+    data_latest options before bytes whole old knows may.0 c.take.new.self told.known (ap not (sym due)) in
+    data_tells options before bytes whole old knows may.0 now
+    (told_then told (record {
+      texts = on_output (end_due options.only whole later);
+      said = refl;
+      wrote = c.show_end-in-Data.ensures.gives later closed;
+      known = on_ok _ (data_known options before bytes whole old knows may.0 now
+          (rw same c.take.ensures.size) (c.show_end-in-Data.ensures.good later closed)
+          (rw same told.known));
+    })))
 
 -- ---- the end of the stream
 

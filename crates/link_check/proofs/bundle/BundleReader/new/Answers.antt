@@ -3,7 +3,8 @@ use Rattle.link_check.proofs.bundle.BundleReader.new.Goals as goal
 
 pub returns-clause-reads : goal.returns-clause-reads
 returns-clause-reads c = record {
-  blocks = record { reading = c.restart.ensures.reads; history = no_history c.new.result };
+  reading = c.restart.ensures.reads;
+  history = no_history c.new.result;
   walked = c.new-2.ensures;
   begins = c.new-3.ensures;
 }

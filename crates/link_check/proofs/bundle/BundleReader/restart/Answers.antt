@@ -3,7 +3,8 @@ use Rattle.link_check.proofs.bundle.BundleReader.restart.Goals as goal
 
 pub returns-clause-reads : goal.returns-clause-reads
 returns-clause-reads c = record {
-  blocks = record { reading = c.restart.ensures.reads; history = no_history c.args.self.now.history };
+  reading = c.restart.ensures.reads;
+  history = no_history c.args.self.now.blocks.history;
   walked = c.restart-2.ensures;
   begins = c.restart-3.ensures;
 }

@@ -5,11 +5,11 @@ use Rattle.link_check.proofs.bundle.BundleReader.rules.Goals as goal
 pub returns-then-not-self : goal.returns-then-not-self
 returns-then-not-self c = λ content info reads payload.
     c.new.ensures
-    ∙ sym (rules_none content info c.args.self.now.history
-    (rw c.if-not-self.true at reads.blocks.history))
+    ∙ sym (rules_none content info c.args.self.now.blocks.history
+    (rw c.if-not-self.true at reads.history))
 
 pub returns : goal.returns
 returns c = λ content info reads payload.
     rw (c.first_long.ensures content reads.walked, payload) at c.rules.ensures
-    ∙ sym (rules_some content info c.args.self.now.history
-    (rw c.if-not-self.false at reads.blocks.history))
+    ∙ sym (rules_some content info c.args.self.now.blocks.history
+    (rw c.if-not-self.false at reads.history))

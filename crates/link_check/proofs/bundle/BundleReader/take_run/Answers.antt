@@ -1,15 +1,14 @@
-use Rattle.std.proofs.Common.{◌≡◌, [], sym, append-nil}
-use Rattle.link_bundle.specs.Scan.{ending}
-use Rattle.link_check.proofs.Blocks.{history_same}
+use Rattle.std.proofs.Common.{refl, sym, arith}
+use Rattle.link_bundle_walk.proofs.Told.{told_known}
 use Rattle.link_check.proofs.bundle.BundleReader.take_run.Goals as goal
 
-pub returns-in_default-clause-reads : goal.returns-in_default-clause-reads
-returns-in_default-clause-reads c = λ seen before reads some goes come grown.
-    let none : ending c.args.scan.now ≡ [] =
-    rw c.in_default.is at (sym c.ended_block.ensures.block) in
-    let same = rw (none, append-nil) at grown in
-    record {
-      reading = c.follow_cut.ensures.reads seen before reads.reading goes come same;
-      history = history_same seen c.args.run.now c.args.self.now.begun c.args.self.now.history same
-          reads.history;
-    }
+pub returns-clause-gives : goal.returns-clause-gives
+returns-clause-gives g c = λ limit before reads comes.
+    told_known (c.tell_run.ensures.gives before.begun (sym comes.placed) comes.opened.goes
+    comes.scanned (comes.blocks refl) reads.reading reads.history)
+    (λ known. record {
+      reading = known.0;
+      history = known.1;
+      walked = c.take.ensures before.begun (omega (arith, comes.few)) reads.walked;
+      begins = c.take-2.ensures before.begun reads.begins;
+    })

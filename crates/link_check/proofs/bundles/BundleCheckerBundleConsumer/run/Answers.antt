@@ -1,22 +1,24 @@
-use Rattle.std.proofs.Common.{◌++◌, refl, arith}
-use Rattle.link_bundle_types.specs.{BundleView.viewed_info, declared.info.BundleInfo.BundleInfo}
-use Rattle.link_bundle_walk.specs.Telling.{SoFar}
-use Rattle.link_check.specs.BundleChecker.{KnowsBundles}
-use Rattle.link_check.proofs.BundleTexts.{tells_none, tells_whole}
+use Rattle.std.proofs.Common.{◌++◌}
+use Rattle.link_bundle_types.specs.BundleView.{viewed_info}
+use Rattle.link_bundle_walk.specs.Telling.{with_bytes}
+use Rattle.link_bundle_walk.proofs.Told.{told_known, told_then}
+use Rattle.link_check.proofs.BundleTexts.{tells_lost, tells_on}
 use Rattle.link_check.proofs.bundles.BundleCheckerBundleConsumer.run.Goals as goal
 
-pub returns-in-Some-clause-gives : goal.returns-in-Some-clause-gives
-returns-in-Some-clause-gives g c = λ before knows. rw c.in-Some.is (λ comes.
-    let info : BundleInfo = viewed_info c.in-Some.whole.info in
-    let now : SoFar = record { bundles = before.bundles; begun = before.begun ++ c.args.bytes.now } in
-    let known : KnowsBundles c.args.must.now c.take.new.self now =
-    c.take.ensures.follows c.args.must.now before (omega (arith, comes.few)) knows in
-    tells_whole c.args.must.now c.end_bundle.new.self before.bundles
-    (record { bytes = now.begun; info = info }) c.args.number comes.numbered
-    (c.end_bundle.ensures.gives now info known comes.sized refl)
-    (c.end_bundle.ensures.follows now info known comes.sized refl comes.numbered))
+pub returns-in_default-clause-gives : goal.returns-in_default-clause-gives
+returns-in_default-clause-gives g c = λ before knows comes. rw c.in_default.is
+    (told_known (tells_on _ (c.take_run-written.ensures.gives _ before knows.reading comes))
+    (λ reading. record { offset = knows.offset; reading = reading; good = knows.good }))
 
-pub returns-in-None-clause-gives : goal.returns-in-None-clause-gives
-returns-in-None-clause-gives g c = λ before knows. rw c.in-None.is (λ comes.
-    tells_none refl
-    (c.take.ensures.follows c.args.must.now before (omega (arith, comes.few)) knows))
+pub returns-in-Err-clause-gives : goal.returns-in-Err-clause-gives
+returns-in-Err-clause-gives g c = λ before knows comes. rw c.in-Some.is
+    (tells_lost c.args.must.now before.bundles _
+    (c.in-Err.ensures.gives _ before knows.reading comes))
+
+pub returns-in-Ok-clause-gives : goal.returns-in-Ok-clause-gives
+returns-in-Ok-clause-gives g c = λ before knows comes. rw c.in-Some.is
+    (let told = c.in-Ok.ensures.gives _ before knows.reading comes in
+    let accepted = rw c.in-Some.is at comes.accepted in
+    told_then (tells_on _ told) (c.end_bundle.ensures.gives (with_bytes before c.args.run.now.bytes.now)
+    (record { offset = knows.offset; reading = told.known; good = knows.good }) comes.sized
+    accepted.1 comes.numbered))

@@ -8,7 +8,8 @@ use Rattle.link_check.specs.Checker.{IsAtLatest, KnowsChecked, closed_due, kept_
 use Rattle.link_check.specs.Checking.{Begun, begun_by, broken_by, head_rules, judged, with_bytes}
 use Rattle.link_check.specs.declared.checker.Checker.{Checker}
 use Rattle.link_options.specs.declared.check.CheckOptions.{CheckOptions}
-use Rattle.link_check.proofs.{Writing.{part_written, then_written}, Closed.on_ok_by}
+use Rattle.link_bundle_walk.proofs.Told.{on_ok_by}
+use Rattle.link_check.proofs.Writing.{part_written, quiet_written, then_written}
 use Rattle.link_check.proofs.Kept.{IsRead, closes_read, data_said, inner_said, known_data, known_inner, known_one, opens_read, read_after, said_one, tells}
 use Rattle.link_check.proofs.checker.CheckerConsumer.event.Given.{Over}
 use Rattle.link_check.proofs.checker.CheckerConsumer.event.Goals as goal
@@ -115,8 +116,22 @@ returns-in_default g c = rw c.in-Head.is (λ before knows comes.
 
 -- ---- an inner segment
 
-pub returns-in-Inner : goal.returns-in-Inner
-returns-in-Inner g c = rw c.in-Inner.is (λ before knows may.
+pub returns-in-Err-take : goal.returns-in-Err-take
+returns-in-Err-take g c = rw c.in-Inner.is (λ before knows may.
+    let options = c.args.options.now in
+    let head = viewed_head c.in-Inner.head in
+    let bytes = c.in-Inner.bytes.now in
+    let fits : c.args.self.now.latest.judge.size + length bytes < 2 ^ 63 =
+    let few = may.few in omega (arith, knows.size) in
+    let at = knows.at_open may.opened in
+    let turn = ap (λ (h : Head). h.turn) may.is in
+    tells options before _ (MessageHead head ∷ data_ends bytes false) (own options before head)
+    (inner_said options before head turn bytes)
+    (part_written {other = true} [] _ (quiet_written {good = true}
+    (c.in-Err-take.ensures.gives at.begun fits at.checks))) tt)
+
+pub returns-in_default-take : goal.returns-in_default-take
+returns-in_default-take g c = rw c.in-Inner.is (λ before knows may.
     let options = c.args.options.now in
     let old = c.args.self.now in
     let head = viewed_head c.in-Inner.head in
@@ -126,26 +141,41 @@ returns-in-Inner g c = rw c.in-Inner.is (λ before knows may.
     let few = may.few in omega (arith, knows.size) in
     let at = knows.at_open may.opened in
     let turn = ap (λ (h : Head). h.turn) may.is in
-    let follows = c.take.ensures.follows at.begun fits at.checks in
+    let told = c.in_default-take.ensures.gives at.begun fits at.checks in
     let now : Checker = record {
       history = c.judge_inner.new.history;
       latest = c.take.new.self;
       good = c.judge_inner.new.good;
     } in
-    let writes = c.judge_inner.ensures.gives may.id kept.heads may.is knows.history in
+    let writes = then_written [] _ (quiet_written told)
+    (c.judge_inner.ensures.gives may.id kept.heads may.is knows.history) in
     tells options before now (MessageHead head ∷ data_ends bytes false) (own options before head)
     (inner_said options before head turn bytes) writes
     (on_ok_by c.judge_inner.result
     (λ good. known_inner options before head turn bytes now at.begun at.is
     (omega (arith, c.take.ensures.size, knows.size))
     (rw knows.good at good)
-    (c.judge_inner.ensures.history may.id kept.heads may.is knows.history) follows)
+    (c.judge_inner.ensures.history may.id kept.heads may.is knows.history) told.known)
     writes.counted))
 
 -- ---- data
 
-pub returns-in-Data : goal.returns-in-Data
-returns-in-Data g c = rw c.in-Data.is (λ before knows may.
+pub returns-in-Err-take-2 : goal.returns-in-Err-take-2
+returns-in-Err-take-2 g c = rw c.in-Data.is (λ before knows may.
+    let options = c.args.options.now in
+    let bytes = c.in-Data.bytes.now in
+    let whole = c.in-Data.whole in
+    let fits : c.args.self.now.latest.judge.size + length bytes < 2 ^ 63 =
+    let few = may.1 in omega (arith, knows.size) in
+    let at = knows.at_open may.0 in
+    tells options before _ (data_ends bytes whole)
+    (closed_due whole (Some (with_bytes bytes at.begun)))
+    (rw at.is at (data_said options before bytes whole))
+    (part_written {other = true} [] _ (quiet_written {good = true}
+    (c.in-Err-take-2.ensures.gives at.begun fits at.checks))) tt)
+
+pub returns-in_default-take-2 : goal.returns-in_default-take-2
+returns-in_default-take-2 g c = rw c.in-Data.is (λ before knows may.
     let options = c.args.options.now in
     let old = c.args.self.now in
     let bytes = c.in-Data.bytes.now in
@@ -155,21 +185,22 @@ returns-in-Data g c = rw c.in-Data.is (λ before knows may.
     let few = may.1 in omega (arith, knows.size) in
     let at = knows.at_open may.0 in
     let begun = with_bytes bytes at.begun in
-    let follows = c.take-in-Data.ensures.follows at.begun fits at.checks in
+    let told = c.in_default-take-2.ensures.gives at.begun fits at.checks in
     let read : IsAtLatest c.take-in-Data.new.self (Some begun) =
-    record { begun = begun; is = refl; checks = follows } in
+    record { begun = begun; is = refl; checks = told.known } in
     let now : Checker = record {
       history = old.history;
       latest = c.take-in-Data.new.self;
       good = c.close-in-Data.new.good;
     } in
-    let writes = c.close-in-Data.ensures (Some begun) (λ is. read) in
+    let writes = then_written [] _ (quiet_written told)
+    (c.close-in-Data.ensures (Some begun) (λ is. read)) in
     tells options before now (data_ends bytes whole) (closed_due whole (Some begun))
     (rw at.is at (data_said options before bytes whole)) writes
     (on_ok_by c.close-in-Data.result
     (λ good. known_data options before bytes whole now at.begun at.is
     (omega (arith, c.take-in-Data.ensures.size, knows.size))
-    (rw knows.good at good) knows.history follows)
+    (rw knows.good at good) knows.history told.known)
     writes.counted))
 
 -- ---- the end of the stream

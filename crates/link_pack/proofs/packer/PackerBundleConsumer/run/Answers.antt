@@ -11,13 +11,13 @@ returns-in_default-clause-gives g c = λ before keeps. rw c.in_default.is (λ co
 
 pub returns-in-Err-clause-gives : goal.returns-in-Err-clause-gives
 returns-in-Err-clause-gives g c = λ before keeps. rw c.in-Some.is (λ comes.
-    let bundle : Packed = record { bytes = before.begun ++ c.args.bytes.now; info = viewed_info c.in-Some.whole.info } in
-    lost _ _ _ before _ _ comes.numbered _ bundle refl comes.accepted.0 _ _ _
+    let bundle : Packed = record { bytes = before.begun ++ c.args.run.now.bytes.now; info = viewed_info c.in-Some.whole.info } in
+    lost _ _ _ before _ _ comes.numbered _ bundle refl comes.some _ _ _
     (c.in-Err.ensures.gives _ keeps.cut c.requires.few))
 
 pub returns-in-Ok-clause-gives : goal.returns-in-Ok-clause-gives
 returns-in-Ok-clause-gives g c = λ before keeps. rw c.in-Some.is (λ comes.
-    let bundle : Packed = record { bytes = before.begun ++ c.args.bytes.now; info = viewed_info c.in-Some.whole.info } in
-    with_line _ _ _ before _ _ comes.numbered _ bundle refl comes.accepted.0 _ _ _
+    let bundle : Packed = record { bytes = before.begun ++ c.args.run.now.bytes.now; info = viewed_info c.in-Some.whole.info } in
+    with_line _ _ _ before _ _ comes.numbered _ bundle refl comes.some _ _ _
     (c.in-Ok.ensures.gives _ keeps.cut c.requires.few) _ _
-    (c.write_line.ensures bundle refl comes.accepted.1.1))
+    (c.write_line.ensures bundle refl comes.accepted.1))

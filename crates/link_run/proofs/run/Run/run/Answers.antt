@@ -22,8 +22,7 @@ returns-in-Ok-Done g c =
     let waits = rw same at (done.waits _ stood.0 stood.1) in
     let ends = rw c.in-Ok-Done.field-0-is at done.ends in
     let back = c.into_end.ensures in
-    rw (back.devices, back.answer, back.waits (ends tt))
-    (ran_on _ _ _ stood.0 strode.2 stood.2 waits)
+    ran_on _ _ _ stood.0 _ back.devices back.answer (back.ran (ends tt)) strode.2 stood.2 waits
 
 pub returns-in-Err : goal.returns-in-Err
 returns-in-Err g c =
@@ -33,5 +32,4 @@ returns-in-Err g c =
     let strode = rw same at (failed.gives _ stood.0 stood.1) in
     let waits = rw same at (failed.waits _ stood.0 stood.1) in
     let back = c.into_end-in-Err.ensures in
-    rw (back.devices, back.answer, back.waits (failed.ends tt))
-    (ran_on _ _ _ stood.0 strode.2 stood.2 waits)
+    ran_on _ _ _ stood.0 _ back.devices back.answer (back.ran (failed.ends tt)) strode.2 stood.2 waits

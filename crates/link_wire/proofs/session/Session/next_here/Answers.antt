@@ -1,10 +1,14 @@
-use Rattle.std.proofs.Common.{length, ap, arith}
-use Rattle.link_io.proofs.Sources.{ended_window}
+use Rattle.std.proofs.Common.{◌≡◌, length, refl, ◌∙◌}
+use Rattle.link_wire.proofs.Sessions.{none_left, came}
 use Rattle.link_wire.proofs.session.Session.next_here.Goals as goal
 
--- after the end the window is empty, so it has no head
-pub returns-in-Some-clause-again : goal.returns-in-Some-clause-again
-returns-in-Some-clause-again g c = λ ended.
-    let none = ended_window c.args.self.now.source ended.1 in
-    let head = c.in-Some.ensures in
-    absurd (omega (arith, head.some, head.within, none, ap length c.window.ensures.window))
+pub returns-clause-gives : goal.returns-clause-gives
+returns-clause-gives g c = λ history at.
+    let old = c.args.self.now in
+    let here : c.given-offset.result ≡ length history = c.given-offset.ensures ∙ at.at.given in
+    rw here (came old history at (none_left old at.going c.requires) _ _ (record {
+      given = _;
+      takes = c.give.ensures.takes;
+      live = c.give.ensures.live at.live;
+      is = rw c.set.ensures.message (c.in-Some.ensures.head.is c.args.message.now.node);
+    }) refl c.data_length-self.ensures at.going)

@@ -1,0 +1,45 @@
+-- What holds after a whole run.
+use Rattle.std.specs.Prelude.{◌≡◌, ℕ, List, Result, All}
+use Rattle.link_wire.specs.declared.IoFault.{IoFault}
+use Rattle.link_run.specs.Run.{Tool, Looks, Devices, devices, Wait, Waits, then_waits, WasPrompt, EndsAtFault, EndedRun}
+use Rattle.link_run.specs.declared.{run.{RunEnd.RunEnd, Status.Status}, log.Ran.Ran}
+
+module _ {R W E : Type 0} where
+  -- the devices that a run has returned
+  abbrev pub devices_of : RunEnd R W E → Devices R W E
+  devices_of end = devices end.reader end.output end.report
+
+  -- its log
+  abbrev pub ran_of : RunEnd R W E → Ran R W E
+  ran_of end = end.ran
+
+  -- This is the log of a run that had all these waits since it was made, and ended with these
+  -- devices.
+  pub record IsLogOf (all : Waits R W E) (now : Devices R W E) (ran : Ran R W E) : Type 0 where
+    pub from : ran.from ≡ all.from
+    pub to : ran.to ≡ now
+    pub waits : ran.waits ≡ all.each
+
+module _ {R W E : Type 0} (look : Looks R W E) where
+  -- The run began with the devices `start`, was given these bytes, and ended as its answer says.
+  -- At each of these waits, it had handed on all text that the bytes given until then determine.
+  pub record RanToEnd (tool : Tool) (start now : Devices R W E) (waits : List (Wait W E))
+      (answer : Result Status IoFault) : Type 0 where
+    pub given : List ℕ
+    pub gave : EndedRun look tool start now given answer
+    pub ends : EndsAtFault tool given
+    pub prompt : All (WasPrompt look tool start given) waits
+
+  -- What holds after a whole run. Its log has the devices with which it began, those that it
+  -- returned, and all of its waits.
+  pub record AfterRun (tool : Tool) (start : Devices R W E) (end : RunEnd R W E) : Type 0 where
+    pub from : (ran_of end).from ≡ start
+    pub to : (ran_of end).to ≡ devices_of end
+    pub whole : RanToEnd tool start (devices_of end) (ran_of end).waits end.answer
+
+  -- what holds after the rest of a run that had these waits before
+  pub record AfterRunFrom (tool : Tool) (start : Devices R W E) (before : Waits R W E)
+      (end : RunEnd R W E) : Type 0 where
+    pub since : List (Wait W E)
+    pub log : IsLogOf (then_waits before since) (devices_of end) (ran_of end)
+    pub rest : RanToEnd tool start (devices_of end) since end.answer
