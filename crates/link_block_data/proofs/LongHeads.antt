@@ -7,7 +7,7 @@ use Rattle.std.proofs.Math.Seq.{drop-append_seam, take-length}
 use Rattle.link_cbor.specs.declared.head.Head.{Head as HeadItem}
 use Rattle.link_cbor.specs.Head.{Whole, head_front}
 use Rattle.link_rules.specs.Heads.{content_size, is_long, first_from}
-use Rattle.link_rules.proofs.Walks.{inside, at_head, first_or, or_none}
+use Rattle.link_rules.proofs.Walks.{first_from-append, at_head, first_or, or_none}
 use Rattle.link_bundle_types.specs.declared.fault.BundleFault.{BundleFault}
 use Rattle.link_bundle_types.specs.declared.fault.BundleFault.TheVariants.{WrongKind, BadSpecificPart, EidTooLong}
 use Rattle.link_bundle_heads.specs.Rows.{◌>>=◌, wanted, valued, unsigned, array, pair, scheme, dtn_by, dtn_part, ipn_count, ipn_part}
@@ -29,7 +29,7 @@ use Rattle.link_block_data.specs.{BlockData.{data_of}, LongHeads.{judged_part, l
 use Rattle.link_block_data.specs.DataRows.{integer, boolean, assertion, four_or_six, four_or_more, one_or_two}
 use Rattle.link_block_data.specs.Turns.{after_eid, name_due, first_of, specific, first_number, targets_due, with_others, with_targets, with_context, took, took_dtn, took_asserted, judged}
 use Rattle.link_block_data.specs.Left.{data_from, may_follow, if_judged}
-use Rattle.link_block_data.specs.Scan.{HasScanned, IsLongAt}
+use Rattle.link_block_data.specs.Scan.{HasScanned, IsFirstLong}
 
 -- ---- the bytes of a name after a head
 
@@ -131,10 +131,10 @@ dtn_by_content head (Some size) part here is =
 
 -- ---- the stage after a head
 
-chosen : (first : Bool) (one other : DataStage × Draft) → inside_of one.0 ≡ 0
+inside_of-if : (first : Bool) (one other : DataStage × Draft) → inside_of one.0 ≡ 0
     → inside_of other.0 ≡ 0 → inside_of ((if first then one else other).0) ≡ 0
-chosen true one other none none_either = none
-chosen false one other none none_either = none_either
+inside_of-if true one other none none_either = none
+inside_of-if false one other none none_either = none_either
 
 eid_inside : (owner : Owner) → inside_of (after_eid owner) ≡ 0
 eid_inside owner.PreviousNode = refl
@@ -157,7 +157,7 @@ type_inside false type = refl
 number_inside : (which : Number) (value : ℕ) (draft : Draft)
     → inside_of ((took which value draft).0) ≡ 0
 number_inside number.RecordType value draft = type_inside (value == 1) value
-number_inside number.Sequence value draft = chosen draft.is_fragment _ _ refl refl
+number_inside number.Sequence value draft = inside_of-if draft.is_fragment _ _ refl refl
 number_inside (number.Service owner allocator node) value draft = eid_inside owner
 number_inside _ value draft = refl
 
@@ -235,7 +235,7 @@ stage_content (due.Asserted status has_time) size head draft new stage is =
 -- ---- a scan whose stage is known
 
 pub long_at : {kind : DataKind} (scan : DataScan) {stage : DataStage} {seen : List ℕ}
-    → scan.stage ≡ stage → HasScanned kind scan seen → IsLongAt stage scan.long scan.offset seen
+    → scan.stage ≡ stage → HasScanned kind scan seen → IsFirstLong stage scan.long scan.offset seen
 long_at scan is come = rw is at come.long
 
 -- ---- more bytes
@@ -245,7 +245,7 @@ entered_long : (stage : DataStage) (long : Option ℕ) (offset : ℕ) (seen : Li
     → offset ≡ length seen
     → ((more : List ℕ) → first_from is_long 0 0 (seen ++ more)
     ≡ option_or long (first_from is_long (inside_of stage) (length seen) more))
-    → IsLongAt stage long offset seen
+    → IsFirstLong stage long offset seen
 unfolding first_from
 entered_long (Head which) long offset seen here reads = λ more.
     rw (here, drop-append_seam seen more) (reads more)
@@ -258,17 +258,17 @@ entered_long (Failed fault) long offset seen here reads = tt
 
 -- more bytes of a head
 pub long_more : (which : Due) (long : Option ℕ) (offset : ℕ) (seen run : List ℕ)
-    → IsLongAt (Head which) long offset seen → IsLongAt (Head which) long offset (seen ++ run)
+    → IsFirstLong (Head which) long offset seen → IsFirstLong (Head which) long offset (seen ++ run)
 long_more which long offset seen run come = λ more.
     rw (append_assoc seen run more) (come (run ++ more))
 
 -- a whole head
 pub long_turned : (which : Due) (old : Option ℕ) (stage : DataStage) (offset count size : ℕ)
     (seen : List ℕ) (head : HeadItem)
-    → IsLongAt (Head which) old offset seen → offset ≤ length seen → count ≡ length seen
+    → IsFirstLong (Head which) old offset seen → offset ≤ length seen → count ≡ length seen
     → head_front (drop offset seen) ≡ Whole head (length (drop offset seen))
     → size ≡ length (drop offset seen) → inside_of stage ≡ content_size head
-    → IsLongAt stage (option_or old (then_some (is_long head size) offset)) count seen
+    → IsFirstLong stage (option_or old (then_some (is_long head size) offset)) count seen
 long_turned which old stage offset count size seen head come within counted whole sized content =
     let run = drop offset seen in
     let next : offset + length (drop offset seen) ≡ length seen =
@@ -284,21 +284,21 @@ long_turned which old stage offset count size seen head come within counted whol
 
 -- more bytes of a name
 pub long_named : (owner : Owner) (left : ℕ) (long : Option ℕ) (stage : DataStage)
-    (offset count : ℕ) (seen run : List ℕ) → IsLongAt (Name owner left) long offset seen
+    (offset count : ℕ) (seen run : List ℕ) → IsFirstLong (Name owner left) long offset seen
     → length run ≤ left → stage ≡ name_due owner (left - length run)
-    → count ≡ length (seen ++ run) → IsLongAt stage long count (seen ++ run)
+    → count ≡ length (seen ++ run) → IsFirstLong stage long count (seen ++ run)
 long_named owner left long stage offset count seen run come within is counted =
     let inside_it : inside_of stage ≡ left - length run =
     ap inside_of is ∙ name_inside owner (left - length run) in
     entered_long stage long count (seen ++ run) counted (λ more.
     rw (append_assoc seen run more, length-append seen run, inside_it) (come (run ++ more)
     ∙ ap (λ (rest : Option ℕ). option_or long rest)
-    (inside is_long left (length seen) run more within)))
+    (first_from-append is_long left (length seen) run more within)))
 
 -- bytes after the item
 pub long_read : (found : Found) (long : Option ℕ) (offset : ℕ) (seen run : List ℕ)
-    → offset ≤ length seen → IsLongAt (Read found) long offset seen
-    → IsLongAt (Read found) long offset (seen ++ run)
+    → offset ≤ length seen → IsFirstLong (Read found) long offset seen
+    → IsFirstLong (Read found) long offset (seen ++ run)
 long_read found long offset seen run within come = rw (take-append-le offset seen run within) come
 
 -- ---- the first long head of the bytes seen
@@ -327,7 +327,7 @@ judged_long (found.OtherRecord type) draft long offset seen ends is = refl
 
 pub result_long : (kind : DataKind) (found : Found) (draft : Draft) (long : Option ℕ) (offset : ℕ)
     (seen : List ℕ) → data_of kind seen ≡ Ok (data_from found draft offset)
-    → IsTrue (may_follow found || (offset == length seen)) → IsLongAt (Read found) long offset seen
+    → IsTrue (may_follow found || (offset == length seen)) → IsFirstLong (Read found) long offset seen
     → if_judged found long ≡ long_head kind seen
 unfolding long_head
 result_long kind found draft long offset seen reads ends is =

@@ -66,19 +66,19 @@ name_left-run name run left bytes more offset here fits =
     (λ rest offset. rw (append_assoc name run rest) refl))
 
 -- the rest at a name that begins with these bytes, by whether it is whole
-chosen : (whole : Bool) (owner : Owner) (draft : Draft) (name : List ℕ) (left : ℕ) (bytes : List ℕ)
+by_eid-if : (whole : Bool) (owner : Owner) (draft : Draft) (name : List ℕ) (left : ℕ) (bytes : List ℕ)
     (next : ℕ) → next ≤ length bytes → (left == 0) ≡ whole
     → located bytes (by_eid owner draft bytes (name_left name left bytes next))
     ≡ stage_left (if whole then after_eid owner else Name owner left)
     (with_eid (Dtn (record { items = name })) draft) bytes next next
 unfolding stage_left name_left
-chosen true owner draft name left bytes next within whole =
+by_eid-if true owner draft name left bytes next within whole =
     let none : left ≡ 0 = eqb-true left 0 whole in
     let empty : bytes_at left bytes next ≡ Ok ([], next) =
     ap (λ (left : ℕ). bytes_at left bytes next) none ∙ bytes_at-none bytes next within in
     rw (empty, append-nil name)
     (owner_ends owner (with_eid (Dtn (record { items = name })) draft) bytes next)
-chosen false owner draft name left bytes next within whole = refl
+by_eid-if false owner draft name left bytes next within whole = refl
 
 pub name_begins : (owner : Owner) (draft : Draft) (name : List ℕ) (left : ℕ) (bytes : List ℕ)
     (next : ℕ) → next ≤ length bytes
@@ -86,7 +86,7 @@ pub name_begins : (owner : Owner) (draft : Draft) (name : List ℕ) (left : ℕ)
     ≡ stage_left (name_due owner left) (with_eid (Dtn (record { items = name })) draft) bytes next
     next
 name_begins owner draft name left bytes next within =
-    chosen (left == 0) owner draft name left bytes next within refl
+    by_eid-if (left == 0) owner draft name left bytes next within refl
 
 -- a name, after more of its bytes
 pub name_goes_on : (owner : Owner) (draft : Draft) (left : ℕ) (bytes more run : List ℕ)

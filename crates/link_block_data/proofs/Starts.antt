@@ -54,8 +54,8 @@ with_all (target ∷ targets) draft few =
 
 -- ---- status assertions
 
-grouped : (a b c d e : Bool) → ((((a || b) || c) || d) || e) ≡ (a || (b || (c || (d || e))))
-grouped a b c d e = simp or_assoc
+or-assoc_five : (a b c d e : Bool) → ((((a || b) || c) || d) || e) ≡ (a || (b || (c || (d || e))))
+or-assoc_five a b c d e = simp or_assoc
 
 -- whether some asserted status has a time, and whether some has none, after these assertions
 with_all_times : (assertions : List Assertion) (draft : Draft)
@@ -96,9 +96,9 @@ all_assertions : (count : ℕ) (received forwarded delivered deleted : Assertion
 all_assertions count received forwarded delivered deleted others draft =
     sym (with_all_times others _
     ∙ rw (
-      grouped (is_timed received) (is_timed forwarded) (is_timed delivered) (is_timed deleted)
+      or-assoc_five (is_timed received) (is_timed forwarded) (is_timed delivered) (is_timed deleted)
           (list_any is_timed others),
-      grouped (is_untimed received) (is_untimed forwarded) (is_untimed delivered)
+      or-assoc_five (is_untimed received) (is_untimed forwarded) (is_untimed delivered)
           (is_untimed deleted) (list_any is_untimed others),
     ) refl)
 

@@ -19,7 +19,7 @@ use Rattle.link_block_data.specs.{declared.draft.Draft.Draft, BlockData.{alone, 
 use Rattle.link_block_data.specs.Turns.{first_due, took_run, judged}
 use Rattle.link_block_data.specs.Left.{may_follow, stage_left, goes_on}
 use Rattle.link_block_data.specs.{declared.scan.DataScan.DataScan, Fits.scan_fits}
-use Rattle.link_block_data.specs.Scan.{HasSeen, HasScanned, HasSeenHead, HasTaken, IsAtStage}
+use Rattle.link_block_data.specs.Scan.{HasSeen, HasScanned, HasSeenHead, TakesRun, IsAtStage}
 use Rattle.link_block_data.proofs.{Heads.head_turn, Names.name_goes_on, Starts.starts}
 use Rattle.link_block_data.proofs.Stops.{due_left-stopped}
 
@@ -246,8 +246,8 @@ module _ {kind : DataKind} {draft : Draft} {head : HeadScan} {offset old count :
 
 -- ---- one run after another
 
-pub taken_then : (old middle new : DataScan) (run more : List ℕ) → HasTaken old middle run
-    → HasTaken middle new more → HasTaken old new (run ++ more)
+pub taken_then : (old middle new : DataScan) (run more : List ℕ) → TakesRun old middle run
+    → TakesRun middle new more → TakesRun old new (run ++ more)
 taken_then old middle new run more first second = record {
   size = omega (arith, length-append run more, first.size, second.size);
   seen = λ kind seen come. rw append_assoc at

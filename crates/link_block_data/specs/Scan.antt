@@ -27,15 +27,15 @@ IsAtStage _ head offset seen = Unit {0}
 
 -- Whatever bytes follow, the first long head is `long`, or else the first from this stage on. After
 -- the item it is the first up to there.
-abbrev pub IsLongAt : DataStage → Option ℕ → ℕ → List ℕ → Type 0
-IsLongAt (Head which) long offset seen =
+abbrev pub IsFirstLong : DataStage → Option ℕ → ℕ → List ℕ → Type 0
+IsFirstLong (Head which) long offset seen =
     (more : List ℕ) → first_from is_long 0 0 (seen ++ more)
     ≡ option_or long (first_from is_long 0 offset (drop offset (seen ++ more)))
-IsLongAt (Name owner left) long offset seen =
+IsFirstLong (Name owner left) long offset seen =
     (more : List ℕ) → first_from is_long 0 0 (seen ++ more)
     ≡ option_or long (first_from is_long left (length seen) more)
-IsLongAt (Read found) long offset seen = long ≡ first_from is_long 0 0 (take offset seen)
-IsLongAt (Failed fault) long offset seen = Unit {0}
+IsFirstLong (Read found) long offset seen = long ≡ first_from is_long 0 0 (take offset seen)
+IsFirstLong (Failed fault) long offset seen = Unit {0}
 
 -- Exactly these bytes were seen of data of this kind. Whatever bytes follow, the data is the rest
 -- that is read from this stage on.
@@ -59,14 +59,14 @@ pub record HasSeenHead (kind : DataKind) (which : Due) (draft : Draft) (offset c
 
 pub record HasScanned (kind : DataKind) (scan : DataScan) (seen : List ℕ) : Type 0 where
   pub state : HasSeen kind scan.stage scan.draft scan.head scan.offset scan.count seen
-  pub long : IsLongAt scan.stage scan.long scan.offset seen
+  pub long : IsFirstLong scan.stage scan.long scan.offset seen
 
 -- the number of bytes seen
 abbrev pub scan_size : DataScan → ℕ
 scan_size scan = scan.count
 
 -- the scan has taken exactly these bytes
-pub record HasTaken (old new : DataScan) (run : List ℕ) : Type 0 where
+pub record TakesRun (old new : DataScan) (run : List ℕ) : Type 0 where
   pub size : scan_size new ≡ scan_size old + length run
   pub seen : (kind : DataKind) (seen : List ℕ) → HasScanned kind old seen
       → HasScanned kind new (seen ++ run)

@@ -86,7 +86,7 @@ impl DataScan {
     ghost use Rattle.link_block_data.specs.BlockData.{data_of};
     ghost use Rattle.link_block_data.specs.LongHeads.{long_head};
     ghost use Rattle.link_block_data.specs.DataView.{viewed_data, viewed_result, HasShortName};
-    ghost use Rattle.link_block_data.specs.Scan.{HasScanned, HasSeenHead, HasTaken, IsLongAt, scan_size};
+    ghost use Rattle.link_block_data.specs.Scan.{HasScanned, HasSeenHead, TakesRun, IsFirstLong, scan_size};
     ghost use Rattle.link_block_data.specs.declared.kind.DataKind.{DataKind};
 
     /// A scan of data of this kind that has seen no byte.
@@ -157,7 +157,7 @@ impl DataScan {
     /// Takes the next piece of the data.
     pub fn take(&mut self, piece: &[u8])
         requires room { scan_size self.old + length piece.now ≤ 2 ^ 63 - 1 }
-        ensures { HasTaken self.old self.new piece.now }
+        ensures { TakesRun self.old self.new piece.now }
     {
         let mut taken = 0;
         while taken < piece.len() {
@@ -171,7 +171,7 @@ impl DataScan {
         requires room { scan_size self.old + length piece.now ≤ 2 ^ 63 - 1 }
         ensures some { 0 < result }
         ensures within { result ≤ length piece.now }
-        ensures taken { HasTaken self.old self.new (take result piece.now) }
+        ensures taken { TakesRun self.old self.new (take result piece.now) }
     {
         match self.stage {
             DataStage::Head(due) => self.advance_head(due, piece),
@@ -198,7 +198,7 @@ impl DataScan {
         requires room { self.old.count + length piece.now ≤ 2 ^ 63 - 1 }
         ensures some { 0 < result }
         ensures within { result ≤ length piece.now }
-        ensures taken { HasTaken self.old self.new (take result piece.now) }
+        ensures taken { TakesRun self.old self.new (take result piece.now) }
     {
         if self.offset == self.count
             && let Some((head, size)) = Head::front(piece)
@@ -214,7 +214,7 @@ impl DataScan {
     fn head_byte(&mut self, due: Due, byte: u8)
         requires stage { self.old.stage ≡ DataStage.Head due }
         requires room { self.old.count < 2 ^ 63 - 1 }
-        ensures { HasTaken self.old self.new (byte ∷ []) }
+        ensures { TakesRun self.old self.new (byte ∷ []) }
     {
         self.count += 1;
         self.head.step(byte);
@@ -235,7 +235,7 @@ impl DataScan {
         requires begins { self.old.offset ≡ self.old.count }
         requires whole { head_front run.now ≡ Whole head (length run.now) }
         requires room { self.old.count + length run.now ≤ 2 ^ 63 - 1 }
-        ensures { HasTaken self.old self.new run.now }
+        ensures { TakesRun self.old self.new run.now }
     {
         self.count += run.len() as u64;
         self.take_head(due, run.len() as u64, head);
@@ -247,7 +247,7 @@ impl DataScan {
         ensures size { scan_size self.new ≡ scan_size self.old }
         ensures seen { (kind : DataKind) (seen : List ℕ)
             → HasSeenHead kind due self.old.draft self.old.offset self.old.count seen
-            → IsLongAt (DataStage.Head due) self.old.long self.old.offset seen
+            → IsFirstLong (DataStage.Head due) self.old.long self.old.offset seen
             → head_front (drop self.old.offset seen) ≡ Whole head (length (drop self.old.offset seen))
             → size ≡ length (drop self.old.offset seen)
             → HasScannedHead self.old.head []
@@ -274,7 +274,7 @@ impl DataScan {
         requires some { 0 < length run.now }
         requires within { length run.now ≤ left }
         requires room { self.old.count + length run.now ≤ 2 ^ 63 - 1 }
-        ensures { HasTaken self.old self.new run.now }
+        ensures { TakesRun self.old self.new run.now }
     {
         self.stage = self.draft.name(owner, left, run);
         self.count += run.len() as u64;
@@ -287,7 +287,7 @@ impl DataScan {
         requires stage { self.old.stage ≡ DataStage.Read found }
         requires some { 0 < length run.now }
         requires room { self.old.count + length run.now ≤ 2 ^ 63 - 1 }
-        ensures { HasTaken self.old self.new run.now }
+        ensures { TakesRun self.old self.new run.now }
     {
         self.count += run.len() as u64;
         if found.may_follow() {

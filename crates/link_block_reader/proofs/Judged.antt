@@ -5,7 +5,7 @@ use Rattle.link_bundle_blocks.specs.Bundle.{bundle_goes}
 use Rattle.link_bundle.specs.Scan.{HasScanned, HasJudged, may_scan}
 use Rattle.link_bundle.specs.declared.scan.BundleScan.{BundleScan}
 use Rattle.link_bundle.proofs.Pieces.{verdict_judged}
-use Rattle.link_block_reader.specs.{DataReader.IsReading, declared.data.DataReader.DataReader}
+use Rattle.link_block_reader.specs.{DataReader.IsDataReaderAt, declared.data.DataReader.DataReader}
 use Rattle.link_block_reader.proofs.Reading.{read_end}
 
 -- ---- a scan that has judged some bytes
@@ -34,8 +34,8 @@ joined_rest content piece count =
 
 -- no more blocks come in the rest, or there is none
 pub rest_read : (reader : DataReader) (bytes rest : List ℕ)
-    → (bundle_goes bytes ≡ false) ⊎ (rest ≡ []) → IsReading reader bytes
-    → IsReading reader (bytes ++ rest)
+    → (bundle_goes bytes ≡ false) ⊎ (rest ≡ []) → IsDataReaderAt reader bytes
+    → IsDataReaderAt reader (bytes ++ rest)
 rest_read reader bytes rest ends reading = ⊎_elim
     (λ stops. read_end reader bytes rest reading stops)
     (λ none. rw none (rw (append-nil bytes) reading))

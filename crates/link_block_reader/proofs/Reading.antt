@@ -9,7 +9,7 @@ use Rattle.link_bundle.specs.declared.scan.BundleScan.{BundleScan}
 use Rattle.link_bundle_blocks.proofs.Lying.{BlocksWithin-holds}
 use Rattle.link_bundle_blocks.proofs.Showing.{BlocksEnd-holds, BlockPlaced-holds}
 use Rattle.link_bundle.proofs.Verdicts.{no_cut}
-use Rattle.link_block_reader.specs.{Found.flags_after, DataReader.{IsReading, IsReadingBlock}}
+use Rattle.link_block_reader.specs.{Found.flags_after, DataReader.{IsDataReaderAt, IsDataReaderIn}}
 use Rattle.link_block_reader.specs.declared.data.DataReader.{DataReader}
 use Rattle.link_block_reader.proofs.Grown.{all_first, all_rest, goes_stops, no_blocks}
 
@@ -17,10 +17,10 @@ use Rattle.link_block_reader.proofs.Grown.{all_first, all_rest, goes_stops, no_b
 
 -- the reader has read what comes before a run of the next block's data
 pub placed : (reader : DataReader) (seen run : List ℕ) (new : List Block) (block : CanonicalBlock)
-    → IsReading reader seen → bundle_goes seen ≡ true
+    → IsDataReaderAt reader seen → bundle_goes seen ≡ true
     → blocks_in (seen ++ run) ≡ blocks_in seen ++ new
     → next_of new (cut_block_in (seen ++ run)) ≡ Some block → block.data_start < length seen
-    → IsReadingBlock reader seen block
+    → IsDataReaderIn reader seen block
 placed reader seen run new block reading goes grown comes before =
     ⊎_elim
     (λ (cut : cut_block_in seen ≡ Some block). reading.at_cut goes block cut)
@@ -41,7 +41,7 @@ pub read_whole : (reader : DataReader) (scan : BundleScan) (flags : ℕ) (seen r
     (block : Block) → flags ≡ fold flags_after 0 (blocks_in seen)
     → HasScanned scan (seen ++ run) → blocks_in (seen ++ run) ≡ blocks_in seen ++ ending scan
     → ending scan ≡ block ∷ [] → reader.flags ≡ flags_after flags block
-    → IsReading reader (seen ++ run)
+    → IsDataReaderAt reader (seen ++ run)
 read_whole reader scan flags seen run block was come grown ends is = record {
   flags = is ∙ flags_more flags seen run _ was (rw ends at grown);
   at_cut = λ goes cut_block cut.
@@ -57,16 +57,16 @@ pub read_on : (reader : DataReader) (flags : ℕ) (seen run : List ℕ)
     → blocks_in (seen ++ run) ≡ blocks_in seen ++ []
     → reader.flags ≡ flags
     → ((block : CanonicalBlock) → cut_block_in (seen ++ run) ≡ Some block
-    → IsReadingBlock reader (seen ++ run) block)
-    → IsReading reader (seen ++ run)
+    → IsDataReaderIn reader (seen ++ run) block)
+    → IsDataReaderAt reader (seen ++ run)
 read_on reader flags seen run was grown is at_cut = record {
   flags = is ∙ flags_more flags seen run [] was grown;
   at_cut = λ goes block cut. at_cut block cut;
 }
 
 -- no more blocks come
-pub read_end : (reader : DataReader) (content more : List ℕ) → IsReading reader content
-    → bundle_goes content ≡ false → IsReading reader (content ++ more)
+pub read_end : (reader : DataReader) (content more : List ℕ) → IsDataReaderAt reader content
+    → bundle_goes content ≡ false → IsDataReaderAt reader (content ++ more)
 read_end reader content more reading stops = record {
   flags = rw (BlocksEnd-holds content more stops) reading.flags;
   at_cut = λ goes block cut. absurd (false≢true (sym (goes_stops content more stops) ∙ goes));
@@ -78,7 +78,7 @@ none_cut block cut = cc
 
 -- nothing is read of no bundle
 pub read_none : (reader : DataReader) → reader.flags ≡ 0
-    → ((block : CanonicalBlock) → cut_block_in [] ≡ Some block → ⊥) → IsReading reader []
+    → ((block : CanonicalBlock) → cut_block_in [] ≡ Some block → ⊥) → IsDataReaderAt reader []
 read_none reader is none = record {
   flags = rw no_blocks is;
   at_cut = λ goes block cut. absurd (none block cut);

@@ -18,14 +18,14 @@ read_size now = size_by now.kind now.scan
 
 -- the reader has read the bytes of this block's data that are in `seen`, the bytes of the bundle so
 -- far
-pub record IsReadingBlock (now : DataReader) (seen : List ℕ) (block : CanonicalBlock) : Type 0 where
+pub record IsDataReaderIn (now : DataReader) (seen : List ℕ) (block : CanonicalBlock) : Type 0 where
   pub kind : now.kind ≡ kind_of now.flags block.block_type
   pub scanned : (kind : DataKind) → now.kind ≡ Some kind
       → HasScanned kind now.scan (data_in seen block)
 
 -- The reader has the flags of the bundle, if its primary block is whole. If the bytes end inside
 -- the data of a block, the reader has read the data so far.
-pub record IsReading (now : DataReader) (seen : List ℕ) : Type 0 where
+pub record IsDataReaderAt (now : DataReader) (seen : List ℕ) : Type 0 where
   pub flags : now.flags ≡ fold flags_after 0 (blocks_in seen)
   pub at_cut : bundle_goes seen ≡ true → (block : CanonicalBlock)
-      → cut_block_in seen ≡ Some block → IsReadingBlock now seen block
+      → cut_block_in seen ≡ Some block → IsDataReaderIn now seen block

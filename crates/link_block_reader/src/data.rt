@@ -8,7 +8,7 @@ ghost use Rattle.link_block_data.specs.declared.kind.DataKind.{DataKind};
 ghost use Rattle.link_block_report.specs.Fits.{HasFittingWords};
 ghost use Rattle.link_block_report.specs.Kinds.{kind_of};
 ghost use Rattle.link_block_reader.specs.Found.{found_in, long_head_in};
-ghost use Rattle.link_block_reader.specs.DataReader.{IsReading, IsReadingBlock, read_size};
+ghost use Rattle.link_block_reader.specs.DataReader.{IsDataReaderAt, IsDataReaderIn, read_size};
 
 use link_block_data::{DataFault, DataKind, DataScan, DataView};
 use link_block_report::data_kind;
@@ -44,7 +44,7 @@ impl DataReader {
 
     /// Begins another bundle.
     pub fn restart(&mut self)
-        ensures reads { IsReading self.new [] }
+        ensures reads { IsDataReaderAt self.new [] }
         ensures size { read_size self.new ≡ 0 }
     {
         self.flags = 0;
@@ -72,8 +72,8 @@ impl DataReader {
         requires room { before + length run.now < 2 ^ 63 }
         requires size { read_size self.old ≤ before }
         ensures reads { (seen : List ℕ) → length seen ≡ before
-            → (block.now.data_start < before → IsReadingBlock self.old seen block.now)
-            → IsReadingBlock self.new (seen ++ run.now) block.now }
+            → (block.now.data_start < before → IsDataReaderIn self.old seen block.now)
+            → IsDataReaderIn self.new (seen ++ run.now) block.now }
         ensures size { read_size self.new ≤ before + length run.now }
         ensures flags { self.new.flags ≡ self.old.flags }
     {
@@ -99,16 +99,16 @@ impl DataReader {
         requires ended { ending scan.now ≡ viewed_block ended.now ∷ [] }
         ensures size { read_size self.new ≤ before + length run.now }
         ensures flags { self.new.flags ≡ fold flags_after self.old.flags (ending scan.now) }
-        ensures reads { (seen : List ℕ) → length seen ≡ before → IsReading self.old seen
+        ensures reads { (seen : List ℕ) → length seen ≡ before → IsDataReaderAt self.old seen
             → bundle_goes seen ≡ true
             → HasScannedBundle scan.now (seen ++ run.now)
             → blocks_in (seen ++ run.now) ≡ blocks_in seen ++ ending scan.now
-            → IsReading self.new (seen ++ run.now) }
+            → IsDataReaderAt self.new (seen ++ run.now) }
         ensures whole { (seen : List ℕ) (block : CanonicalBlock) → length seen ≡ before
-            → IsReading self.old seen → bundle_goes seen ≡ true
+            → IsDataReaderAt self.old seen → bundle_goes seen ≡ true
             → blocks_in (seen ++ run.now) ≡ blocks_in seen ++ ending scan.now
             → ending scan.now ≡ CanonicalOf block ∷ []
-            → IsReadingBlock self.new (seen ++ run.now) block }
+            → IsDataReaderIn self.new (seen ++ run.now) block }
     {
         match ended {
             BlockView::Primary(block) => self.flags = block.flags,
@@ -124,11 +124,11 @@ impl DataReader {
         requires size { read_size self.old ≤ before }
         ensures size { read_size self.new ≤ before + length run.now }
         ensures flags { self.new.flags ≡ self.old.flags }
-        ensures reads { (seen : List ℕ) → length seen ≡ before → IsReading self.old seen
+        ensures reads { (seen : List ℕ) → length seen ≡ before → IsDataReaderAt self.old seen
             → bundle_goes seen ≡ true
             → HasScannedBundle scan.now (seen ++ run.now)
             → blocks_in (seen ++ run.now) ≡ blocks_in seen
-            → IsReading self.new (seen ++ run.now) }
+            → IsDataReaderAt self.new (seen ++ run.now) }
     {
         if let Some(block) = scan.cut_block() {
             self.take(&block, before, run);
@@ -139,7 +139,7 @@ impl DataReader {
     #[inline(always)]
     pub fn found(&self) -> Option<Result<DataView<'_>, DataFault>>
         ensures found { (seen : List ℕ) (block : CanonicalBlock)
-            → IsReadingBlock self.now seen block
+            → IsDataReaderIn self.now seen block
             → option_map viewed_result result ≡ found_in self.now.flags seen block }
         ensures fits { (start : ℕ) → start + read_size self.now < 2 ^ 64
             → HasFittingWords start (option_map viewed_result result) }
@@ -154,7 +154,7 @@ impl DataReader {
     /// needs, of the heads that are read.
     pub fn long_head(&self) -> Option<u64>
         ensures found { (seen : List ℕ) (block : CanonicalBlock)
-            → IsReadingBlock self.now seen block
+            → IsDataReaderIn self.now seen block
             → result ≡ long_head_in self.now.flags seen block }
         ensures within { IfSome result (λ at. at ≤ read_size self.now) }
     {

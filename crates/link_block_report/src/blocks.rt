@@ -4,7 +4,7 @@ ghost use Rattle.std.specs.Prelude.{◌≡◌, ◌+◌, ◌≤◌, ◌++◌, len
 ghost use Rattle.link_bundle_blocks.specs.Blocks.{viewed_primary, HasShortEids};
 ghost use Rattle.link_block_data.specs.DataView.{viewed_result};
 ghost use Rattle.link_report.specs.Judgement.{viewed_judgement};
-ghost use Rattle.link_report.specs.Written.{Wrote};
+ghost use Rattle.link_report.specs.Written.{PutsText};
 ghost use Rattle.link_block_report.specs.Blocks.{primary_start_text, primary_rest_text, fields_text, block_text, end_text};
 ghost use Rattle.link_block_report.specs.Fits.{HasShortEids-prop, HasFittingWords, HasFittingWords-prop};
 
@@ -116,7 +116,7 @@ fn write_primary_rest(page: &mut [u8], at: usize, block: &PrimaryBlock<'_>) -> u
 #[inline(always)]
 fn write_fields(page: &mut [u8], at: usize, block: &CanonicalBlock) -> usize
     requires { at + FIELDS_MAX ≤ length page.old }
-    ensures { Wrote page.old page.new at result FIELDS_MAX (fields_text block.now) }
+    ensures { PutsText page.old page.new at result FIELDS_MAX (fields_text block.now) }
 {
     let at = write_number(page, at, *b" block ", block.number);
     let at = write_number(page, at, *b" at=", block.start);
@@ -132,7 +132,7 @@ fn write_fields(page: &mut [u8], at: usize, block: &CanonicalBlock) -> usize
 #[inline(never)]
 fn write_block(page: &mut [u8], at: usize, line: &BlockText<'_>) -> usize
     requires { at + TEXT_MAX ≤ length page.old }
-    ensures { Wrote page.old page.new at result TEXT_MAX
+    ensures { PutsText page.old page.new at result TEXT_MAX
         (block_text line.now.id line.now.block.now (option_map viewed_result line.now.found)) }
 {
     let block = line.block;

@@ -3,7 +3,7 @@
 //! Each call returns the index after its text.
 
 ghost use Rattle.std.specs.Prelude.{◌≡◌, ◌+◌, ◌<◌, ◌≤◌, ◌++◌, length, take, codes};
-ghost use Rattle.link_report.specs.Written.{Wrote};
+ghost use Rattle.link_report.specs.Written.{PutsText};
 ghost use Rattle.link_block_report.specs.Fields.{significant, flags_text, check_text, control_text, type_text, length_to};
 
 use link_cbor::CheckKind;
@@ -33,7 +33,7 @@ fn significant(bytes: &[u8]) -> &[u8]
 #[tactic(auto, unfolding(crate::specs::Fields::flags_text))]
 fn write_long_flags(page: &mut [u8], at: usize, flags: u64) -> usize
     requires { at + 16 ≤ length page.old }
-    ensures { Wrote page.old page.new at result 16 (flags_text flags) }
+    ensures { PutsText page.old page.new at result 16 (flags_text flags) }
 {
     let bytes = flags.to_be_bytes();
     let kept = significant(&bytes);
@@ -63,7 +63,7 @@ pub fn write_flags(page: &mut [u8], at: usize, flags: u64) -> usize
 #[inline(always)]
 fn write_check(page: &mut [u8], at: usize, check: Option<CheckKind>) -> usize
     requires { at + 13 ≤ length page.old }
-    ensures { Wrote page.old page.new at result 13 (codes " check=" ++ check_text check) }
+    ensures { PutsText page.old page.new at result 13 (codes " check=" ++ check_text check) }
 {
     match check {
         None => write_bytes(page, at, *b" check=none"),
@@ -82,7 +82,7 @@ pub(crate) fn write_control(
     check: Option<CheckKind>,
 ) -> usize
     requires { at + CONTROL_MAX ≤ length page.old }
-    ensures { Wrote page.old page.new at result CONTROL_MAX (control_text flags check) }
+    ensures { PutsText page.old page.new at result CONTROL_MAX (control_text flags check) }
 {
     let at = write_bytes(page, at, *b" flags=");
     let at = write_flags(page, at, flags);

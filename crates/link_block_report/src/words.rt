@@ -7,7 +7,7 @@ ghost use Rattle.link_block_data.specs.DataView.{viewed_data, viewed_result, Has
 ghost use Rattle.link_report.specs.Eid.{eid_text};
 ghost use Rattle.link_report.specs.Reason.{name_in};
 ghost use Rattle.link_report.specs.Text.{number_text};
-ghost use Rattle.link_report.specs.Written.{Wrote};
+ghost use Rattle.link_report.specs.Written.{PutsText};
 ghost use Rattle.link_block_report.specs.Fields.{flags_text};
 ghost use Rattle.link_block_report.specs.Fits.{HasFittingWords};
 ghost use Rattle.link_block_report.specs.Words.{report_names, integer_text, context_text, assertion_text, statuses_text, subject_fragment, subject_text, data_text, words_text};
@@ -79,7 +79,7 @@ fn write_next(page: &mut [u8], at: usize, number: u64) -> usize
 #[tactic(auto, unfolding(crate::specs::Words::integer_text))]
 pub fn write_integer(page: &mut [u8], at: usize, number: Integer) -> usize
     requires { at + 21 ≤ length page.old }
-    ensures { Wrote page.old page.new at result 21 (integer_text number) }
+    ensures { PutsText page.old page.new at result 21 (integer_text number) }
 {
     if !number.negative {
         return write_decimal(page, at, number.argument);
@@ -111,7 +111,8 @@ fn write_assertion<const N: usize>(
     assertion: Assertion,
 ) -> usize
     requires { at + N + 20 ≤ length page.old }
-    ensures { Wrote page.old page.new at result (N + 20) (label.entry ++ assertion_text assertion) }
+    ensures { PutsText page.old page.new at result (N + 20)
+        (label.entry ++ assertion_text assertion) }
 {
     let at = write_bytes(page, at, label);
     match assertion {
@@ -192,7 +193,7 @@ fn write_report(page: &mut [u8], at: usize, report: &Report, source: &EidView<'_
 fn write_security(page: &mut [u8], at: usize, block: &SecurityBlock, source: &EidView<'_>) -> usize
     requires short { IsShort (viewed_eid source.now) }
     requires room { at + WORDS_MAX ≤ length page.old }
-    ensures { Wrote page.old page.new at result WORDS_MAX
+    ensures { PutsText page.old page.new at result WORDS_MAX
         (number_text (codes " targets=") block.now.targets ++ context_text block.now
         ++ codes " source=" ++ eid_text (viewed_eid source.now)) }
 {
@@ -208,7 +209,7 @@ fn write_security(page: &mut [u8], at: usize, block: &SecurityBlock, source: &Ei
 fn write_data(page: &mut [u8], at: usize, found: &DataView<'_>) -> usize
     requires short { HasShortName (viewed_data found.now) }
     requires room { at + WORDS_MAX ≤ length page.old }
-    ensures { Wrote page.old page.new at result WORDS_MAX (data_text (viewed_data found.now)) }
+    ensures { PutsText page.old page.new at result WORDS_MAX (data_text (viewed_data found.now)) }
 {
     match found {
         DataView::PreviousNode(node) => {
@@ -242,7 +243,7 @@ pub fn write_words(
 ) -> usize
     requires fits { HasFittingWords data_start (option_map viewed_result found.now) }
     requires room { at + WORDS_MAX ≤ length page.old }
-    ensures { Wrote page.old page.new at result WORDS_MAX
+    ensures { PutsText page.old page.new at result WORDS_MAX
         (words_text data_start (option_map viewed_result found.now)) }
 {
     match found {

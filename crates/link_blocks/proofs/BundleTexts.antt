@@ -7,7 +7,7 @@ use Rattle.link_block_report.specs.Blocks.{end_text}
 use Rattle.link_run.specs.{Run.no_texts, Writers.{on_output, AfterWrite}}
 use Rattle.link_run.specs.declared.writers.Writers.{Writers}
 use Rattle.link_bundle_walk.specs.Bundles.{Packed}
-use Rattle.link_bundle_walk.specs.Telling.{SoFar, none_yet, between, with_bytes, with_run, Tells}
+use Rattle.link_bundle_walk.specs.Telling.{SoFar, none_yet, between, with_bytes, with_run, WritesRest}
 use Rattle.link_bundle_walk.proofs.Told.{told_after, told_then, told_part}
 use Rattle.link_judge.proofs.Counts.{on_ok}
 use Rattle.link_blocks.specs.BlockLines.{block_lines}
@@ -72,15 +72,15 @@ module _ (before : SoFar) (run : List ℕ) (number : ℕ)
       {old new : Writers W E} where
     -- the bundle goes on
     pub told_on : {result : Result (Unit {0}) IoFault}
-        → Tells out_look report_look (on_output had) (on_output due) P old new result
-        → Tells out_look report_look (bundle_blocks_telling.texts before)
+        → WritesRest out_look report_look (on_output had) (on_output due) P old new result
+        → WritesRest out_look report_look (bundle_blocks_telling.texts before)
         (bundle_blocks_telling.texts (with_bytes before run)) P old new result
     told_on told = rw numbered at (told_after told (on_output front))
 
     -- the bundle is whole, and a writer failed in the lines of its blocks
     pub told_lost : {Q : Type 0} (info : BundleInfo) {fault : IoFault}
-        → Tells out_look report_look (on_output had) (on_output due) P old new (Err fault)
-        → Tells out_look report_look (bundle_blocks_telling.texts before)
+        → WritesRest out_look report_look (on_output had) (on_output due) P old new (Err fault)
+        → WritesRest out_look report_look (bundle_blocks_telling.texts before)
         (bundle_blocks_telling.texts (ended info)) Q old new (Err fault)
     told_lost info told =
         rw (all_lines info, ← numbered)
@@ -88,9 +88,9 @@ module _ (before : SoFar) (run : List ℕ) (number : ℕ)
 
     -- the bundle is whole, and has the line of its end
     pub told_whole : {Q : Type 0} (info : BundleInfo) {mid : Writers W E} {result : Result (Unit {0}) IoFault}
-        → Tells out_look report_look (on_output had) (on_output due) P old mid (Ok tt)
+        → WritesRest out_look report_look (on_output had) (on_output due) P old mid (Ok tt)
         → AfterWrite out_look report_look mid new (on_output (end info)) result → Q
-        → Tells out_look report_look (bundle_blocks_telling.texts before)
+        → WritesRest out_look report_look (bundle_blocks_telling.texts before)
         (bundle_blocks_telling.texts (ended info)) Q old new result
     told_whole info {result = result} told wrote known =
         rw (all_lines info, ← numbered)

@@ -10,9 +10,9 @@ use Rattle.link_run.specs.Run.{Texts, no_texts, ◌then◌}
 use Rattle.link_run.specs.Writers.{on_output, on_report, AfterWrite}
 use Rattle.link_run.specs.declared.writers.Writers.{Writers}
 use Rattle.link_run.proofs.Runs.{texts_as}
-use Rattle.link_bundle_walk.specs.Telling.{Tells as TellsText}
+use Rattle.link_bundle_walk.specs.Telling.{WritesRest as TellsText}
 use Rattle.link_walk.specs.Walk.{Head, WalkEvent, MessageHead, closes as closes_head, is_last, is_beginning, open_with, open_after_event, data_size, has_open, abandons}
-use Rattle.link_walk.specs.Telling.{ComesAfter, Tells, data_ends}
+use Rattle.link_walk.specs.Telling.{HeadComes, Tells, data_ends}
 use Rattle.link_judge.specs.{Transfers.{Transfer, closes, continued}, TransferJudge.{begun, grown}}
 use Rattle.link_judge.specs.Unpacking.{order_line, Told, good_due, transfers_at, told_event, told_after}
 use Rattle.link_judge.proofs.Counts.{size_then, open_then, size_with_data, open_with_data}
@@ -20,9 +20,9 @@ use Rattle.link_judge.proofs.Effects.{abandons_open, zero_eq, Does, Strays, Pass
 use Rattle.link_judge.proofs.Events.{open_is, told_push, data_after, told_none, whole_if}
 use Rattle.link_judge.proofs.Heads.{transfers_same, transfer_begins, transfer_continues}
 use Rattle.link_judge.proofs.Judging.{judging_same}
-use Rattle.link_blocks.specs.Lister.{IsAtLatest, KnowsShown, end_due}
+use Rattle.link_blocks.specs.Lister.{IsTransferBlocksAtLatest, IsBlockListerAt, end_due}
 use Rattle.link_blocks.specs.Showing.{transfer_lines, lines_of, order_line_of, unpacking_by, blocks_telling}
-use Rattle.link_blocks.specs.{TransferBlocks.IsShowing, declared.lister.BlockLister.BlockLister}
+use Rattle.link_blocks.specs.{TransferBlocks.IsTransferBlocksAt, declared.lister.BlockLister.BlockLister}
 use Rattle.link_options.specs.declared.blocks.BlockOptions.{BlockOptions}
 use Rattle.link_blocks.specs.declared.transfer.TransferBlocks.{TransferBlocks}
 use Rattle.link_blocks.proofs.Ended.{lines_of-more, ended_lines, head_lines}
@@ -32,8 +32,8 @@ use Rattle.link_blocks.proofs.Ended.{lines_of-more, ended_lines, head_lines}
 module _ (only : Option ℕ) where
   -- the latest transfer is continued without data
   continued_at : (now : TransferBlocks) (transfers : List Transfer) (closed is_open : Bool)
-      → is_open ≡ not closed → IsAtLatest only now true transfers
-      → IsAtLatest only now is_open (continued transfers [] closed)
+      → is_open ≡ not closed → IsTransferBlocksAtLatest only now true transfers
+      → IsTransferBlocksAtLatest only now is_open (continued transfers [] closed)
   continued_at now transfers closed is_open is at = record {
     transfer = grown at.transfer [] closed;
     earlier = at.earlier;
@@ -48,13 +48,13 @@ module _ (only : Option ℕ) where
   -- what is known of the latest transfer after a head, which may close it
   pub record AtHead (now : TransferBlocks) (transfers : List Transfer) (effect : Option Turn)
       (closing opened : Bool) : Type 0 where
-    pub closed : closing ≡ true → IsAtLatest only now false transfers
-    pub opens : open_with effect closing opened ≡ true → IsAtLatest only now true transfers
+    pub closed : closing ≡ true → IsTransferBlocksAtLatest only now false transfers
+    pub opens : open_with effect closing opened ≡ true → IsTransferBlocksAtLatest only now true transfers
 
   -- the head's segment is in the latest transfer, which it closes or not
   at_segment : (now : TransferBlocks) (transfers : List Transfer) (effect : Option Turn)
       (closing opened : Bool) → open_with effect closing opened ≡ not closing
-      → ((is_open : Bool) → is_open ≡ not closing → IsAtLatest only now is_open transfers)
+      → ((is_open : Bool) → is_open ≡ not closing → IsTransferBlocksAtLatest only now is_open transfers)
       → AtHead now transfers effect closing opened
   at_segment now transfers effect closing opened goes at = record {
     closed = λ is. at false (sym (ap not is));
@@ -63,10 +63,10 @@ module _ (only : Option ℕ) where
 
   pub at_head : (before now : TransferBlocks) (transfers : List Transfer) (effect : Option Turn)
       (sent : Message) (opened : Bool) → Does effect sent opened
-      → (opened ≡ true → IsAtLatest only before true transfers)
+      → (opened ≡ true → IsTransferBlocksAtLatest only before true transfers)
       → ((first : SegmentHead) (closed : Bool) → is_beginning effect ≡ true
       → sent ≡ message.Segment first → is_start first.flags ≡ true
-      → IsShowing only now (begun first closed))
+      → IsTransferBlocksAt only now (begun first closed))
       → (is_beginning effect ≡ false → now ≡ before)
       → AtHead now (transfers_at effect transfers sent) effect
       (is_last effect && (data_length sent == 0)) opened
@@ -113,8 +113,8 @@ module _ (options : BlockOptions) (before : List WalkEvent) where
     pub known : (now : BlockLister) → now.latest.judge.size ≤ data_size before
         → now.good ≡ next.good
         → (open_after_event (has_open before) event ≡ true
-        → IsAtLatest options.only now.latest true next.transfers)
-        → KnowsShown options now (before ++ event ∷ [])
+        → IsTransferBlocksAtLatest options.only now.latest true next.transfers)
+        → IsBlockListerAt options now (before ++ event ∷ [])
     known now size good at_open = record {
       size = omega (arith, size_then before event);
       good = rw next_is good;
@@ -128,8 +128,8 @@ module _ (options : BlockOptions) (before : List WalkEvent) where
         ≡ lines_of options.only (has_open before) was.transfers ++ texts.output
         → order_line_of event ≡ texts.report
         → AfterWrite out_look report_look old new texts result
-        → OnOk result (KnowsShown options now (before ++ event ∷ []))
-        → Tells out_look report_look (blocks_telling options) (KnowsShown options now) before
+        → OnOk result (IsBlockListerAt options now (before ++ event ∷ []))
+        → Tells out_look report_look (blocks_telling options) (IsBlockListerAt options now) before
         (event ∷ []) old new result
     tells now texts lines orders wrote knows = record {
       texts = texts;
@@ -143,8 +143,8 @@ module _ (options : BlockOptions) (before : List WalkEvent) where
   -- ---- data of the open transfer, which may be the last of it
 
   module _ (bytes : List ℕ) (whole : Bool) (old : BlockLister)
-      (knows : KnowsShown options old before) (opened : has_open before ≡ true) where
-    abbrev pub at : IsAtLatest options.only old.latest true was.transfers
+      (knows : IsBlockListerAt options old before) (opened : has_open before ≡ true) where
+    abbrev pub at : IsTransferBlocksAtLatest options.only old.latest true was.transfers
     at = knows.at_open opened
 
     abbrev new : Transfer
@@ -153,9 +153,9 @@ module _ (options : BlockOptions) (before : List WalkEvent) where
     abbrev pub data_transfers : List Transfer
     data_transfers = new ∷ at.earlier
 
-    pub data_latest : (now : TransferBlocks) → IsShowing options.only now new
+    pub data_latest : (now : TransferBlocks) → IsTransferBlocksAt options.only now new
         → {is_open : Bool} → is_open ≡ not whole
-        → IsAtLatest options.only now is_open data_transfers
+        → IsTransferBlocksAtLatest options.only now is_open data_transfers
     data_latest now shows is = record {
       transfer = new;
       earlier = at.earlier;
@@ -177,8 +177,8 @@ module _ (options : BlockOptions) (before : List WalkEvent) where
     pub data_known : (now : BlockLister)
         → now.latest.judge.size ≤ old.latest.judge.size + length bytes
         → now.good ≡ (old.good && good_due whole data_transfers)
-        → IsShowing options.only now.latest new
-        → KnowsShown options now (before ++ data_ends bytes whole)
+        → IsTransferBlocksAt options.only now.latest new
+        → IsBlockListerAt options now (before ++ data_ends bytes whole)
     data_known now size good shows = record {
       size = omega (arith, size_with_data before bytes whole, knows.size);
       good = rw data_next (good ∙ ap (λ g. g && good_due whole data_transfers) knows.good);
@@ -190,8 +190,8 @@ module _ (options : BlockOptions) (before : List WalkEvent) where
         → TellsText out_look report_look (on_output (transfer_lines options.only true at.transfer))
         (on_output (transfer_lines options.only true new
         ++ end_due options.only whole data_transfers))
-        (KnowsShown options now (before ++ data_ends bytes whole)) from to result
-        → Tells out_look report_look (blocks_telling options) (KnowsShown options now) before
+        (IsBlockListerAt options now (before ++ data_ends bytes whole)) from to result
+        → Tells out_look report_look (blocks_telling options) (IsBlockListerAt options now) before
         (data_ends bytes whole) from to result
     data_tells now told = record {
       texts = told.texts;
@@ -233,20 +233,20 @@ head_texts options told head =
     then on_report (order_line head.offset head.fault))
 
 module _ (options : BlockOptions) (before : List WalkEvent) (head : Head)
-    (comes : ComesAfter before head) where
+    (comes : HeadComes before head) where
   abbrev had : Told
   had = told_after (unpacking_by options) before
 
   -- a head that abandons a transfer comes while it is open
-  pub abandons_at : {old : BlockLister} → KnowsShown options old before → abandons head.turn ≡ true
-      → IsAtLatest options.only old.latest true had.transfers
+  pub abandons_at : {old : BlockLister} → IsBlockListerAt options old before → abandons head.turn ≡ true
+      → IsTransferBlocksAtLatest options.only old.latest true had.transfers
   abandons_at knows some = knows.at_open (abandons_open _ _ _ (comes_does before head comes) some)
 
   pub head_tells : {W E : Type 0} {out_look : W → Output} {report_look : E → Output}
       {old new : Writers W E} {result : Result (Unit {0}) IoFault} (now : BlockLister)
       → AfterWrite out_look report_look old new (head_texts options had head) result
-      → OnOk result (KnowsShown options now (before ++ MessageHead head ∷ []))
-      → Tells out_look report_look (blocks_telling options) (KnowsShown options now) before
+      → OnOk result (IsBlockListerAt options now (before ++ MessageHead head ∷ []))
+      → Tells out_look report_look (blocks_telling options) (IsBlockListerAt options now) before
       (MessageHead head ∷ []) old new result
   head_tells now wrote knows =
       tells options before (MessageHead head) now (head_texts options had head)
@@ -255,14 +255,14 @@ module _ (options : BlockOptions) (before : List WalkEvent) (head : Head)
       (comes_does before head comes)))
       refl wrote knows
 
-  pub head_known : (old now : BlockLister) → KnowsShown options old before
+  pub head_known : (old now : BlockLister) → IsBlockListerAt options old before
       → now.latest.judge.size ≤ old.latest.judge.size
       → now.good ≡ (((old.good && good_due (abandons head.turn) had.transfers)
       && good_due (closes_head head) (transfers_at head.turn had.transfers head.message))
       && not (is_some head.fault))
       → AtHead options.only now.latest (transfers_at head.turn had.transfers head.message) head.turn
       (closes_head head) (has_open before)
-      → KnowsShown options now (before ++ MessageHead head ∷ [])
+      → IsBlockListerAt options now (before ++ MessageHead head ∷ [])
   head_known old now knows size good at =
       known options before (MessageHead head) now (omega (arith, size, knows.size))
       (rw (← knows.good) (good ∙ good_after old.good _ _ _))
@@ -275,7 +275,7 @@ unfolding told_after lines_of
 says_nothing options = refl
 
 pub knows_nothing : (options : BlockOptions) (now : BlockLister) → now.latest.judge.size ≡ 0
-    → now.good ≡ true → KnowsShown options now []
+    → now.good ≡ true → IsBlockListerAt options now []
 unfolding data_size has_open
 knows_nothing options now size good = record {
   size = omega arith;

@@ -1,12 +1,14 @@
 -- Relations: what is known about the latest transfer.
 use Rattle.std.specs.Prelude.{◌≡◌, ℕ, true, Option}
 use Rattle.link_judge.specs.Transfers.{Transfer}
-use Rattle.link_judge.specs.TransferJudge.{IsJudging}
+use Rattle.link_judge.specs.TransferJudge.{IsTransferJudgeAt}
 use Rattle.link_judge.specs.Unpacking.{is_selected}
-use Rattle.link_block_reader.specs.DataReader.{IsReading}
+use Rattle.link_block_reader.specs.DataReader.{IsDataReaderAt}
 use Rattle.link_blocks.specs.declared.transfer.TransferBlocks.{TransferBlocks}
 
 -- the judge is at this transfer, and its data is read if it is selected
-pub record IsShowing (only : Option ℕ) (now : TransferBlocks) (transfer : Transfer) : Type 0 where
-  pub judging : IsJudging now.judge transfer
-  pub reading : is_selected only transfer.first.id ≡ true → IsReading now.reader transfer.content
+pub record IsTransferBlocksAt (only : Option ℕ) (now : TransferBlocks)
+    (transfer : Transfer) : Type 0 where
+  pub judging : IsTransferJudgeAt now.judge transfer
+  pub reading : is_selected only transfer.first.id ≡ true
+      → IsDataReaderAt now.reader transfer.content

@@ -3,7 +3,7 @@
 ghost use Rattle.std.specs.Prelude.{◌≡◌, ◌^◌, ◌<◌, List, ℕ};
 ghost use Rattle.link_bundle_blocks.specs.Blocks.{viewed_primary, HasShortEids};
 ghost use Rattle.link_block_report.specs.Blocks.{primary_text, block_text};
-ghost use Rattle.link_block_reader.specs.DataReader.{IsReadingBlock, read_size};
+ghost use Rattle.link_block_reader.specs.DataReader.{IsDataReaderIn, read_size};
 ghost use Rattle.link_block_reader.specs.Found.{found_in};
 ghost use Rattle.link_run.specs.Writers.{AfterWrite, on_output};
 
@@ -73,7 +73,7 @@ fn write_canonical<W: OutDevice, E: OutDevice>(
 ) -> Result<(), IoFault>
     requires { read_size reader.now < 2 ^ 63 }
     ensures { (seen : List ℕ) → block.now.data_start < 2 ^ 63
-        → IsReadingBlock reader.now seen block.now
+        → IsDataReaderIn reader.now seen block.now
         → AfterWrite W.state E.state writers.old writers.new (on_output (block_text id block.now
         (found_in reader.now.flags seen block.now))) result }
 {

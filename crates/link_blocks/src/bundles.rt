@@ -8,7 +8,7 @@ ghost use Rattle.link_run.specs.Run.{devices, looks, NoneFailed};
 ghost use Rattle.link_run.specs.NewRun.{IsNewRun};
 ghost use Rattle.link_run.specs.WholeRun.{AfterRun};
 ghost use Rattle.link_run.specs.Writers.{AfterWrite, on_output};
-ghost use Rattle.link_block_reader.specs.DataReader.{IsReading, read_size};
+ghost use Rattle.link_block_reader.specs.DataReader.{IsDataReaderAt, read_size};
 ghost use Rattle.link_blocks.specs.Bundles.{bundle_blocks_tool};
 
 use crate::block_lines::BlockLines;
@@ -30,7 +30,7 @@ pub struct BundleLister {
 impl BundleLister {
     /// What is kept before the first bundle.
     pub fn new() -> BundleLister
-        ensures reads { IsReading result.reader [] }
+        ensures reads { IsDataReaderAt result.reader [] }
         ensures read { read_size result.reader ≡ 0 }
     {
         let mut reader = DataReader::new();
@@ -64,7 +64,7 @@ impl BundleConsumer for BundleLister {
 
     ghost telling = { λ options. bundle_blocks_telling };
 
-    ghost knows = { λ options lister now. IsReading lister.reader now.begun };
+    ghost knows = { λ options lister now. IsDataReaderAt lister.reader now.begun };
 
     ghost fits = { λ lister. true };
 

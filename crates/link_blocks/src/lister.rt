@@ -9,7 +9,7 @@ ghost use Rattle.link_judge.specs.Transfers.{Transfer};
 ghost use Rattle.link_report.specs.Judgement.{viewed_judgement};
 ghost use Rattle.link_block_report.specs.Blocks.{end_text};
 ghost use Rattle.link_judge.specs.Unpacking.{good_due, is_selected};
-ghost use Rattle.link_blocks.specs.Lister.{IsAtLatest, KnowsShown, end_due};
+ghost use Rattle.link_blocks.specs.Lister.{IsTransferBlocksAtLatest, IsBlockListerAt, end_due};
 ghost use Rattle.link_blocks.specs.Showing.{blocks_telling, blocks_tool};
 ghost use Rattle.link_options.specs.declared.blocks.BlockOptions.{BlockOptions};
 
@@ -33,7 +33,7 @@ pub struct BlockLister {
 impl BlockLister {
     /// What is known before a stream has begun.
     pub fn new() -> BlockLister
-        ensures { (options : BlockOptions) → KnowsShown options result [] }
+        ensures { (options : BlockOptions) → IsBlockListerAt options result [] }
     {
         BlockLister {
             latest: TransferBlocks::new(),
@@ -47,7 +47,7 @@ impl Consumer for BlockLister {
 
     ghost telling = { blocks_telling };
 
-    ghost knows = { KnowsShown };
+    ghost knows = { IsBlockListerAt };
 
     #[inline(always)]
     fn manner(options: &BlockOptions) -> Manner {
@@ -109,11 +109,11 @@ fn show_end<W: OutDevice, E: OutDevice>(
     lister: &mut BlockLister,
 ) -> Result<(), IoFault>
     ensures gives { (transfers : List Transfer) → (due ≡ true
-        → IsAtLatest options.now.only lister.old.latest abandoned transfers)
+        → IsTransferBlocksAtLatest options.now.only lister.old.latest abandoned transfers)
         → AfterWrite W.state E.state writers.old writers.new (on_output (end_due options.now.only
         due transfers)) result }
     ensures good { (transfers : List Transfer) → (due ≡ true
-        → IsAtLatest options.now.only lister.old.latest abandoned transfers)
+        → IsTransferBlocksAtLatest options.now.only lister.old.latest abandoned transfers)
         → lister.new.good ≡ (lister.old.good && good_due due transfers) }
     ensures latest { lister.new.latest ≡ lister.old.latest }
 {
@@ -133,11 +133,11 @@ fn show_end_line<W: OutDevice, E: OutDevice>(
     lister: &mut BlockLister,
 ) -> Result<(), IoFault>
     ensures gives { (transfers : List Transfer)
-        → IsAtLatest options.now.only lister.old.latest abandoned transfers
+        → IsTransferBlocksAtLatest options.now.only lister.old.latest abandoned transfers
         → AfterWrite W.state E.state writers.old writers.new (on_output (end_due options.now.only
         true transfers)) result }
     ensures good { (transfers : List Transfer)
-        → IsAtLatest options.now.only lister.old.latest abandoned transfers
+        → IsTransferBlocksAtLatest options.now.only lister.old.latest abandoned transfers
         → lister.new.good ≡ (lister.old.good && good_due true transfers) }
     ensures latest { lister.new.latest ≡ lister.old.latest }
 {

@@ -27,9 +27,9 @@ impl TransferBlocks {
     ghost use Rattle.link_judge.specs.Transfers.{Transfer};
     ghost use Rattle.link_judge.specs.TransferJudge.{begun, grown};
     ghost use Rattle.link_run.specs.Writers.{on_output};
-    ghost use Rattle.link_bundle_walk.specs.Telling.{Tells};
+    ghost use Rattle.link_bundle_walk.specs.Telling.{WritesRest};
     ghost use Rattle.link_blocks.specs.Showing.{transfer_lines};
-    ghost use Rattle.link_blocks.specs.TransferBlocks.{IsShowing};
+    ghost use Rattle.link_blocks.specs.TransferBlocks.{IsTransferBlocksAt};
 
     /// What is known before the first transfer of a stream.
     pub(crate) fn new() -> TransferBlocks
@@ -46,7 +46,7 @@ impl TransferBlocks {
         requires { SegmentHasTotals message.now }
         ensures follows { (only : _) (head : SegmentHead) (closed : _)
             → message_of message.now ≡ Message.Segment head → is_start head.flags ≡ true
-            → IsShowing only self.new (begun head closed) }
+            → IsTransferBlocksAt only self.new (begun head closed) }
         ensures size { self.new.judge.size ≤ self.old.judge.size }
     {
         self.judge.begin(message);
@@ -67,10 +67,10 @@ impl TransferBlocks {
     ) -> Result<(), IoFault>
         ensures gives { (transfer : Transfer) (closed : _)
             → self.old.judge.size + length piece.now < 2 ^ 63
-            → IsShowing options.now.only self.old transfer
-            → Tells W.state E.state (on_output (transfer_lines options.now.only true transfer))
+            → IsTransferBlocksAt options.now.only self.old transfer
+            → WritesRest W.state E.state (on_output (transfer_lines options.now.only true transfer))
             (on_output (transfer_lines options.now.only true (grown transfer piece.now closed)))
-            (IsShowing options.now.only self.new (grown transfer piece.now closed))
+            (IsTransferBlocksAt options.now.only self.new (grown transfer piece.now closed))
             writers.old writers.new result }
         ensures size { self.new.judge.size ≤ self.old.judge.size + length piece.now }
     {

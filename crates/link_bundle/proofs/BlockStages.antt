@@ -20,16 +20,16 @@ use Rattle.link_bundle.specs.declared.stage.ScanStage.TheVariants.{BlockHeads, B
 use Rattle.link_bundle.specs.Fits.{same_kind, has_block, stage_fits, hold_fits, part_goes, scan_fits}
 use Rattle.link_bundle.specs.Left.{primary_of, with_known_payload, current, last_block, stage_last, block_end, read_alone, after_block, in_block, stage_left}
 use Rattle.link_bundle.specs.Stages.{stage_after, stage_after_data, stage_in_data, stage_state, takes_bytes}
-use Rattle.link_bundle.specs.Scan.{IsChecked, IsAtStage, IsInData, HasSeen, HasTaken, KeepsPrimary, part_start}
+use Rattle.link_bundle.specs.Scan.{IsChecked, IsAtStage, IsInData, HasSeen, TakesRun, DraftsPrimary, part_start}
 use Rattle.link_bundle.proofs.Steps.{at_stage, fits_at, fits_stage, grown_reads, all_grown, primary_kept}
 use Rattle.link_bundle.proofs.Taking.{takes_on, ends_here}
 
-chosen : (test : Bool) (blocks : List Block) (bundle : Bundle) (stop : Stop)
+with_blocks-if : (test : Bool) (blocks : List Block) (bundle : Bundle) (stop : Stop)
     → (if test then Ok (record bundle { blocks = blocks ++ bundle.blocks })
     else Err (record stop { blocks = blocks ++ stop.blocks }))
     ≡ with_blocks blocks (if test then Ok bundle else Err stop)
-chosen true blocks bundle stop = refl
-chosen false blocks bundle stop = refl
+with_blocks-if true blocks bundle stop = refl
+with_blocks-if false blocks bundle stop = refl
 
 -- the blocks before do not change how a reading ends
 pub read_alone-blocks : (payload : Option (ℕ × ℕ)) (bytes : List ℕ) (blocks : List Block)
@@ -37,9 +37,9 @@ pub read_alone-blocks : (payload : Option (ℕ × ℕ)) (bytes : List ℕ) (bloc
     → read_alone bytes (with_known_payload payload (with_blocks blocks reading))
     ≡ with_blocks blocks (read_alone bytes (with_known_payload payload reading))
 read_alone-blocks None bytes blocks (Ok bundle) =
-    chosen (bundle.length == length bytes) blocks bundle _
+    with_blocks-if (bundle.length == length bytes) blocks bundle _
 read_alone-blocks (Some payload) bytes blocks (Ok bundle) =
-    chosen (bundle.length == length bytes) blocks bundle _
+    with_blocks-if (bundle.length == length bytes) blocks bundle _
 read_alone-blocks None bytes blocks (Err stop) = refl
 read_alone-blocks (Some payload) bytes blocks (Err stop) = refl
 
@@ -203,7 +203,7 @@ in_data_stands false None payload draft cursor seen left some is count at =
 pub entered : {stage : ScanStage} {cursor : Cursor} {draft : Draft} {before : List Block}
     {seen : List ℕ}
     → AreBytes seen → cursor.count ≡ length seen → cursor.hold ≡ []
-    → IsAtStage stage cursor draft seen → KeepsPrimary cursor draft seen
+    → IsAtStage stage cursor draft seen → DraftsPrimary cursor draft seen
     → ((more : List ℕ) → judged_bundle (seen ++ more)
     ≡ with_blocks before (with_blocks (stage_last stage draft cursor.count)
     (stage_left stage draft cursor.count (seen ++ more))))
@@ -222,7 +222,7 @@ entered {stage = stage} {cursor = cursor} {draft = draft} {before = before} {see
 -- in the data of a block, which has `left` bytes left
 pub in_data : {cursor : Cursor} {draft : Draft} {before : List Block} {seen : List ℕ} (left : ℕ)
     → AreBytes seen → cursor.count ≡ length seen → IsTrue (has_block draft)
-    → IsInData left cursor draft.block seen → KeepsPrimary cursor draft seen
+    → IsInData left cursor draft.block seen → DraftsPrimary cursor draft seen
     → ((more : List ℕ) → judged_bundle (seen ++ more)
     ≡ with_blocks before (in_block draft (seen ++ more)))
     → HasSeen (stage_in_data left draft.block.check draft.payload_span) cursor draft before seen
@@ -246,7 +246,7 @@ in_data-fits left cursor draft none has =
 
 -- after a whole block
 pub after_block-seen : {cursor : Cursor} {draft : Draft} {before : List Block} {seen : List ℕ}
-    → AreBytes seen → cursor.count ≡ length seen → cursor.hold ≡ [] → KeepsPrimary cursor draft seen
+    → AreBytes seen → cursor.count ≡ length seen → cursor.hold ≡ [] → DraftsPrimary cursor draft seen
     → ((more : List ℕ) → judged_bundle (seen ++ more)
     ≡ with_blocks before (with_blocks (last_block draft cursor.count ∷ [])
     (after_block draft (seen ++ more) cursor.count)))
@@ -302,7 +302,7 @@ pub data_taken : {old new : BundleScan} {left : ℕ} (run : List ℕ)
     → ((covered : List ℕ) → IsChecked old.draft.block.check old.cursor.check covered
     → IsChecked old.draft.block.check new.cursor.check (covered ++ run))
     → new.cursor.count ≡ old.cursor.count + length run → new.cursor.hold ≡ old.cursor.hold
-    → HasTaken old new run
+    → TakesRun old new run
 unfolding stage_left
 data_taken {old = old} {new = new} {left = left} run stage are within next draft checks count hold =
     let fits = data_fits left old.cursor old.draft (fits_at old (BlockData left) stage) in

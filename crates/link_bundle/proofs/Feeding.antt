@@ -5,8 +5,8 @@ use Rattle.std.proofs.{lemmas.List.{length-take-le, take-take, take_all}, Math.S
 use Rattle.link_cbor.specs.{Pieces.taken, PieceLaws.takes_shortest}
 use Rattle.link_bundle_blocks.specs.Bundle.{bundle_goes}
 use Rattle.link_bundle.specs.declared.scan.BundleScan.{BundleScan}
-use Rattle.link_bundle.specs.Scan.{HasScanned, HasTaken, may_scan, scan_size}
-use Rattle.link_bundle.proofs.Taking.{HasFed, wanted}
+use Rattle.link_bundle.specs.Scan.{HasScanned, TakesRun, may_scan, scan_size}
+use Rattle.link_bundle.proofs.Taking.{HasFed, bundle_goes-take}
 
 -- the bytes taken are all that were needed
 pub record HasFedAll (old new : BundleScan) (piece : List ℕ) (result : ℕ) : Type 0 where
@@ -41,12 +41,12 @@ fed_all {old = old} {piece = piece} {count = count} fed stops =
     }
 
 -- a run after which the scan has not failed is taken whole
-pub all_taken : {old new : BundleScan} {run seen : List ℕ} → HasTaken old new run
+pub all_taken : {old new : BundleScan} {run seen : List ℕ} → TakesRun old new run
     → may_scan new ≡ true → HasScanned old seen → run ≡ taken bundle_goes seen run
 all_taken {new = new} {run = run} {seen = seen} now may come =
     (takes_shortest bundle_goes seen run run).0 (record {
       is_front = sym (take-length run);
-      wanted = wanted new seen run (length run) (omega arith) may
+      wanted = bundle_goes-take new seen run (length run) (omega arith) may
           (rw take-length (now.seen seen come));
       stops = inr refl;
     })

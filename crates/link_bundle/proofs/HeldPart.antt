@@ -29,11 +29,11 @@ use Rattle.link_bundle.specs.Stages.{end_of, is_cut, is_part, part_reading}
 use Rattle.link_bundle.proofs.{StageParts.stage_part, Steps.fits_stage}
 
 -- the part begins after the bytes before it
-pub starts : {stage : ScanStage} {cursor : Cursor} {draft : Draft} {before : List Block}
+pub length-front : {stage : ScanStage} {cursor : Cursor} {draft : Draft} {before : List Block}
     {seen : List ℕ} (front : List ℕ)
     → HasSeen stage cursor draft before seen → front ++ cursor.hold ≡ seen
     → length front ≡ part_start cursor
-starts {cursor = cursor} front come parts =
+length-front {cursor = cursor} front come parts =
     omega (arith, come.count, ap length parts, length-append front cursor.hold)
 
 pub has_part : {stage : ScanStage} {cursor : Cursor} {draft : Draft} {before : List Block}
@@ -67,10 +67,10 @@ read_alone-stopped None bytes stop = refl
 read_alone-stopped (Some payload) bytes stop = refl
 
 -- a part that stops
-stops : {A : Type 0} (reading : ReadAt A) (stop : Stop) → end_of reading ≡ Err stop
+reading-stop : {A : Type 0} (reading : ReadAt A) (stop : Stop) → end_of reading ≡ Err stop
     → reading ≡ Err stop
-stops (Ok read) stop is = cc
-stops (Err other) stop is = ap Err (let same : other ≡ stop = cc in same)
+reading-stop (Ok read) stop is = cc
+reading-stop (Err other) stop is = ap Err (let same : other ≡ stop = cc in same)
 
 none_chosen : (test : Bool) (other : Option CanonicalBlock)
     → (if test then other else other) ≡ other
@@ -130,7 +130,7 @@ stage_stopped PrimaryBlock draft front covered bytes fault offset part fits plac
       none_chosen (lasts fault) None,
       same,
       bundle_parts bytes,
-      stops (whole_primary bytes) _ is,
+      reading-stop (whole_primary bytes) _ is,
     ) refl
 stage_stopped BlockHeads draft front covered bytes fault offset part fits placed is =
     let none = none_of draft.payload_span (and_parts (is_none draft.payload_span) _ fits).0 in
@@ -139,14 +139,14 @@ stage_stopped BlockHeads draft front covered bytes fault offset part fits placed
       none_chosen (lasts fault) None,
       blocks-next draft.numbers (primary_of draft) (front ++ bytes) (length front),
       next-shifted draft.numbers front bytes,
-      stops (next_block_at draft.numbers bytes 0) _ is,
+      reading-stop (next_block_at draft.numbers bytes 0) _ is,
     ) refl
 stage_stopped (CheckField kind) draft front covered bytes fault offset part fits placed is =
     let check = draft.block.check in
     let has = kind_of check kind (and_parts (is_kind check kind) _ fits).0 in
     rw (
       field_left kind draft.block front bytes has placed.0 placed.1,
-      stops (field_from kind (drop draft.block.start front) bytes) _ (rw placed.2 at is),
+      reading-stop (field_from kind (drop draft.block.start front) bytes) _ (rw placed.2 at is),
     )
     (read_alone-stopped draft.payload_span (front ++ bytes) _)
 stage_stopped Break draft front covered bytes fault offset part fits placed is =
@@ -155,7 +155,7 @@ stage_stopped Break draft front covered bytes fault offset part fits placed is =
       known.1,
       none_chosen (lasts fault) None,
       closing-shifted front bytes,
-      stops (row_at closing bytes 0) _ is,
+      reading-stop (row_at closing bytes 0) _ is,
     ) refl
 stage_stopped stage draft front covered bytes fault offset part fits placed is =
     absurd (false≢true part)
@@ -188,7 +188,7 @@ pub part_stopped : {stage : ScanStage} {cursor : Cursor} {draft : Draft} {before
     (Err (stop_at stage draft fault (part_start cursor + offset))))
 part_stopped {stage = stage} {cursor = cursor} {draft = draft} {before = before} {seen = seen} run
     fault offset come part fits has is =
-    let start = starts has.front come has.parts in
+    let start = length-front has.front come has.parts in
     let bytes : seen ++ run ≡ has.front ++ (cursor.hold ++ run) =
     ap (λ (seen : List ℕ). seen ++ run) (sym has.parts) ∙ append_assoc has.front cursor.hold run in
     come.reads run

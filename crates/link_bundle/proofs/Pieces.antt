@@ -4,7 +4,7 @@ use Rattle.std.proofs.Common.{◌≡◌, ℕ, ◌+◌, ◌<◌, inl, inr, Bool, 
 use Rattle.std.specs.Prelude.{if◌then◌else◌}
 use Rattle.std.proofs.lemmas.Bool.{cases_Bool, cases_lt, false≢true}
 use Rattle.std.proofs.lemmas.List.{take-append-drop, drop_all, drop_more}
-use Rattle.link_cbor.specs.{Pieces.{taken, IsShortestFront}, PieceLaws.{takes_shortest, taken-idle}}
+use Rattle.link_cbor.specs.{Pieces.{taken, IsShortestPrefix}, PieceLaws.{takes_shortest, taken-idle}}
 use Rattle.link_bundle_types.specs.declared.fault.{BundleFault.BundleFault, State.State}
 use Rattle.link_bundle_types.specs.declared.fault.State.TheVariants as state
 use Rattle.link_bundle_types.specs.{declared.info.BundleInfo.BundleInfo, Faults.lasts}
@@ -70,7 +70,7 @@ module _ (scan later : BundleScan) (content piece : List ℕ) (count : ℕ)
   unfolding front
   fed_seen = fed before.seen before.scanned
 
-  shortest : IsShortestFront bundle_goes before.seen piece front
+  shortest : IsShortestPrefix bundle_goes before.seen piece front
   unfolding front
   shortest = (takes_shortest bundle_goes before.seen piece front).1 refl
 
@@ -93,9 +93,9 @@ module _ (scan later : BundleScan) (content piece : List ℕ) (count : ℕ)
   front_is = shortest.is_front ∙ ap (λ n. take n piece) (sym (size before.seen before.scanned))
 
   -- the bytes seen, and those that are left
-  parts : (before.seen ++ front) ++ (before.rest ++ drop count piece) ≡ content ++ piece
+  append-take_drop : (before.seen ++ front) ++ (before.rest ++ drop count piece) ≡ content ++ piece
   unfolding front
-  parts = ⊎_elim
+  append-take_drop = ⊎_elim
       (λ (all : before.rest ≡ []).
       rw (sym before.parts, all, append-nil, append_assoc, front_is, take-append-drop) refl)
       (λ stuck.
@@ -111,7 +111,7 @@ module _ (scan later : BundleScan) (content piece : List ℕ) (count : ℕ)
   judged_fed other = record {
     seen = before.seen ++ front;
     rest = before.rest ++ drop count piece;
-    parts = parts;
+    parts = append-take_drop;
     scanned = fed_seen;
     enough = ⊎_elim
         (λ may. inl (rw (all_before may) (drop_all count piece (⊎_elim
@@ -143,7 +143,7 @@ module _ (scan later : BundleScan) (content piece : List ℕ) (count : ℕ)
         rest = drop (count + 1) piece;
         parts = append_assoc seen (byte ∷ []) (drop (count + 1) piece)
             ∙ rw (is, sym (drop_more piece count 0 short))
-            (ap (λ (rest : List ℕ). seen ++ (rest ++ drop count piece)) (sym all) ∙ parts);
+            (ap (λ (rest : List ℕ). seen ++ (rest ++ drop count piece)) (sym all) ∙ append-take_drop);
         scanned = step seen fed_seen;
         enough = inr (may_scan-seen last (seen ++ byte ∷ []) (step seen fed_seen)
             ∙ trailing_stuck seen byte (verdict seen) refl now);
@@ -165,7 +165,7 @@ pub all_judged : (scan : BundleScan) (seen : List ℕ) → HasScanned scan seen 
 all_judged scan seen come = record {
   seen = seen;
   rest = [];
-  parts = append-nil seen;
+  append-take_drop = append-nil seen;
   scanned = come;
   enough = inl refl;
 }

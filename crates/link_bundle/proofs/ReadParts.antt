@@ -6,21 +6,21 @@ use Rattle.std.specs.Prelude.{IsTrue, is_some}
 use Rattle.link_cbor.specs.Head.{AreBytes}
 use Rattle.link_bundle_heads.specs.Rows.{closing}
 use Rattle.link_bundle_blocks.specs.{Reading.{ReadAt, row_at}, Blocks.Block, Bundle.{with_blocks, rest_of}, Whole.moved}
-use Rattle.link_bundle_blocks.proofs.PartsSteady.{IsPart, part-more, keeps, primary-part, heads-part, field-part, break-part}
+use Rattle.link_bundle_blocks.proofs.PartsSteady.{IsBoundedPart, part-more, keeps, primary-part, heads-part, field-part, break-part}
 use Rattle.link_bundle_blocks.proofs.{Blocks.none_before, Parts.closing-shifted}
 use Rattle.link_bundle.specs.declared.{cursor.Cursor.Cursor, draft.Draft.Draft, scan.BundleScan.BundleScan, stage.ScanStage.ScanStage}
 use Rattle.link_bundle.specs.declared.stage.ScanStage.TheVariants.{PrimaryBlock, BlockHeads, CheckField, Break}
 use Rattle.link_bundle.specs.Fits.{has_block, is_kind, scan_fits}
 use Rattle.link_bundle.specs.{Left.{current, stage_last, stage_left, with_block}, Stages.{is_part, stage_state, takes_bytes}}
-use Rattle.link_bundle.specs.Scan.{HasSeen, HasRead, Advances, AddsBlock, part_start}
-use Rattle.link_bundle.proofs.HeldPart.{starts, kind_of, some_of, field_left}
-use Rattle.link_bundle.proofs.Steps.{placed, all_held, fits_at, fits_stage, grown_reads, all_grown, primary_kept}
-use Rattle.link_bundle.proofs.TakenPart.{Takes, fit, same_start, inside, front}
+use Rattle.link_bundle.specs.Scan.{HasSeen, PartLeadsTo, Advances, AddsBlock, part_start}
+use Rattle.link_bundle.proofs.HeldPart.{length-front, kind_of, some_of, field_left}
+use Rattle.link_bundle.proofs.Steps.{append-hold, all_held, fits_at, fits_stage, grown_reads, all_grown, primary_kept}
+use Rattle.link_bundle.proofs.TakenPart.{TakesPart, fit, same_start, inside, front}
 use Rattle.link_bundle.proofs.{Taking.ends_part, Wholes.{blank_at, open_at, has_new, heads_fit, primary_come, heads_come}}
 use Rattle.link_bundle.proofs.BlockStages.{has_numbers, field_ended, entered, after_block-seen, after_block-fits, in_data-fits, goes_after, goes_in_data}
 
 -- the bytes of the part alone are read so, whatever bytes follow them
-reads_on : {A : Type 0} {limit : ℕ} {part : List ℕ → ReadAt A} → IsPart limit part
+reads_on : {A : Type 0} {limit : ℕ} {part : List ℕ → ReadAt A} → IsBoundedPart limit part
     → {bytes : List ℕ} {value : A} {size : ℕ} (hold run : List ℕ)
     → part bytes ≡ Ok (value, size) → take size bytes ≡ hold ++ run → (more : List ℕ)
     → part (hold ++ (run ++ more)) ≡ Ok (value, size)
@@ -42,7 +42,7 @@ reads_on {part = reading} part {bytes = bytes} {value = value} {size = size} hol
 read_come : (stage : ScanStage) (old : BundleScan) (mid : Cursor) {new : Cursor} {after : Draft}
     {next : ScanStage} {before : List Block} {seen : List ℕ} (run : List ℕ) (size : ℕ)
     → HasSeen stage old.cursor old.draft before seen → old.stage ≡ stage → AreBytes run
-    → HasRead stage old.draft mid size next after new.check → IsTrue (is_part stage)
+    → PartLeadsTo stage old.draft mid size next after new.check → IsTrue (is_part stage)
     → take size mid.hold ≡ old.cursor.hold ++ run → part_start mid ≡ part_start old.cursor
     → mid.check ≡ old.cursor.check → size ≡ length old.cursor.hold + length run
     → new.hold ≡ [] → new.count ≡ part_start old.cursor + size
@@ -75,7 +75,7 @@ read_come (CheckField kind) old mid {new = new} {before = before} {seen = seen} 
     let block = old.draft.block in
     let known = and_parts (is_kind block.check kind) (has_block old.draft)
     (fits_stage (CheckField kind) old.cursor old.draft (fits_at old (CheckField kind) at)) in
-    let begins = starts in_field.front come in_field.parts in
+    let begins = length-front in_field.front come in_field.parts in
     rw (append-nil before, read.2, read.1)
     (after_block-seen (all_grown seen run come.all_bytes are)
     (omega (arith, total, come.count, length-append seen run)) none
@@ -84,7 +84,7 @@ read_come (CheckField kind) old mid {new = new} {before = before} {seen = seen} 
     let bytes = (seen ++ run) ++ more in
     let read : rest_of (current old.draft) bytes ≡ Ok (true, new.count) =
     rw (
-      placed in_field.front hold seen run more in_field.parts,
+      append-hold in_field.front hold seen run more in_field.parts,
       count,
       sym begins,
       field_left kind (current old.draft) in_field.front (hold ++ (run ++ more))
@@ -100,7 +100,7 @@ read_come Break old mid {new = new} {before = before} {seen = seen} run size com
     let hold = old.cursor.hold in
     let known = and_parts (is_some old.draft.payload_span) (has_block old.draft)
     (fits_stage Break old.cursor old.draft (fits_at old Break at)) in
-    let begins = starts in_break.front come in_break.parts in
+    let begins = length-front in_break.front come in_break.parts in
     rw (read.2, read.1)
     (entered (all_grown seen run come.all_bytes are)
     (omega (arith, total, come.count, length-append seen run)) none none
@@ -109,7 +109,7 @@ read_come Break old mid {new = new} {before = before} {seen = seen} run size com
     let closes : row_at closing ((seen ++ run) ++ more) (part_start old.cursor)
     ≡ Ok (true, new.count) =
     rw (
-      placed in_break.front hold seen run more in_break.parts,
+      append-hold in_break.front hold seen run more in_break.parts,
       count,
       sym begins,
       closing-shifted in_break.front (hold ++ (run ++ more)),
@@ -124,7 +124,7 @@ read_come stage old mid run size come at are read part own start check sum none 
 -- and the draft fits the next stage, which is no fault
 pub read_fits : (stage : ScanStage) (old : BundleScan) (mid new : Cursor) (after : Draft)
     (next : ScanStage) (size : ℕ)
-    → old.stage ≡ stage → HasRead stage old.draft mid size next after new.check
+    → old.stage ≡ stage → PartLeadsTo stage old.draft mid size next after new.check
     → IsTrue (is_part stage) → new.hold ≡ []
     → IsTrue (scan_fits next new after) × (takes_bytes (stage_state next) ≡ true)
 read_fits PrimaryBlock old mid new after next size at read part none = (
@@ -161,8 +161,8 @@ read_fits stage old mid new after next size at read part none = absurd (false≢
 -- the scan took the bytes of the whole part
 pub whole_part : {stage : ScanStage} (old after : BundleScan) {piece : List ℕ} {mid : Cursor}
     {size : ℕ}
-    → Takes stage old piece mid size → AreBytes piece
-    → HasRead stage old.draft mid size after.stage after.draft after.cursor.check
+    → TakesPart stage old piece mid size → AreBytes piece
+    → PartLeadsTo stage old.draft mid size after.stage after.draft after.cursor.check
     → after.cursor.hold ≡ [] → after.cursor.count ≡ part_start mid + size
     → Advances old after piece (size - length old.cursor.hold)
     × AddsBlock old after piece (size - length old.cursor.hold)

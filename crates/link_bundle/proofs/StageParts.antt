@@ -6,7 +6,7 @@ use Rattle.std.proofs.lemmas.{Bool.false≢true}
 use Rattle.link_bundle_blocks.specs.declared.block.CanonicalBlock.{CanonicalBlock}
 use Rattle.link_bundle_blocks.specs.Parts.{next_block_at}
 use Rattle.link_bundle_blocks.specs.Reading.{Stop, ReadAt, stopped, cut_short}
-use Rattle.link_bundle_blocks.proofs.PartsSteady.{IsPart, CutOrSame, keeps, part-more, primary-part, heads-part, field-part, any_field-part, break-part}
+use Rattle.link_bundle_blocks.proofs.PartsSteady.{IsBoundedPart, CutOrSame, keeps, part-more, primary-part, heads-part, field-part, any_field-part, break-part}
 use Rattle.link_bundle.specs.declared.stage.ScanStage.{ScanStage}
 use Rattle.link_bundle.specs.declared.stage.ScanStage.TheVariants.{PrimaryBlock, BlockHeads, CheckField, Break}
 use Rattle.link_bundle.specs.Stages.{limit, end_of, is_cut, is_part, any_reading, part_reading}
@@ -32,15 +32,15 @@ ends_later front (Err now) (Ok later) same = grind (arith, same)
 ends_later front (Err now) (Err later) same = grind (arith, same)
 
 -- the reading of a part that has at most `limit` bytes
-pub record ReadsPart (limit : ℕ) (reading : List ℕ → Result ℕ Stop) : Type 0 where
+pub record IsStagePart (limit : ℕ) (reading : List ℕ → Result ℕ Stop) : Type 0 where
   pub cuts : (bytes : List ℕ) → is_cut (reading bytes) ≡ true
       → (reading bytes ≡ cut_short bytes) × (length bytes < limit)
   pub within : (bytes : List ℕ) (stop : Stop) → reading bytes ≡ Err stop
       → (stop ≡ stopped stop.fault stop.offset) × (stop.offset ≤ length bytes)
   pub more : (front rest : List ℕ) → EndsLater front (reading front) (reading (front ++ rest))
 
-reads_part : {A : Type 0} {limit : ℕ} {part : List ℕ → ReadAt A} → IsPart limit part
-    → ReadsPart limit (λ bytes. end_of (part bytes))
+reads_part : {A : Type 0} {limit : ℕ} {part : List ℕ → ReadAt A} → IsBoundedPart limit part
+    → IsStagePart limit (λ bytes. end_of (part bytes))
 reads_part {part = reading} part = record {
   cuts = λ bytes cut. grind (arith, part.reads bytes []);
   within = λ bytes stop is. grind (arith, part.reads bytes []);
@@ -49,7 +49,7 @@ reads_part {part = reading} part = record {
 }
 
 pub any_part : (stage : ScanStage) (numbers : List ℕ) → IsTrue (is_part stage)
-    → ReadsPart (limit stage) (any_reading stage numbers)
+    → IsStagePart (limit stage) (any_reading stage numbers)
 any_part PrimaryBlock numbers part = reads_part primary-part
 any_part BlockHeads numbers part = reads_part (heads-part numbers)
 any_part (CheckField kind) numbers part = reads_part (any_field-part kind)
@@ -57,11 +57,11 @@ any_part Break numbers part = reads_part break-part
 any_part stage numbers part = absurd (false≢true part)
 
 pub stage_part : (stage : ScanStage) (numbers covered : List ℕ) → IsTrue (is_part stage)
-    → ReadsPart (limit stage) (part_reading stage numbers covered)
+    → IsStagePart (limit stage) (part_reading stage numbers covered)
 stage_part (CheckField kind) numbers covered part = reads_part (field-part kind covered)
 stage_part stage numbers covered part = any_part stage numbers part
 
-module _ {limit : ℕ} {reading : List ℕ → Result ℕ Stop} (part : ReadsPart limit reading) where
+module _ {limit : ℕ} {reading : List ℕ → Result ℕ Stop} (part : IsStagePart limit reading) where
   -- if the bytes end inside the part, fewer of them do too
   pub cut_front : (count : ℕ) (bytes : List ℕ) → is_cut (reading bytes) ≡ true
       → is_cut (reading (take count bytes)) ≡ true

@@ -17,7 +17,7 @@ use Rattle.link_bundle_blocks.proofs.Blocks.{none_before}
 pub use Rattle.link_bundle_blocks.proofs.Seen.{AreBytes-append as all_grown, AreBytes-one as one_byte, AreBytes-slice as slice_bytes}
 use Rattle.link_bundle.specs.Fits.{hold_fits, part_goes, scan_fits, stage_fits}
 use Rattle.link_bundle.specs.Left.{bundle_of, primary_of, span_of, stage_last, stage_left, with_known_payload}
-use Rattle.link_bundle.specs.Scan.{HasSeen, HasScanned, KeepsPrimary, part_start}
+use Rattle.link_bundle.specs.Scan.{HasSeen, HasScanned, DraftsPrimary, part_start}
 
 -- ---- a scan whose stage is known
 
@@ -54,9 +54,9 @@ pub grown_reads : {stage : ScanStage} {cursor : Cursor} {draft : Draft} {before 
 grown_reads {seen = seen} come run more = rw (append_assoc seen run more) (come.reads (run ++ more))
 
 -- the bytes of a part after those before it
-pub placed : (front hold seen run more : List ℕ) → front ++ hold ≡ seen
+pub append-hold : (front hold seen run more : List ℕ) → front ++ hold ≡ seen
     → (seen ++ run) ++ more ≡ front ++ (hold ++ (run ++ more))
-placed front hold seen run more parts =
+append-hold front hold seen run more parts =
     rw (sym parts, append_assoc (front ++ hold) run more) (append_assoc front hold (run ++ more))
 
 pub front_bytes : (count : ℕ) (piece : List ℕ) → ((k : ℕ) → get_or piece k 0 < 256)
@@ -65,14 +65,14 @@ front_bytes count piece each = All-take (λ (b : ℕ). b < 256) count piece (sli
 
 -- a draft that has the primary block keeps it
 pub primary_kept : (old new : Cursor) (draft : Draft) (seen run : List ℕ) → draft.whole ≡ true
-    → KeepsPrimary old draft seen → KeepsPrimary new draft (seen ++ run)
+    → DraftsPrimary old draft seen → DraftsPrimary new draft (seen ++ run)
 primary_kept old new draft seen run whole keeps =
     let kept = rw whole at keeps in
     rw whole (λ more. rw (append_assoc seen run more) (kept (run ++ more)))
 
 -- the fields of a primary block that is whole
 pub fields_whole : (cursor : Cursor) (draft : Draft) (seen : List ℕ) → draft.whole ≡ true
-    → KeepsPrimary cursor draft seen → primary_fields seen ≡ all_fields (primary_of draft)
+    → DraftsPrimary cursor draft seen → primary_fields seen ≡ all_fields (primary_of draft)
 fields_whole cursor draft seen whole keeps =
     let kept = rw whole at keeps in
     ap primary_fields (sym (append-nil seen)) ∙ kept []

@@ -19,7 +19,7 @@ use Rattle.link_bundle.specs.declared.{scan.BundleScan.BundleScan, stage.ScanSta
 use Rattle.link_bundle.specs.declared.stage.ScanStage.TheVariants.{Failed}
 use Rattle.link_bundle.specs.Fits.{hold_fits, part_goes, scan_fits, stage_fits}
 use Rattle.link_bundle.specs.Left.{primary_of, stage_last, stage_left}
-use Rattle.link_bundle.specs.Scan.{HasSeen, HasScanned, HasTaken, HoldsPart, IsAtStage, Advances, AddsBlock, part_start}
+use Rattle.link_bundle.specs.Scan.{HasSeen, HasScanned, TakesRun, HoldsPart, IsAtStage, Advances, AddsBlock, part_start}
 use Rattle.link_bundle.specs.Stages.{limit, Covers, ShowsFirst, is_cut, is_part, any_reading, part_reading, stage_state, takes_bytes}
 use Rattle.link_bundle.proofs.HeldPart.{has_part, at_part, part_stopped, goes_in_part}
 use Rattle.link_bundle.proofs.StageParts.{any_part, stage_part, cut_front, same_front, same_more, ends_within, ends_after}
@@ -97,7 +97,7 @@ part_fits stage cursor draft part within cut fits =
 -- ---- the bytes of a piece that come into the hold
 
 -- the hold takes bytes of the piece, up to the limit of its part
-pub record Holds (stage : ScanStage) (old : BundleScan) (piece : List ℕ) (mid : Cursor)
+pub record HoldsMore (stage : ScanStage) (old : BundleScan) (piece : List ℕ) (mid : Cursor)
     : Type 0 where
   pub at : old.stage ≡ stage
   pub part : IsTrue (is_part stage)
@@ -107,7 +107,7 @@ pub record Holds (stage : ScanStage) (old : BundleScan) (piece : List ℕ) (mid 
   pub check : mid.check ≡ old.cursor.check
 
 module _ {stage : ScanStage} {old : BundleScan} {piece : List ℕ} {mid : Cursor}
-    (is : Holds stage old piece mid) where
+    (is : HoldsMore stage old piece mid) where
   abbrev hold : List ℕ
   hold = old.cursor.hold
 
@@ -127,14 +127,14 @@ module _ {stage : ScanStage} {old : BundleScan} {piece : List ℕ} {mid : Cursor
       omega (arith, some, mid_size, has_room stage old.draft.numbers hold is.part (fit).goes)
 
 -- The scan takes so many bytes of the piece that it holds `shown` bytes of the part.
-pub record Takes (stage : ScanStage) (old : BundleScan) (piece : List ℕ) (mid : Cursor)
+pub record TakesPart (stage : ScanStage) (old : BundleScan) (piece : List ℕ) (mid : Cursor)
     (shown : ℕ) : Type 0 where
-  pub holds : Holds stage old piece mid
+  pub holds : HoldsMore stage old piece mid
   pub more : length old.cursor.hold < shown
   pub within : shown ≤ length mid.hold
 
 module _ {stage : ScanStage} {old : BundleScan} {piece : List ℕ} {mid : Cursor} {shown : ℕ}
-    (is : Takes stage old piece mid shown) where
+    (is : TakesPart stage old piece mid shown) where
   abbrev taken : ℕ
   taken = shown - length old.cursor.hold
 
@@ -159,8 +159,8 @@ module _ {stage : ScanStage} {old : BundleScan} {piece : List ℕ} {mid : Cursor
 -- ---- a part that the held bytes begin with
 
 pub takes_whole : {stage : ScanStage} {old : BundleScan} {piece : List ℕ} {mid : Cursor} {size : ℕ}
-    → Holds stage old piece mid → any_reading stage old.draft.numbers mid.hold ≡ Ok size
-    → Takes stage old piece mid size
+    → HoldsMore stage old piece mid → any_reading stage old.draft.numbers mid.hold ≡ Ok size
+    → TakesPart stage old piece mid size
 takes_whole {stage = stage} {old = old} {mid = mid} {size = size} holds is =
     let part = any_part stage old.draft.numbers holds.part in
     record {
@@ -177,7 +177,7 @@ goes_at (Failed fault at) part = absurd (false≢true part)
 goes_at stage part = refl
 
 pub cut_fits : {stage : ScanStage} {old : BundleScan} {piece : List ℕ} {mid : Cursor}
-    → Holds stage old piece mid → is_cut (any_reading stage old.draft.numbers mid.hold) ≡ true
+    → HoldsMore stage old piece mid → is_cut (any_reading stage old.draft.numbers mid.hold) ≡ true
     → IsTrue (scan_fits stage mid old.draft)
 cut_fits {stage = stage} {old = old} {mid = mid} holds cut =
     part_fits stage mid old.draft holds.part
@@ -185,7 +185,7 @@ cut_fits {stage = stage} {old = old} {mid = mid} holds cut =
 
 -- the held bytes end inside the part
 pub cut_part : {stage : ScanStage} (old after : BundleScan) {piece : List ℕ} (offset : ℕ)
-    → Holds stage old piece after.cursor → 0 < length piece → AreBytes piece
+    → HoldsMore stage old piece after.cursor → 0 < length piece → AreBytes piece
     → after.stage ≡ stage → after.draft ≡ old.draft
     → ((covered : List ℕ) → Covers stage after.cursor.check covered
     → part_reading stage old.draft.numbers covered after.cursor.hold ≡ Err (stopped Cut offset))
@@ -193,7 +193,7 @@ pub cut_part : {stage : ScanStage} (old after : BundleScan) {piece : List ℕ} (
     × AddsBlock old after piece (length after.cursor.hold - length old.cursor.hold)
 cut_part {stage = stage} old after {piece = piece} offset holds some are at draft_is fails =
     let mid = after.cursor in
-    let is : Takes stage old piece mid (length mid.hold) =
+    let is : TakesPart stage old piece mid (length mid.hold) =
     record { holds = holds; more = grows holds some; within = omega arith } in
     let run = take (length mid.hold - length old.cursor.hold) piece in
     let hold : mid.hold ≡ old.cursor.hold ++ run = sym (take-length mid.hold) ∙ front is in
@@ -201,7 +201,7 @@ cut_part {stage = stage} old after {piece = piece} offset holds some are at draf
     omega (arith, ap length hold, length-append old.cursor.hold run, mid_size holds, holds.size) in
     let none : (length mid.hold == 0) ≡ false =
     ne_eqb (length mid.hold) 0 (λ none. omega (arith, is.more)) in
-    let taken : HasTaken old after run =
+    let taken : TakesRun old after run =
     takes_more count (rw (at, draft_is, same_start holds, holds.at) refl) (rw none refl)
     (λ before seen come.
     let now = at_stage old holds.at come in
@@ -230,7 +230,7 @@ lasts_but fault not = refl
 
 -- the first `size` bytes that are held show a fault
 module _ {stage : ScanStage} (old after : BundleScan) {piece : List ℕ} {mid : Cursor} {size : ℕ}
-    (is : Takes stage old piece mid size) (draft_is : after.draft ≡ old.draft)
+    (is : TakesPart stage old piece mid size) (draft_is : after.draft ≡ old.draft)
     (are : AreBytes piece)
     {fault : BundleFault} {offset : ℕ} (lasting : lasts fault ≡ true)
     (fails : (covered : List ℕ) → Covers stage mid.check covered
@@ -279,7 +279,7 @@ module _ {stage : ScanStage} (old after : BundleScan) {piece : List ℕ} {mid : 
       let long : length run ≡ size - length old.cursor.hold = length-take-le _ piece (inside is) in
       let count : after.cursor.count ≡ old.cursor.count + length run =
       omega (arith, counts, is.more, same_start holds, long, (fit holds).count) in
-      let taken : HasTaken old after run =
+      let taken : TakesRun old after run =
       takes_on count (rw at (ends_nowhere (Failed fault 0) after.draft after.cursor refl))
       (λ before seen come.
       let now = at_stage old holds.at come in

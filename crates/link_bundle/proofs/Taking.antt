@@ -10,7 +10,7 @@ use Rattle.link_bundle.specs.declared.{scan.BundleScan.BundleScan, stage.ScanSta
 use Rattle.link_bundle.specs.declared.stage.ScanStage.TheVariants.{BlockHeads, Break}
 use Rattle.link_bundle_blocks.specs.{Blocks.Block, Bundle.{blocks_in, bundle_goes, is_going, state_of, verdict}}
 use Rattle.link_bundle.specs.{Left.stage_last, Stages.{follows_block, takes_bytes}}
-use Rattle.link_bundle.specs.Scan.{HasSeen, HasScanned, HasTaken, MayAdvance, Advances, AddsBlock, ending_at, ending, may_scan, part_start, scan_size}
+use Rattle.link_bundle.specs.Scan.{HasSeen, HasScanned, TakesRun, MayAdvance, Advances, AddsBlock, ending_at, ending, may_scan, part_start, scan_size}
 use Rattle.link_cbor.proofs.Joins.{joined_run}
 use Rattle.link_bundle.proofs.{Steps.at_stage, Verdicts.{blocks_of-seen, state_of-seen}}
 
@@ -27,7 +27,7 @@ takes : {old new : BundleScan} {run : List ℕ} (after : List Block → List Blo
     → ((before : List Block) → after before ++ last_of new ≡ (before ++ last_of old) ++ ending new)
     → ((before : List Block) (seen : List ℕ) → IsAfter old before seen
     → IsAfter new (after before) (seen ++ run))
-    → HasTaken old new run
+    → TakesRun old new run
 takes {old = old} {new = new} {run = run} after size grew goes =
     let now : (seen : List ℕ) → HasScanned old seen → HasScanned new (seen ++ run) =
     λ seen come. record { before = after come.before; come = goes come.before seen come.come } in
@@ -44,7 +44,7 @@ pub takes_on : {old new : BundleScan} {run : List ℕ}
     → scan_size new ≡ scan_size old + length run → ending new ≡ last_of new
     → ((before : List Block) (seen : List ℕ) → IsAfter old before seen
     → IsAfter new (before ++ last_of old) (seen ++ run))
-    → HasTaken old new run
+    → TakesRun old new run
 takes_on {old = old} size ends goes =
     takes (λ before. before ++ last_of old) size
     (λ before. ap (λ (last : List Block). (before ++ last_of old) ++ last) (sym ends)) goes
@@ -54,7 +54,7 @@ pub takes_more : {old new : BundleScan} {run : List ℕ}
     → scan_size new ≡ scan_size old + length run → last_of new ≡ last_of old → ending new ≡ []
     → ((before : List Block) (seen : List ℕ) → IsAfter old before seen
     → IsAfter new before (seen ++ run))
-    → HasTaken old new run
+    → TakesRun old new run
 takes_more {old = old} size same none goes =
     takes (λ before. before) size
     (λ before. ap (λ (last : List Block). before ++ last) same
@@ -114,10 +114,10 @@ wanted_by bytes (byte ∷ more) (Err (fault, offset)) is some may = ⊎_elim
     (cases_Bool (lasts fault))
 
 -- before each byte of a run after which the scan has not failed, more bytes were needed
-pub wanted : (new : BundleScan) (seen piece : List ℕ) (count : ℕ)
+pub bundle_goes-take : (new : BundleScan) (seen piece : List ℕ) (count : ℕ)
     → count ≤ length piece → may_scan new ≡ true → HasScanned new (seen ++ take count piece)
     → (fewer : ℕ) → fewer < count → bundle_goes (seen ++ take fewer piece) ≡ true
-wanted new seen piece count within may come fewer below =
+bundle_goes-take new seen piece count within may come fewer below =
     let all : (seen ++ take fewer piece) ++ take (count - fewer) (drop fewer piece)
     ≡ seen ++ take count piece =
     joined_run seen piece fewer (count - fewer)
@@ -129,13 +129,13 @@ wanted new seen piece count within may come fewer below =
 
 pub advances_by : {old new : BundleScan} {piece : List ℕ} {count : ℕ}
     → 0 < count → count ≤ length piece → may_scan new ≡ true
-    → HasTaken old new (take count piece) → Advances old new piece count
+    → TakesRun old new (take count piece) → Advances old new piece count
 advances_by {new = new} {piece = piece} {count = count} some within may taken = record {
   some = some;
   within = within;
   size = omega (arith, taken.size, length-take-le count piece within);
   seen = taken.seen;
-  goes = λ seen come. wanted new seen piece count within may (taken.seen seen come);
+  goes = λ seen come. bundle_goes-take new seen piece count within may (taken.seen seen come);
 }
 
 -- a part that ends with the bytes taken, after which the scan has not failed
@@ -148,14 +148,14 @@ pub ends_part : {old new : BundleScan} {stage : ScanStage} {piece : List ℕ} {c
     → Advances old new piece count × AddsBlock old new piece count
 ends_part {old = old} {new = new} {piece = piece} {count = count} at some within none size may
     goes =
-    let taken : HasTaken old new (take count piece) =
+    let taken : TakesRun old new (take count piece) =
     takes_on (omega (arith, length-take-le count piece within))
     (ends_here new.stage new.draft new.cursor none)
     (λ before seen come. rw at (goes before seen (at_stage old at come))) in
     (advances_by some within may taken, taken.blocks)
 
 pub one_taken : (old new : BundleScan) (piece : List ℕ) → MayAdvance old piece
-    → HasTaken old new (get_or piece 0 0 ∷ []) → Advances old new piece 1
+    → TakesRun old new (get_or piece 0 0 ∷ []) → Advances old new piece 1
 one_taken old new [] may taken = absurd (omega (arith, may.some))
 one_taken old new (byte ∷ rest) may taken =
     as_taken (omega arith) (omega arith) taken.size taken.seen

@@ -125,7 +125,7 @@ span_back None known = cc
 span_back (Some payload) known = refl
 
 -- what is found in the reading after the whole blocks
-record Finds (stage : ScanStage) (count : ℕ) (draft : Draft) : Type 0 where
+record FindsRest (stage : ScanStage) (count : ℕ) (draft : Draft) : Type 0 where
   verdict_is : verdict_by (seen_reading stage count draft)
       ≡ stage_verdict (stage_state stage) count draft
   payload : payload_of (seen_reading stage count draft) ≡ draft.payload_span
@@ -133,7 +133,7 @@ record Finds (stage : ScanStage) (count : ℕ) (draft : Draft) : Type 0 where
   cut : cut_block_of (seen_reading stage count draft) ≡ stage_block stage draft
 
 finds : (stage : ScanStage) (cursor : Cursor) (draft : Draft)
-    → IsTrue (scan_fits stage cursor draft) → Finds stage cursor.count draft
+    → IsTrue (scan_fits stage cursor draft) → FindsRest stage cursor.count draft
 finds Ended cursor draft fits = record {
   verdict_is = refl;
   payload = span_back draft.payload_span (and_parts _ _ (fits_stage Ended cursor draft fits)).0;
@@ -149,7 +149,7 @@ module _ {scan : BundleScan} {seen : List ℕ} (come : HasScanned scan seen) whe
   abbrev reading : Result Bundle Stop
   reading = seen_reading scan.stage scan.cursor.count scan.draft
 
-  found : Finds scan.stage scan.cursor.count scan.draft
+  found : FindsRest scan.stage scan.cursor.count scan.draft
   found = finds scan.stage scan.cursor scan.draft scan.fits
 
   scan_reads : judged_bundle seen ≡ with_blocks all reading
@@ -183,9 +183,9 @@ module _ {scan : BundleScan} {seen : List ℕ} (come : HasScanned scan seen) whe
       ap cut_block_of scan_reads ∙ cut_block_of-blocks all reading ∙ found.cut
 
 -- the number of bytes seen
-pub counted : (scan : BundleScan) (seen : List ℕ) → HasScanned scan seen
+pub scan_size-seen : (scan : BundleScan) (seen : List ℕ) → HasScanned scan seen
     → scan_size scan ≡ length seen
-counted scan seen come = come.come.count
+scan_size-seen scan seen come = come.come.count
 
 pub still_going : (stage : ScanStage) → takes_bytes (stage_state stage) ≡ true → (stage ≡ Ended → ⊥)
     → is_going (stage_state stage) ≡ true

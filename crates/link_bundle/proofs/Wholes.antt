@@ -12,7 +12,7 @@ use Rattle.link_bundle_blocks.specs.Reading.{stopped}
 use Rattle.link_bundle_blocks.specs.Blocks.{Primary, Block, PrimaryOf, CanonicalOf, ended}
 use Rattle.link_bundle_blocks.specs.Bundle.{Bundle, with_blocks, rest_of, payload_at, blocks_at, bundle_at, judged_bundle}
 use Rattle.link_bundle_blocks.specs.{Parts.next_block_at, Whole.{whole_primary, whole_canonical, moved}}
-use Rattle.link_bundle_blocks.proofs.{Beginnings.{Begins, block_lasts, primary_lasts}, WholeFields.primary_fields-whole}
+use Rattle.link_bundle_blocks.proofs.{Beginnings.{BeginsWithPart, block_lasts, primary_lasts}, WholeFields.primary_fields-whole}
 use Rattle.link_bundle_blocks.proofs.{Parts.{blocks-next, next-shifted}, PartsSteady.{part-more, primary-part}}
 use Rattle.link_bundle_blocks.proofs.{Keeping.{IsBegun, heads_begin}, Readings.{bundle_parts, has_parts, primary_read, was_read}}
 use Rattle.link_bundle_blocks.proofs.Shifting.{whole_canonical-shifted}
@@ -20,10 +20,10 @@ use Rattle.link_bundle.specs.declared.{cursor.Cursor.Cursor, draft.Draft.Draft, 
 use Rattle.link_bundle.specs.declared.stage.ScanStage.TheVariants.{PrimaryBlock, BlockHeads, Ended}
 use Rattle.link_bundle.specs.Fits.{has_block, scan_fits}
 use Rattle.link_bundle.specs.Left.{HasPrimary, primary_of, bundle_of, with_block, stage_last, last_block, block_end, read_alone, with_known_payload, after_block, in_block, stage_left}
-use Rattle.link_bundle.specs.Scan.{HasSeen, HasScanned, Advances, IsChecked, KeepsPrimary, part_start}
+use Rattle.link_bundle.specs.Scan.{HasSeen, HasScanned, Advances, IsChecked, DraftsPrimary, part_start}
 use Rattle.link_bundle.specs.Stages.{stage_after, stage_in_data}
 use Rattle.link_bundle.proofs.Steps.{all_held, at_stage, fits_at, fits_stage, all_grown, grown_reads, primary_kept}
-use Rattle.link_bundle.proofs.{HeldPart.none_of, Taking.wanted, Steps.placed}
+use Rattle.link_bundle.proofs.{HeldPart.none_of, Taking.bundle_goes-take, Steps.append-hold}
 use Rattle.link_bundle.proofs.BlockStages.{no_heads, read_alone-blocks, field_ended, in_data, after_block-seen}
 
 -- ---- the heads of the next block
@@ -89,7 +89,7 @@ primary_come {old = old} {new = new} {after = after} {before = before} {seen = s
     none no_numbers now counts nothing =
     let bytes = seen ++ run in
     let size : new.count ≡ length bytes = omega (arith, counts, come.count, length-append seen run) in
-    let keeps : KeepsPrimary new after bytes =
+    let keeps : DraftsPrimary new after bytes =
     rw now (λ more. primary_fields-whole bytes more (primary_of after) after.check (length bytes) whole) in
     subst (λ (payload : Option (ℕ × ℕ)). HasSeen (stage_after payload) new after before bytes) none
     (after_block-seen (all_grown seen run come.all_bytes are) size nothing keeps
@@ -182,7 +182,7 @@ heads_come {old = old} {new = new} {draft = draft} {before = before} {seen = see
     (part_start old + size) none end
     (rw (
       start,
-      placed front old.hold seen run more parts,
+      append-hold front old.hold seen run more parts,
       next-shifted draft.numbers front (old.hold ++ (run ++ more)),
       reads more,
     ) refl)))
@@ -296,7 +296,7 @@ primary_in run rest bundle read whole primary = ⊎_elim
 
 pub whole_taken : {old new : BundleScan} {blocks : List Block} {piece : List ℕ} {size : ℕ}
     → old.stage ≡ PrimaryBlock → old.cursor.hold ≡ [] → AreBytes piece
-    → Begins (λ bundle. bundle.length) bundle_at
+    → BeginsWithPart (λ bundle. bundle.length) bundle_at
     (record (bundle_of new.draft size) { blocks = blocks }) piece
     → HasPrimary new.draft piece → new.draft.whole ≡ true → new.stage ≡ Ended
     → new.cursor.count ≡ old.cursor.count + size → new.cursor.hold ≡ []
@@ -335,5 +335,5 @@ whole_taken {old = old} {new = new} {blocks = blocks} {piece = piece} {size = si
       size = counts;
       seen = seen;
       goes = λ before come.
-          wanted new before piece size begins.within (rw ended refl) (seen before come);
+          bundle_goes-take new before piece size begins.within (rw ended refl) (seen before come);
     }

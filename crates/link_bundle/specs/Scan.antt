@@ -62,8 +62,8 @@ IsAtStage stage cursor draft seen = HoldsPart stage cursor draft seen
 
 -- The draft has the fields of the primary block if that is whole, whatever bytes follow. Otherwise
 -- all bytes seen are held.
-abbrev pub KeepsPrimary : Cursor → Draft → List ℕ → Type 0
-KeepsPrimary cursor draft seen = MatchBool draft.whole
+abbrev pub DraftsPrimary : Cursor → Draft → List ℕ → Type 0
+DraftsPrimary cursor draft seen = MatchBool draft.whole
     ((more : List ℕ) → primary_fields (seen ++ more) ≡ all_fields (primary_of draft))
     (cursor.hold ≡ seen)
 
@@ -73,24 +73,24 @@ part_start cursor = cursor.count - length cursor.hold
 
 -- The held bytes begin with the part of a stage, which has `size` bytes. The draft `new` keeps it,
 -- `check` covers it in a block's heads, and `next` is the stage after it.
-abbrev pub HasRead : ScanStage → Draft → Cursor → ℕ → ScanStage → Draft → Check → Type 0
-HasRead PrimaryBlock old cursor size next new check =
+abbrev pub PartLeadsTo : ScanStage → Draft → Cursor → ℕ → ScanStage → Draft → Check → Type 0
+PartLeadsTo PrimaryBlock old cursor size next new check =
     (whole_primary cursor.hold ≡ Ok ((primary_of new, new.check), size)) × (next ≡ BlockHeads)
     × (new.payload_span ≡ old.payload_span) × (new.numbers ≡ old.numbers) × (new.whole ≡ true)
-HasRead BlockHeads old cursor size next new check =
+PartLeadsTo BlockHeads old cursor size next new check =
     (block : CanonicalBlock)
     × (next_block_at old.numbers cursor.hold 0 ≡ Ok (block, size))
     × (block.start ≡ 0) × (block.data_start ≡ size) × (block.end ≡ None)
     × (new ≡ with_block old (moved (part_start cursor) block))
     × (next ≡ stage_in_data block.data_length new.block.check new.payload_span)
     × IsChecked block.check check (take size cursor.hold)
-HasRead (CheckField kind) old cursor size next new check =
+PartLeadsTo (CheckField kind) old cursor size next new check =
     ((covered : List ℕ) → HasPushed kind cursor.check covered
     → field_from kind covered cursor.hold ≡ Ok (true, size))
     × (new ≡ old) × (next ≡ stage_after old.payload_span)
-HasRead Break old cursor size next new check =
+PartLeadsTo Break old cursor size next new check =
     (row_at closing cursor.hold 0 ≡ Ok (true, size)) × (new ≡ old) × (next ≡ Ended)
-HasRead _ old cursor size next new check = Unit {0}
+PartLeadsTo _ old cursor size next new check = Unit {0}
 
 -- Exactly these bytes were seen. Whatever bytes follow, the bundle is the whole blocks, and the
 -- rest that is read from this stage on. The last of the blocks is not among those before if it
@@ -104,7 +104,7 @@ pub record HasSeen (stage : ScanStage) (cursor : Cursor) (draft : Draft) (before
       ≡ with_blocks (before ++ stage_last stage draft (part_start cursor))
       (stage_left stage draft (part_start cursor) (seen ++ more))
   pub stands : IsAtStage stage cursor draft seen
-  pub primary : KeepsPrimary cursor draft seen
+  pub primary : DraftsPrimary cursor draft seen
 
 -- the block that ends with the bytes seen, if one does
 abbrev pub ending_at : ScanStage → Draft → Cursor → List Block
@@ -130,7 +130,7 @@ may_scan scan = takes_bytes (stage_state scan.stage)
 
 -- The scan has taken exactly these bytes. A block may have ended with the last of them, and none
 -- with the bytes before.
-pub record HasTaken (old new : BundleScan) (run : List ℕ) : Type 0 where
+pub record TakesRun (old new : BundleScan) (run : List ℕ) : Type 0 where
   pub size : scan_size new ≡ scan_size old + length run
   pub seen : (seen : List ℕ) → HasScanned old seen → HasScanned new (seen ++ run)
   pub blocks : (seen : List ℕ) → HasScanned old seen

@@ -6,7 +6,7 @@ ghost use Rattle.std.specs.Prelude.{◌≡◌, ℕ, ◌+◌, ◌<◌, ◌≤◌,
 ghost use Rattle.link_bundle.specs.Stages.{is_part, is_cut, any_reading, part_end, part_reading, Covers, ShowsFirst};
 ghost use Rattle.link_bundle_types.specs.Faults.{lasts};
 ghost use Rattle.link_bundle_blocks.specs.Reading.{stopped};
-ghost use Rattle.link_bundle.specs.Scan.{HasRead};
+ghost use Rattle.link_bundle.specs.Scan.{PartLeadsTo};
 
 use crate::cursor::Cursor;
 use crate::draft::Draft;
@@ -38,7 +38,7 @@ pub(crate) fn read_part(
         → any_reading stage draft.old.numbers cursor.old.hold
         ≡ Err (stopped stop.fault stop.offset)) }
     ensures kept { MatchResult result
-        (λ read. HasRead stage draft.old cursor.old read.0 read.1 draft.new cursor.new.check)
+        (λ read. PartLeadsTo stage draft.old cursor.old read.0 read.1 draft.new cursor.new.check)
         (λ _. (draft.new ≡ draft.old) × (cursor.new ≡ cursor.old)) }
 {
     match stage {

@@ -39,7 +39,7 @@ impl BundleScan {
     ghost use Rattle.link_bundle_blocks.specs.PrimaryView.{viewed_fields};
     ghost use Rattle.link_bundle_types.specs.BundleView.{viewed_info, viewed_verdict};
     ghost use Rattle.link_bundle_types.specs.ShortNames.{HasShortNames};
-    ghost use Rattle.link_bundle.specs.Scan.{HasScanned, scan_size, may_scan, HasTaken};
+    ghost use Rattle.link_bundle.specs.Scan.{HasScanned, scan_size, may_scan, TakesRun};
     ghost use Rattle.link_bundle.specs.Stages.{takes_bytes};
 
     /// A scan that has seen no byte.
@@ -140,7 +140,7 @@ impl BundleScan {
         requires stage { self.old.stage ≡ ScanStage.BlockData left }
         requires within { length run.now ≤ left }
         requires room { self.old.cursor.count + length run.now ≤ 2 ^ 63 - 1 }
-        ensures taken { HasTaken self.old self.new run.now }
+        ensures taken { TakesRun self.old self.new run.now }
         ensures may_step { IsTrue (may_scan self.new) }
     {
         self.cursor.data_run(self.draft.block.check, run);
@@ -159,7 +159,7 @@ impl BundleScan {
     fn trailing_byte(&mut self, byte: u8)
         requires stage { self.old.stage ≡ ScanStage.Ended }
         requires room { self.old.cursor.count < 2 ^ 63 - 1 }
-        ensures { HasTaken self.old self.new (byte ∷ []) }
+        ensures { TakesRun self.old self.new (byte ∷ []) }
     {
         self.stage = ScanStage::Failed(BundleFault::Trailing, self.cursor.count);
         self.cursor.count += 1;
@@ -169,7 +169,7 @@ impl BundleScan {
     fn take_byte(&mut self, byte: u8)
         requires may_step { IsTrue (may_scan self.old) }
         requires room { scan_size self.old < 2 ^ 63 - 1 }
-        ensures { HasTaken self.old self.new (byte ∷ []) }
+        ensures { TakesRun self.old self.new (byte ∷ []) }
     {
         match self.stage {
             ScanStage::Ended => self.trailing_byte(byte),

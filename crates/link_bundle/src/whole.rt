@@ -63,7 +63,7 @@ impl Draft {
     ///
     /// Returns the block's check type, and the offset after the block. After an error, the draft
     /// may have some of the block's fields.
-    #[tactic(auto, using(link_bundle_blocks::proofs::Readings::opens), unfolding(link_bundle_blocks::specs::Whole::whole_primary))]
+    #[tactic(auto, using(link_bundle_blocks::proofs::Readings::opening_at_array), unfolding(link_bundle_blocks::specs::Whole::whole_primary))]
     #[inline(always)]
     pub fn whole_primary(&mut self, bytes: &[u8]) -> Result<(Option<CheckKind>, usize), BundleFault>
         requires some { 0 < length bytes.now }

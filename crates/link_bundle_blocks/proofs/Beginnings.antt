@@ -30,7 +30,7 @@ whole_canonical-reads numbers bytes more start =
 
 module _ {A : Type 0} (size : A → ℕ) (read : List ℕ → Result A Stop) (value : A) where
   -- The bytes begin with a part that is read as this value, whatever bytes follow it.
-  pub record Begins (bytes : List ℕ) : Type 0 where
+  pub record BeginsWithPart (bytes : List ℕ) : Type 0 where
     pub some : 0 < size value
     pub within : size value ≤ length bytes
     pub reads : (more : List ℕ) → read (take (size value) bytes ++ more) ≡ Ok value
@@ -61,7 +61,7 @@ module _ {A : Type 0} (size : A → ℕ) (read : List ℕ → Result A Stop) (va
 
   pub begins : (bytes : List ℕ)
       → ((bytes more : List ℕ) → Lasts size bytes (read bytes) (read (bytes ++ more)))
-      → ending size (read []) ≡ Err Cut → read bytes ≡ Ok value → Begins bytes
+      → ending size (read []) ≡ Err Cut → read bytes ≡ Ok value → BeginsWithPart bytes
   begins bytes lasting nothing is =
       let count = size value in
       let within = ends_within (lasting bytes []) is in
@@ -115,7 +115,7 @@ no_block numbers = refl
 
 pub begins_block : (numbers bytes : List ℕ) (block : CanonicalBlock) (size : ℕ)
     → whole_canonical numbers bytes 0 ≡ Ok (block, size)
-    → Begins (λ read. read.1) (λ bytes. whole_canonical numbers bytes 0) (block, size) bytes
+    → BeginsWithPart (λ read. read.1) (λ bytes. whole_canonical numbers bytes 0) (block, size) bytes
 begins_block numbers bytes block size is =
     begins (λ read. read.1) (λ bytes. whole_canonical numbers bytes 0) (block, size) bytes
     (block_stays numbers) (no_block numbers) is
@@ -126,13 +126,13 @@ no_primary = refl
 
 pub begins_primary : (bytes : List ℕ) (read : Primary × Option CheckKind) (size : ℕ)
     → whole_primary bytes ≡ Ok (read, size)
-    → Begins (λ read. read.1) whole_primary (read, size) bytes
+    → BeginsWithPart (λ read. read.1) whole_primary (read, size) bytes
 begins_primary bytes read size is =
     begins (λ read. read.1) whole_primary (read, size) bytes primary_stays no_primary is
 
 -- the first bytes are exactly the part
 pub read_exactly : {A : Type 0} (read : List ℕ → ReadAt A) (value : A) (size : ℕ) (bytes : List ℕ)
-    → Begins (λ read. read.1) read (value, size) bytes
+    → BeginsWithPart (λ read. read.1) read (value, size) bytes
     → read (take size bytes) ≡ Ok (value, length (take size bytes))
 read_exactly read value size bytes begins =
     ap read (sym (append-nil (take size bytes)))
@@ -146,6 +146,6 @@ unfolding bundle_at opening_at
 no_bundle = refl
 
 pub begins_bundle : (bundle : Bundle) (bytes : List ℕ) → bundle_at bytes ≡ Ok bundle
-    → Begins (λ bundle. bundle.length) bundle_at bundle bytes
+    → BeginsWithPart (λ bundle. bundle.length) bundle_at bundle bytes
 begins_bundle bundle bytes is =
     begins (λ bundle. bundle.length) bundle_at bundle bytes bundle_at-lasts no_bundle is

@@ -16,11 +16,11 @@ by_rest : (bytes : List ℕ) (offset : ℕ)
 unfolding head_at
 by_rest bytes offset = rw (take_rest bytes offset) refl
 
-found : (bytes : List ℕ) (offset size : ℕ) (head : Head) (front : HeadFront)
+head_by-whole : (bytes : List ℕ) (offset size : ℕ) (head : Head) (front : HeadFront)
     → whole_of front ≡ Some (head, size) → head_by bytes offset front ≡ Ok (head, offset + size)
-found bytes offset size head CutHead is = cc
-found bytes offset size head IllFormed is = cc
-found bytes offset size head (Whole read count) is =
+head_by-whole bytes offset size head CutHead is = cc
+head_by-whole bytes offset size head IllFormed is = cc
+head_by-whole bytes offset size head (Whole read count) is =
     let same : (read, count) ≡ (head, size) = cc in
     ap (λ (pair : Head × ℕ). Ok (pair.0, offset + pair.1)) same
 
@@ -31,17 +31,17 @@ ill_formed bytes offset CutHead none more = cc
 ill_formed bytes offset IllFormed none more = refl
 ill_formed bytes offset (Whole read count) none more = cc
 
-cut : (bytes : List ℕ) (offset : ℕ) (front : HeadFront) → is_cut front ≡ true
+head_by-cut : (bytes : List ℕ) (offset : ℕ) (front : HeadFront) → is_cut front ≡ true
     → head_by bytes offset front ≡ Err (stopped Cut (length bytes))
-cut bytes offset CutHead more = refl
-cut bytes offset IllFormed more = cc
-cut bytes offset (Whole read count) more = cc
+head_by-cut bytes offset CutHead more = refl
+head_by-cut bytes offset IllFormed more = cc
+head_by-cut bytes offset (Whole read count) more = cc
 
 pub head_at-found : (bytes : List ℕ) (offset size : ℕ) (head : Head)
     → whole_of (head_front (rest_of bytes offset)) ≡ Some (head, size)
     → head_at bytes offset ≡ Ok (head, offset + size)
 head_at-found bytes offset size head is =
-    rw (by_rest bytes offset) (found bytes offset size head (head_front (rest_of bytes offset)) is)
+    rw (by_rest bytes offset) (head_by-whole bytes offset size head (head_front (rest_of bytes offset)) is)
 
 pub head_at-bad : (bytes : List ℕ) (offset : ℕ)
     → whole_of (head_front (rest_of bytes offset)) ≡ None
@@ -54,7 +54,7 @@ pub head_at-cut : (bytes : List ℕ) (offset : ℕ)
     → is_cut (head_front (rest_of bytes offset)) ≡ true
     → head_at bytes offset ≡ Err (stopped Cut (length bytes))
 head_at-cut bytes offset more =
-    rw (by_rest bytes offset) (cut bytes offset (head_front (rest_of bytes offset)) more)
+    rw (by_rest bytes offset) (head_by-cut bytes offset (head_front (rest_of bytes offset)) more)
 
 pub head_at-past : (bytes : List ℕ) (offset : ℕ) → length bytes ≤ offset
     → head_at bytes offset ≡ Err (stopped Cut (length bytes))

@@ -19,20 +19,20 @@ use Rattle.link_bundle_blocks.proofs.Heads.{row_at-accepted}
 -- ---- the number that the first bytes spell
 
 -- the first `low` of `all` bytes, and the others
-split : (low high all from : ℕ) (bytes : List ℕ) → all ≡ low + high
+big_from-split : (low high all from : ℕ) (bytes : List ℕ) → all ≡ low + high
     → big_from from all bytes
     ≡ big_from from low bytes * 256 ^ high + big_from (from + low) high bytes
-split zero high all from bytes is =
+big_from-split zero high all from bytes is =
     let same : all ≡ high = omega arith in
     let start : from + zero ≡ from = omega arith in
     rw (same, start) (omega arith)
-split (suc low) high zero from bytes is = absurd (omega arith)
-split (suc low) high (suc all) from bytes is =
+big_from-split (suc low) high zero from bytes is = absurd (omega arith)
+big_from-split (suc low) high (suc all) from bytes is =
     let more : all ≡ low + high = omega arith in
     let start : from + suc low ≡ suc from + low = omega arith in
     let power : 256 ^ all ≡ 256 ^ low * 256 ^ high =
     ap (λ (size : ℕ). 256 ^ size) more ∙ pow-add 256 low high in
-    rw (split low high all (suc from) bytes more, start, power)
+    rw (big_from-split low high all (suc from) bytes more, start, power)
     (joined (slice_index bytes from) (256 ^ low) (256 ^ high) (big_from (suc from) low bytes)
     (big_from (suc from + low) high bytes))
   where
@@ -41,22 +41,22 @@ split (suc low) high (suc all) from bytes is =
     joined first low high rest more = omega arith
 
 -- the first bytes of eight, by a shift to the right
-top : (low high : ℕ) (bytes : List ℕ) → 8 ≡ low + high
+big_from-div : (low high : ℕ) (bytes : List ℕ) → 8 ≡ low + high
     → ((index : ℕ) → slice_index bytes index < 256)
     → big_from 0 8 bytes / 256 ^ high ≡ big_from 0 low bytes
-top low high bytes is are =
-    ap (λ (number : ℕ). number / 256 ^ high) (split low high 8 0 bytes is)
+big_from-div low high bytes is are =
+    ap (λ (number : ℕ). number / 256 ^ high) (big_from-split low high 8 0 bytes is)
     ∙ div-mul-add (big_from 0 low bytes) (256 ^ high) (big_from (0 + low) high bytes)
     (big_from-lt (0 + low) high bytes are)
 
-shifted : (step : ℕ) (bytes : List ℕ) → step < 4
+big_from-shift : (step : ℕ) (bytes : List ℕ) → step < 4
     → ((index : ℕ) → slice_index bytes index < 256)
     → big_from 0 8 bytes / 2 ^ (64 - 8 * 2 ^ step) ≡ big_from 0 (2 ^ step) bytes
-shifted zero bytes below are = top 1 7 bytes refl are
-shifted (suc zero) bytes below are = top 2 6 bytes refl are
-shifted (suc (suc zero)) bytes below are = top 4 4 bytes refl are
-shifted (suc (suc (suc zero))) bytes below are = top 8 0 bytes refl are
-shifted (suc (suc (suc (suc step)))) bytes below are = absurd (omega arith)
+big_from-shift zero bytes below are = big_from-div 1 7 bytes refl are
+big_from-shift (suc zero) bytes below are = big_from-div 2 6 bytes refl are
+big_from-shift (suc (suc zero)) bytes below are = big_from-div 4 4 bytes refl are
+big_from-shift (suc (suc (suc zero))) bytes below are = big_from-div 8 0 bytes refl are
+big_from-shift (suc (suc (suc (suc step)))) bytes below are = absurd (omega arith)
 
 -- ---- heads
 
@@ -83,11 +83,11 @@ head_at-small major information bytes offset within is small =
     (ap head_front (drop_more bytes offset 0 within)
     ∙ front-small major information (get_or bytes offset 0) (drop (offset + 1) bytes) is small)
 
-whole : (major size argument : ℕ) → major < 7
+with_argument-whole : (major size argument : ℕ) → major < 7
     → with_argument major size argument
     ≡ Whole (record { major = major; value = Some argument }) (1 + size)
 unfolding with_argument
-whole major size argument below =
+with_argument-whole major size argument below =
     let other : (major == 7) ≡ false = ne_eqb major 7 (omega arith) in
     rw other refl
 
@@ -107,11 +107,11 @@ front-argument major information size first rest below is least most size_is wit
     rw (by, left, size_is)
     (front_by-argument major information rest least most
     ∙ argument_front-there major (2 ^ (information - 24)) rest there
-    ∙ whole major (2 ^ (information - 24)) (big_endian (take (2 ^ (information - 24)) rest)) below
+    ∙ with_argument-whole major (2 ^ (information - 24)) (big_endian (take (2 ^ (information - 24)) rest)) below
     ∙ ap (λ (argument : ℕ). Whole (record { major = major; value = Some argument })
     (1 + 2 ^ (information - 24)))
     (big_endian-big_from (2 ^ (information - 24)) rest there
-    ∙ sym (shifted (information - 24) rest (omega arith) are)))
+    ∙ sym (big_from-shift (information - 24) rest (omega arith) are)))
 
 -- `argument` is the number that the eight bytes after the first spell
 pub head_at-argument : (major information size argument : ℕ) (bytes : List ℕ) (offset : ℕ)

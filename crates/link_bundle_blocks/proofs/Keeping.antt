@@ -90,7 +90,7 @@ pub record Ends (paid : Bool) (bytes : List ℕ) (now later : Result Bundle Stop
 
 -- A bundle that is read from an offset on, of some bytes and of those bytes with more after them.
 -- It has at most that many blocks.
-pub record Keeps (paid : Bool) (most : ℕ) (bytes : List ℕ) (offset : ℕ)
+pub record PayloadStays (paid : Bool) (most : ℕ) (bytes : List ℕ) (offset : ℕ)
     (now later : Result Bundle Stop) : Type 0 where
   pub from : From paid offset later
   pub fits : offset ≤ length bytes → Fits bytes now
@@ -113,7 +113,7 @@ bare-keeps : {paid : Bool} {most offset : ℕ} {bytes : List ℕ} (reading : Res
     → blocks_of reading ≡ [] → shown paid reading ≡ None
     → ((end : ℕ) → end_of reading ≡ Ok end → offset ≡ end)
     → ((block : CanonicalBlock) → cut_block_of reading ≡ Some block → offset ≤ block.data_start)
-    → Keeps paid most bytes offset reading reading
+    → PayloadStays paid most bytes offset reading reading
 bare-keeps {bytes = bytes} reading none unpaid ends next = record {
   from = record {
     payload = λ span is. absurd (nothing (sym unpaid ∙ is));
@@ -158,7 +158,7 @@ module _ (paid : Bool) (fault : BundleFault) (at : ℕ) (cut : Option CanonicalB
 
   stop-keeps : {most offset : ℕ} {bytes : List ℕ}
       → ((block : CanonicalBlock) → cut ≡ Some block → offset ≤ block.data_start)
-      → Keeps paid most bytes offset (Err (stop_in fault at cut)) (Err (stop_in fault at cut))
+      → PayloadStays paid most bytes offset (Err (stop_in fault at cut)) (Err (stop_in fault at cut))
   stop-keeps next = bare-keeps _ refl (unpaid paid fault at cut) (λ end is. cc) next
 
 -- the first bytes end before the next block is whole
@@ -168,7 +168,7 @@ keeps-cut : {paid : Bool} {most offset : ℕ} {bytes : List ℕ} {later : Result
     → ((end : ℕ) → end_of later ≡ Ok end → length bytes < end)
     → ((block : CanonicalBlock) → next_in later ≡ Some block
     → (cut ≡ Some block) ⊎ (length bytes ≤ block.data_start))
-    → Keeps paid most bytes offset (Err (stop_in Cut (length bytes) cut)) later
+    → PayloadStays paid most bytes offset (Err (stop_in Cut (length bytes) cut)) later
 keeps-cut {paid = paid} {bytes = bytes} {later = later} cut from payload end placed = record {
   from = from;
   fits = λ here. record { blocks = All-nil (LiesWithin (length bytes)); end = λ end is. cc };
@@ -188,7 +188,7 @@ both-stop : (paid : Bool) {most offset : ℕ} {bytes : List ℕ} (fault : Bundle
     (cut other : Option CanonicalBlock)
     → ((block : CanonicalBlock) → other ≡ Some block
     → (cut ≡ Some block) × (offset ≤ block.data_start))
-    → Keeps paid most bytes offset (Err (stop_in Cut (length bytes) cut))
+    → PayloadStays paid most bytes offset (Err (stop_in Cut (length bytes) cut))
     (Err (stop_in fault at other))
 both-stop paid fault at cut other known =
     keeps-cut cut (stop-from paid fault at other (λ block is. (known block is).1))
@@ -201,8 +201,8 @@ keeps-then : {A : Type 0} {paid : Bool} {limit most : ℕ} {bytes : List ℕ} {o
     {now later : ReadAt A} {next next_later : A × ℕ → Result Bundle Stop}
     → Reads limit bytes offset now later
     → ((value : A × ℕ) → (now ≡ Ok value) ⊎ (later ≡ Ok value)
-    → Keeps paid most bytes value.1 (next value) (next_later value))
-    → Keeps paid most bytes offset (now >>= next) (later >>= next_later)
+    → PayloadStays paid most bytes value.1 (next value) (next_later value))
+    → PayloadStays paid most bytes offset (now >>= next) (later >>= next_later)
 keeps-then {now = Ok value} (is_read onward below within) each =
     let rest = each value (inl refl) in
     record {
@@ -292,8 +292,8 @@ keeps-block : {paid : Bool} {most offset start : ℕ} {bytes : List ℕ} {now la
     → (start ≤ length bytes → LiesWithin (length bytes) block)
     → ((found : CanonicalBlock) → next_in (with_blocks (block ∷ []) later) ≡ Some found
     → offset ≤ found.data_start)
-    → Keeps paid most bytes start now later
-    → Keeps paid (suc most) bytes offset (with_blocks (block ∷ []) now)
+    → PayloadStays paid most bytes start now later
+    → PayloadStays paid (suc most) bytes offset (with_blocks (block ∷ []) now)
     (with_blocks (block ∷ []) later)
 keeps-block {paid = paid} {bytes = bytes} {now = now} {later = later} block lower reach lies next
     keeps =
@@ -350,8 +350,8 @@ keeps-inside : {paid : Bool} {limit most : ℕ} {bytes : List ℕ} {now later : 
     {rest rest_later : ℕ → Result Bundle Stop} (block : CanonicalBlock) → block.end ≡ None
     → IfOk now (λ read. block.data_start + block.data_length ≤ read.1)
     → Reads limit bytes block.data_start now later
-    → ((end : ℕ) → Keeps paid most bytes end (rest end) (rest_later end))
-    → Keeps paid (suc most) bytes block.data_start (inside block now >>= after_block block rest)
+    → ((end : ℕ) → PayloadStays paid most bytes end (rest end) (rest_later end))
+    → PayloadStays paid (suc most) bytes block.data_start (inside block now >>= after_block block rest)
     (inside block later >>= after_block block rest_later)
 keeps-inside {now = Ok (read, end)} {rest_later = rest_later} block unended holds
     (is_read onward below within) each =
@@ -406,7 +406,7 @@ module _ (primary : Primary) (blocks : ℕ) (block : CanonicalBlock) where
 -- the end of the bundle, after its break
 end-keeps : {most : ℕ} {bytes : List ℕ} (info : BundleInfo) (span : ℕ × ℕ) (last : ℕ)
     → let bundle : Bundle = record { info = info; length = last; payload_span = span; blocks = [] } in
-    Keeps false most bytes last (Ok bundle) (Ok bundle)
+    PayloadStays false most bytes last (Ok bundle) (Ok bundle)
 end-keeps info span last = bare-keeps _ refl refl (λ end is. cc) (λ block is. absurd (nothing is))
 
 -- a payload that is known and is there, if the bytes do not end inside the bundle
@@ -415,8 +415,8 @@ keeps-payload : {most offset : ℕ} {bytes : List ℕ} {now later : Result Bundl
     → payload_of (with_payload payload now) ≡ Some payload
     → payload_of (with_payload payload later) ≡ Some payload
     → (end_of now ≡ Err Cut) ⊎ (payload.0 + payload.1 ≤ length bytes)
-    → Keeps false most bytes offset now later
-    → Keeps true most bytes offset (with_payload payload now) (with_payload payload later)
+    → PayloadStays false most bytes offset now later
+    → PayloadStays true most bytes offset (with_payload payload now) (with_payload payload later)
 keeps-payload {now = now} {later = later} payload lower known known_later there keeps =
     let leaves = with_payload-leaves payload in
     record {
@@ -450,7 +450,7 @@ keeps-payload {now = now} {later = later} payload lower known known_later there 
 
 payload_at-keeps : (most : ℕ) (primary : Primary) (blocks : ℕ) (block : CanonicalBlock)
     (bytes more : List ℕ) → block.end ≡ None
-    → Keeps true (suc most) bytes block.data_start (payload_at primary blocks block bytes)
+    → PayloadStays true (suc most) bytes block.data_start (payload_at primary blocks block bytes)
     (payload_at primary blocks block (bytes ++ more))
 unfolding payload_at
 payload_at-keeps most primary blocks block bytes more unended =
@@ -498,7 +498,7 @@ begun-of-either numbers bytes more start read either =
 
 blocks_at-keeps : (left : ℕ) (numbers : List ℕ) (primary : Primary) (bytes more : List ℕ)
     (start : ℕ)
-    → Keeps true left bytes start (blocks_at left numbers primary bytes start)
+    → PayloadStays true left bytes start (blocks_at left numbers primary bytes start)
     (blocks_at left numbers primary (bytes ++ more) start)
 unfolding blocks_at
 blocks_at-keeps zero numbers primary bytes more start =
@@ -510,7 +510,7 @@ blocks_at-keeps (suc left) numbers primary bytes more start =
     let begun = begun-of-either numbers bytes more start (block, next) read in
     let at = block.data_start in
     rw begun.place
-    (both_either (Keeps true (suc left) bytes at) (block.block_type == 1) _ _ _ _
+    (both_either (PayloadStays true (suc left) bytes at) (block.block_type == 1) _ _ _ _
     (payload_at-keeps left primary (length numbers + 1) block bytes more begun.end)
     (keeps-inside block begun.end (data_before block.data_length block.check block.start bytes at)
     (content_at-reads bytes more block.data_length block.check block.start at)
@@ -525,7 +525,7 @@ next_primary primary check end (Ok bundle) found is = nothing is
 next_primary primary check end (Err stop) found is = nothing is
 
 pub bundle_at-keeps : (bytes more : List ℕ)
-    → Keeps true 65 bytes 0 (bundle_at bytes) (bundle_at (bytes ++ more))
+    → PayloadStays true 65 bytes 0 (bundle_at bytes) (bundle_at (bytes ++ more))
 bundle_at-keeps bytes more =
     rw (bundle_parts bytes, bundle_parts (bytes ++ more))
     (keeps-then (whole_primary-reads bytes more)

@@ -12,7 +12,7 @@ use Rattle.link_bundle_blocks.specs.Blocks.{Primary, CanonicalOf, ended}
 use Rattle.link_bundle_blocks.specs.Bundle.{Bundle, with_blocks, rest_of, payload_at, blocks_at}
 use Rattle.link_bundle_blocks.specs.CheckField.{check_of, field_at}
 use Rattle.link_bundle_blocks.specs.{Canonical.heads_at, Whole.moved, Parts.{next_block_at, field_from}}
-use Rattle.link_bundle_blocks.proofs.Readings.{joined}
+use Rattle.link_bundle_blocks.proofs.Readings.{bind-bind}
 use Rattle.link_bundle_blocks.proofs.Shifting.{shifted, same, shifted-if, row_at-shifted, row-then, compared-shifted, heads_at-shifted}
 
 -- ---- the canonical blocks, from the heads of the next one on
@@ -40,7 +40,7 @@ blocks-next numbers primary bytes start =
     let full : leb 64 count ≡ true = le-leb 64 count many in
     let none : 64 - count ≡ 0 = omega arith in
     rw (full, none)
-    (joined (row_at block_too_many bytes start) (λ _. cut_short bytes) _
+    (bind-bind (row_at block_too_many bytes start) (λ _. cut_short bytes) _
     (after_heads (63 - count) numbers primary bytes) (λ _. refl)))
     (cases_lt count 64)
 

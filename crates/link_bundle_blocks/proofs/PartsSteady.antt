@@ -12,22 +12,22 @@ use Rattle.link_bundle_blocks.proofs.Elements.{whole_primary-reads}
 
 -- The reading of a part that some bytes begin with. The part has at most `limit` bytes, and bytes
 -- after it make no difference.
-pub record IsPart {A : Type 0} (limit : ℕ) (part : List ℕ → ReadAt A) : Type 0 where
+pub record IsBoundedPart {A : Type 0} (limit : ℕ) (part : List ℕ → ReadAt A) : Type 0 where
   pub reads : (bytes more : List ℕ) → Reads limit bytes 0 (part bytes) (part (bytes ++ more))
 
-pub primary-part : IsPart 3257 whole_primary
+pub primary-part : IsBoundedPart 3257 whole_primary
 primary-part = record { reads = whole_primary-reads }
 
-pub heads-part : (numbers : List ℕ) → IsPart 54 (λ bytes. next_block_at numbers bytes 0)
+pub heads-part : (numbers : List ℕ) → IsBoundedPart 54 (λ bytes. next_block_at numbers bytes 0)
 heads-part numbers = record { reads = λ bytes more. next_block_at-reads bytes more numbers 0 }
 
-pub field-part : (kind : CheckKind) (before : List ℕ) → IsPart 13 (field_from kind before)
+pub field-part : (kind : CheckKind) (before : List ℕ) → IsBoundedPart 13 (field_from kind before)
 field-part kind before = record { reads = λ bytes more. field_from-reads bytes more kind before }
 
-pub any_field-part : (kind : CheckKind) → IsPart 13 (any_field kind)
+pub any_field-part : (kind : CheckKind) → IsBoundedPart 13 (any_field kind)
 any_field-part kind = record { reads = λ bytes more. any_field-reads bytes more kind }
 
-pub break-part : IsPart 9 (λ bytes. row_at closing bytes 0)
+pub break-part : IsBoundedPart 9 (λ bytes. row_at closing bytes 0)
 break-part =
     record { reads = λ bytes more. row_at-reads bytes more closing 0 lasting.of_closing }
 
@@ -44,7 +44,7 @@ cut_or_same (has_fault fault here stays) = inr (refl, tt)
 cut_or_same (is_cut short (goes_on onward past)) = inl (refl, past)
 cut_or_same (is_cut short (stops fault)) = inl (refl, tt)
 
-module _ {A : Type 0} {limit : ℕ} {part : List ℕ → ReadAt A} (is_part : IsPart limit part) where
+module _ {A : Type 0} {limit : ℕ} {part : List ℕ → ReadAt A} (is_part : IsBoundedPart limit part) where
   pub part-more : (front more : List ℕ) → CutOrSame front (part front) (part (front ++ more))
   part-more front more = cut_or_same (is_part.reads front more)
 

@@ -110,19 +110,19 @@ abbrev pub after_primary : List ℕ → (Primary × Option CheckKind) × ℕ →
 after_primary bytes ((primary, check), next) =
     with_blocks (PrimaryOf primary check next ∷ []) (blocks_at 64 [] primary bytes next)
 
-pub joined : {A B C : Type 0} (reading : ReadAt A) (next : A × ℕ → ReadAt B) (all : A × ℕ → Result C Stop)
+pub bind-bind : {A B C : Type 0} (reading : ReadAt A) (next : A × ℕ → ReadAt B) (all : A × ℕ → Result C Stop)
     (last : B × ℕ → Result C Stop) → ((value : A × ℕ) → all value ≡ (next value >>= last))
     → (reading >>= all) ≡ ((reading >>= next) >>= last)
-joined (Ok value) next all last each = each value
-joined (Err stop) next all last each = refl
+bind-bind (Ok value) next all last each = each value
+bind-bind (Err stop) next all last each = refl
 
 -- a bundle is its primary block and the rest
 pub bundle_parts : (bytes : List ℕ) → bundle_at bytes ≡ (whole_primary bytes >>= after_primary bytes)
 unfolding bundle_at whole_primary
 bundle_parts bytes =
-    joined (opening_at bytes) _ _ (after_primary bytes)
-    (λ (_, start). joined (primary_at bytes start) _ _ (after_primary bytes)
-    (λ ((primary, check), offset). joined (field_at check start bytes offset) _ _
+    bind-bind (opening_at bytes) _ _ (after_primary bytes)
+    (λ (_, start). bind-bind (primary_at bytes start) _ _ (after_primary bytes)
+    (λ ((primary, check), offset). bind-bind (field_at check start bytes offset) _ _
     (after_primary bytes) (λ (_, next). refl)))
 
 pub primary_read : (bytes : List ℕ) (primary : Primary) (check : Option CheckKind) (next : ℕ)
@@ -130,10 +130,10 @@ pub primary_read : (bytes : List ℕ) (primary : Primary) (check : Option CheckK
     → bundle_at bytes ≡ after_primary bytes ((primary, check), next)
 primary_read bytes primary check next is = bundle_parts bytes ∙ rw is refl
 
-pub opens : (bytes : List ℕ) → 0 < length bytes → get_or bytes 0 0 ≡ 0x9f
+pub opening_at_array : (bytes : List ℕ) → 0 < length bytes → get_or bytes 0 0 ≡ 0x9f
     → opening_at bytes ≡ Ok (true, 1)
 unfolding opening_at
-opens [] some is = absurd (omega arith)
-opens (first ∷ rest) some is = rw is refl
+opening_at_array [] some is = absurd (omega arith)
+opening_at_array (first ∷ rest) some is = rw is refl
 
 pub ruleset whole_bytes = (bytes_at-whole)

@@ -15,7 +15,7 @@ use Rattle.link_bundle_blocks.specs.Reading.{Stop, ReadAt, head_by, outcome_at, 
 use Rattle.link_bundle_blocks.specs.Whole.{whole_primary}
 use Rattle.link_bundle_blocks.specs.Canonical.{heads_at, content_at}
 use Rattle.link_bundle_blocks.specs.Bundle.{Bundle, with_payload, with_blocks, inside, info_of, rest_of, payload_at, blocks_at, bundle_at, if_alone, judged_bundle, verdict_by, verdict, blocks_in, blocks_of}
-use Rattle.link_bundle_blocks.specs.Laws.{Fills, Tiles, IsTiled, GoodBlocksTile}
+use Rattle.link_bundle_blocks.specs.Laws.{IsBlockBetween, Tiles, IsTiled, GoodBlocksTile}
 use Rattle.link_bundle_blocks.proofs.Showing.{blocks_judged}
 use Rattle.link_bundle_blocks.proofs.{Steady.{FrontSpans, front-spans, on_by, heads_at-reads, data_before}, Keeping.{IsBegun, heads_begin}}
 use Rattle.link_bundle_blocks.proofs.{Beginnings.begins_primary, Readings.{then_read, was_read, bundle_parts}}
@@ -51,7 +51,7 @@ inside_before block limit (Err stop) read = tt
 
 block_fills : (block : CanonicalBlock) (start : ℕ) (bytes : List ℕ) (value : Bool × ℕ) {next : ℕ}
     → IsBegun start (block, next) → start ≤ next
-    → rest_of block bytes ≡ Ok value → Fills (CanonicalOf (ended block value.1)) start value.1
+    → rest_of block bytes ≡ Ok value → IsBlockBetween (CanonicalOf (ended block value.1)) start value.1
 block_fills block start bytes value begins onward is =
     let limit = block.data_start + block.data_length in
     let reading = content_at block.data_length block.check block.start bytes block.data_start in (
@@ -72,7 +72,7 @@ if-whole true holds one other taken passed = taken refl
 if-whole false holds one other taken passed = passed refl
 
 -- what is read from `start` on, after that many canonical blocks
-record IsRest (primary : Primary) (count start : ℕ) (bundle : Bundle) : Type 0 where
+record IsRestOfBundle (primary : Primary) (count start : ℕ) (bundle : Bundle) : Type 0 where
   pub others : List CanonicalBlock
   pub payload : CanonicalBlock
   pub blocks : bundle.blocks ≡ map CanonicalOf (others ++ payload ∷ [])
@@ -92,9 +92,9 @@ kept_payload span holds (Err stop) held = tt
 -- one more block before what is read
 more_rest : (primary : Primary) (count start end : ℕ) (block : CanonicalBlock)
     (reading : Result Bundle Stop)
-    → block.block_type ≢ 1 → Fills (CanonicalOf block) start end
-    → IfOk reading (IsRest primary (suc count) end)
-    → IfOk (with_blocks (CanonicalOf block ∷ []) reading) (IsRest primary count start)
+    → block.block_type ≢ 1 → IsBlockBetween (CanonicalOf block) start end
+    → IfOk reading (IsRestOfBundle primary (suc count) end)
+    → IfOk (with_blocks (CanonicalOf block ∷ []) reading) (IsRestOfBundle primary count start)
 more_rest primary count start end block (Ok bundle) other fills rest = record {
   others = block ∷ rest.others;
   payload = rest.payload;
@@ -112,15 +112,15 @@ more_rest primary count start end block (Err stop) other fills rest = tt
 
 payload_rest : (primary : Primary) (count start : ℕ) (block : CanonicalBlock) (bytes : List ℕ)
     {next : ℕ} → block.block_type ≡ 1 → IsBegun start (block, next) → start ≤ next
-    → IfOk (payload_at primary (count + 1) block bytes) (IsRest primary count start)
+    → IfOk (payload_at primary (count + 1) block bytes) (IsRestOfBundle primary count start)
 unfolding payload_at
 payload_rest primary count start block bytes type begins onward =
-    kept_payload (block.data_start, block.data_length) (IsRest primary count start) _
-    (then_read (IsRest primary count start) (rest_of block bytes) _
+    kept_payload (block.data_start, block.data_length) (IsRestOfBundle primary count start) _
+    (then_read (IsRestOfBundle primary count start) (rest_of block bytes) _
     (λ (read, end) is. closed end (block_fills block start bytes (read, end) begins onward is)
     (row_at closing bytes end) (closing_one bytes end)))
   where
-    closed : (end : ℕ) → Fills (CanonicalOf (ended block end)) start end → (reading : ReadAt Bool)
+    closed : (end : ℕ) → IsBlockBetween (CanonicalOf (ended block end)) start end → (reading : ReadAt Bool)
         → IfOk reading (λ value. value.1 ≡ end + 1)
         → IfOk
         (with_blocks (CanonicalOf (ended block end) ∷ []) (reading >>= λ (_, end). Ok (record {
@@ -129,7 +129,7 @@ payload_rest primary count start block bytes type begins onward =
           payload_span = (block.data_start, block.data_length);
           blocks = [];
         })))
-        (IsRest primary count start)
+        (IsRestOfBundle primary count start)
     closed end fills (Err stop) one = tt
     closed end fills (Ok (read, next)) one = record {
       others = [];
@@ -144,13 +144,13 @@ payload_rest primary count start block bytes type begins onward =
     }
 
 blocks_rest : (left : ℕ) (numbers : List ℕ) (primary : Primary) (bytes : List ℕ) (start : ℕ)
-    → IfOk (blocks_at left numbers primary bytes start) (IsRest primary (length numbers) start)
+    → IfOk (blocks_at left numbers primary bytes start) (IsRestOfBundle primary (length numbers) start)
 unfolding blocks_at
 blocks_rest zero numbers primary bytes start =
-    then_read (IsRest primary (length numbers) start) (row_at block_too_many bytes start) _
+    then_read (IsRestOfBundle primary (length numbers) start) (row_at block_too_many bytes start) _
     (λ value is. tt)
 blocks_rest (suc left) numbers primary bytes start =
-    let holds = IsRest primary (length numbers) start in
+    let holds = IsRestOfBundle primary (length numbers) start in
     then_read holds (heads_at numbers bytes start) _
     (λ (block, next) begun.
     let begins = was_read (IsBegun start) (heads_at numbers bytes start) (block, next)
@@ -181,7 +181,7 @@ TilesAll bytes info bundle =
 
 primary_tiles : (bytes : List ℕ) (info : BundleInfo) (primary : Primary)
     (check : Option CheckKind) (end : ℕ) (reading : Result Bundle Stop) → 1 ≤ end
-    → IfOk reading (IsRest primary 0 end)
+    → IfOk reading (IsRestOfBundle primary 0 end)
     → IfOk (with_blocks (PrimaryOf primary check end ∷ []) reading) (TilesAll bytes info)
 primary_tiles bytes info primary check end (Ok bundle) late after = λ size fields blocks. record {
   primary = primary;

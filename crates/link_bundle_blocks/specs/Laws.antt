@@ -72,16 +72,16 @@ BlockPlaced =
 
 -- A whole block has the bytes from one offset to another, and its data lies among them. The primary
 -- block begins at offset 1, after the byte that opens the bundle.
-abbrev pub Fills : Block → (from to : ℕ) → Type 0
-Fills (PrimaryOf primary check end) from to = (from ≡ 1) × (from ≤ to) × (end ≡ to)
-Fills (CanonicalOf block) from to =
+abbrev pub IsBlockBetween : Block → (from to : ℕ) → Type 0
+IsBlockBetween (PrimaryOf primary check end) from to = (from ≡ 1) × (from ≤ to) × (end ≡ to)
+IsBlockBetween (CanonicalOf block) from to =
     (block.start ≡ from) × (from ≤ block.data_start)
     × (block.data_start + block.data_length ≤ to) × (block.end ≡ Some to)
 
 -- whole blocks from one offset to another: each begins where the one before it ends
 abbrev pub Tiles : (from : ℕ) → List Block → (to : ℕ) → Type 0
 Tiles from [] to = from ≡ to
-Tiles from (block ∷ rest) to = (end : ℕ) × (Fills block from end) × (Tiles end rest to)
+Tiles from (block ∷ rest) to = (end : ℕ) × (IsBlockBetween block from end) × (Tiles end rest to)
 
 -- A good bundle has a primary block, and then canonical blocks. Only the last of these is a payload
 -- block (type 1). The blocks have all bytes between the first of the bundle, which opens it, and

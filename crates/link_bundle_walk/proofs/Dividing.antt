@@ -19,7 +19,7 @@ use Rattle.link_bundle.specs.declared.stage.ScanStage.TheVariants as stage
 use Rattle.link_bundle.proofs.Verdicts.{state_of-seen}
 use Rattle.link_block_reader.proofs.Judged.{joined_rest}
 use Rattle.link_report.specs.declared.fault.Fault.TheVariants.{TooLong}
-use Rattle.link_bundle_walk.specs.{BundleRun.{Counts, Refuses, MakesOf, Scans, found_by}, Telling.EndsBlock}
+use Rattle.link_bundle_walk.specs.{BundleRun.{AddsSeen, RefusedBundle, AfterJudge, HasScannedPart, found_by}, Telling.EndsAtBlock}
 use Rattle.link_bundle_walk.specs.declared.current.{Current.Current, Found.Found}
 use Rattle.link_bundle_walk.specs.declared.current.Found.TheVariants as found
 
@@ -229,7 +229,7 @@ divided_open limit part fault offset opened some said =
 
 pub too_long : (limit : ℕ) (by_blocks : Bool) (number : ℕ) (begun piece : List ℕ)
     → IsOpen limit begun → 0 < length piece → length begun ≡ limit
-    → Refuses limit by_blocks number begun (take 1 piece) (TooLong number limit)
+    → RefusedBundle limit by_blocks number begun (take 1 piece) (TooLong number limit)
 too_long limit by_blocks number begun [] opened some full = absurd (omega arith)
 too_long limit by_blocks number begun (byte ∷ bytes) opened some full =
     let run = byte ∷ [] in
@@ -261,7 +261,7 @@ pub fed : (by_blocks : Bool) (scan : BundleScan) (begun piece : List ℕ) (count
     → by_blocks ≡ false → bundle_goes begun ≡ true → 0 < length piece
     → count ≡ length (taken bundle_goes begun piece)
     → HasScanned scan (begun ++ taken bundle_goes begun piece)
-    → Scans by_blocks scan begun piece count
+    → HasScannedPart by_blocks scan begun piece count
 fed by_blocks scan begun piece count not_blocks goes some counted scanned =
     let run = taken bundle_goes begun piece in
     let shortest = (takes_shortest bundle_goes begun piece run).1 refl in
@@ -310,12 +310,12 @@ fewer_blocks begun run count same =
 
 module _ (limit : ℕ) (by_blocks : Bool) (current : Current) (begun run : List ℕ)
     (some : 0 < length run) (scanned : HasScanned current.scan (begun ++ run))
-    (blocks : EndsBlock by_blocks current.scan begun run)
+    (blocks : EndsAtBlock by_blocks current.scan begun run)
     (front : bundle_prefix (begun ++ run) ≡ begun ++ run)
     (within : length (begun ++ run) ≤ limit) where
   took_fault : (fault : BundleFault) (offset : ℕ) (test : Bool) → lasts fault ≡ test
       → verdict (begun ++ run) ≡ Err (fault, offset)
-      → MakesOf limit by_blocks current begun run (found_by current.number (if test
+      → AfterJudge limit by_blocks current begun run (found_by current.number (if test
       then state.Failed fault offset else state.Going))
   took_fault fault offset true lasting said =
       let none : ending current.scan ≡ [] = none_ends current.scan.stage current.scan.draft
@@ -340,7 +340,7 @@ module _ (limit : ℕ) (by_blocks : Bool) (current : Current) (begun run : List 
   )
 
   took : (said : Result BundleInfo (BundleFault × ℕ)) → verdict (begun ++ run) ≡ said
-      → MakesOf limit by_blocks current begun run (found_by current.number (state_of said))
+      → AfterJudge limit by_blocks current begun run (found_by current.number (state_of said))
   took (Ok info) said =
       (record { scanned = scanned; front = front; within = within; info = info; is = said }, blocks)
   took (Err (fault, offset)) said = took_fault fault offset (lasts fault) refl said
@@ -348,11 +348,11 @@ module _ (limit : ℕ) (by_blocks : Bool) (current : Current) (begun run : List 
 -- what a scan has taken of the first `size` bytes of a piece
 pub judged : (limit : ℕ) (by_blocks : Bool) (current : Current) (begun piece : List ℕ)
     (size count : ℕ) (found : Found) → count ≤ length (take size piece)
-    → Scans by_blocks current.scan begun (take size piece) count
+    → HasScannedPart by_blocks current.scan begun (take size piece) count
     → bundle_prefix begun ≡ begun → length begun + size ≤ limit
     → ((seen : List ℕ) → HasScanned current.scan seen
     → found ≡ found_by current.number (state_of (verdict seen)))
-    → MakesOf limit by_blocks current begun (take count piece) found
+    → AfterJudge limit by_blocks current begun (take count piece) found
 judged limit by_blocks current begun piece size count found fits scans kept within shows =
     let some = scans.some in
     let few : count ≤ size = omega (arith, length-take size piece) in
@@ -380,7 +380,7 @@ judged limit by_blocks current begun piece size count found fits scans kept with
 
 -- the number of bytes that a scan has seen
 pub counted : (before count after : ℕ) (found : Found) → before + count ≡ after → after < 2 ^ 63
-    → Counts before count after found
+    → AddsSeen before count after found
 counted before count after found.Part same less = (same, less)
 counted before count after found.Whole same less = (same, less)
 counted before count after (found.Refused fault) same less = omega (arith, same)

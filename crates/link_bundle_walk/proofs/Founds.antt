@@ -9,7 +9,7 @@ use Rattle.link_io.proofs.Sources.{IsSourceAt-then}
 use Rattle.link_report.specs.declared.fault.Fault.{Fault}
 use Rattle.link_run.specs.Made.{Made, shows_fault, with_fault}
 use Rattle.link_run.specs.Run.{Texts, ◌then◌, Looks, Devices, answer_of, progress_after}
-use Rattle.link_run.specs.Stages.{Stands, AfterStage, written_by}
+use Rattle.link_run.specs.Stages.{IsRunAt, AfterStage, written_by}
 use Rattle.link_run.specs.Writers.{place_of, AfterLastWrite, on_report, Writes, WritesPart, AfterWrite}
 use Rattle.link_run.specs.declared.run.{Progress.Progress, Status.Status}
 use Rattle.link_run.specs.declared.writers.Writers.{Writers}
@@ -17,8 +17,8 @@ use Rattle.link_run.proofs.Runs.{few_over, then_assoc, writes_then, part_of_more
 use Rattle.link_run.proofs.Stands.{goes_on, loses, ends, last_step}
 use Rattle.link_bundle.specs.Scan.{HasScanned}
 use Rattle.link_bundle_walk.specs.Bundles.{Packed, divided, with_bundles, size_of}
-use Rattle.link_bundle_walk.specs.Telling.{SoFar, BundleTelling, Tells, told_of, with_run, with_bytes, between, ComesAfter, EndsBlock, IsAccepted, StopsAfter}
-use Rattle.link_bundle_walk.specs.BundleRun.{before_last, MakesOf, cut_at, Walks, ended_by, GoesOn, Ends, WritesFound, Comes, Refuses}
+use Rattle.link_bundle_walk.specs.Telling.{SoFar, BundleTelling, WritesRest, told_of, with_run, with_bytes, between, RunComes, EndsAtBlock, IsAccepted, StopComes}
+use Rattle.link_bundle_walk.specs.BundleRun.{before_last, AfterJudge, cut_at, IsBundleWalkAt, ended_by, WritesUpTo, WritesEnd, WritesFound, BytesCome, RefusedBundle}
 use Rattle.link_bundle_walk.specs.declared.current.{Current.Current, Found.Found}
 use Rattle.link_bundle_walk.specs.declared.current.Found.TheVariants as found
 use Rattle.link_bundle_walk.proofs.Dividing.{divided_whole, divided_none}
@@ -44,11 +44,11 @@ between_is now none = ap (λ (begun : List ℕ). record { bundles = now.bundles;
 
 -- with these bytes the bundle goes on or is whole
 pub accepted : {limit : ℕ} {by_blocks : Bool} {current : Current} {before : SoFar} {place : ℕ}
-    {run : List ℕ} → Comes limit current before place run → HasScanned current.scan (before.begun ++ run)
-    → EndsBlock by_blocks current.scan before.begun run → (view : RunView)
+    {run : List ℕ} → BytesCome limit current before place run → HasScanned current.scan (before.begun ++ run)
+    → EndsAtBlock by_blocks current.scan before.begun run → (view : RunView)
     → view.number ≡ current.number → view.before ≡ place → view.bytes.now ≡ run
     → view.scan.now ≡ current.scan → IsAccepted limit before.begun run view.whole
-    → ComesAfter limit by_blocks before view
+    → RunComes limit by_blocks before view
 accepted {before = before} here scanned blocks view number placed bytes scan is = record {
   numbered = number ∙ here.numbered;
   placed = placed ∙ here.placed;
@@ -64,9 +64,9 @@ accepted {before = before} here scanned blocks view number placed bytes scan is 
 -- the same, for the bytes before the one that shows a fault
 pub refused : {limit : ℕ} {by_blocks : Bool} {current : Current} {before : SoFar} {place : ℕ}
     {run : List ℕ} {why : Fault} (bytes : List ℕ) → bytes ≡ before_last run
-    → Comes limit current before place run
-    → Refuses limit by_blocks current.number before.begun run why
-    → StopsAfter limit by_blocks before current.number bytes
+    → BytesCome limit current before place run
+    → RefusedBundle limit by_blocks current.number before.begun run why
+    → StopComes limit by_blocks before current.number bytes
 refused {before = before} {run = run} bytes is here refuses =
     let some = here.some in
     let few = here.few in
@@ -123,12 +123,12 @@ module _ {W E : Type 0} (out_look : W → Output) (report_look : E → Output) w
   module _ (telling : BundleTelling) (before : SoFar) (run : List ℕ) (why : Fault)
       (bytes : List ℕ) (is : bytes ≡ before_last run) (old mid : Writers W E) where
     abbrev Said : Result (Unit {0}) IoFault → Type 0
-    Said result = Tells out_look report_look (telling.texts before)
+    Said result = WritesRest out_look report_look (telling.texts before)
         (telling.texts (with_bytes before bytes)) (Unit {0}) old mid result
 
     abbrev Refused : Writers W E → Result Status IoFault → Type 0
     Refused new answer =
-        Ends out_look report_look telling old new before (with_bytes before (before_last run))
+        WritesEnd out_look report_look telling old new before (with_bytes before (before_last run))
         (Some why) answer
 
     line_said : (texts : Texts)
@@ -162,9 +162,9 @@ module _ {W E : Type 0} (out_look : W → Output) (report_look : E → Output) w
       (old new : Writers W E) (status : Status)
       (is : status.0 ≡ (if telling.good now.bundles then 0 else 1)) where
     pub ended : (result : Result (Unit {0}) IoFault)
-        → Tells out_look report_look (telling.texts (between now.bundles))
+        → WritesRest out_look report_look (telling.texts (between now.bundles))
         (telling.ended now.bundles) (Unit {0}) old new result
-        → Ends out_look report_look telling old new now now
+        → WritesEnd out_look report_look telling old new now now
         (cut_at telling.limit number now.begun) (result_and result (Ok status))
     ended result tells =
         rw (none, divided_none telling.limit) (record {
@@ -184,12 +184,12 @@ module _ {W E : Type 0} (out_look : W → Output) (report_look : E → Output) w
 
 module _ {R W E : Type 0} {look : Looks R W E} {start : Devices R W E} {made : List ℕ → Made}
     {begun : Bool} {history : List ℕ} (most : ℕ) (old new : Source R) (before after : Writers W E)
-    (stood : Stands look made start begun (place_of old before) history)
+    (stood : IsRunAt look made start begun (place_of old before) history)
     {given : List ℕ} (takes : Takes look.input old new given) (size : length given ≤ most)
     (few : length (window_of new) < window_size) where
   pub stepped : {had now : Texts} {stands : Type 0} (knows : List ℕ → Type 0)
       (result : Result (Unit {0}) IoFault)
-      → Tells look.output look.report had now stands before after result
+      → WritesRest look.output look.report had now stands before after result
       → written_by begun (made history) ≡ had
       → now ≡ (made (history ++ given)).texts
       → shows_fault (made (history ++ given)).stop ≡ false
@@ -210,19 +210,19 @@ module _ {R W E : Type 0} {look : Looks R W E} {start : Devices R W E} {made : L
 module _ {R W E : Type 0} {look : Looks R W E} {start : Devices R W E} (telling : BundleTelling)
     (knew knows : SoFar → Type 0) (most : ℕ) (old new : Source R) (before after : Writers W E)
     (current next : Current) {history : List ℕ}
-    (stood : Stands look (told_of telling) start true (place_of old before) history)
-    (at : Walks look.input telling knew current old history) where
-  abbrev Gives : Result Progress IoFault → Type 0
-  Gives = AfterStage look (told_of telling) start true (place_of old before) (place_of new after)
-      (Walks look.input telling knows next new) most history
+    (stood : IsRunAt look (told_of telling) start true (place_of old before) history)
+    (at : IsBundleWalkAt look.input telling knew current old history) where
+  abbrev GivesProgress : Result Progress IoFault → Type 0
+  GivesProgress = AfterStage look (told_of telling) start true (place_of old before) (place_of new after)
+      (IsBundleWalkAt look.input telling knows next new) most history
 
   texts_now : (told_of telling history).texts ≡ telling.texts at.so_far
   texts_now = texts_going telling history at.so_far at.divides at.holds.reading.opened
 
-  divides : (run rest : List ℕ)
+  divided-append : (run rest : List ℕ)
       → divided telling.limit ((history ++ run) ++ rest)
       ≡ with_bundles at.so_far.bundles (divided telling.limit ((at.so_far.begun ++ run) ++ rest))
-  divides run rest =
+  divided-append run rest =
       rw (append_assoc history run rest, append_assoc at.so_far.begun run rest) (at.divides (run ++ rest))
 
   -- these bytes are the last: the whole input was given, or they show a fault
@@ -230,14 +230,14 @@ module _ {R W E : Type 0} {look : Looks R W E} {start : Devices R W E} (telling 
       (few : length (window_of new) < window_size) (now : SoFar) (why : Option Fault)
       (is : whole_of (told_of telling (history ++ run)) ≡ ended_by telling now why) where
     ends_so : (answer : Result Status IoFault)
-        → Ends look.output look.report telling before after at.so_far now why answer
+        → WritesEnd look.output look.report telling before after at.so_far now why answer
         → (IsOver look.input new × (shows_fault (told_of telling (history ++ run)).stop ≡ false))
         ⊎ ((shows_fault (told_of telling (history ++ run)).stop ≡ true)
         × ((more : List ℕ)
         → told_of telling ((history ++ run) ++ more) ≡ told_of telling (history ++ run))
         × ((count : ℕ) → count < length run
         → shows_fault (told_of telling (history ++ take count run)).stop ≡ false))
-        → Gives (answer_of answer)
+        → GivesProgress (answer_of answer)
     ends_so answer gave over =
         last_step (told_of telling) (place_of old before) (place_of new after) _ answer
         (ends most old new before stood takes size few after gave.texts
@@ -246,9 +246,9 @@ module _ {R W E : Type 0} {look : Looks R W E} {start : Devices R W E} (telling 
   -- the input has ended
   pub finished : Takes look.input old new [] → IsOver look.input new
       → (answer : Result Status IoFault)
-      → Ends look.output look.report telling before after at.so_far at.so_far
+      → WritesEnd look.output look.report telling before after at.so_far at.so_far
       (cut_at telling.limit current.number at.so_far.begun) answer
-      → Gives (answer_of answer)
+      → GivesProgress (answer_of answer)
   finished takes over answer gave =
       ends_so takes (omega arith) (few_over look.input new over) at.so_far _
       (rw (append-nil, at.holds.number)
@@ -264,14 +264,14 @@ module _ {R W E : Type 0} {look : Looks R W E} {start : Devices R W E} (telling 
         ≡ with_bundles now.bundles (divided telling.limit (now.begun ++ rest)))
         → length now.bundles + length now.begun ≤ length (history ++ run)
         → size_of now.bundles + length now.begun ≤ length (history ++ run)
-        → GoesOn look.output look.report telling before after at.so_far knows next now result
-        → Gives result
+        → WritesUpTo look.output look.report telling before after at.so_far knows next now result
+        → GivesProgress result
     went now come few sized gave =
         let opened = gave.reading.opened in
         let bytes = history ++ run in
-        subst Gives (sym gave.is)
+        subst GivesProgress (sym gave.is)
         (stepped most old new before after stood takes size (takes.window.less some)
-        (Walks look.input telling knows next new) gave.written gave.tells texts_now
+        (IsBundleWalkAt look.input telling knows next new) gave.written gave.tells texts_now
         (sym (texts_going telling bytes now come opened))
         (unshown_going telling bytes now come opened)
         (λ known. record {
@@ -285,13 +285,13 @@ module _ {R W E : Type 0} {look : Looks R W E} {start : Devices R W E} (telling 
         }) (λ is. some) (λ may. refl))
 
     pub came : (by_blocks : Bool) (mid : Current) → mid.number ≡ current.number → (what : Found)
-        → MakesOf telling.limit by_blocks mid at.so_far.begun run what
+        → AfterJudge telling.limit by_blocks mid at.so_far.begun run what
         → WritesFound look.output look.report telling before after at.so_far knows next run what
         result
-        → Gives result
+        → GivesProgress result
     came by_blocks mid numbered found.Part took gave =
         let few = at.few in
-        went (with_bytes at.so_far run) (divides run)
+        went (with_bytes at.so_far run) (divided-append run)
         (omega (arith, length-append at.so_far.begun run, length-append history run))
         (omega (arith, at.sized, length-append at.so_far.begun run, length-append history run)) gave
     came by_blocks mid numbered found.Whole took gave =
@@ -299,7 +299,7 @@ module _ {R W E : Type 0} {look : Looks R W E} {start : Devices R W E} (telling 
         let bundles = at.so_far.bundles in
         let bundle : Packed = record { bytes = at.so_far.begun ++ run; info = gave.0 } in
         went (with_run at.so_far run (Some gave.0))
-        (λ rest. divides run rest
+        (λ rest. divided-append run rest
         ∙ rw (
           divided_whole telling.limit bundle.bytes rest gave.0 took.0.front gave.1 took.0.within,
           append_assoc bundles (bundle ∷ []),
@@ -315,14 +315,14 @@ module _ {R W E : Type 0} {look : Looks R W E} {start : Devices R W E} (telling 
     came by_blocks mid numbered (found.Refused fault) took gave =
         let bytes = history ++ run in
         let now = with_bytes at.so_far run in
-        let made = told_refused telling bytes now (divides run) _ took.divides in
+        let made = told_refused telling bytes now (divided-append run) _ took.divides in
         let last = with_bytes at.so_far (before_last run) in
-        subst Gives (sym gave.1)
+        subst GivesProgress (sym gave.1)
         (ends_so takes size (takes.window.less some) last (Some fault)
         (rw (made, took.is, numbered, at.holds.number) refl) gave.0 gave.2
         (inr (
           rw made took.lasts,
-          told_same telling bytes now (divides run) _ took.divides,
+          told_same telling bytes now (divided-append run) _ took.divides,
           λ count less. unshown_going telling (history ++ take count run)
-              (with_bytes at.so_far (take count run)) (divides (take count run)) (took.before count less),
+              (with_bytes at.so_far (take count run)) (divided-append (take count run)) (took.before count less),
         )))

@@ -13,21 +13,21 @@ use Rattle.link_bundle_walk.proofs.Dividing.{whole_stops, divided_none, divided_
 use Rattle.link_bundle_walk.proofs.Divisions.{stays_divided}
 
 -- the end of an input after the bytes `begun` of a bundle that goes on
-record IsCut (limit : ℕ) (begun : List ℕ) : Type 0 where
+record EndsInBundle (limit : ℕ) (begun : List ℕ) : Type 0 where
   pub rest : Option Rest
   pub divides : divided limit begun ≡ record { bundles = []; rest = rest }
   pub accepted : accepted_in rest ≡ begun
   pub unshown : (number : ℕ) → shows_fault (stop_by number rest) ≡ false
 
 cut_by : (limit : ℕ) (begun : List ℕ) (said : Result BundleInfo (BundleFault × ℕ))
-    → verdict begun ≡ said → IsOpen limit begun → 0 < length begun → IsCut limit begun
+    → verdict begun ≡ said → IsOpen limit begun → 0 < length begun → EndsInBundle limit begun
 cut_by limit begun (Ok info) is opened some =
     absurd (false≢true (sym (whole_stops begun info is) ∙ opened.goes))
 cut_by limit begun (Err (fault, offset)) is opened some =
     let parts = divided_open limit begun fault offset opened some is in
     record { rest = _; divides = parts.1; accepted = refl; unshown = λ number. parts.0 }
 
-cut_open : (limit : ℕ) (begun : List ℕ) → IsOpen limit begun → IsCut limit begun
+cut_open : (limit : ℕ) (begun : List ℕ) → IsOpen limit begun → EndsInBundle limit begun
 cut_open limit [] opened =
     record { rest = None; divides = divided_none limit; accepted = refl; unshown = λ number. refl }
 cut_open limit (byte ∷ bytes) opened =

@@ -97,23 +97,23 @@ abbrev pub come_with : SoFar → RunView → SoFar
 come_with before run = with_run before run.bytes.now (whole_info run.whole)
 
 -- what is shown of a bundle that is whole
-abbrev pub IsShown : (bundle : List ℕ) → WholeView → Type 0
-IsShown bundle whole =
+abbrev pub IsViewOf : (bundle : List ℕ) → WholeView → Type 0
+IsViewOf bundle whole =
     (verdict bundle ≡ Ok (viewed_info whole.info)) × (whole.length ≡ length bundle)
 
 -- with these bytes the bundle goes on or is whole
 abbrev pub IsAccepted : (limit : ℕ) → (begun run : List ℕ) → Option WholeView → Type 0
 IsAccepted limit begun run None = IsOpen limit (begun ++ run)
-IsAccepted limit begun run (Some whole) = IsShown (begun ++ run) whole
+IsAccepted limit begun run (Some whole) = IsViewOf (begun ++ run) whole
 
 -- if the scan stops at each block, no block ends in the run before its end
-abbrev pub EndsBlock : (by_blocks : Bool) → BundleScan → (begun run : List ℕ) → Type 0
-EndsBlock by_blocks scan begun run =
+abbrev pub EndsAtBlock : (by_blocks : Bool) → BundleScan → (begun run : List ℕ) → Type 0
+EndsAtBlock by_blocks scan begun run =
     by_blocks ≡ true → blocks_in (begun ++ run) ≡ blocks_in begun ++ ending scan
 
 -- The bytes of a run follow the bytes so far. The scan has seen them. If the tool is told of each
 -- block by itself, no block ends in the run before its end.
-pub record ComesAfter (limit : ℕ) (by_blocks : Bool) (before : SoFar) (run : RunView)
+pub record RunComes (limit : ℕ) (by_blocks : Bool) (before : SoFar) (run : RunView)
     : Type 0 where
   pub numbered : run.number ≡ length before.bundles
   pub placed : run.before ≡ length before.begun
@@ -121,13 +121,13 @@ pub record ComesAfter (limit : ℕ) (by_blocks : Bool) (before : SoFar) (run : R
   pub opened : IsOpen limit before.begun
   pub accepted : IsAccepted limit before.begun run.bytes.now run.whole
   pub scanned : HasScanned run.scan.now (before.begun ++ run.bytes.now)
-  pub blocks : EndsBlock by_blocks run.scan.now before.begun run.bytes.now
+  pub blocks : EndsAtBlock by_blocks run.scan.now before.begun run.bytes.now
   pub few : length before.bundles + length (before.begun ++ run.bytes.now) < 2 ^ 63
   pub sized : size_of before.bundles + length (before.begun ++ run.bytes.now) < 2 ^ 63
 
 -- These bytes of the bundle with this number follow the bytes so far, and the bundle goes on. If
 -- the tool is told of each block by itself, no block ends in them.
-pub record StopsAfter (limit : ℕ) (by_blocks : Bool) (before : SoFar) (number : ℕ)
+pub record StopComes (limit : ℕ) (by_blocks : Bool) (before : SoFar) (number : ℕ)
     (bytes : List ℕ) : Type 0 where
   pub numbered : number ≡ length before.bundles
   pub opened : IsOpen limit before.begun
@@ -146,7 +146,7 @@ size_after run = read_by run.whole (run.before + length run.bytes.now)
 
 -- Of the texts `due`, the part `had` was written before. The rest was written, and `stands` holds;
 -- or a writer failed while writing it.
-pub record Tells {W E : Type 0} (out_look : W → Output) (report_look : E → Output)
+pub record WritesRest {W E : Type 0} (out_look : W → Output) (report_look : E → Output)
     (had due : Texts) (stands : Type 0) (old new : Writers W E)
     (result : Result (Unit {0}) IoFault) : Type 0 where
   pub texts : Texts

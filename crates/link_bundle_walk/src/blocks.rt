@@ -4,10 +4,10 @@ ghost use Rattle.std.specs.Prelude.{◌≡◌, ◌+◌, ◌^◌, ◌≤◌, ◌<
 ghost use Rattle.link_bundle_blocks.specs.Blocks.{HasShortBlock, viewed_block};
 ghost use Rattle.link_bundle_blocks.specs.Bundle.{blocks_in, bundle_goes};
 ghost use Rattle.link_bundle.specs.Scan.{HasScanned, HasJudged, ending, scan_size};
-ghost use Rattle.link_block_reader.specs.DataReader.{IsReading, read_size};
+ghost use Rattle.link_block_reader.specs.DataReader.{IsDataReaderAt, read_size};
 ghost use Rattle.link_run.specs.Writers.{on_output};
-ghost use Rattle.link_bundle_walk.specs.Blocks.{HasRead, SaysMore};
-ghost use Rattle.link_bundle_walk.specs.Telling.{Tells};
+ghost use Rattle.link_bundle_walk.specs.Blocks.{HasReadTo, SaysMore};
+ghost use Rattle.link_bundle_walk.specs.Telling.{WritesRest};
 
 use link_block_reader::DataReader;
 use link_bundle::{BlockView, BundleScan};
@@ -37,8 +37,8 @@ pub trait BlockConsumer {
         ensures { (before run : List ℕ) → knows self.old before → bundle_goes before ≡ true
             → blocks_in (before ++ run) ≡ blocks_in before ++ viewed_block block.now ∷ []
             → length (before ++ run) < 2 ^ 63
-            → HasRead reader.now (before ++ run) (viewed_block block.now)
-            → Tells W.state E.state (on_output (says number before))
+            → HasReadTo reader.now (before ++ run) (viewed_block block.now)
+            → WritesRest W.state E.state (on_output (says number before))
             (on_output (says number (before ++ run))) (knows self.new (before ++ run))
             writers.old writers.new result };
 
@@ -70,10 +70,10 @@ pub fn tell_run<C: BlockConsumer, W: OutDevice, E: OutDevice>(
     ensures gives { (seen : List ℕ) → length seen ≡ before → bundle_goes seen ≡ true
         → HasScanned scan.now (seen ++ run.now)
         → blocks_in (seen ++ run.now) ≡ blocks_in seen ++ ending scan.now
-        → IsReading reader.old seen → C.knows consumer.old seen
-        → Tells W.state E.state (on_output (C.says number seen))
+        → IsDataReaderAt reader.old seen → C.knows consumer.old seen
+        → WritesRest W.state E.state (on_output (C.says number seen))
         (on_output (C.says number (seen ++ run.now)))
-        (IsReading reader.new (seen ++ run.now) × C.knows consumer.new (seen ++ run.now))
+        (IsDataReaderAt reader.new (seen ++ run.now) × C.knows consumer.new (seen ++ run.now))
         writers.old writers.new result }
 {
     match scan.ended_block() {
@@ -106,10 +106,10 @@ fn tell_ended<C: BlockConsumer, W: OutDevice, E: OutDevice>(
     ensures gives { (seen : List ℕ) → length seen ≡ before → bundle_goes seen ≡ true
         → HasScanned scan.now (seen ++ run.now)
         → blocks_in (seen ++ run.now) ≡ blocks_in seen ++ ending scan.now
-        → IsReading reader.old seen → C.knows consumer.old seen
-        → Tells W.state E.state (on_output (C.says number seen))
+        → IsDataReaderAt reader.old seen → C.knows consumer.old seen
+        → WritesRest W.state E.state (on_output (C.says number seen))
         (on_output (C.says number (seen ++ run.now)))
-        (IsReading reader.new (seen ++ run.now) × C.knows consumer.new (seen ++ run.now))
+        (IsDataReaderAt reader.new (seen ++ run.now) × C.knows consumer.new (seen ++ run.now))
         writers.old writers.new result }
 {
     let ended = scan.ended_block();
@@ -139,10 +139,10 @@ pub fn tell_piece<C: BlockConsumer, W: OutDevice, E: OutDevice>(
     ensures scanned { scan_size scan.new ≤ before + length piece.now }
     ensures read { read_size reader.new ≤ before + length piece.now }
     ensures gives { (seen : List ℕ) → length seen ≡ before → HasJudged scan.old seen
-        → IsReading reader.old seen → C.knows consumer.old seen
-        → Tells W.state E.state (on_output (C.says number seen))
+        → IsDataReaderAt reader.old seen → C.knows consumer.old seen
+        → WritesRest W.state E.state (on_output (C.says number seen))
         (on_output (C.says number (seen ++ piece.now)))
-        (HasJudged scan.new (seen ++ piece.now) × IsReading reader.new (seen ++ piece.now)
+        (HasJudged scan.new (seen ++ piece.now) × IsDataReaderAt reader.new (seen ++ piece.now)
         × C.knows consumer.new (seen ++ piece.now)) writers.old writers.new result }
 {
     let mut taken = 0;

@@ -5,7 +5,7 @@ ghost use Rattle.link_bundle_types.specs.BundleView.{viewed_info};
 ghost use Rattle.link_bundle_types.specs.ShortNames.{HasShortNames};
 ghost use Rattle.link_run.specs.Run.{no_texts};
 ghost use Rattle.link_bundle_walk.specs.Bundles.{Packed};
-ghost use Rattle.link_bundle_walk.specs.Telling.{BundleTelling, ComesAfter, SoFar, StopsAfter, Tells, between, come_with, none_yet, size_after, with_bytes};
+ghost use Rattle.link_bundle_walk.specs.Telling.{BundleTelling, RunComes, SoFar, StopComes, WritesRest, between, come_with, none_yet, size_after, with_bytes};
 
 use link_bundle::BundleScan;
 use link_bundle_types::BundleView;
@@ -86,7 +86,7 @@ pub trait BundleConsumer: Sized {
         ensures fits { OnOk result (IsTrue (fits self.new)) }
         ensures read { OnOk result (read self.new ≤ read self.old) }
         ensures gives { knows options.now self.old none_yet
-            → Tells W.state E.state no_texts ((telling options.now).texts none_yet)
+            → WritesRest W.state E.state no_texts ((telling options.now).texts none_yet)
             (knows options.now self.new none_yet) writers.old writers.new result };
 
     /// These bytes of the bundle with this number were accepted, and with them it goes on, or is
@@ -105,8 +105,8 @@ pub trait BundleConsumer: Sized {
         ensures fits { OnOk result (IsTrue (fits self.new)) }
         ensures read { OnOk result (read self.new ≤ size_after run.now) }
         ensures gives { (before : SoFar) → knows options.now self.old before
-            → ComesAfter (telling options.now).limit tells_blocks before run.now
-            → Tells W.state E.state ((telling options.now).texts before)
+            → RunComes (telling options.now).limit tells_blocks before run.now
+            → WritesRest W.state E.state ((telling options.now).texts before)
             ((telling options.now).texts (come_with before run.now))
             (knows options.now self.new (come_with before run.now))
             writers.old writers.new result };
@@ -123,8 +123,8 @@ pub trait BundleConsumer: Sized {
         requires fits { IsTrue (fits self.old) }
         requires few { length bytes.now ≤ wants self.old }
         ensures { (before : SoFar) → knows options.now self.old before
-            → StopsAfter (telling options.now).limit tells_blocks before number bytes.now
-            → Tells W.state E.state ((telling options.now).texts before)
+            → StopComes (telling options.now).limit tells_blocks before number bytes.now
+            → WritesRest W.state E.state ((telling options.now).texts before)
             ((telling options.now).texts (with_bytes before bytes.now)) (Unit {0})
             writers.old writers.new result };
 
@@ -135,7 +135,7 @@ pub trait BundleConsumer: Sized {
         writers: &mut Writers<W, E>,
     ) -> Result<(), IoFault>
         ensures { (bundles : List Packed) → knows options.now self.old (between bundles)
-            → Tells W.state E.state ((telling options.now).texts (between bundles))
+            → WritesRest W.state E.state ((telling options.now).texts (between bundles))
             ((telling options.now).ended bundles) (Unit {0}) writers.old writers.new result };
 
     /// Whether all bundles so far are good.

@@ -36,7 +36,7 @@ impl Current {
     ghost use Rattle.link_bundle_types.specs.declared.info.BundleInfo.{BundleInfo};
     ghost use Rattle.link_bundle_types.specs.ShortNames.{HasShortNames};
     ghost use Rattle.link_bundle_walk.specs.Bundles.{IsOpen};
-    ghost use Rattle.link_bundle_walk.specs.BundleRun.{Counts, CutShort, IsReading, MakesOf, Scans, Shows, found_by};
+    ghost use Rattle.link_bundle_walk.specs.BundleRun.{AddsSeen, IsCutFault, IsCurrentAt, AfterJudge, HasScannedPart, IsSomeViewOf, found_by};
 
     /// Nothing of the first bundle has come.
     #[inline(always)]
@@ -74,14 +74,14 @@ impl Current {
         requires wanted { 0 < wanted }
         ensures within { result.0 ≤ length piece.now }
         ensures few { result.0 ≤ wanted }
-        ensures counts { Counts (scan_size self.old.scan) result.0 (scan_size self.new.scan)
+        ensures counts { AddsSeen (scan_size self.old.scan) result.0 (scan_size self.new.scan)
             result.1 }
-        ensures some { (begun : List ℕ) → IsReading limit self.old begun
+        ensures some { (begun : List ℕ) → IsCurrentAt limit self.old begun
             → length begun + length piece.now < 2 ^ 63
             → 0 < result.0 }
-        ensures took { (begun : List ℕ) → IsReading limit self.old begun
+        ensures took { (begun : List ℕ) → IsCurrentAt limit self.old begun
             → length begun + length piece.now < 2 ^ 63
-            → MakesOf limit by_blocks self.new begun (take result.0 piece.now) result.1 }
+            → AfterJudge limit by_blocks self.new begun (take result.0 piece.now) result.1 }
         ensures number { self.new.number ≡ self.old.number }
     {
         let room = self.room(limit);
@@ -103,7 +103,8 @@ impl Current {
         ensures size { scan_size self.new.scan ≡ scan_size self.old.scan + result }
         ensures number { self.new.number ≡ self.old.number }
         ensures scans { (begun : List ℕ) → HasScanned self.old.scan begun
-            → bundle_goes begun ≡ true → Scans by_blocks self.new.scan begun piece.now result }
+            → bundle_goes begun ≡ true
+            → HasScannedPart by_blocks self.new.scan begun piece.now result }
     {
         if !by_blocks {
             return self.scan.feed(piece);
@@ -142,7 +143,7 @@ impl Current {
     pub fn whole(&self) -> Option<WholeView<'_>>
         ensures short { IfSome result (λ whole. HasShortNames (viewed_info whole.info)) }
         ensures shows { (bundle : List ℕ) (info : BundleInfo) → HasScanned self.now.scan bundle
-            → verdict bundle ≡ Ok info → Shows bundle result }
+            → verdict bundle ≡ Ok info → IsSomeViewOf bundle result }
     {
         match self.scan.view() {
             Ok(info) => Some(WholeView {
@@ -167,7 +168,7 @@ impl Current {
     /// It is `None` if no byte of the bundle has come.
     pub fn cut_short(&self) -> Option<Fault>
         ensures { (limit : ℕ) (begun : List ℕ) → HasScanned self.now.scan begun
-            → IsOpen limit begun → CutShort limit self.now.number begun result }
+            → IsOpen limit begun → IsCutFault limit self.now.number begun result }
     {
         if self.scan.count() == 0 {
             return None;

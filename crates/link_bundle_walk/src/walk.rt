@@ -7,10 +7,10 @@ ghost use Rattle.link_run.specs.Made.{tool_of};
 ghost use Rattle.link_run.specs.Reading.{feed_of, CallWaits};
 ghost use Rattle.link_run.specs.Run.{Devices, devices, looks, NoneFailed};
 ghost use Rattle.link_run.specs.NewRun.{IsNewRun};
-ghost use Rattle.link_run.specs.Stages.{AfterStage, IsMore, Stands};
+ghost use Rattle.link_run.specs.Stages.{AfterStage, IsMore, IsRunAt};
 ghost use Rattle.link_run.specs.Writers.{place_of};
 ghost use Rattle.link_bundle_walk.specs.Telling.{SoFar, none_yet, told_of};
-ghost use Rattle.link_bundle_walk.specs.BundleRun.{Comes, Counts, Ends, Holds, MakesOf, Walks, WritesFound, before_last, cut_at};
+ghost use Rattle.link_bundle_walk.specs.BundleRun.{BytesCome, AddsSeen, WritesEnd, HasSoFar, AfterJudge, IsBundleWalkAt, WritesFound, before_last, cut_at};
 
 use crate::consumer::{BundleConsumer, RunView};
 use crate::current::{Current, Found};
@@ -46,7 +46,7 @@ pub type BundleWalkRun<R, W, E, C> = ToolRun<Source<R>, W, E, BundleWalk<C>>;
 
 impl<R: InDevice, W: OutDevice, E: OutDevice, C: BundleConsumer> Stages<Source<R>, W, E>
     for BundleWalk<C> {
-    ghost use Rattle.link_bundle_walk.specs.BundleRun.{most_given, has_begun, IsWalking};
+    ghost use Rattle.link_bundle_walk.specs.BundleRun.{most_given, has_begun, IsBundleWalkAtStage};
 
     ghost made = { λ tool. told_of (C.telling tool.options) };
 
@@ -55,7 +55,7 @@ impl<R: InDevice, W: OutDevice, E: OutDevice, C: BundleConsumer> Stages<Source<R
     ghost fits = { λ tool input. C.fits tool.walker.consumer
         && nat_le (C.read tool.walker.consumer) (scan_size tool.walker.current.scan) };
 
-    ghost knows = { λ tool source history. IsWalking R.state (C.telling tool.options)
+    ghost knows = { λ tool source history. IsBundleWalkAtStage R.state (C.telling tool.options)
         (C.knows tool.options tool.walker.consumer) tool.walker.current source history tool.stage };
 
     ghost most = { λ tool. most_given tool.stage };
@@ -106,13 +106,13 @@ fn take_bytes<R: InDevice, W: OutDevice, E: OutDevice, C: BundleConsumer>(
     ensures read { IsMore result
         → C.read walker.new.consumer ≤ scan_size walker.new.current.scan }
     ensures gives { (start : Devices R W E) (history : List ℕ)
-        → Stands (looks R.state W.state E.state) (told_of (C.telling options.now)) start true
+        → IsRunAt (looks R.state W.state E.state) (told_of (C.telling options.now)) start true
         (place_of (feed_of input.old) writers.old) history
-        → Walks R.state (C.telling options.now) (C.knows options.now walker.old.consumer)
+        → IsBundleWalkAt R.state (C.telling options.now) (C.knows options.now walker.old.consumer)
         walker.old.current (feed_of input.old) history
         → AfterStage (looks R.state W.state E.state) (told_of (C.telling options.now)) start true
         (place_of (feed_of input.old) writers.old) (place_of (feed_of input.new) writers.new)
-        (Walks R.state (C.telling options.now) (C.knows options.now walker.new.consumer)
+        (IsBundleWalkAt R.state (C.telling options.now) (C.knows options.now walker.new.consumer)
         walker.new.current (feed_of input.new)) most history result }
     ensures waits { CallWaits (looks R.state W.state E.state) (λ source. source)
         (0 < length (at_hand R.state (feed_of input.old))) input.old input.new writers.old }
@@ -157,13 +157,13 @@ fn go_on<W: OutDevice, E: OutDevice, C: BundleConsumer>(
 ) -> Result<Progress, IoFault>
     requires fits { IsTrue (C.fits consumer.old) }
     requires few { length bytes.now ≤ C.wants consumer.old }
-    requires counts { Counts before (length bytes.now) (scan_size current.old.scan) found }
+    requires counts { AddsSeen before (length bytes.now) (scan_size current.old.scan) found }
     requires read { C.read consumer.old ≤ before }
     ensures fits { IsMore result → IsTrue (C.fits consumer.new) }
     ensures read { IsMore result → C.read consumer.new ≤ scan_size current.new.scan }
     ensures gives { (so_far : SoFar) → C.knows options.now consumer.old so_far
-        → Comes (C.telling options.now).limit current.old so_far before bytes.now
-        → MakesOf (C.telling options.now).limit C.tells_blocks current.old so_far.begun
+        → BytesCome (C.telling options.now).limit current.old so_far before bytes.now
+        → AfterJudge (C.telling options.now).limit C.tells_blocks current.old so_far.begun
         bytes.now found
         → WritesFound W.state E.state (C.telling options.now) writers.old writers.new so_far
         (C.knows options.now consumer.new) current.new bytes.now found result }
@@ -217,9 +217,9 @@ fn finish<W: OutDevice, E: OutDevice, C: BundleConsumer>(
     writers: &mut Writers<W, E>,
     walker: &mut Walker<C>,
 ) -> Result<Status, IoFault>
-    ensures { (now : SoFar) → Holds (C.telling options.now).limit
+    ensures { (now : SoFar) → HasSoFar (C.telling options.now).limit
         (C.knows options.now walker.old.consumer) walker.old.current now
-        → Ends W.state E.state (C.telling options.now) writers.old writers.new now now
+        → WritesEnd W.state E.state (C.telling options.now) writers.old writers.new now now
         (cut_at (C.telling options.now).limit walker.old.current.number now.begun) result }
 {
     if let Some(fault) = walker.current.cut_short() {

@@ -6,10 +6,10 @@ use Rattle.std.proofs.lemmas.{Bool.{eqb-true, Decides.nat_tests}, List.{take_res
 use Rattle.link_cbor.specs.Head.{Cut, argument_front, front_by, head_front, is_cut}
 use Rattle.link_cbor.proofs.HeadLaws.{left_by, cut_by-left, front_by-argument}
 
-pub empty : (bytes : List ℕ) → (length bytes == 0) ≡ true → head_front bytes ≡ Cut
+pub head_front-nil : (bytes : List ℕ) → (length bytes == 0) ≡ true → head_front bytes ≡ Cut
 unfolding head_front
-empty [] none = refl
-empty (first ∷ rest) none = absurd (omega (arith, eqb-true (length (first ∷ rest)) 0 none))
+head_front-nil [] none = refl
+head_front-nil (first ∷ rest) none = absurd (omega (arith, eqb-true (length (first ∷ rest)) 0 none))
 
 -- a head by its first byte and the others
 pub first_by : (first : ℕ) (rest : List ℕ)
@@ -50,7 +50,7 @@ cut_by bytes some =
       length-drop 1 bytes,
     ) refl
 
-pub ruleset cut = (empty, cut_by, nat_tests)
+pub ruleset cut = (head_front-nil, cut_by, nat_tests)
 
 -- what the reading of a first byte follows from
-pub ruleset first_byte = (empty, first_by, by_first, below_32)
+pub ruleset first_byte = (head_front-nil, first_by, by_first, below_32)

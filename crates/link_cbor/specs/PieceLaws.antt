@@ -4,7 +4,7 @@
 use Rattle.std.proofs.Common.{◌≡◌, ℕ, zero, suc, ◌<◌, Bool, true, false, List, [], ◌∷◌, ◌++◌, length, take, refl, sym, ap, ◌⊎◌, inl, inr, ⊎_elim, append_assoc, arith}
 use Rattle.std.proofs.lemmas.List.{append-nil}
 use Rattle.std.proofs.lemmas.Bool.{cases_Bool}
-use Rattle.link_cbor.specs.Pieces.{taken, IsShortestFront, JoinsPieces, TakesShortest}
+use Rattle.link_cbor.specs.Pieces.{taken, IsShortestPrefix, JoinsPieces, TakesShortest}
 
 -- no byte is taken if none is needed
 pub taken-idle : (goes : List ℕ → Bool) (seen bytes : List ℕ) → goes seen ≡ false
@@ -44,7 +44,7 @@ joins_pieces goes seen (byte ∷ first) second =
     (cases_Bool (goes seen))
 
 shortest-none : (goes : List ℕ → Bool) (seen bytes : List ℕ) → (goes seen ≡ false) ⊎ ([] ≡ bytes)
-    → IsShortestFront goes seen bytes []
+    → IsShortestPrefix goes seen bytes []
 shortest-none goes seen bytes stop = record {
   is_front = refl;
   wanted = λ count below. absurd (omega arith);
@@ -60,8 +60,8 @@ wanted-more goes seen byte front wanted rest (suc count) below =
 
 shortest-more : (goes : List ℕ → Bool) (seen : List ℕ) (byte : ℕ) (bytes front : List ℕ)
     → goes seen ≡ true
-    → IsShortestFront goes (seen ++ byte ∷ []) bytes front
-    → IsShortestFront goes seen (byte ∷ bytes) (byte ∷ front)
+    → IsShortestPrefix goes (seen ++ byte ∷ []) bytes front
+    → IsShortestPrefix goes seen (byte ∷ bytes) (byte ∷ front)
 shortest-more goes seen byte bytes front wanted rest = record {
   is_front = cc;
   wanted = wanted-more goes seen byte front wanted rest.wanted;
@@ -69,7 +69,7 @@ shortest-more goes seen byte bytes front wanted rest = record {
 }
 
 taken_is_shortest : (goes : List ℕ → Bool) (seen bytes : List ℕ)
-    → IsShortestFront goes seen bytes (taken goes seen bytes)
+    → IsShortestPrefix goes seen bytes (taken goes seen bytes)
 taken_is_shortest goes seen [] = rw (taken-nil goes seen) (shortest-none goes seen [] (inr refl))
 taken_is_shortest goes seen (byte ∷ bytes) =
     ⊎_elim (λ wanted. rw (taken-cons goes seen byte bytes wanted)
@@ -81,7 +81,7 @@ taken_is_shortest goes seen (byte ∷ bytes) =
 
 -- what is taken is the only shortest prefix
 is_taken : (goes : List ℕ → Bool) (seen bytes front : List ℕ)
-    → IsShortestFront goes seen bytes front → front ≡ taken goes seen bytes
+    → IsShortestPrefix goes seen bytes front → front ≡ taken goes seen bytes
 is_taken goes seen [] [] shortest = sym (taken-nil goes seen)
 is_taken goes seen [] (first ∷ front) shortest = absurd (let none = shortest.is_front in cc)
 is_taken goes seen (byte ∷ bytes) [] shortest =
@@ -90,7 +90,7 @@ is_taken goes seen (byte ∷ bytes) [] shortest =
 is_taken goes seen (byte ∷ bytes) (first ∷ front) shortest =
     let parts : first ∷ front ≡ byte ∷ take (length front) bytes = shortest.is_front in
     let same : first ≡ byte = cc in
-    let rest : IsShortestFront goes (seen ++ byte ∷ []) bytes front = record {
+    let rest : IsShortestPrefix goes (seen ++ byte ∷ []) bytes front = record {
       is_front = cc;
       wanted = λ count below. rw (append_assoc seen (byte ∷ []) (take count front), ← same)
           (shortest.wanted (suc count) (omega arith));

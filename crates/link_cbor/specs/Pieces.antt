@@ -12,7 +12,7 @@ taken goes seen (byte ∷ bytes) =
     if goes seen then byte ∷ taken goes (seen ++ byte ∷ []) bytes else []
 
 -- the same prefix by its properties
-pub record IsShortestFront (goes : List ℕ → Bool) (seen bytes front : List ℕ) : Type 0 where
+pub record IsShortestPrefix (goes : List ℕ → Bool) (seen bytes front : List ℕ) : Type 0 where
   pub is_front : front ≡ take (length front) bytes
   -- more bytes were needed before each byte that was taken
   pub wanted : (count : ℕ) → count < length front → goes (seen ++ take count front) ≡ true
@@ -26,8 +26,8 @@ JoinsPieces goes =
     taken goes seen (first ++ second) ≡ taken goes seen first
     ++ taken goes (seen ++ taken goes seen first) second
 
--- `taken` is the only list with the properties of `IsShortestFront`
+-- `taken` is the only list with the properties of `IsShortestPrefix`
 abbrev pub TakesShortest : (List ℕ → Bool) → Type 0
 TakesShortest goes =
     (seen bytes front : List ℕ)
-    → IsShortestFront goes seen bytes front ↔ (front ≡ taken goes seen bytes)
+    → IsShortestPrefix goes seen bytes front ↔ (front ≡ taken goes seen bytes)

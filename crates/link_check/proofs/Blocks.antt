@@ -56,14 +56,14 @@ module _ (content more : List ℕ) where
   module _ (block : CanonicalBlock)
       (grown : blocks_in (content ++ more) ≡ blocks_in content ++ CanonicalOf block ∷ []) where
     -- the next history has the block too
-    abbrev pub Adds : (old new : BundleHistory) → Type 0
-    Adds old new = length old.blocks.items < 64 → bundle_of new None 0
+    abbrev pub AddsToHistory : (old new : BundleHistory) → Type 0
+    AddsToHistory old new = length old.blocks.items < 64 → bundle_of new None 0
         ≡ with_block (bundle_of old None 0) block
         (found_in (fold flags_after 0 (blocks_in (content ++ more))) (content ++ more) block)
         (long_head_in (fold flags_after 0 (blocks_in (content ++ more))) (content ++ more) block)
 
     adds_by : (begins : Bool) (old new : BundleHistory) (read : Option ReadBundle)
-        → HasHistory begins old read content → Adds old new
+        → HasHistory begins old read content → AddsToHistory old new
         → HasHistory begins new (with_next (content ++ more) read (CanonicalOf block)) (content ++ more)
     adds_by false old new None was adds = tt
     adds_by false old new (Some bundle) was adds = absurd was
@@ -96,7 +96,7 @@ module _ (content more : List ℕ) where
         }
 
     pub history_adds : (begins : Bool) (old new : BundleHistory)
-        → HasHistory begins old (read_bundle content) content → Adds old new
+        → HasHistory begins old (read_bundle content) content → AddsToHistory old new
         → HasHistory begins new (read_bundle (content ++ more)) (content ++ more)
     history_adds begins old new was adds =
         rw (read_more content more (CanonicalOf block ∷ []) grown)

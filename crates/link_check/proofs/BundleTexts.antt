@@ -4,13 +4,13 @@ use Rattle.std.proofs.lemmas.List.Sums.{sum_by-cons, sum_by_push}
 use Rattle.link_wire.specs.{Device.Output, declared.IoFault.IoFault}
 use Rattle.link_bundle_types.specs.declared.info.BundleInfo.{BundleInfo}
 use Rattle.link_bundle_walk.specs.Bundles.{Packed, size_of}
-use Rattle.link_bundle_walk.specs.Telling.{SoFar, none_yet, Tells}
+use Rattle.link_bundle_walk.specs.Telling.{SoFar, none_yet, WritesRest}
 use Rattle.link_bundle_walk.proofs.Told.{on_ok_by, told_after, told_part}
 use Rattle.link_run.specs.{Run.no_texts, Writers.on_output}
 use Rattle.link_run.specs.declared.writers.Writers.{Writers}
 use Rattle.link_run.proofs.Runs.{texts_as}
 use Rattle.link_rule_report.specs.declared.line.RuleText.{RuleText}
-use Rattle.link_check.specs.{BundleChecker.{KnowsBundles, with_end}, BundleReader.IsReadingBundle}
+use Rattle.link_check.specs.{BundleChecker.{IsBundleCheckerAt, with_end}, BundleReader.IsBundleReaderAt}
 use Rattle.link_check.specs.Bundles.{broken_in, broken_bundles, bundle_check_telling}
 use Rattle.link_check.specs.{Lines.{lines_of, none_counts}, Writing.WritesRules}
 use Rattle.link_check.specs.declared.bundles.BundleChecker.{BundleChecker}
@@ -72,7 +72,7 @@ module _ (must : Bool) (bundles : List Packed) (bundle : Packed) (number : ℕ)
 
 -- before the first bundle
 pub knows_none : (must : Bool) (now : BundleChecker) → now.offset ≡ 0
-    → IsReadingBundle now.bundle [] → now.good ≡ true → KnowsBundles must now none_yet
+    → IsBundleReaderAt now.bundle [] → now.good ≡ true → IsBundleCheckerAt must now none_yet
 knows_none must now offset reading good = record {
   offset = offset ∙ sym no_size;
   reading = reading;
@@ -91,10 +91,10 @@ pub tells_whole : {W E : Type 0} {out_look : W → Output} {report_look : E → 
     → was ≡ none_counts must (broken_bundles 0 0 before.bundles)
     → WritesRules out_look report_look must old new was now.good result
     (broken_in number (size_of before.bundles) (record { bytes = before.begun; info = info }))
-    → now.offset ≡ size_of before.bundles + length before.begun → IsReadingBundle now.bundle []
-    → Tells out_look report_look ((bundle_check_telling must).texts before)
+    → now.offset ≡ size_of before.bundles + length before.begun → IsBundleReaderAt now.bundle []
+    → WritesRest out_look report_look ((bundle_check_telling must).texts before)
     ((bundle_check_telling must).texts (with_end before info))
-    (KnowsBundles must now (with_end before info)) old new result
+    (IsBundleCheckerAt must now (with_end before info)) old new result
 tells_whole {result = result} must now before info number numbered good writes next reading =
     let last : Packed = record { bytes = before.begun; info = info } in
     record {
@@ -116,14 +116,14 @@ module _ {W E P : Type 0} {out_look : W → Output} {report_look : E → Output}
     {old new : Writers W E} where
   -- nothing was said
   pub tells_on : {result : Result (Unit {0}) IoFault} (said : List ℕ)
-      → Tells out_look report_look no_texts no_texts P old new result
-      → Tells out_look report_look (on_output said) (on_output said) P old new result
+      → WritesRest out_look report_look no_texts no_texts P old new result
+      → WritesRest out_look report_look (on_output said) (on_output said) P old new result
   tells_on said told = rw (append-nil said) at (told_after told (on_output said))
 
   -- a writer failed before the lines of the next bundle
   pub tells_lost : {Q : Type 0} {fault : IoFault} (must : Bool) (bundles : List Packed)
-      (bundle : Packed) → Tells out_look report_look no_texts no_texts P old new (Err fault)
-      → Tells out_look report_look (on_output (lines_of must (broken_bundles 0 0 bundles)))
+      (bundle : Packed) → WritesRest out_look report_look no_texts no_texts P old new (Err fault)
+      → WritesRest out_look report_look (on_output (lines_of must (broken_bundles 0 0 bundles)))
       (on_output (lines_of must (broken_bundles 0 0 (bundles ++ bundle ∷ [])))) Q old new (Err fault)
   tells_lost must bundles bundle told =
       rw (lines_push must bundles bundle (length bundles) refl) (told_part _ (tells_on _ told))

@@ -5,7 +5,7 @@ use Rattle.link_message_rules.specs.TransferRules.{broken_transfer_rules}
 use Rattle.link_message_rules.specs.declared.rule.TransferRule.{TransferRule}
 use Rattle.link_rule_report.specs.declared.line.RuleText.{RuleText}
 use Rattle.link_rule_report.specs.declared.rule.BrokenRule.TheVariants.{Transfer}
-use Rattle.link_check.specs.{Checker.IsChecking, Checking.{Begun, closed_rules, data_rules}}
+use Rattle.link_check.specs.{Checker.IsCheckedTransferAt, Checking.{Begun, closed_rules, data_rules}}
 use Rattle.link_check.specs.{Lines.at_offset, declared.transfer.CheckedTransfer.CheckedTransfer}
 use Rattle.link_check.proofs.Appends.{at_append}
 
@@ -17,11 +17,11 @@ module _ (begun : Begun) where
   abbrev pub of_data : List RuleText
   of_data = at_offset begun.offset (data_rules begun.first.id begun.content (verdict begun.content))
 
-  pub both : at_offset begun.offset (closed_rules begun) ≡ of_length ++ of_data
-  both = at_append begun.offset _ _
+  pub closed_rules-append : at_offset begun.offset (closed_rules begun) ≡ of_length ++ of_data
+  closed_rules-append = at_append begun.offset _ _
 
   -- the rules of its length are these
-  pub length_are : (now : CheckedTransfer) (rules : List TransferRule) → IsChecking now begun
+  pub length_are : (now : CheckedTransfer) (rules : List TransferRule) → IsCheckedTransferAt now begun
       → rules ≡ broken_transfer_rules begun.first now.judge.size
       → at_offset now.offset (map (λ rule. Transfer now.judge.id rule) rules) ≡ of_length
   length_are now rules checks are =

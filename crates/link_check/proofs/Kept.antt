@@ -9,13 +9,13 @@ use Rattle.link_transfer.specs.declared.joiner.Turn.TheVariants.{Continue}
 use Rattle.link_run.specs.{Writers.on_output, declared.writers.Writers.Writers}
 use Rattle.link_run.proofs.Runs.{then_none}
 use Rattle.link_walk.specs.Saying.{kept_after, said_from, keeps_telling}
-use Rattle.link_walk.specs.Telling.{ComesAfter, Tells, data_ends}
+use Rattle.link_walk.specs.Telling.{HeadComes, Tells, data_ends}
 use Rattle.link_walk.specs.Walk.{Head, WalkEvent, MessageHead, Data, closes, is_beginning, open_after_event, data_size, has_open}
 use Rattle.link_judge.proofs.Counts.{size_then, open_then, size_with_data}
 use Rattle.link_judge.proofs.Effects.{Does, Strays, Passes, Begins, Continues, comes_does}
 use Rattle.link_message_rules.specs.Remembered.{Remembers}
 use Rattle.link_rule_report.specs.declared.line.RuleText.{RuleText}
-use Rattle.link_check.specs.Checker.{IsAtLatest, IsChecking, KnowsChecked, closed_due, kept_of}
+use Rattle.link_check.specs.Checker.{IsCheckedTransferAtLatest, IsCheckedTransferAt, IsCheckerAt, closed_due, kept_of}
 use Rattle.link_check.specs.Checking.{Begun, Kept, begun_by, broken_by, check_telling, checking, head_rules, judged, kept_with, none_kept, with_bytes}
 use Rattle.link_check.specs.{Lines.{lines_of, none_counts}, Writing.WritesRules}
 use Rattle.link_check.specs.declared.checker.Checker.{Checker}
@@ -44,8 +44,8 @@ module _ (options : CheckOptions) (before : List WalkEvent) where
       (now : Checker) (added : List WalkEvent) (broken : List RuleText)
       → on_output (lines_of options.must broken) ≡ said_from (checking options) was added
       → WritesRules out_look report_look options.must old new good later result broken
-      → OnOk result (KnowsChecked options now (before ++ added))
-      → Tells out_look report_look (check_telling options) (KnowsChecked options now) before
+      → OnOk result (IsCheckerAt options now (before ++ added))
+      → Tells out_look report_look (check_telling options) (IsCheckerAt options now) before
       added old new result
   tells {out_look = out_look} {report_look = report_look} {old = old} {new = new} {result = result}
       now added broken said writes known =
@@ -65,8 +65,8 @@ module _ (options : CheckOptions) (before : List WalkEvent) where
         → now.good ≡ (kept_with options was event).good
         → Remembers now.history (kept_with options was event).heads
         → (open_after_event (has_open before) event ≡ true
-        → IsAtLatest now.latest (kept_with options was event).latest)
-        → KnowsChecked options now (before ++ event ∷ [])
+        → IsCheckedTransferAtLatest now.latest (kept_with options was event).latest)
+        → IsCheckerAt options now (before ++ event ∷ [])
     known_one now size good history at_open = record {
       size = omega (arith, size_then before event);
       good = rw (kept_then (event ∷ [])) good;
@@ -126,8 +126,8 @@ module _ (options : CheckOptions) (before : List WalkEvent) where
         → now.latest.judge.size ≤ data_size before + length bytes
         → now.good ≡ (was.good && none_counts options.must (closed_due whole (Some (with_bytes bytes begun))))
         → Remembers now.history was.heads
-        → IsChecking now.latest (with_bytes bytes begun)
-        → KnowsChecked options now (before ++ data_ends bytes whole)
+        → IsCheckedTransferAt now.latest (with_bytes bytes begun)
+        → IsCheckerAt options now (before ++ data_ends bytes whole)
     known_data now begun is size good history checks =
         let kept = kept_then (data_ends bytes whole) ∙ data_kept bytes whole was in
         record {
@@ -164,8 +164,8 @@ module _ (options : CheckOptions) (before : List WalkEvent) where
         → now.latest.judge.size ≤ data_size before + length bytes
         → now.good ≡ (was.good && none_counts options.must broken)
         → Remembers now.history (was.heads ++ judged head ∷ [])
-        → IsChecking now.latest (with_bytes bytes begun)
-        → KnowsChecked options now (before ++ MessageHead head ∷ data_ends bytes false)
+        → IsCheckedTransferAt now.latest (with_bytes bytes begun)
+        → IsCheckerAt options now (before ++ MessageHead head ∷ data_ends bytes false)
     known_inner now begun is size good history checks =
         let parts = append_assoc before (MessageHead head ∷ []) (data_ends bytes false) in
         let kept = rw (inner_broken, begun_same head was.latest (ap is_beginning turn))
@@ -190,28 +190,28 @@ module _ (options : CheckOptions) (before : List WalkEvent) where
 -- ---- a head
 
 -- The latest transfer was read, also after a head, if the head begins it or it was open before.
-abbrev pub IsRead : (now : CheckedTransfer) → (latest : Option Begun) → (begins opened : Bool)
+abbrev pub IsLatestRead : (now : CheckedTransfer) → (latest : Option Begun) → (begins opened : Bool)
     → Type 0
-IsRead now latest begins opened = (begins ≡ true) ⊎ (opened ≡ true) → IsAtLatest now latest
+IsLatestRead now latest begins opened = (begins ≡ true) ⊎ (opened ≡ true) → IsCheckedTransferAtLatest now latest
 
-module _ (before : List WalkEvent) (head : Head) (comes : ComesAfter before head) where
+module _ (before : List WalkEvent) (head : Head) (comes : HeadComes before head) where
   pub read_after : (read : Option Begun) (old now : CheckedTransfer)
-      → (has_open before ≡ true → IsAtLatest old read)
+      → (has_open before ≡ true → IsCheckedTransferAtLatest old read)
       → ((first : SegmentHead) → is_beginning head.turn ≡ true
       → head.message ≡ message.Segment first → is_start first.flags ≡ true
-      → IsChecking now (record { offset = head.offset; first = first; content = [] }))
+      → IsCheckedTransferAt now (record { offset = head.offset; first = first; content = [] }))
       → (is_beginning head.turn ≡ false → now ≡ old)
-      → IsRead now (begun_by head read) (is_beginning head.turn) (has_open before)
+      → IsLatestRead now (begun_by head read) (is_beginning head.turn) (has_open before)
   read_after read old now at begins same = by_effect (comes_does before head comes)
     where
       passes : is_beginning head.turn ≡ false
-          → IsRead now (begun_by head read) (is_beginning head.turn) (has_open before)
+          → IsLatestRead now (begun_by head read) (is_beginning head.turn) (has_open before)
       passes none = rw (begun_same head read none, same none) (λ some. at (⊎_elim
           (λ begins. absurd (cc (sym none ∙ begins)))
           (λ opened. opened) some))
 
       by_effect : Does head.turn head.message (has_open before)
-          → IsRead now (begun_by head read) (is_beginning head.turn) (has_open before)
+          → IsLatestRead now (begun_by head read) (is_beginning head.turn) (has_open before)
       by_effect (Strays is) = passes (ap is_beginning is)
       by_effect (Passes is other) = passes (ap is_beginning is)
       by_effect (Continues first is starts does also) = passes (ap is_beginning does)
@@ -249,7 +249,7 @@ unfolding has_open
 none_open is = cc
 
 pub knows_nothing : (options : CheckOptions) (now : Checker) → now.latest.judge.size ≡ 0
-    → now.good ≡ true → Remembers now.history [] → KnowsChecked options now []
+    → now.good ≡ true → Remembers now.history [] → IsCheckerAt options now []
 knows_nothing options now size good history = record {
   size = omega (arith, size);
   good = good;

@@ -2,12 +2,12 @@
 use Rattle.std.specs.Prelude.{◌≡◌, ◌≤◌, Bool, true, false, List, [], Option, Some, if◌then◌else◌}
 use Rattle.link_walk.specs.Saying.{kept_after}
 use Rattle.link_walk.specs.Walk.{WalkEvent, data_size, has_open}
-use Rattle.link_judge.specs.TransferJudge.{IsJudging}
+use Rattle.link_judge.specs.TransferJudge.{IsTransferJudgeAt}
 use Rattle.link_judge.specs.Transfers.{Transfer}
 use Rattle.link_message_rules.specs.TransferRules.{opening_of}
 use Rattle.link_message_rules.specs.Remembered.{Remembers}
 use Rattle.link_rule_report.specs.declared.line.RuleText.{RuleText}
-use Rattle.link_check.specs.BundleReader.{IsReadingBundle}
+use Rattle.link_check.specs.BundleReader.{IsBundleReaderAt}
 use Rattle.link_check.specs.Checking.{Begun, Kept, none_kept, checking, rules_at, closed_rules}
 use Rattle.link_check.specs.declared.checker.Checker.{Checker}
 use Rattle.link_options.specs.declared.check.CheckOptions.{CheckOptions}
@@ -17,29 +17,29 @@ abbrev pub transfer_of : Begun → Transfer
 transfer_of begun = record { first = begun.first; content = begun.content; closed = false }
 
 -- exactly this transfer was read so far
-pub record IsChecking (now : CheckedTransfer) (begun : Begun) : Type 0 where
+pub record IsCheckedTransferAt (now : CheckedTransfer) (begun : Begun) : Type 0 where
   pub offset : now.offset ≡ begun.offset
   pub opening : now.opening ≡ opening_of begun.first
-  pub judging : IsJudging now.judge (transfer_of begun)
-  pub reading : IsReadingBundle now.bundle begun.content
+  pub judging : IsTransferJudgeAt now.judge (transfer_of begun)
+  pub reading : IsBundleReaderAt now.bundle begun.content
 
 -- the transfer that began last was read
-pub record IsAtLatest (now : CheckedTransfer) (latest : Option Begun) : Type 0 where
+pub record IsCheckedTransferAtLatest (now : CheckedTransfer) (latest : Option Begun) : Type 0 where
   pub begun : Begun
   pub is : latest ≡ Some begun
-  pub checks : IsChecking now begun
+  pub checks : IsCheckedTransferAt now begun
 
 abbrev pub kept_of : CheckOptions → List WalkEvent → Kept
 kept_of options events = kept_after (checking options) none_kept events
 
 -- the state after these events; a transfer that is not open is not read
-pub record KnowsChecked (options : CheckOptions) (now : Checker) (events : List WalkEvent)
+pub record IsCheckerAt (options : CheckOptions) (now : Checker) (events : List WalkEvent)
     : Type 0 where
   pub size : now.latest.judge.size ≤ data_size events
   pub good : now.good ≡ (kept_of options events).good
   pub history : Remembers now.history (kept_of options events).heads
   pub at_open : has_open events ≡ true
-      → IsAtLatest now.latest (kept_of options events).latest
+      → IsCheckedTransferAtLatest now.latest (kept_of options events).latest
 
 -- the rules of the latest transfer that are due once it is closed
 abbrev pub closed_due : (due : Bool) → Option Begun → List RuleText

@@ -1,7 +1,7 @@
 //! What the rules for a bundle need of its bytes.
 
 ghost use Rattle.std.specs.Prelude.{◌≡◌, ◌+◌, ◌^◌, ◌≤◌, ◌<◌, ◌++◌, true, List, [], ℕ, length, map};
-ghost use Rattle.link_block_reader.specs.DataReader.{IsReadingBlock, read_size};
+ghost use Rattle.link_block_reader.specs.DataReader.{IsDataReaderIn, read_size};
 ghost use Rattle.link_block_reader.specs.Found.{found_in, long_head_in};
 ghost use Rattle.link_bundle_rules.specs.History.{bundle_of};
 ghost use Rattle.link_bundle_rules.specs.ReadBundle.{with_block};
@@ -75,7 +75,7 @@ fn add<'a>(history: &mut BundleHistory, block: &'a CanonicalBlock, reader: &'a D
     requires { read_size reader.now < 2 ^ 63 }
     ensures { (seen : List ℕ) → length history.old.blocks.items < 64
         → block.now.data_start < 2 ^ 63
-        → IsReadingBlock reader.now seen block.now
+        → IsDataReaderIn reader.now seen block.now
         → bundle_of history.new None 0 ≡ with_block (bundle_of history.old None 0) block.now
         (found_in reader.now.flags seen block.now) (long_head_in reader.now.flags seen block.now) }
 {
@@ -92,9 +92,9 @@ impl BundleReader {
     ghost use Rattle.link_bundle_types.specs.declared.info.BundleInfo.{BundleInfo};
     ghost use Rattle.link_bundle.specs.Scan.{HasJudged, scan_size};
     ghost use Rattle.link_run.specs.Run.{no_texts};
-    ghost use Rattle.link_bundle_walk.specs.Telling.{ComesAfter, SoFar, Tells};
+    ghost use Rattle.link_bundle_walk.specs.Telling.{RunComes, SoFar, WritesRest};
     ghost use Rattle.link_rules.specs.Heads.{unread_of};
-    ghost use Rattle.link_check.specs.BundleReader.{IsReadingBundle, data_size};
+    ghost use Rattle.link_check.specs.BundleReader.{IsBundleReaderAt, data_size};
     ghost use Rattle.link_check.specs.BundleRules.{bundle_rules};
     ghost use Rattle.link_check.specs.Lines.{at_offset};
     ghost use Rattle.link_check.specs.Writing.{WritesRules};
@@ -102,7 +102,7 @@ impl BundleReader {
 
     /// Makes a reader for the first bundle.
     pub(crate) fn new() -> BundleReader
-        ensures reads { IsReadingBundle result [] }
+        ensures reads { IsBundleReaderAt result [] }
         ensures size { data_size result ≡ 0 }
     {
         let mut data = DataReader::new();
@@ -120,7 +120,7 @@ impl BundleReader {
 
     /// Begins another bundle.
     pub(crate) fn restart(&mut self)
-        ensures reads { IsReadingBundle self.new [] }
+        ensures reads { IsBundleReaderAt self.new [] }
         ensures size { data_size self.new ≡ 0 }
     {
         self.data.restart();
@@ -143,9 +143,10 @@ impl BundleReader {
         ensures scanned { scan_size scan.new ≤ before + length piece.now }
         ensures read { data_size self.new ≤ before + length piece.now }
         ensures gives { (content : List ℕ) → length content ≡ before → HasJudged scan.old content
-            → IsReadingBundle self.old content
-            → Tells W.state E.state no_texts no_texts (HasJudged scan.new (content ++ piece.now)
-            × IsReadingBundle self.new (content ++ piece.now)) writers.old writers.new result }
+            → IsBundleReaderAt self.old content
+            → WritesRest W.state E.state no_texts no_texts
+            (HasJudged scan.new (content ++ piece.now)
+            × IsBundleReaderAt self.new (content ++ piece.now)) writers.old writers.new result }
     {
         self.heads.take(piece);
         self.prefix.take(piece);
@@ -170,10 +171,10 @@ impl BundleReader {
         requires room { run.now.before + length run.now.bytes.now < 2 ^ 63 }
         requires read { data_size self.old ≤ run.now.before }
         ensures read { data_size self.new ≤ run.now.before + length run.now.bytes.now }
-        ensures gives { (limit : ℕ) (before : SoFar) → IsReadingBundle self.old before.begun
-            → ComesAfter limit true before run.now
-            → Tells W.state E.state no_texts no_texts
-            (IsReadingBundle self.new (before.begun ++ run.now.bytes.now))
+        ensures gives { (limit : ℕ) (before : SoFar) → IsBundleReaderAt self.old before.begun
+            → RunComes limit true before run.now
+            → WritesRest W.state E.state no_texts no_texts
+            (IsBundleReaderAt self.new (before.begun ++ run.now.bytes.now))
             writers.old writers.new result }
     {
         self.heads.take(run.bytes);
@@ -191,7 +192,7 @@ impl BundleReader {
 
     /// Where the bundle has heads that this toolkit does not read.
     pub(crate) fn unread(&self) -> Unread
-        ensures { (content : List ℕ) → IsReadingBundle self.now content
+        ensures { (content : List ℕ) → IsBundleReaderAt self.now content
             → result ≡ unread_of content }
     {
         self.heads.unread(self.prefix.is_tagged())
@@ -200,7 +201,7 @@ impl BundleReader {
     /// Whether the bundle is known to break no rule, if it is good and whole.
     #[inline(always)]
     fn keeps_rules(&self) -> bool
-        ensures { (content : List ℕ) (info : BundleInfo) → IsReadingBundle self.now content
+        ensures { (content : List ℕ) (info : BundleInfo) → IsBundleReaderAt self.now content
             → result ≡ true → bundle_rules content info ≡ [] }
     {
         if !self.blocks.begun {
@@ -211,7 +212,7 @@ impl BundleReader {
 
     /// The rules that the bundle breaks, if it is good, whole and has a payload of this length.
     fn rules(&self, payload: u64) -> BrokenBundleRules
-        ensures { (content : List ℕ) (info : BundleInfo) → IsReadingBundle self.now content
+        ensures { (content : List ℕ) (info : BundleInfo) → IsBundleReaderAt self.now content
             → payload ≡ info.payload
             → result.items ≡ bundle_rules content info }
     {
@@ -236,7 +237,7 @@ impl BundleReader {
         writers: &mut Writers<W, E>,
         good: &mut bool,
     ) -> Result<(), IoFault>
-        ensures { (content : List ℕ) (info : BundleInfo) → IsReadingBundle self.now content
+        ensures { (content : List ℕ) (info : BundleInfo) → IsBundleReaderAt self.now content
             → payload ≡ info.payload
             → WritesRules W.state E.state must writers.old writers.new good.old good.new result
             (at_offset offset (map (λ rule. Bundle place rule) (bundle_rules content info))) }
@@ -258,7 +259,7 @@ impl BundleReader {
         writers: &mut Writers<W, E>,
         good: &mut bool,
     ) -> Result<(), IoFault>
-        ensures { (content : List ℕ) (info : BundleInfo) → IsReadingBundle self.now content
+        ensures { (content : List ℕ) (info : BundleInfo) → IsBundleReaderAt self.now content
             → payload ≡ info.payload
             → WritesRules W.state E.state must writers.old writers.new good.old good.new result
             (at_offset offset (map (λ rule. Bundle place rule) (bundle_rules content info))) }

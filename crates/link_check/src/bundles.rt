@@ -27,13 +27,13 @@ impl BundleChecker {
     ghost use Rattle.std.specs.Prelude.{◌+◌, ◌^◌, ◌<◌, length};
     ghost use Rattle.link_bundle_types.specs.BundleView.{viewed_info};
     ghost use Rattle.link_bundle_walk.specs.Bundles.{size_of};
-    ghost use Rattle.link_bundle_walk.specs.Telling.{SoFar, Tells, none_yet};
-    ghost use Rattle.link_check.specs.BundleChecker.{KnowsBundles, with_end};
+    ghost use Rattle.link_bundle_walk.specs.Telling.{SoFar, WritesRest, none_yet};
+    ghost use Rattle.link_check.specs.BundleChecker.{IsBundleCheckerAt, with_end};
     ghost use Rattle.link_check.specs.Bundles.{bundle_check_telling};
 
     /// What is kept before the first bundle.
     pub fn new() -> BundleChecker
-        ensures knows { (must : _) → KnowsBundles must result none_yet }
+        ensures knows { (must : _) → IsBundleCheckerAt must result none_yet }
         ensures read { data_size result.bundle ≡ 0 }
     {
         BundleChecker {
@@ -53,12 +53,12 @@ impl BundleChecker {
         whole: WholeView<'_>,
         writers: &mut Writers<W, E>,
     ) -> Result<(), IoFault>
-        ensures gives { (now : SoFar) → KnowsBundles must self.old now
+        ensures gives { (now : SoFar) → IsBundleCheckerAt must self.old now
             → size_of now.bundles + length now.begun < 2 ^ 63
             → whole.entry.length ≡ length now.begun → number ≡ length now.bundles
-            → Tells W.state E.state ((bundle_check_telling must).texts now)
+            → WritesRest W.state E.state ((bundle_check_telling must).texts now)
             ((bundle_check_telling must).texts (with_end now (viewed_info whole.entry.info)))
-            (KnowsBundles must self.new (with_end now (viewed_info whole.entry.info)))
+            (IsBundleCheckerAt must self.new (with_end now (viewed_info whole.entry.info)))
             writers.old writers.new result }
         ensures read { data_size self.new.bundle ≡ 0 }
     {
@@ -74,7 +74,7 @@ impl BundleChecker {
 
 impl BundleConsumer for BundleChecker {
     ghost use Rattle.std.specs.Prelude.{true, ◌-◌, ◌^◌};
-    ghost use Rattle.link_check.specs.BundleChecker.{KnowsBundles};
+    ghost use Rattle.link_check.specs.BundleChecker.{IsBundleCheckerAt};
     ghost use Rattle.link_check.specs.Bundles.{bundle_check_telling};
 
     /// Whether only rules of level `must` have a line, and count.
@@ -82,7 +82,7 @@ impl BundleConsumer for BundleChecker {
 
     ghost telling = { bundle_check_telling };
 
-    ghost knows = { KnowsBundles };
+    ghost knows = { IsBundleCheckerAt };
 
     ghost fits = { λ checker. true };
 

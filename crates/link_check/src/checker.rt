@@ -11,7 +11,7 @@ ghost use Rattle.link_run.specs.Run.{devices, looks, NoneFailed};
 ghost use Rattle.link_run.specs.NewRun.{IsNewRun};
 ghost use Rattle.link_run.specs.WholeRun.{AfterRun};
 ghost use Rattle.link_walk.specs.Telling.{viewed_head as told_head, inner_head};
-ghost use Rattle.link_check.specs.Checker.{IsAtLatest, KnowsChecked, closed_due};
+ghost use Rattle.link_check.specs.Checker.{IsCheckedTransferAtLatest, IsCheckerAt, closed_due};
 ghost use Rattle.link_check.specs.Checking.{Begun, check_telling, check_tool, head_rules, judged, optional};
 ghost use Rattle.link_check.specs.Lines.{at_offset};
 ghost use Rattle.link_check.specs.Writing.{WritesRules};
@@ -37,7 +37,7 @@ pub struct Checker {
 impl Checker {
     /// What is known before a stream has begun.
     pub fn new() -> Checker
-        ensures { (options : CheckOptions) → KnowsChecked options result [] }
+        ensures { (options : CheckOptions) → IsCheckerAt options result [] }
     {
         Checker {
             history: MessageHistory::new(),
@@ -52,7 +52,7 @@ impl Consumer for Checker {
 
     ghost telling = { check_telling };
 
-    ghost knows = { KnowsChecked };
+    ghost knows = { IsCheckerAt };
 
     #[inline(always)]
     fn manner(_options: &CheckOptions) -> Manner {
@@ -258,7 +258,7 @@ fn close<W: OutDevice, E: OutDevice>(
     writers: &mut Writers<W, E>,
     good: &mut bool,
 ) -> Result<(), IoFault>
-    ensures { (begun : Option Begun) → (due ≡ true → IsAtLatest latest.now begun)
+    ensures { (begun : Option Begun) → (due ≡ true → IsCheckedTransferAtLatest latest.now begun)
         → WritesRules W.state E.state must writers.old writers.new good.old good.new result
         (closed_due due begun) }
 {

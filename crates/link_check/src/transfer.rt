@@ -55,9 +55,9 @@ impl CheckedTransfer {
     ghost use Rattle.link_wire.specs.declared.message.Message.{Message};
     ghost use Rattle.link_wire.specs.declared.message.SegmentHead.{SegmentHead};
     ghost use Rattle.link_run.specs.Run.{no_texts};
-    ghost use Rattle.link_bundle_walk.specs.Telling.{Tells};
+    ghost use Rattle.link_bundle_walk.specs.Telling.{WritesRest};
     ghost use Rattle.link_check.specs.Checking.{Begun, closed_rules, data_rules, open_rules, with_bytes};
-    ghost use Rattle.link_check.specs.Checker.{IsChecking};
+    ghost use Rattle.link_check.specs.Checker.{IsCheckedTransferAt};
     ghost use Rattle.link_check.specs.Lines.{at_offset};
     ghost use Rattle.link_check.specs.Writing.{WritesRules};
 
@@ -78,7 +78,7 @@ impl CheckedTransfer {
         requires { SegmentHasTotals head.now.message.now }
         ensures follows { (first : SegmentHead) → message_of head.now.message.now
             ≡ Message.Segment first → is_start first.flags ≡ true
-            → IsChecking self.new
+            → IsCheckedTransferAt self.new
             (record { offset = head.now.offset; first = first; content = [] }) }
         ensures size { self.new.judge.size ≤ self.old.judge.size }
     {
@@ -99,9 +99,10 @@ impl CheckedTransfer {
         writers: &mut Writers<W, E>,
     ) -> Result<(), IoFault>
         ensures gives { (begun : Begun) → self.old.judge.size + length bytes.now < 2 ^ 63
-            → IsChecking self.old begun
-            → Tells W.state E.state no_texts no_texts
-            (IsChecking self.new (with_bytes bytes.now begun)) writers.old writers.new result }
+            → IsCheckedTransferAt self.old begun
+            → WritesRest W.state E.state no_texts no_texts
+            (IsCheckedTransferAt self.new (with_bytes bytes.now begun)) writers.old writers.new
+            result }
         ensures size { self.new.judge.size ≤ self.old.judge.size + length bytes.now }
     {
         if bytes.len() as u64 > INPUT_LIMIT - self.judge.size {
@@ -121,7 +122,7 @@ impl CheckedTransfer {
         writers: &mut Writers<W, E>,
         good: &mut bool,
     ) -> Result<(), IoFault>
-        ensures { (begun : Begun) → IsChecking self.now begun
+        ensures { (begun : Begun) → IsCheckedTransferAt self.now begun
             → WritesRules W.state E.state must writers.old writers.new good.old good.new result
             (at_offset begun.offset (closed_rules begun)) }
     {
@@ -147,7 +148,7 @@ impl CheckedTransfer {
         writers: &mut Writers<W, E>,
         good: &mut bool,
     ) -> Result<(), IoFault>
-        ensures { (begun : Begun) → IsChecking self.now begun
+        ensures { (begun : Begun) → IsCheckedTransferAt self.now begun
             → WritesRules W.state E.state must writers.old writers.new good.old good.new result
             (at_offset begun.offset
             (data_rules begun.first.id begun.content (verdict begun.content))) }
@@ -174,7 +175,7 @@ impl CheckedTransfer {
         writers: &mut Writers<W, E>,
         good: &mut bool,
     ) -> Result<(), IoFault>
-        ensures { (begun : Begun) → IsChecking self.now begun
+        ensures { (begun : Begun) → IsCheckedTransferAt self.now begun
             → WritesRules W.state E.state must writers.old writers.new good.old good.new result
             (at_offset begun.offset (open_rules begun)) }
     {

@@ -27,11 +27,11 @@ below_decided limit text =
     (Decides-ltb (digits_value 10 digits) limit)
 
 -- the contract of `parse` for an unsigned type of `bits` bits
-abbrev pub Gives : (bits : ℕ) → Text → Result ℕ ParseIntError → Type 0
-Gives bits text r = ParsesUnsigned bits 10 text r × ExplainsUnsignedError 10 text r × HasUnsignedDigitsIfOk text r
+abbrev pub ParsesAs : (bits : ℕ) → Text → Result ℕ ParseIntError → Type 0
+ParsesAs bits text r = ParsesUnsigned bits 10 text r × ExplainsUnsignedError 10 text r × HasUnsignedDigitsIfOk text r
 
 module _ (bits : ℕ) where
-  number_read : (text : Text) (r : Option ℕ) → ReadsOne (Gives bits) text r
+  number_read : (text : Text) (r : Option ℕ) → ReadsOne (ParsesAs bits) text r
       → r ≡ number_below (2 ^ bits) text
   number_read text (Some n) read =
       rw ((below_decided (2 ^ bits) text).1 read.0.0) (ap Some read.0.1)
@@ -40,7 +40,7 @@ module _ (bits : ℕ) where
       (λ below. read.1.0 ((below_decided (2 ^ bits) text).0 below))) refl
 
   pub number_got : (f : Found) (name : Text) (r : Option ℕ) → (one_text f name ≡ None → r ≡ None)
-      → ((text : Text) → one_text f name ≡ Some text → ReadsOne (Gives bits) text r)
+      → ((text : Text) → one_text f name ≡ Some text → ReadsOne (ParsesAs bits) text r)
       → r ≡ number_in (2 ^ bits) name (rows_of f)
   unfolding number_in
   number_got f name r none some = go (one_text f name) refl ∙ ap (option_and_then (number_below (2 ^ bits))) (one_text-rows f name)

@@ -13,8 +13,8 @@ use Rattle.clap.specs.declared.parser.matches.ArgMatches.{ArgMatches}
 use Rattle.clap.specs.declared.error.{Error.Error, kind.{ErrorKind.ErrorKind, ErrorKind.TheVariants.OutOfMemory}}
 use Rattle.clap.proofs.WalkLemmas.{both}
 use Rattle.link_command.proofs.Stopped.{StopsElsewhere, first_empty, not_help, walk_stops}
-use Rattle.link_command.specs.Usage.{AreAccepted, IsFaultOf, is_request}
-use Rattle.link_command.specs.Reading.{IsToolFault, IsToolName, NamesTool, StandsFor}
+use Rattle.link_command.specs.Usage.{AreValidWords, IsFaultOf, is_request}
+use Rattle.link_command.specs.Reading.{IsToolFault, IsToolName, NamesTool, IsFaultForKind}
 use Rattle.link_command.specs.declared.usage.UsageFault.{UsageFault}
 use Rattle.link_command.specs.declared.usage.UsageFault.TheVariants.{Help, Words, Memory}
 
@@ -59,7 +59,7 @@ built_names app words enabled tools none some =
     (walk_stops app.top names words (walk_from nothing_held) enabled tt
     (first_empty (walk_fault app.top names (walk_from nothing_held) words) _ none)) some
 
-taken_names : (words : List Text) → AreAccepted words
+taken_names : (words : List Text) → AreValidWords words
     → is_some (subcommand_of table words) ≡ true → NamesTool (subcommand_of table words)
 unfolding table list_words unpack_words blocks_words check_words pack_words
 taken_names words taken some =
@@ -80,9 +80,9 @@ pub failed : (a : App) (words : List Text) (r : Result ArgMatches Error) → a �
     → FailsBy (fault_of table words) r
 failed a words r is fails = (rw is at fails) table_is_simple
 
-found : (a : App) (words : List Text) (m : ArgMatches) → a ≡ table → HasMatchesOf a words m
+subcommand_rows_of-table : (a : App) (words : List Text) (m : ArgMatches) → a ≡ table → HasMatchesOf a words m
     → subcommand_rows_of m ≡ subcommand_of table words
-found a words m is has = ((rw is at has) (both _ _ table_is_simple).0).1
+subcommand_rows_of-table a words m is has = ((rw is at has) (both _ _ table_is_simple).0).1
 
 -- `clap` ensures that a required subcommand is met.
 subcommand_met : (command : Command) (m : ArgMatches) → app_of command ≡ table
@@ -104,11 +104,11 @@ pub parsed : (command : Command) (words : List Text) (m : ArgMatches) → app_of
     → (is_simple_and_free (app_of command) ≡ true
     → FailsBy (fault_of (app_of command) words) (Ok m))
     → HasMatchesOf (app_of command) words m → IsParsedFrom command m
-    → AreAccepted words × (subcommand_rows_of m ≡ subcommand_of table words)
+    → AreValidWords words × (subcommand_rows_of m ≡ subcommand_of table words)
     × NamesTool (subcommand_rows_of m)
 parsed command words m is fails has from =
-    let taken : AreAccepted words = failed (app_of command) words (Ok m) is fails in
-    let same = found (app_of command) words m is has in
+    let taken : AreValidWords words = failed (app_of command) words (Ok m) is fails in
+    let same = subcommand_rows_of-table (app_of command) words m is has in
     let some : is_some (subcommand_rows_of m) ≡ true =
     some_mapped _ _ (subcommand_met command m is from) in (
       taken,
@@ -116,14 +116,14 @@ parsed command words m is fails has from =
       rw same (taken_names words taken (rw same at some)),
     )
 
-pub tool_fault : (words : List Text) → AreAccepted words → (fault : UsageFault)
+pub tool_fault : (words : List Text) → AreValidWords words → (fault : UsageFault)
     → IsToolFault (subcommand_of table words) fault → IsFaultOf words fault
 tool_fault words taken fault (inl long) = rw long.0 (taken, long.1)
 tool_fault words taken fault (inr (inl mixed)) = rw mixed.0 (taken, mixed.1)
 tool_fault words taken fault (inr (inr (inl limited))) = rw limited.0 (taken, limited.1)
 tool_fault words taken fault (inr (inr (inr memory))) = rw memory tt
 
-pub clap_fault : (words : List Text) (kind : ErrorKind) (fault : UsageFault) → StandsFor kind fault
+pub clap_fault : (words : List Text) (kind : ErrorKind) (fault : UsageFault) → IsFaultForKind kind fault
     → (kind ≡ OutOfMemory) ⊎ IsAmong kind (fault_of table words) → IsFaultOf words fault
 clap_fault words kind (Help text) stands (inl memory) =
     absurd (true≢false (sym stands ∙ ap is_request memory))

@@ -62,7 +62,7 @@ limits_bundles rows = is_set (codes "bundles") rows && has_peer_limit rows
 
 -- ---- the invocation
 
-pub record IsWanted (rows : List Row) (wanted : Wanted) : Type 0 where
+pub record IsUnpackOptions (rows : List Row) (wanted : Wanted) : Type 0 where
   pub only : wanted.only ≡ number_in (2 ^ 64) (codes "transfer") rows
   pub payload : wanted.payload ≡ is_set (codes "payload") rows
   pub keep_going : wanted.keep_going ≡ is_set (codes "keep-going") rows
@@ -92,7 +92,7 @@ pub record IsPackOptions (rows : List Row) (packing : PackOptions) : Type 0 wher
 -- the options of the tool of this name
 abbrev pub AreOptions : (name : Text) → List Row → Options → Type 0
 AreOptions name rows options.List = name ≡ codes "list"
-AreOptions name rows (options.Unpack wanted) = (name ≡ codes "unpack") × IsWanted rows wanted
+AreOptions name rows (options.Unpack wanted) = (name ≡ codes "unpack") × IsUnpackOptions rows wanted
 AreOptions name rows (options.Blocks shown) = (name ≡ codes "blocks") × IsBlockOptions rows shown
 AreOptions name rows options.BundleBlocks = (name ≡ codes "blocks")
     × (is_set (codes "bundles") rows ≡ true) × (is_for_recordings rows ≡ false)

@@ -24,8 +24,8 @@ IsToolFault tool fault = ((fault ≡ NodeTooLong) × (1024 < length (node_of too
 
 -- The faults that may be returned for an error of `clap` of this kind. `Memory` may be returned for
 -- any kind.
-abbrev pub StandsFor : ErrorKind → UsageFault → Type 0
-StandsFor kind (Help text) = is_request kind ≡ true
-StandsFor kind (Words text) = (is_request kind ≡ false) × (kind ≡ OutOfMemory → ⊥)
-StandsFor kind Memory = ⊤
-StandsFor kind _ = ⊥
+abbrev pub IsFaultForKind : ErrorKind → UsageFault → Type 0
+IsFaultForKind kind (Help text) = is_request kind ≡ true
+IsFaultForKind kind (Words text) = (is_request kind ≡ false) × (kind ≡ OutOfMemory → ⊥)
+IsFaultForKind kind Memory = ⊤
+IsFaultForKind kind _ = ⊥

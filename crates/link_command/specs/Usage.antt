@@ -23,8 +23,8 @@ Finds is_kind expected words =
     (kind : ErrorKind) × IsAmong kind (fault_of table words) × (is_kind kind ≡ expected)
 
 -- `clap` finds no error in the words
-abbrev pub AreAccepted : (words : List Text) → Type 0
-AreAccepted words = fault_of table words ≡ []
+abbrev pub AreValidWords : (words : List Text) → Type 0
+AreValidWords words = fault_of table words ≡ []
 
 -- the value of `--node`, which is empty if the tool has none
 abbrev pub node_of : (tool : Option (Text × List Row)) → Text
@@ -43,11 +43,11 @@ abbrev pub IsFaultOf : (words : List Text) → UsageFault → Type 0
 IsFaultOf words (Help text) = Finds is_request true words
 IsFaultOf words (Words text) = Finds is_request false words
 IsFaultOf words NodeTooLong =
-    AreAccepted words × (1024 < length (node_of (subcommand_of table words)))
+    AreValidWords words × (1024 < length (node_of (subcommand_of table words)))
 IsFaultOf words MixedInputs =
-    AreAccepted words × (mixes_inputs_of (subcommand_of table words) ≡ true)
+    AreValidWords words × (mixes_inputs_of (subcommand_of table words) ≡ true)
 IsFaultOf words LimitedBundles =
-    AreAccepted words × (limits_bundles_of (subcommand_of table words) ≡ true)
+    AreValidWords words × (limits_bundles_of (subcommand_of table words) ≡ true)
 IsFaultOf words Memory = ⊤
 
 -- ---- the end of the program

@@ -3,9 +3,9 @@
 ghost use Rattle.std.specs.Prelude.{◌≡◌, ◌^◌, ◌<◌, ◌⊎◌, codes, length, map, option_map, string_bytes, true, IfErr, IfNone, IfOk, IfSome, Some};
 ghost use Rattle.clap.specs.Words.{first_of, found_of, kind_of, rows_of, subcommand_rows_of, takes};
 ghost use Rattle.link_command.specs.Table.{table};
-ghost use Rattle.link_command.specs.Invoked.{AreOptions, IsInvoked, IsInvokedBy, IsInvokedByTool, IsPackOptions, IsWanted, has_peer_limit, is_for_recordings, is_set, limits_bundles, mixes_inputs, number_in, number_of, text_of};
-ghost use Rattle.link_command.specs.Usage.{AreAccepted, IsFaultOf};
-ghost use Rattle.link_command.specs.Reading.{IsToolFault, IsToolName, NamesTool, StandsFor};
+ghost use Rattle.link_command.specs.Invoked.{AreOptions, IsInvoked, IsInvokedBy, IsInvokedByTool, IsPackOptions, IsUnpackOptions, has_peer_limit, is_for_recordings, is_set, limits_bundles, mixes_inputs, number_in, number_of, text_of};
+ghost use Rattle.link_command.specs.Usage.{AreValidWords, IsFaultOf};
+ghost use Rattle.link_command.specs.Reading.{IsToolFault, IsToolName, NamesTool, IsFaultForKind};
 
 use crate::command::tcpclkit;
 use crate::invocation::Invocation;
@@ -27,7 +27,7 @@ use std::alloc::{AllocError, Global};
 /// - [`UsageFault::Memory`]: a request for memory was refused.
 pub fn options(alloc: Global, words: &[String]) -> Result<Invocation, UsageFault>
     ensures ok { IfOk result (IsInvoked (map string_bytes words.now)) }
-    ensures taken { IfOk result (λ _. AreAccepted (map string_bytes words.now)) }
+    ensures taken { IfOk result (λ _. AreValidWords (map string_bytes words.now)) }
     ensures err { IfErr result (IsFaultOf (map string_bytes words.now)) }
     ensures passes { takes table (map string_bytes words.now) ≡ true
         → IfErr result (λ fault. (fault ≡ UsageFault.NodeTooLong)
@@ -100,7 +100,7 @@ fn file(alloc: Global, tool: &ArgMatches<'_>) -> Result<Option<String>, AllocErr
 
 /// The options of `unpack`.
 fn wanted(tool: &ArgMatches<'_>) -> Wanted
-    ensures { IsWanted (rows_of (found_of tool.now)) result }
+    ensures { IsUnpackOptions (rows_of (found_of tool.now)) result }
 {
     Wanted {
         only: number_in(tool, "transfer"),
@@ -232,7 +232,7 @@ fn text<'a>(tool: &ArgMatches<'a>, name: &str) -> Option<&'a str>
 
 /// The fault for an error of `clap`.
 fn usage_fault(alloc: Global, error: &Error) -> UsageFault
-    ensures kind { StandsFor (kind_of error.now) result }
+    ensures kind { IsFaultForKind (kind_of error.now) result }
     ensures memory { kind_of error.now ≡ ErrorKind.OutOfMemory → result ≡ UsageFault.Memory }
 {
     let Ok(text) = format!(in alloc; "{error}") else {

@@ -6,7 +6,7 @@ use Rattle.std.proofs.{lemmas.List.Elements.{All-nil, All-append}, Math.Seq.take
 use Rattle.std.proofs.lemmas.{Bool.{and_parts, cases_lt, Decides.nat_tests}, List.nil_from_length}
 use Rattle.std.proofs.lemmas.Grind.{common_steps}
 use Rattle.link_io.specs.{Bytes.IsByte, Device.Input, Limits.{longest_input, window_size}}
-use Rattle.link_io.specs.Source.{is_open, is_fresh, IsSourceAt, IsLiveBy, IsLive, HasEnded, HasFailed, IsOver, given_by, window_of, held_from, front_of, ahead, WindowAfter, Takes, Readies, StopsAfter}
+use Rattle.link_io.specs.Source.{is_open, is_fresh, IsSourceAt, IsLiveBy, IsLive, HasEnded, HasFailed, IsOver, given_by, window_of, held_from, front_of, ahead, ShiftsWindow, Takes, Readies, TakesThenStops}
 use Rattle.link_io.specs.declared.fault.IoFault.{IoFault}
 use Rattle.link_io.proofs.Windows.{range_none}
 use Rattle.link_io.specs.declared.source.Flow.{Flow}
@@ -162,8 +162,8 @@ module _ {R : Type 0} (look : R → Input) (s : Source R) (fresh : is_fresh s �
       live_open s.flow (look s.reader).left s.start s.end (and_parts (is_open s.flow) _ rest).0
 
 -- a window that keeps its bytes, if it has some, and is empty afterwards was empty before
-emptied : (old new : List ℕ) → (0 < length old → new ≡ old) → new ≡ [] → new ≡ old
-emptied old new kept none = grind (arith, nil_from_length old)
+same_if_emptied : (old new : List ℕ) → (0 < length old → new ≡ old) → new ≡ [] → new ≡ old
+same_if_emptied old new kept none = grind (arith, nil_from_length old)
 
 drop_none : (n : ℕ) (xs : List ℕ) → length (take n xs) ≡ 0 → drop n xs ≡ xs
 drop_none n xs none = grind (arith, nil_from_length (take n xs), take-append-drop n xs)
@@ -174,24 +174,24 @@ drop_less n bound xs room some = omega (arith, length-take n xs, length-drop n x
 
 module _ {R : Type 0} where
   -- the window after its first `n` bytes were given
-  pub WindowAfter-drop : (old new : Source R) (n : ℕ) → window_of new ≡ drop n (window_of old)
-      → length (window_of old) ≤ window_size → WindowAfter old new (take n (window_of old))
-  WindowAfter-drop old new n rest room = record {
+  pub ShiftsWindow-drop : (old new : Source R) (n : ℕ) → window_of new ≡ drop n (window_of old)
+      → length (window_of old) ≤ window_size → ShiftsWindow old new (take n (window_of old))
+  ShiftsWindow-drop old new n rest room = record {
     kept = λ none. rest ∙ drop_none n (window_of old) none;
     less = λ some. rw rest (drop_less n window_size (window_of old) room some);
   }
 
-  pub WindowAfter-none : (s : Source R) → WindowAfter s s []
-  WindowAfter-none s = record { kept = λ none. refl; less = λ some. absurd (omega arith) }
+  pub ShiftsWindow-none : (s : Source R) → ShiftsWindow s s []
+  ShiftsWindow-none s = record { kept = λ none. refl; less = λ some. absurd (omega arith) }
 
-  less_then : (old mid new : Source R) (xs ys : List ℕ) → WindowAfter old mid xs
-      → WindowAfter mid new ys → 0 < length (xs ++ ys) → length (window_of new) < window_size
+  less_then : (old mid new : Source R) (xs ys : List ℕ) → ShiftsWindow old mid xs
+      → ShiftsWindow mid new ys → 0 < length (xs ++ ys) → length (window_of new) < window_size
   less_then old mid new xs [] p q some = rw (q.kept refl) (p.less (rw append-nil at some))
   less_then old mid new xs (y ∷ ys) p q some = q.less (omega arith)
 
-  WindowAfter-then : (old mid new : Source R) (xs ys : List ℕ) → WindowAfter old mid xs
-      → WindowAfter mid new ys → WindowAfter old new (xs ++ ys)
-  WindowAfter-then old mid new xs ys p q = record {
+  ShiftsWindow-then : (old mid new : Source R) (xs ys : List ℕ) → ShiftsWindow old mid xs
+      → ShiftsWindow mid new ys → ShiftsWindow old new (xs ++ ys)
+  ShiftsWindow-then old mid new xs ys p q = record {
     kept = λ none. q.kept (omega (arith, length-append xs ys)) ∙ p.kept (omega (arith, length-append xs ys));
     less = less_then old mid new xs ys p q;
   }
@@ -203,7 +203,7 @@ module _ {R : Type 0} (look : R → Input) where
     next = Consumes-nil (ahead look s);
     count = sym (add-zero (given_by s));
     device = refl;
-    window = WindowAfter-none s;
+    window = ShiftsWindow-none s;
   }
 
   pub Takes-then : (old mid new : Source R) (xs ys : List ℕ) → Takes look old mid xs
@@ -213,7 +213,7 @@ module _ {R : Type 0} (look : R → Input) where
     next = Consumes-trans (ahead look old) (ahead look mid) (ahead look new) xs ys p.next q.next;
     count = omega (arith, p.count, q.count, length-append xs ys);
     device = q.device ∙ p.device;
-    window = WindowAfter-then old mid new xs ys p.window q.window;
+    window = ShiftsWindow-then old mid new xs ys p.window q.window;
   }
 
   -- nothing was read
@@ -245,15 +245,15 @@ module _ {R : Type 0} (look : R → Input) where
     count = p.count ∙ sym (add-zero (given_by old));
     device = p.device;
     window = record {
-      kept = λ none. emptied (window_of old) (window_of new) p.kept (range_none new.window new.start new.end over.ended.1);
+      kept = λ none. same_if_emptied (window_of old) (window_of new) p.kept (range_none new.window new.start new.end over.ended.1);
       less = λ some. absurd (omega arith);
     };
   }
 
-  pub StopsAfter-then : (old mid new : Source R) (xs ys : List ℕ) (fault : IoFault)
-      → Takes look old mid xs → StopsAfter look mid new ys fault
-      → StopsAfter look old new (xs ++ ys) fault
-  StopsAfter-then old mid new xs ys fault p q = record {
+  pub TakesThenStops-then : (old mid new : Source R) (xs ys : List ℕ) (fault : IoFault)
+      → Takes look old mid xs → TakesThenStops look mid new ys fault
+      → TakesThenStops look old new (xs ++ ys) fault
+  TakesThenStops-then old mid new xs ys fault p q = record {
     bytes_fit = All-append IsByte xs ys p.bytes_fit q.bytes_fit;
     past = q.past;
     next = rw append_assoc (Consumes-trans (ahead look old) (ahead look mid) (look new.reader).left xs (ys ++ q.past) p.next q.next);

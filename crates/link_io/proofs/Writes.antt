@@ -2,7 +2,7 @@
 use Rattle.std.proofs.Common.{◌≡◌, ℕ, ◌+◌, ◌-◌, ◌≤◌, List, length, arith, take, drop, ◌∙◌, length-drop}
 use Rattle.std.proofs.{Math.Seq.take-add, lemmas.List.take_rest, KnownBytes.Appends-trans}
 use Rattle.std.specs.Io.KnownBytes.{Appends}
-use Rattle.link_io.specs.{Device.Output, Writing.{WritesWhole, WritesFront}}
+use Rattle.link_io.specs.{Device.Output, Writing.{WritesWhole, WritesPrefix}}
 use Rattle.link_io.specs.declared.fault.IoFault.{IoFault}
 
 module _ {W : Type 0} (look : W → Output) where
@@ -19,10 +19,10 @@ module _ {W : Type 0} (look : W → Output) where
   }
 
   -- a prefix was written, and then a part of the rest before the device failed
-  pub WritesFront-after : (old mid new : W) (bytes : List ℕ) (n : ℕ) (fault : IoFault)
+  pub WritesPrefix-after : (old mid new : W) (bytes : List ℕ) (n : ℕ) (fault : IoFault)
       → n ≤ length bytes → WritesWhole look old mid (take n bytes)
-      → WritesFront look mid new (drop n bytes) fault → WritesFront look old new bytes fault
-  WritesFront-after old mid new bytes n fault within p q = record {
+      → WritesPrefix look mid new (drop n bytes) fault → WritesPrefix look old new bytes fault
+  WritesPrefix-after old mid new bytes n fault within p q = record {
     kind = q.kind;
     count = n + q.count;
     front = omega (arith, q.front, length-drop n bytes);

@@ -21,6 +21,6 @@ BeginsWith None bytes = ⊤
 BeginsWith (Some all) bytes = (rest : List ℕ) × (all ≡ bytes ++ rest)
 
 -- there is at least one byte, if the bytes are known
-abbrev pub HasBytes : Option (List ℕ) → Type 0
-HasBytes None = ⊤
-HasBytes (Some all) = 0 < length all
+abbrev pub HasSomeByte : Option (List ℕ) → Type 0
+HasSomeByte None = ⊤
+HasSomeByte (Some all) = 0 < length all

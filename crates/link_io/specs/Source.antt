@@ -106,7 +106,7 @@ module _ {R : Type 0} where
 
   -- The window after these bytes were given. Only an empty window is read into. So if a byte was
   -- given, less than a whole window is left. If none was given, the window has not changed.
-  pub record WindowAfter (old new : Source R) (bytes : List ℕ) : Type 0 where
+  pub record ShiftsWindow (old new : Source R) (bytes : List ℕ) : Type 0 where
     pub kept : length bytes ≡ 0 → window_of new ≡ window_of old
     pub less : 0 < length bytes → length (window_of new) < window_size
 
@@ -117,7 +117,7 @@ module _ {R : Type 0} where
     pub next : Consumes (ahead look old) (ahead look new) bytes
     pub count : given_by new ≡ given_by old + length bytes
     pub device : (look new.reader).failed ≡ (look old.reader).failed
-    pub window : WindowAfter old new bytes
+    pub window : ShiftsWindow old new bytes
 
   -- From `old` to `new` nothing was given, and the reader did not fail. A window that had bytes has
   -- not changed.
@@ -138,7 +138,7 @@ module _ {R : Type 0} where
 
   -- from `old` to `new` these bytes, the next of the input, were given; then the source stopped at
   -- this fault
-  pub record StopsAfter (look : R → Input) (old new : Source R) (bytes : List ℕ)
+  pub record TakesThenStops (look : R → Input) (old new : Source R) (bytes : List ℕ)
       (fault : IoFault) : Type 0 where
     pub bytes_fit : AreBytes bytes
     pub past : List ℕ
@@ -158,7 +158,7 @@ module _ {R : Type 0} where
 
   abbrev pub AfterReady : (R → Input) → Source R → Source R → Result ℕ IoFault → Type 0
   AfterReady look old new (Ok n) = ReadyWindow look old new n
-  AfterReady look old new (Err fault) = StopsAfter look old new [] fault
+  AfterReady look old new (Err fault) = TakesThenStops look old new [] fault
 
   -- The result of `ready_front`: some bytes are at hand, or the input is over.
   pub record ReadyFront (look : R → Input) (old new : Source R) (n : ℕ) : Type 0 where
@@ -169,7 +169,7 @@ module _ {R : Type 0} where
 
   abbrev pub AfterReadyFront : (R → Input) → Source R → Source R → Result ℕ IoFault → Type 0
   AfterReadyFront look old new (Ok n) = ReadyFront look old new n
-  AfterReadyFront look old new (Err fault) = StopsAfter look old new [] fault
+  AfterReadyFront look old new (Err fault) = TakesThenStops look old new [] fault
 
   -- The result of one call of `some`.
   pub record SomeBytes (look : R → Input) (old new : Source R)
@@ -181,7 +181,7 @@ module _ {R : Type 0} where
 
   abbrev pub AfterSome : (R → Input) → Source R → Source R → List ℕ → Result ℕ IoFault → Type 0
   AfterSome look old new buffer (Ok n) = SomeBytes look old new buffer n
-  AfterSome look old new buffer (Err fault) = StopsAfter look old new [] fault
+  AfterSome look old new buffer (Err fault) = TakesThenStops look old new [] fault
 
   -- The result of a `fill`: the whole slice, what the input still had, or what was given before a
   -- fault.
@@ -199,7 +199,7 @@ module _ {R : Type 0} where
       (fault : IoFault) : Type 0 where
     pub count : ℕ
     pub part : count < length buffer
-    pub stops : StopsAfter look old new (take count buffer) fault
+    pub stops : TakesThenStops look old new (take count buffer) fault
 
   abbrev pub AfterFill : (R → Input) → Source R → Source R → List ℕ → Result Filled IoFault → Type 0
   AfterFill look old new buffer (Ok filled.Whole) = WholeSlice look old new buffer
@@ -207,7 +207,7 @@ module _ {R : Type 0} where
   AfterFill look old new buffer (Err fault) = StoppedSlice look old new buffer fault
 
   -- What each call that fills a slice ensures. The slice has `before`, and then `after`.
-  pub record Fills (look : R → Input) (old new : Source R) (before after : List ℕ)
+  pub record FillsSlice (look : R → Input) (old new : Source R) (before after : List ℕ)
       (result : Result Filled IoFault) : Type 0 where
     pub gives : IsLive look old → AfterFill look old new after result
     pub ended : HasEnded old → (new ≡ old) × (result ≡ Ok (filled_at_end before))

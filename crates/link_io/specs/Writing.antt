@@ -11,7 +11,7 @@ module _ {W : Type 0} where
     pub device : (look new).failed ≡ (look old).failed
 
   -- a proper prefix of the bytes was written, and then the device failed
-  pub record WritesFront (look : W → Output) (old new : W) (bytes : List ℕ)
+  pub record WritesPrefix (look : W → Output) (old new : W) (bytes : List ℕ)
       (fault : IoFault) : Type 0 where
     pub kind : fault ≡ io.Write
     pub count : ℕ

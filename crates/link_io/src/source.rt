@@ -8,7 +8,7 @@
 
 ghost use Rattle.std.specs.Prelude.{◌≡◌, ◌+◌, ◌-◌, ◌^◌, ◌<◌, ◌≤◌, true, length, take, slice_range, IfOk, MatchResult};
 ghost use Rattle.link_io.specs.Bytes.{AreBytes};
-ghost use Rattle.link_io.specs.Device.{BeginsWith, HasBytes};
+ghost use Rattle.link_io.specs.Device.{BeginsWith, HasSomeByte};
 ghost use Rattle.std.specs.Io.KnownBytes.{ReadConsumes};
 
 use crate::device::{DeviceFault, InDevice};
@@ -59,7 +59,7 @@ pub struct Source<R> {
 impl<R: InDevice> Source<R> {
     ghost use Rattle.std.specs.Prelude.{◌≡◌, ◌+◌, ◌-◌, ◌<◌, ◌≤◌, ◌==◌, true, false, [], length, take, drop, IfOk, IfErr, OnOk, MatchResult, IsTrue};
     ghost use Rattle.link_io.specs.Limits.{window_size};
-    ghost use Rattle.link_io.specs.Source.{IsSourceAt, is_fresh, reader_of, given_by, taken_by, window_of, at_hand, front_of, ahead, reach, IsLive, IsOver, HasEnded, HasFailed, Takes, StopsAfter, AfterReady, AfterReadyFront};
+    ghost use Rattle.link_io.specs.Source.{IsSourceAt, is_fresh, reader_of, given_by, taken_by, window_of, at_hand, front_of, ahead, reach, IsLive, IsOver, HasEnded, HasFailed, Takes, TakesThenStops, AfterReady, AfterReadyFront};
 
     /// Makes a source that has taken nothing.
     pub fn new(reader: R) -> Source<R>
@@ -120,7 +120,7 @@ impl<R: InDevice> Source<R> {
         ensures held { result ≡ false → length (window_of self.now) < window_size
             → 0 < length (R.state (reader_of self.now)).held }
         ensures left { result ≡ false → length (window_of self.now) < window_size
-            → HasBytes (R.state (reader_of self.now)).left }
+            → HasSomeByte (R.state (reader_of self.now)).left }
     {
         self.reader.held().is_empty() && self.end - self.start < WINDOW
     }
@@ -329,7 +329,7 @@ impl<R: InDevice> Source<R> {
 /// The calls that copy bytes.
 impl<R: InDevice> Source<R> {
     ghost use Rattle.std.specs.Prelude.{◌≡◌, ◌+◌, ◌-◌, ◌<◌, ◌≤◌, [], length, take, drop, IfOk};
-    ghost use Rattle.link_io.specs.Source.{reader_of, window_of, IsLive, HasEnded, HasFailed, Takes, AfterSome, Fills};
+    ghost use Rattle.link_io.specs.Source.{reader_of, window_of, IsLive, HasEnded, HasFailed, Takes, AfterSome, FillsSlice};
 
     /// Gives the next bytes, after at most one read, and returns how many.
     ///
@@ -381,7 +381,7 @@ impl<R: InDevice> Source<R> {
     /// fault again. In both cases it does not read.
     #[inline(always)]
     pub fn fill(&mut self, buffer: &mut [u8]) -> Result<Filled, IoFault>
-        ensures { Fills R.state self.old self.new buffer.old buffer.new result }
+        ensures { FillsSlice R.state self.old self.new buffer.old buffer.new result }
     {
         if buffer.len() <= self.end - self.start && !buffer.is_empty() {
             self.copy(buffer);
@@ -393,7 +393,7 @@ impl<R: InDevice> Source<R> {
     /// `fill` for an empty buffer, or for more bytes than the window has.
     #[inline(never)]
     fn fill_on(&mut self, buffer: &mut [u8]) -> Result<Filled, IoFault>
-        ensures { Fills R.state self.old self.new buffer.old buffer.new result }
+        ensures { FillsSlice R.state self.old self.new buffer.old buffer.new result }
     {
         if let Flow::Failed(fault) = self.flow {
             return Err(fault);

@@ -2,7 +2,7 @@
 
 ghost use Rattle.std.specs.Prelude.{◌≡◌, ◌<◌, ◌≤◌, true, length, take, drop, ℕ, OnOk, OnErr, IfErr, MatchResult};
 ghost use Rattle.std.specs.Io.KnownBytes.{Appends};
-ghost use Rattle.link_io.specs.Writing.{WritesWhole, WritesFront};
+ghost use Rattle.link_io.specs.Writing.{WritesWhole, WritesPrefix};
 
 use crate::device::{DeviceFault, OutDevice};
 use crate::fault::IoFault;
@@ -13,7 +13,7 @@ use crate::fault::IoFault;
 #[inline(always)]
 pub fn write_whole<W: OutDevice>(out: &mut W, bytes: &[u8]) -> Result<(), IoFault>
     ensures ok { OnOk result (WritesWhole W.state out.old out.new bytes.now) }
-    ensures err { IfErr result (WritesFront W.state out.old out.new bytes.now) }
+    ensures err { IfErr result (WritesPrefix W.state out.old out.new bytes.now) }
 {
     if bytes.is_empty() {
         return Ok(());
@@ -30,7 +30,7 @@ pub fn write_whole<W: OutDevice>(out: &mut W, bytes: &[u8]) -> Result<(), IoFaul
 #[inline(never)]
 fn write_rest<W: OutDevice>(out: &mut W, bytes: &[u8]) -> Result<(), IoFault>
     ensures ok { OnOk result (WritesWhole W.state out.old out.new bytes.now) }
-    ensures err { IfErr result (WritesFront W.state out.old out.new bytes.now) }
+    ensures err { IfErr result (WritesPrefix W.state out.old out.new bytes.now) }
 {
     match write_out(out, bytes) {
         (_, Ok(())) => Ok(()),

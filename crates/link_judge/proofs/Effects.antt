@@ -10,7 +10,7 @@ use Rattle.link_transfer.specs.declared.event.Event.{Event}
 use Rattle.link_transfer.specs.declared.event.Event.TheVariants as event
 use Rattle.link_transfer.specs.declared.joiner.Turn.{Turn}
 use Rattle.link_transfer.specs.declared.joiner.Turn.TheVariants as turn
-use Rattle.link_walk.specs.{Walk.{Head, WalkEvent, has_open, abandons}, Telling.ComesAfter}
+use Rattle.link_walk.specs.{Walk.{Head, WalkEvent, has_open, abandons}, Telling.HeadComes}
 use Rattle.link_walk.proofs.Heads.{continues_some}
 use Rattle.link_judge.proofs.Heads.{kind_of}
 
@@ -77,7 +77,7 @@ module _ (taken : List Message) (opened : Bool) (is : opened ≡ is_some (open_o
       by_stray true stray = Strays (effect_stray taken (event_of sent) stray)
       by_stray false belongs = rw (effect_taken taken (event_of sent) belongs) (taken_does sent belongs)
 
-pub comes_does : (before : List WalkEvent) (head : Head) → ComesAfter before head
+pub comes_does : (before : List WalkEvent) (head : Head) → HeadComes before head
     → Does head.turn head.message (has_open before)
 comes_does before head comes =
     let same = ap (λ (h : Head). h.turn) comes.is in

@@ -10,12 +10,12 @@ use Rattle.link_wire.specs.{Codes.is_start, MessageBuffer.{message_of, segment_i
 use Rattle.link_wire.specs.declared.message.Fields.TheVariants as fields
 use Rattle.link_wire.specs.declared.message.Message.TheVariants.{Segment}
 use Rattle.link_wire.specs.declared.message.{MessageBuffer.MessageBuffer, SegmentHead.SegmentHead}
-use Rattle.link_judge.specs.{Transfers.Transfer, TransferJudge.{IsJudging, grown}}
+use Rattle.link_judge.specs.{Transfers.Transfer, TransferJudge.{IsTransferJudgeAt, grown}}
 use Rattle.link_judge.specs.Unpacking.{judgement_of}
 use Rattle.link_judge.specs.declared.judge.TransferJudge.{TransferJudge}
 
 -- the judge's judgement is that on the transfer
-pub judgement_is : (now : TransferJudge) (transfer : Transfer) → IsJudging now transfer
+pub judgement_is : (now : TransferJudge) (transfer : Transfer) → IsTransferJudgeAt now transfer
     → (abandoned : Bool) → abandoned ≡ not transfer.closed
     → (outcome : Result BundleInfo (BundleFault × ℕ))
     → ((seen : List ℕ) → HasScanned now.scan seen → outcome ≡ verdict seen)
@@ -31,7 +31,7 @@ judgement_is now transfer judging abandoned over outcome seen =
 
 -- no data is added
 pub judging_same : (now : TransferJudge) (transfer : Transfer) (closed : Bool)
-    → IsJudging now transfer → IsJudging now (grown transfer [] closed)
+    → IsTransferJudgeAt now transfer → IsTransferJudgeAt now (grown transfer [] closed)
 judging_same now transfer closed judging = record {
   id = judging.id;
   announced = judging.announced;

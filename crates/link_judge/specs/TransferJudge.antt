@@ -16,7 +16,7 @@ grown transfer content closed =
     record { first = transfer.first; content = transfer.content ++ content; closed = closed }
 
 -- the judge is at this transfer
-pub record IsJudging (now : TransferJudge) (transfer : Transfer) : Type 0 where
+pub record IsTransferJudgeAt (now : TransferJudge) (transfer : Transfer) : Type 0 where
   pub id : now.id ≡ transfer.first.id
   pub announced : now.announced ≡ announced_of transfer.first.items.items
   pub size : now.size ≡ length transfer.content

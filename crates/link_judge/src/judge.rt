@@ -40,7 +40,7 @@ impl TransferJudge {
     ghost use Rattle.link_wire.specs.declared.message.SegmentHead.{SegmentHead};
     ghost use Rattle.link_report.specs.Judgement.{IsShortJudgement};
     ghost use Rattle.link_judge.specs.Transfers.{Transfer};
-    ghost use Rattle.link_judge.specs.TransferJudge.{IsJudging, begun, grown};
+    ghost use Rattle.link_judge.specs.TransferJudge.{IsTransferJudgeAt, begun, grown};
     ghost use Rattle.link_judge.specs.Unpacking.{is_selected, judgement_of};
 
     /// Makes a judge for the first transfer of a stream.
@@ -60,7 +60,7 @@ impl TransferJudge {
         requires { SegmentHasTotals message.now }
         ensures follows { (head : SegmentHead) (closed : _) → message_of message.now
             ≡ Message.Segment head → is_start head.flags ≡ true
-            → IsJudging self.new (begun head closed) }
+            → IsTransferJudgeAt self.new (begun head closed) }
         ensures size { self.new.size ≤ self.old.size }
     {
         if let Fields::Segment { id, .. } = message.fields {
@@ -75,8 +75,8 @@ impl TransferJudge {
     #[inline(always)]
     pub fn take(&mut self, piece: &[u8])
         requires { self.old.size + length piece.now < 2 ^ 63 }
-        ensures follows { (transfer : Transfer) (closed : _) → IsJudging self.old transfer
-            → IsJudging self.new (grown transfer piece.now closed) }
+        ensures follows { (transfer : Transfer) (closed : _) → IsTransferJudgeAt self.old transfer
+            → IsTransferJudgeAt self.new (grown transfer piece.now closed) }
         ensures size { self.new.size ≡ self.old.size + length piece.now }
         ensures id { self.new.id ≡ self.old.id }
     {
@@ -98,7 +98,7 @@ impl TransferJudge {
     /// The judgement on the transfer. A transfer that was not abandoned is closed.
     #[inline(always)]
     pub fn judgement(&self, abandoned: bool) -> JudgementView<'_>
-        ensures judged { (transfer : Transfer) → IsJudging self.now transfer
+        ensures judged { (transfer : Transfer) → IsTransferJudgeAt self.now transfer
             → abandoned ≡ not transfer.closed
             → viewed_judgement result ≡ judgement_of transfer }
         // This holds whatever was judged, since there is no room for longer names.

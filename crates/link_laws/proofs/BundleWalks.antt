@@ -12,7 +12,7 @@ use Rattle.link_bundle_walk.specs.Telling.{SoFar, BundleTelling, between, come_i
 use Rattle.link_bundle_walk.proofs.Dividing.{front_more, none_open, whole_stops, faulty_stops, within_limit, beyond_limit, refused_so, divided_none, divided_front}
 use Rattle.link_bundle_walk.proofs.Divisions.{IsRefused, StaysDivided, stays_divided}
 use Rattle.link_bundle_walk.proofs.Outcomes.{texts_going, unshown_going, told_same}
-use Rattle.link_laws.specs.Prefix.{IsPrefixed}
+use Rattle.link_laws.specs.Prefix.{HasPrefixTexts}
 use Rattle.link_laws.proofs.Prefixes.{AreFronts, fronts_same, fronts_trans, MadeOn, prefixed}
 
 -- What is said of the bytes so far begins what is said with more bytes of the bundle, also if they
@@ -40,22 +40,22 @@ module _ (telling : BundleTelling) (grows : Grows telling) where
   now bundles begun = record { bundles = bundles; begun = begun }
 
   -- what is said of these bundles, and the bytes after them, begins what is said of this input too
-  abbrev Begins : List Packed → (begun : List ℕ) → Divided → Type 0
-  Begins bundles begun input =
+  abbrev BeginsSaying : List Packed → (begun : List ℕ) → Divided → Type 0
+  BeginsSaying bundles begun input =
       AreFronts (telling.texts (now bundles begun))
       (telling.texts (come_in (with_bundles bundles input)))
 
   -- ---- a bundle that is refused, or goes on
 
   refused_begins : (bundles : List Packed) (begun run accepted : List ℕ) (refusal : Refusal)
-      → accepted ≡ begun ++ run → Begins bundles begun (refused_so [] accepted refusal)
+      → accepted ≡ begun ++ run → BeginsSaying bundles begun (refused_so [] accepted refusal)
   refused_begins bundles begun run accepted refusal is =
       rw (append-nil bundles, is) (grows.part (now bundles begun) run)
 
   faulty_begins : (bundles : List Packed) (begun run : List ℕ) (stays : Bool) (fault : BundleFault)
       (place : ℕ) → bundle_goes begun ≡ true → lasts fault ≡ stays
       → verdict (begun ++ run) ≡ Err (fault, place)
-      → Begins bundles begun (refused_so []
+      → BeginsSaying bundles begun (refused_so []
       (if stays then take (length (begun ++ run) - 1) (begun ++ run) else begun ++ run)
       (Faulty fault place))
   faulty_begins bundles begun run true fault place goes stays is =
@@ -73,7 +73,7 @@ module _ (telling : BundleTelling) (grows : Grows telling) where
   abbrev AllBegin : (count : ℕ) → Type 0
   AllBegin count =
       (bundles : List Packed) (begun more : List ℕ) → IsOpen limit begun
-      → length (begun ++ more) ≤ count → Begins bundles begun (divided limit (begun ++ more))
+      → length (begun ++ more) ≤ count → BeginsSaying bundles begun (divided limit (begun ++ more))
 
   module _ (count : ℕ) (fewer : AllBegin count) (bundles : List Packed) (begun more : List ℕ)
       (opened : IsOpen limit begun) (few : length (begun ++ more) ≤ suc count) where
@@ -82,7 +82,7 @@ module _ (telling : BundleTelling) (grows : Grows telling) where
 
     abbrev Judged : Result BundleInfo Refusal → Type 0
     Judged said =
-        Begins bundles begun (divided_by (divided limit) (begun ++ run) (begun ++ more) said)
+        BeginsSaying bundles begun (divided_by (divided limit) (begun ++ run) (begun ++ more) said)
 
     whole_begins : (info : BundleInfo) → 0 < length run → Judged (Ok info)
     whole_begins info some =
@@ -102,7 +102,7 @@ module _ (telling : BundleTelling) (grows : Grows telling) where
     judged_begins (Err (fault, place)) is =
         faulty_begins bundles begun run (lasts fault) fault place opened.goes refl is
 
-    some_begins : 0 < length (begun ++ more) → Begins bundles begun (divided limit (begun ++ more))
+    some_begins : 0 < length (begun ++ more) → BeginsSaying bundles begun (divided limit (begun ++ more))
     some_begins some =
         let all = begun ++ run in
         rw (divided_front limit all (begun ++ more) some (front_more begun more opened.front))
@@ -171,7 +171,7 @@ module _ (telling : BundleTelling) (grows : Grows telling) where
           stays = λ shown. absurd (false≢true (sym unshown ∙ shown));
         }
 
-  pub bundles_prefix : (bytes more : List ℕ) → IsPrefixed (tool_of (told_of telling)) bytes more
+  pub bundles_prefix : (bytes more : List ℕ) → HasPrefixTexts (tool_of (told_of telling)) bytes more
   bundles_prefix bytes more =
       let parts = stays_divided limit bytes in
       prefixed (told_of telling) bytes more

@@ -44,24 +44,24 @@ starts_as first last = grind arith
 
 -- ---- no end of the session so far
 
-pub record IsOpen (before : List JudgedHead) : Type 0 where
+pub record HasOpenTransfer (before : List JudgedHead) : Type 0 where
   pub unrejected : list_any rejects_type (newest before) ≡ false
   pub unended : list_any is_sess_term (newest before) ≡ false
 
-pub open_then : (before : List JudgedHead) (head : JudgedHead) → IsOpen before
+pub open_then : (before : List JudgedHead) (head : JudgedHead) → HasOpenTransfer before
     → rejects_type head.message ≡ false → is_sess_term head.message ≡ false
-    → IsOpen (before ++ head ∷ [])
+    → HasOpenTransfer (before ++ head ∷ [])
 open_then before head is_open rejects ends = record {
   unrejected = rw (newest_then before head, rejects) is_open.unrejected;
   unended = rw (newest_then before head, ends) is_open.unended;
 }
 
-not_after : (before : List JudgedHead) (message : Message) → IsOpen before
+not_after : (before : List JudgedHead) (message : Message) → HasOpenTransfer before
     → after_reject before message ≡ None
 unfolding after_reject
 not_after before message is_open = rw is_open.unrejected refl
 
-not_late : (before : List JudgedHead) (message : Message) → IsOpen before
+not_late : (before : List JudgedHead) (message : Message) → HasOpenTransfer before
     → term_order before message ≡ None
 unfolding term_order
 not_late before message is_open = rw (is_open.unended, and-false) refl
@@ -77,7 +77,7 @@ module _ (peer : PeerLimits) (before : List JudgedHead) where
     segment_head = record { message = segment; fault = None; turn = Some turn }
 
     -- in order, and it abandons no transfer
-    pub segment_clear : abandoned_by (Some turn) ≡ None → IsOpen before
+    pub segment_clear : abandoned_by (Some turn) ≡ None → HasOpenTransfer before
         → transfer_id before segment ≡ None → transfer_id_order before segment ≡ None
         → peer_segment peer.segment segment ≡ None
         → peer_transfer peer.transfer before segment_head ≡ None
@@ -95,7 +95,7 @@ module _ (peer : PeerLimits) (before : List JudgedHead) where
     abbrev init : Message
     init = sess_init_with interval segment_mru transfer_mru node
 
-    pub init_clear : IsOpen before → KeepsInitRules init
+    pub init_clear : HasOpenTransfer before → KeepsInitRules init
         → broken_rules peer before (plain init) ≡ []
     unfolding broken_rules item_flags order before_session interleaved segment_flags transfer_id peer_segment peer_transfer ack_length keepalive term_flags item_type transfer_id_order answer_order reject_known reason
     init_clear is_open keeps =
@@ -103,7 +103,7 @@ module _ (peer : PeerLimits) (before : List JudgedHead) where
         let in_time = not_late before init is_open in
         grind (arith, keeps.id, keeps.name, keeps.interval)
 
-  pub term_clear : IsOpen before → broken_rules peer before (plain (message.SessTerm 0 0)) ≡ []
+  pub term_clear : HasOpenTransfer before → broken_rules peer before (plain (message.SessTerm 0 0)) ≡ []
   unfolding broken_rules node_id item_flags order before_session interleaved segment_flags transfer_id peer_segment peer_transfer ack_length keepalive term_flags node_name keepalive_interval item_type transfer_id_order answer_order reject_known reason
   term_clear is_open =
       let unrejected = not_after before (message.SessTerm 0 0) is_open in
@@ -282,7 +282,7 @@ later k = ne_eqb (suc k) 0 (λ same. absurd (omega arith))
 -- no transfer is open, and their IDs are those below this one
 pub record Between (next : ℕ) (taken : List Message) (before : List JudgedHead) : Type 0 where
   pub joins : IsJoinerAt (carrying None) taken
-  pub is_open : IsOpen before
+  pub is_open : HasOpenTransfer before
   pub ids : ids_of before ≡ counts next
 
 module _ (id : ℕ) (sending : Sending) where
@@ -332,7 +332,7 @@ module _ (id : ℕ) (sending : Sending) where
   -- before chunk number `k`
   pub record At (k : ℕ) (taken : List Message) (before : List JudgedHead) : Type 0 where
     pub joins : IsJoinerAt (carrying (open_unless id (k == 0))) taken
-    pub is_open : IsOpen before
+    pub is_open : HasOpenTransfer before
     pub ids : ids_of before ≡ counts (next_by id (k == 0))
     pub segments : back (k == 0) (segments_of before) ≡ heads_back k
 
@@ -379,7 +379,7 @@ module _ (id : ℕ) (sending : Sending) where
         rw (ends_as is_first (last_at k)) at
         (joins_then (carrying (open_unless id is_first)) taken its_message at.joins may)
 
-    opened : IsOpen (before ++ now ∷ [])
+    opened : HasOpenTransfer (before ++ now ∷ [])
     opened = open_then before now at.is_open refl refl
 
     counted : ids_of (before ++ now ∷ []) ≡ counts (suc id)

@@ -250,8 +250,8 @@ module _ (options : PackOptions) where
 
 -- ---- their bytes
 
-joined : (a b c d : List ℕ) → a ++ b ++ c ++ d ≡ a ++ (b ++ c ++ d)
-joined a b c d = simp append_assoc
+append-assoc_five : (a b c d : List ℕ) → a ++ b ++ c ++ d ≡ a ++ (b ++ c ++ d)
+append-assoc_five a b c d = simp append_assoc
 
 pub some_size : (options : PackOptions) → 0 < min options.peer_segment 65536
 some_size options = let some = options.some in omega arith
@@ -315,4 +315,4 @@ module _ (options : PackOptions) where
       pub packed_is : IsReading (whole_of (packing_by options input)).texts.output
           (packed_reading options input)
       unfolding prelude_bytes
-      packed_is = grind (arith, append-nil, contact_spelled, joined, packed_stream)
+      packed_is = grind (arith, append-nil, contact_spelled, append-assoc_five, packed_stream)

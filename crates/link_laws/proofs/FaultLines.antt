@@ -11,7 +11,7 @@ use Rattle.link_report.specs.Fault.{wire_text, order_text, offset_text, place_te
 use Rattle.link_report.specs.{Text.{number_text, newline}, Transfer.{extent_text, transfer_text}}
 use Rattle.link_report.specs.declared.transfer.TransferEntry.{TransferEntry}
 use Rattle.link_run.specs.Made.{is_lasting}
-use Rattle.link_laws.specs.Prefix.{IsFrontOf}
+use Rattle.link_laws.specs.Prefix.{IsPrefixOf}
 use Rattle.link_laws.proofs.SharedLines.{Lacks, lacks_both, lacks_by, after_same, Part, part_second, part_line}
 
 -- ---- digits
@@ -64,7 +64,7 @@ words_after offset words more =
 
 -- one line begins the other only if their words are the same
 same_words : (offset place : ℕ) (words other more : List ℕ)
-    → (begins : IsFrontOf (line_at offset words) (line_at place other ++ more))
+    → (begins : IsPrefixOf (line_at offset words) (line_at place other ++ more))
     → (other ++ newline) ++ more ≡ (words ++ newline) ++ begins.0
 same_words offset place words other more begins =
     let rest = begins.0 in

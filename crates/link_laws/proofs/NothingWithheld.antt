@@ -21,7 +21,7 @@ use Rattle.link_walk.specs.Walk.{Head, abandons, closes, WalkEvent, ContactHeade
 use Rattle.link_judge.specs.Transfers.{Transfer}
 use Rattle.link_judge.specs.Unpacking.{parts_of, entry_of, line_due, order_line, Told, with_line, with_order, with_transfers, told_head, told_more, told_event, told_after, unpack_telling, unpack_tool}
 use Rattle.link_judge.proofs.Events.{told_push}
-use Rattle.link_laws.specs.{Prefix.IsFrontOf, Withheld.{AreLines, output_of, report_of, IsShared, WithholdsNothing}}
+use Rattle.link_laws.specs.{Prefix.IsPrefixOf, Withheld.{AreLines, output_of, report_of, IsShared, WithholdsNothing}}
 use Rattle.link_laws.proofs.Endings.{ReadingHalts}
 use Rattle.link_laws.proofs.FaultLines.{cut_line, part_wire, part_order, part_transfer, transfer_part}
 use Rattle.link_laws.proofs.{Prefixes.whole_output, Walks.events_grow}
@@ -50,7 +50,7 @@ module _ (made : List ℕ → Made) (bytes more : List ℕ) (are : AreBytes more
   here = made bytes
 
   all_output : (common : List ℕ) → IsShared output_of (tool_of made) bytes common
-      → IsFrontOf common (so_far_by here.stop here.texts).output
+      → IsPrefixOf common (so_far_by here.stop here.texts).output
   all_output common shared =
       let is : (whole_by (made (bytes ++ [])).stop (made (bytes ++ []))).texts.output
       ≡ (so_far_by here.stop here.texts).output =
@@ -60,9 +60,9 @@ module _ (made : List ℕ → Made) (bytes more : List ℕ) (are : AreBytes more
 
   all_report : (common : List ℕ) → AreLines common
       → IsShared report_of (tool_of made) bytes common
-      → IsFrontOf common (so_far_by here.stop here.texts).report
+      → IsPrefixOf common (so_far_by here.stop here.texts).report
   all_report common lines shared =
-      let whole : IsFrontOf common (whole_by here.stop here).texts.report =
+      let whole : IsPrefixOf common (whole_by here.stop here).texts.report =
       rw (append-nil bytes) at (shared [] (All-nil IsByte)) in
       ⊎_elim
       (λ shown.

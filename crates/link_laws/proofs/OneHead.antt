@@ -159,7 +159,7 @@ stray_is taken happened = grind arith
 
 -- The head of this message, with the data `content`, changes the transfers. These entries are those
 -- of the transfers that are over now, and were not before.
-pub record Adds (wanted : Wanted) (offset : ℕ) (fault : Option OrderFault) (effect : Option Turn)
+pub record HeadAdds (wanted : Wanted) (offset : ℕ) (fault : Option OrderFault) (effect : Option Turn)
     (sent : Message) (content : List ℕ) (stray : Bool) (transfers after : List Transfer)
     : Type 0 where
   pub entries : List TransferEntry
@@ -201,7 +201,7 @@ module _ (wanted : Wanted) (offset : ℕ) (fault : Option OrderFault) (content :
         → entries_of wanted (settled after) ≡ entries_of wanted (settled transfers) ++ due
         → (length content ≡ data_length sent
         → latest_open after ≡ open_with effect (is_last effect) (latest_open transfers))
-        → Adds wanted offset fault effect sent content stray transfers after
+        → HeadAdds wanted offset fault effect sent content stray transfers after
     adds told lines settles opened =
         grind (
           arith,
@@ -216,11 +216,11 @@ module _ (wanted : Wanted) (offset : ℕ) (fault : Option OrderFault) (content :
   -- ---- the kinds of heads
 
   strays : (sent : Message) (transfers : List Transfer)
-      → Adds wanted offset fault None sent content true transfers transfers
+      → HeadAdds wanted offset fault None sent content true transfers transfers
   strays sent transfers = grind (arith, adds, append-nil, head_told)
 
   passes : (sent : Message) (transfers : List Transfer) → is_segment (event_of sent) ≡ false
-      → Adds wanted offset fault (Some turn.Other) sent content false transfers transfers
+      → HeadAdds wanted offset fault (Some turn.Other) sent content false transfers transfers
   passes sent transfers other =
       let same = transfers_same transfers sent [] other in
       grind (arith, adds, append-nil, head_told)
@@ -238,7 +238,7 @@ module _ (wanted : Wanted) (offset : ℕ) (fault : Option OrderFault) (content :
 
     begins_one : (transfers : List Transfer) (abandoned : Option ℕ) → is_start head.flags ≡ true
         → is_some abandoned ≡ latest_open transfers
-        → Adds wanted offset fault (Some (turn.Begin abandoned last)) (message.Segment head) content
+        → HeadAdds wanted offset fault (Some (turn.Begin abandoned last)) (message.Segment head) content
         false transfers
         (record { first = head; content = content; closed = closes head content } ∷ transfers)
     begins_one transfers abandoned starts is =
@@ -261,7 +261,7 @@ module _ (wanted : Wanted) (offset : ℕ) (fault : Option OrderFault) (content :
 
     continues_one : (latest : Transfer) (earlier : List Transfer) → is_start head.flags ≡ false
         → latest.closed ≡ false
-        → Adds wanted offset fault (Some (turn.Continue last)) (message.Segment head) content false
+        → HeadAdds wanted offset fault (Some (turn.Continue last)) (message.Segment head) content false
         (latest ∷ earlier) (grown latest content (closes head content) ∷ earlier)
     continues_one latest earlier starts is_open =
         let new : Transfer = grown latest content (closes head content) in
@@ -284,7 +284,7 @@ module _ (wanted : Wanted) (offset : ℕ) (fault : Option OrderFault) (content :
 head_adds : (wanted : Wanted) (fault : Option OrderFault) (effect : Option Turn) (stray : Bool)
     (head : Entry) (transfers : List Transfer) → FitsData head → stray ≡ not (is_some effect)
     → Does effect head.message (latest_open transfers)
-    → Adds wanted head.offset fault effect head.message head.content stray transfers
+    → HeadAdds wanted head.offset fault effect head.message head.content stray transfers
     (transfers_with stray transfers head)
 head_adds wanted fault effect stray head transfers fits same (Strays is) =
     rw (same, is) (strays wanted head.offset fault head.content head.message transfers)
@@ -318,7 +318,7 @@ module _ (wanted : Wanted) (u : Unpacked) (head : Entry) (whole : KnowsWhole u)
   does = what_does u.taken (latest_open u.transfers) whole head.message
 
   -- what the head does after those that have made this
-  pub added : Adds wanted head.offset (refusal u.taken happened) (effect_of u.taken happened)
+  pub added : HeadAdds wanted head.offset (refusal u.taken happened) (effect_of u.taken happened)
       head.message head.content (is_stray u.taken happened) u.transfers
       (with_head wanted u head).transfers
   added = search (does, head_adds, stray_is)

@@ -17,7 +17,7 @@ use Rattle.link_list.specs.Listing.{listing_of, message_lines}
 use Rattle.link_bundle_walk.specs.Bundles.{Packed, Divided, divided, Rest}
 use Rattle.link_pack.specs.Packing.{packing_of, pack_tool, sending, transfer_bytes}
 use Rattle.link_pack.specs.Segments.{cutting_of, Sending, cut_at, segment_bytes, segments_from}
-use Rattle.link_laws.specs.{Ranges.{OptionsFit, InputFits}, RoundTrip.{all, good_lines, GivesBack}}
+use Rattle.link_laws.specs.{Ranges.{OptionsFit, InputFits}, RoundTrip.{all, good_lines, UnpacksToBundles}}
 use Rattle.link_laws.specs.PackedStream.{TransferFits, KeepsLimits}
 use Rattle.link_laws.specs.Transfers.{lines_of, are_good, by_transfers}
 use Rattle.link_laws.specs.Listed.{size_of_segment, segment_lines, size_of_segments, chunks_of, term_line, bundle_lines, IsListed}
@@ -154,7 +154,7 @@ module _ (options : PackOptions) (bytes : List ℕ) (is_packed : IsPacked option
   abbrev stream : List ℕ
   stream = (packed options bytes).texts.output
 
-  pub gives_back : GivesBack options bytes stream
+  pub gives_back : UnpacksToBundles options bytes stream
   unfolding by_transfers parts_of lines_of are_good
   gives_back = grind (arith, adds_all, nothing_left, whole_is)
 

@@ -187,7 +187,7 @@ module _ (peer : PeerLimits) where
 
 -- the length of the transfer breaks no rule, and its data is a good bundle
 record BreaksNone (transfer : Transfer) : Type 0 where
-  pub lengths : broken_transfer_rules transfer.first (length transfer.content) ≡ []
+  pub of_transfers-nil : broken_transfer_rules transfer.first (length transfer.content) ≡ []
   pub info : BundleInfo
   pub is : verdict transfer.content ≡ Ok info
 
@@ -250,8 +250,8 @@ module _ (options : PackOptions) (bytes : List ℕ) (is_packed : IsPacked option
   whole_input =
       ap (λ rest. record { bundles = bundles; rest = rest }) (nothing_left options bytes status)
 
-  reads : reading_of stream ≡ packed_reading options all_bundles
-  reads = is_packed.reads ∙ ap (packed_reading options) whole_input
+  reading_of-packed : reading_of stream ≡ packed_reading options all_bundles
+  reading_of-packed = is_packed.reads ∙ ap (packed_reading options) whole_input
 
   clean : same.IsClean stream
   clean = same.clean stream (gives_back options bytes is_packed status).status
@@ -261,7 +261,7 @@ module _ (options : PackOptions) (bytes : List ℕ) (is_packed : IsPacked option
 
   closed : passing is_closed broken ≡ broken
   closed =
-      rw (reads, append-nil (packed_entries options all_bundles))
+      rw (reading_of-packed, append-nil (packed_entries options all_bundles))
       (stream_closed peer options allows _
       (packed_clear options peer allows keeps bundles is_packed.divides.bundles))
 

@@ -4,11 +4,11 @@ use Rattle.std.proofs.lemmas.Bool.{cases_Bool}
 use Rattle.link_run.specs.Run.{Texts, ◌then◌}
 use Rattle.link_run.specs.Made.{StreamStop, Made, whole_by, so_far_by, shows_fault, tool_of}
 use Rattle.link_run.proofs.Ends.{unshown_sofar, shown_sofar}
-use Rattle.link_laws.specs.Prefix.{IsFrontOf, IsPrefixed}
+use Rattle.link_laws.specs.Prefix.{IsPrefixOf, HasPrefixTexts}
 
 -- ---- texts that are prefixes of others
 
--- as `IsFrontOf`, of any lists
+-- as `IsPrefixOf`, of any lists
 abbrev pub IsFront : {A : Type 0} → List A → List A → Type 0
 IsFront {A} front whole = (rest : List A) × (whole ≡ front ++ rest)
 
@@ -38,8 +38,8 @@ front_trans {A} text mid whole first second =
 
 -- the same of output and report
 pub record AreFronts (texts whole : Texts) : Type 0 where
-  pub output : IsFrontOf texts.output whole.output
-  pub report : IsFrontOf texts.report whole.report
+  pub output : IsPrefixOf texts.output whole.output
+  pub report : IsPrefixOf texts.report whole.report
 
 pub fronts_same : (texts whole : Texts) → texts ≡ whole → AreFronts texts whole
 fronts_same texts whole same = grind (arith, front_same)
@@ -78,7 +78,7 @@ texts_first (Some stop) made ended =
     record { output = front_same _ _ refl; report = front_first _ _ }
 
 pub prefixed : (made : List ℕ → Made) (bytes more : List ℕ)
-    → MadeOn (made bytes) (made (bytes ++ more)) → IsPrefixed (tool_of made) bytes more
+    → MadeOn (made bytes) (made (bytes ++ more)) → HasPrefixTexts (tool_of made) bytes more
 prefixed made bytes more on =
     let before = made bytes in
     let after = made (bytes ++ more) in

@@ -1,7 +1,7 @@
 -- What two texts share, line by line.
 use Rattle.std.proofs.Common.{◌≡◌, ℕ, inl, inr, Bool, true, false, not, ◌&&◌, ◌==◌, List, [], ◌∷◌, ◌++◌, length, get_or, drop, refl, ap, sym, ◌∙◌, append-nil, append_assoc, length-append, true≢false, eq-eqb, arith}
 use Rattle.link_report.specs.Text.{newline}
-use Rattle.link_laws.specs.Prefix.{IsFrontOf}
+use Rattle.link_laws.specs.Prefix.{IsPrefixOf}
 use Rattle.link_laws.specs.Withheld.{AreLines}
 use Rattle.link_laws.proofs.Prefixes.{front_none}
 
@@ -60,7 +60,7 @@ only_end (a ∷ line) (b ∷ before) rest lacks same =
 -- no whole line begins both texts
 abbrev pub Part : (one other : List ℕ) → Type 0
 Part one other =
-    (common : List ℕ) → AreLines common → IsFrontOf common one → IsFrontOf common other
+    (common : List ℕ) → AreLines common → IsPrefixOf common one → IsPrefixOf common other
     → common ≡ []
 
 pub part_none : (other : List ℕ) → Part [] other
@@ -88,7 +88,7 @@ part_second first second third one other feed differ (c ∷ d ∷ common) lines 
 
 -- a whole line that does not begin the other text
 pub part_line : (line other : List ℕ) → Lacks 10 line
-    → (IsFrontOf (line ++ newline) other → ⊥) → Part (line ++ newline) other
+    → (IsPrefixOf (line ++ newline) other → ⊥) → Part (line ++ newline) other
 part_line line other lacks never common (inl none) begins also = none
 part_line line other lacks never common (inr (before, is)) begins also =
     let rest = begins.0 in
@@ -108,8 +108,8 @@ fewer_lines byte common (inr (b ∷ before, is)) = inr (before, ap (drop 1) is)
 
 -- whole lines that begin both texts end in what comes before the two
 pub shared_before : (before one other common : List ℕ) → Part one other → AreLines common
-    → IsFrontOf common (before ++ one) → IsFrontOf common (before ++ other)
-    → IsFrontOf common before
+    → IsPrefixOf common (before ++ one) → IsPrefixOf common (before ++ other)
+    → IsPrefixOf common before
 shared_before before one other [] part lines first second = front_none before
 shared_before [] one other (c ∷ common) part lines first second =
     let none = part (c ∷ common) lines first second in

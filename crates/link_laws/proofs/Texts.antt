@@ -12,7 +12,7 @@ use Rattle.link_bundle.proofs.Parts.{part_more}
 use Rattle.link_transfer.specs.declared.joiner.Turn.{Turn}
 use Rattle.link_report.specs.Message.{message_text}
 use Rattle.link_run.specs.{Run.Texts, Writers.on_output}
-use Rattle.link_run.proofs.Continued.{GoesOn, stream_of, ReadingGoesOn, reading_on}
+use Rattle.link_run.proofs.Continued.{StreamGoesOn, stream_of, ReadingGoesOn, reading_on}
 use Rattle.link_walk.specs.Walk.{WalkEvent, ContactHeader, MessageHead, Data, Whole, LeftOpen, open_after_event, has_open}
 use Rattle.link_walk.specs.Saying.{Keeping, said_from}
 use Rattle.link_walk.proofs.Heads.{has_open-append}
@@ -31,9 +31,9 @@ use Rattle.link_check.specs.Bundles.{broken_in, broken_bundles, bundle_check_tel
 use Rattle.link_check.specs.Checking.{check_tool}
 use Rattle.link_pack.specs.{Packing.pack_tool, PackRun.pack_telling}
 use Rattle.link_pack.proofs.Outcomes.{texts_grown, texts_whole, same_tool}
-use Rattle.link_laws.specs.Prefix.{IsFrontOf, IsPrefixed}
+use Rattle.link_laws.specs.Prefix.{IsPrefixOf, HasPrefixTexts}
 use Rattle.link_laws.proofs.Prefixes.{front_same, front_after, front_none, fronts_same, front_first, front_then, AreFronts, fronts_then, IsFront, fronts_after, prefixed}
-use Rattle.link_laws.proofs.{Walks.{Adds, told_prefix, Follows}, Placed.rules_front}
+use Rattle.link_laws.proofs.{Walks.{EventAdds, told_prefix, Follows}, Placed.rules_front}
 use Rattle.link_laws.proofs.BundleWalks.{Grows, bundles_prefix}
 
 -- ---- `list`
@@ -44,14 +44,14 @@ unfolding message_lines
 message_lines-append entries more =
     flat_map-append (λ (entry : Entry). message_text entry.offset entry.message) entries more
 
-entries_on : (before after : Stream) → GoesOn before after
-    → IsFrontOf (message_lines before.entries) (message_lines after.entries)
+entries_on : (before after : Stream) → StreamGoesOn before after
+    → IsPrefixOf (message_lines before.entries) (message_lines after.entries)
 entries_on before after on =
     let same = ap (λ (s : Stream). message_lines s.entries) on.are in
     (_, same ∙ message_lines-append before.entries on.rest.entries)
 
 module _ (before after : Reading) (on : ReadingGoesOn before after) where
-  lines_on : IsFrontOf (listed_lines before) (listed_lines after)
+  lines_on : IsPrefixOf (listed_lines before) (listed_lines after)
   unfolding message_lines
   lines_on =
       ⊎_elim
@@ -59,7 +59,7 @@ module _ (before after : Reading) (on : ReadingGoesOn before after) where
       (entries_on (stream_of before) (stream_of after) on.messages)))
       (λ none. rw (none.0, none.1) (front_none _)) on.contact
 
-pub list_prefix : (bytes more : List ℕ) → IsPrefixed list_tool bytes more
+pub list_prefix : (bytes more : List ℕ) → HasPrefixTexts list_tool bytes more
 unfolding listing_of
 list_prefix bytes more =
     let on = reading_on bytes more in
@@ -82,23 +82,23 @@ module _ (bytes more : List ℕ) where
   not_known (Some payload) is none = let known = sym none ∙ PayloadLasts-holds bytes more payload is in absurd (cc)
 
   payload_by : (known : Option (ℕ × ℕ)) → payload_of (judged_bundle (bytes ++ more)) ≡ known
-      → IsFrontOf (payload_in bytes) (bytes_of known (bytes ++ more))
+      → IsPrefixOf (payload_in bytes) (bytes_of known (bytes ++ more))
   unfolding payload_in
   payload_by None is =
       let none = not_known (payload_of (judged_bundle bytes)) refl is in
       rw none (front_none [])
   payload_by (Some (place, size)) is =
-      let P : List ℕ → Type 0 = λ part. IsFrontOf part (take size (drop place (bytes ++ more))) in
+      let P : List ℕ → Type 0 = λ part. IsPrefixOf part (take size (drop place (bytes ++ more))) in
       subst P (sym (PayloadPlaced-holds bytes more place size is)) (_, part_more bytes more place size _ refl)
 
-  pub payload_front : IsFrontOf (payload_in bytes) (payload_in (bytes ++ more))
+  pub payload_front : IsPrefixOf (payload_in bytes) (payload_in (bytes ++ more))
   unfolding payload_in
   payload_front = payload_by (payload_of (judged_bundle (bytes ++ more))) refl
 
 -- ---- `unpack`
 
 chosen_front : (selected payload : Bool) (content piece : List ℕ)
-    → IsFrontOf (if selected then (if payload then payload_in content else content) else [])
+    → IsPrefixOf (if selected then (if payload then payload_in content else content) else [])
     (if selected then (if payload then payload_in (content ++ piece) else content ++ piece) else [])
 chosen_front false payload content piece = front_none _
 chosen_front true false content piece = front_first content piece
@@ -109,7 +109,7 @@ module _ (wanted : Wanted) where
 
   -- the output for the first transfers is a prefix of that for the second
   abbrev Extends : (first second : List Transfer) → Type 0
-  Extends first second = IsFrontOf (parts_of wanted first) (parts_of wanted second)
+  Extends first second = IsPrefixOf (parts_of wanted first) (parts_of wanted second)
 
   continued_front : (transfers : List Transfer) (piece : List ℕ) (closed : Bool)
       → Extends transfers (continued transfers piece closed)
@@ -151,17 +151,17 @@ module _ (wanted : Wanted) where
   event_front told Whole = grind (arith, continued_front, front_first)
   event_front told LeftOpen = record { output = front_same _ _ refl; report = front_first _ _ }
 
-  events_add_texts : Adds (unpack_telling wanted)
+  events_add_texts : EventAdds (unpack_telling wanted)
   events_add_texts before event follows =
       rw (told_push wanted before (event ∷ [])) (event_front (told_after wanted before) event)
 
-  pub unpack_prefix : (bytes more : List ℕ) → IsPrefixed (unpack_tool wanted) bytes more
+  pub unpack_prefix : (bytes more : List ℕ) → HasPrefixTexts (unpack_tool wanted) bytes more
   unpack_prefix bytes more = told_prefix (unpack_telling wanted) events_add_texts bytes more
 
 -- ---- transfers
 
 selected_front : (selected : Bool) (lines more : List ℕ)
-    → IsFrontOf (if selected then lines ++ [] else [])
+    → IsPrefixOf (if selected then lines ++ [] else [])
     (if selected then (lines ++ more) ++ [] else [])
 selected_front true lines more = simp append-nil (front_first lines more)
 selected_front false lines more = front_same _ _ refl
@@ -169,7 +169,7 @@ selected_front false lines more = front_same _ _ refl
 module _ (options : BlockOptions) where
   -- the lines of an open transfer, and of the same transfer with more data
   grown_front : (transfer : Transfer) (piece : List ℕ)
-      → IsFrontOf (transfer_lines options.only true transfer)
+      → IsPrefixOf (transfer_lines options.only true transfer)
       (transfer_lines options.only true (grown transfer piece false))
   grown_front transfer piece =
       let grows = lines_grow transfer.first.id transfer.content piece in
@@ -178,7 +178,7 @@ module _ (options : BlockOptions) where
       (block_lines transfer.first.id transfer.content) grows.text)
 
   data_front : (transfers : List Transfer) (piece : List ℕ)
-      → IsFrontOf (lines_of options.only true transfers)
+      → IsPrefixOf (lines_of options.only true transfers)
       (lines_of options.only true (continued transfers piece false))
   data_front [] piece = front_same _ _ refl
   data_front (latest ∷ earlier) piece =
@@ -192,7 +192,7 @@ module _ (options : BlockOptions) where
   next told event = told_event (unpacking_by options) told event
 
   lines_front : (before : List WalkEvent) (event : WalkEvent) (told : Told) → Follows before event
-      → IsFrontOf (lines_of options.only (has_open before) told.transfers)
+      → IsPrefixOf (lines_of options.only (has_open before) told.transfers)
       (lines_of options.only (open_after_event (has_open before) event) (next told event).transfers)
   lines_front before (ContactHeader contact) told follows = front_same _ _ refl
   lines_front before (MessageHead head) told follows =
@@ -212,7 +212,7 @@ module _ (options : BlockOptions) where
   lines_front before LeftOpen told opened =
       rw opened (_, ended_lines options.only true told.transfers)
 
-  events_add : Adds (blocks_telling options)
+  events_add : EventAdds (blocks_telling options)
   events_add before event follows = record {
     output =
         rw (
@@ -223,15 +223,15 @@ module _ (options : BlockOptions) where
     report = rw (flat_map-append order_line_of before (event ∷ [])) (front_first _ _);
   }
 
-  pub blocks_prefix : (bytes more : List ℕ) → IsPrefixed (blocks_tool options) bytes more
+  pub blocks_prefix : (bytes more : List ℕ) → HasPrefixTexts (blocks_tool options) bytes more
   blocks_prefix bytes more = told_prefix (blocks_telling options) events_add bytes more
 
 -- ---- bundles
 
 -- the lines of bundles, when there is one more bundle, whose lines begin with these
 pushed_front : (number n : ℕ) (bundles : List Packed) (bundle : Packed) (lines : List ℕ)
-    → n ≡ number + length bundles → IsFrontOf lines (whole_lines n bundle)
-    → IsFrontOf (bundle_lines number bundles ++ lines) (bundle_lines number (bundles ++ bundle ∷ []))
+    → n ≡ number + length bundles → IsPrefixOf lines (whole_lines n bundle)
+    → IsPrefixOf (bundle_lines number bundles ++ lines) (bundle_lines number (bundles ++ bundle ∷ []))
 unfolding bundle_lines
 pushed_front number n [] bundle lines is front =
     let same : n ≡ number = omega (arith, is) in
@@ -242,7 +242,7 @@ pushed_front number n (first ∷ bundles) bundle lines is front =
 
 -- the lines of the bytes of a bundle, when more bytes follow
 more_front : (id : ℕ) (begun run : List ℕ)
-    → IsFrontOf (block_lines id begun) (block_lines id (begun ++ run))
+    → IsPrefixOf (block_lines id begun) (block_lines id (begun ++ run))
 more_front id begun run =
     let grows = lines_grow id begun run in
     rw grows.is (front_first (block_lines id begun) grows.text)
@@ -265,7 +265,7 @@ bundles_grow = record {
   ended = λ bundles. fronts_same _ _ (ap on_output (between_lines bundles));
 }
 
-pub bundle_blocks_prefix : (bytes more : List ℕ) → IsPrefixed bundle_blocks_tool bytes more
+pub bundle_blocks_prefix : (bytes more : List ℕ) → HasPrefixTexts bundle_blocks_tool bytes more
 bundle_blocks_prefix bytes more = bundles_prefix bundle_blocks_telling bundles_grow bytes more
 
 -- ---- transfers
@@ -279,7 +279,7 @@ module _ {S : Type 0} (keeping : Keeping S) where
       fronts_after (keeping.says kept event) _ _ (keeps_front (keeping.next kept event) before more)
 
 pub check_prefix : (options : CheckOptions) (bytes more : List ℕ)
-    → IsPrefixed (check_tool options) bytes more
+    → HasPrefixTexts (check_tool options) bytes more
 check_prefix options bytes more = search (keeps_front, told_prefix)
 
 -- ---- bundles
@@ -296,7 +296,7 @@ check_grows : (must : Bool) → Grows (bundle_check_telling must)
 check_grows must = grind (arith, broken_front, front_same, fronts_same, rules_front)
 
 pub bundle_check_prefix : (must : Bool) (bytes more : List ℕ)
-    → IsPrefixed (bundle_check_tool must) bytes more
+    → HasPrefixTexts (bundle_check_tool must) bytes more
 bundle_check_prefix must bytes more =
     bundles_prefix (bundle_check_telling must) (check_grows must) bytes more
 
@@ -313,7 +313,7 @@ packing_grows options = record {
 }
 
 pub pack_prefix : (options : PackOptions) (bytes more : List ℕ)
-    → IsPrefixed (pack_tool options) bytes more
+    → HasPrefixTexts (pack_tool options) bytes more
 pack_prefix options bytes more =
-    subst (λ tool. IsPrefixed tool bytes more) (same_tool options)
+    subst (λ tool. HasPrefixTexts tool bytes more) (same_tool options)
     (bundles_prefix (pack_telling options) (packing_grows options) bytes more)

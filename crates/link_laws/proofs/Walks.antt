@@ -13,10 +13,10 @@ use Rattle.link_transfer.specs.{declared.fault.OrderFault.OrderFault, declared.j
 use Rattle.link_run.specs.Made.{tool_of}
 use Rattle.link_run.proofs.Continued.{entry, LastGoesOn, ReadingGoesOn, reading_on}
 use Rattle.link_walk.specs.Walk.{head_at, WalkEvent, Data, Whole, data_events, head_events, content_events, Walked, taken_with, with_judged, with_next, contact_events, walked_of, Head, is_last, closes, ContactHeader, MessageHead, open_with, open_after_event, has_open, with_entry_unless, none_walked, walked, end_events, Telling, told_of}
-use Rattle.link_walk.specs.{declared.consumer.Manner.Manner, Telling.ComesAfter}
+use Rattle.link_walk.specs.{declared.consumer.Manner.Manner, Telling.HeadComes}
 use Rattle.link_walk.proofs.{Comes.{plain_open, open_if}, Texts.{made_stays, unread}}
 use Rattle.link_walk.proofs.Heads.{continues_some, open_then, has_open-append, data_keeps}
-use Rattle.link_laws.specs.Prefix.{IsPrefixed}
+use Rattle.link_laws.specs.Prefix.{HasPrefixTexts}
 use Rattle.link_laws.proofs.Whole.{IsWhole, FitsData, AreWhole, AreRead, ReadingReads, no_content, reading_read}
 use Rattle.link_laws.proofs.Prefixes.{IsFront, AreFronts, front_same, front_first, front_after, front_none, front_trans, fronts_same, fronts_trans, prefixed}
 use Rattle.link_transfer.specs.declared.joiner.Turn.TheVariants as turn
@@ -93,7 +93,7 @@ module _ (all_heads : Bool) where
 -- a walk may tell this event after these
 abbrev pub Follows : (before : List WalkEvent) → WalkEvent → Type 0
 Follows before (ContactHeader contact) = before ≡ []
-Follows before (MessageHead head) = ComesAfter before head
+Follows before (MessageHead head) = HeadComes before head
 Follows before event = has_open before ≡ true
 
 -- a walk may tell these events after the first ones, one by one
@@ -303,8 +303,8 @@ content_grows (Some (turn.Continue last)) size content piece short =
 module _ (manner : Manner) where
   -- ---- more heads
 
-  abbrev pub Grows : (before after : Walked) → Type 0
-  Grows before after = IsFront before.events after.events
+  abbrev pub WalkGrows : (before after : Walked) → Type 0
+  WalkGrows before after = IsFront before.events after.events
 
   -- one more head, with this data or more
   module _ (was : Walked) (head : Entry) (piece : List ℕ) where
@@ -313,7 +313,7 @@ module _ (manner : Manner) where
 
     abbrev BothGrow : (one other : Walked) → Type 0
     BothGrow one other =
-        Grows was one × (length head.content < data_length head.message → Grows one other)
+        WalkGrows was one × (length head.content < data_length head.message → WalkGrows one other)
 
     taken_grows : BothGrow (taken_with manner was head) (taken_with manner was longer)
     taken_grows = search (content_grows, front_after, front_first)
@@ -332,14 +332,14 @@ module _ (manner : Manner) where
     next_grows None None is = rw is taken_grows
     next_grows None (Some fault) is = rw is (refused_grows manner.goes_on _)
 
-  pub heads_grow : (heads : List Entry) (was : Walked) → Grows was (fold (with_next manner) was heads)
+  pub heads_grow : (heads : List Entry) (was : Walked) → WalkGrows was (fold (with_next manner) was heads)
   heads_grow [] was = front_same _ _ refl
   heads_grow (head ∷ more) was =
       front_trans _ _ _ (next_grows was head [] was.refused _ refl).0
       (heads_grow more (with_next manner was head))
 
   last_grows : (last more : List Entry) (was : Walked) → LastGoesOn last more
-      → Grows (fold (with_next manner) was last) (fold (with_next manner) was more)
+      → WalkGrows (fold (with_next manner) was last) (fold (with_next manner) was more)
   last_grows [] more was follows = heads_grow more was
   last_grows (head ∷ []) more was follows =
       rw follows.are
@@ -351,7 +351,7 @@ module _ (manner : Manner) where
 
   reading_grows : (before after : Reading) → ReadingGoesOn before after
       → (before.contact ≡ None → cut_heads before.end ≡ [])
-      → Grows (walked manner before) (walked manner after)
+      → WalkGrows (walked manner before) (walked manner after)
   unfolding walked_of
   reading_grows before after on none =
       let next = with_next manner in
@@ -360,7 +360,7 @@ module _ (manner : Manner) where
       let first = fold next start (before.entries ++ cut_heads before.end) in
       ⊎_elim
       (λ same.
-      subst (Grows first)
+      subst (WalkGrows first)
       (sym (ap (λ contact. fold next (none_walked contact) (heads_of after)) same
       ∙ ap (λ (s : Stream). fold next start (s.entries ++ cut_heads s.end)) on.messages.are
       ∙ ap (fold next start) (append_assoc before.entries rest.entries (cut_heads rest.end))
@@ -373,18 +373,18 @@ module _ (manner : Manner) where
 
   -- what a stream tells begins what any longer stream tells
   pub events_grow : (bytes more : List ℕ)
-      → Grows (walked manner (reading_of bytes)) (walked manner (reading_of (bytes ++ more)))
+      → WalkGrows (walked manner (reading_of bytes)) (walked manner (reading_of (bytes ++ more)))
   events_grow bytes more = grind (arith, reading_grows, reading_on, unread)
 
 -- ---- what a tool says of them
 
 -- what a tool says of some events begins what it says with one more event
-abbrev pub Adds : Telling → Type 0
-Adds telling =
+abbrev pub EventAdds : Telling → Type 0
+EventAdds telling =
     (before : List WalkEvent) (event : WalkEvent) → Follows before event
     → AreFronts (telling.texts before) (telling.texts (before ++ event ∷ []))
 
-module _ (telling : Telling) (adds : Adds telling) where
+module _ (telling : Telling) (adds : EventAdds telling) where
   added : (before more : List WalkEvent) → AllFollow before more
       → AreFronts (telling.texts before) (telling.texts (before ++ more))
   added before [] follow = fronts_same _ _ (ap telling.texts (sym (append-nil before)))
@@ -394,7 +394,7 @@ module _ (telling : Telling) (adds : Adds telling) where
       (added (before ++ event ∷ []) more follow.1))
 
   -- So its texts for some bytes begin those for more.
-  pub told_prefix : (bytes more : List ℕ) → IsPrefixed (tool_of (told_of telling)) bytes more
+  pub told_prefix : (bytes more : List ℕ) → HasPrefixTexts (tool_of (told_of telling)) bytes more
   unfolding told_of
   told_prefix bytes more =
       let manner = telling.manner in

@@ -15,15 +15,15 @@ use Rattle.link_laws.specs.Cuts.{faults_after, reported, reported_on, stream_sto
 
 -- A transfer with this data is good or abandoned, or its data may be a bundle that this toolkit
 -- does not read.
-abbrev pub MayBeJudged : (content : List ℕ) → Judgement → Type 0
-MayBeJudged content Abandoned = Unit {0}
-MayBeJudged content BadLengthItem = ⊥
-MayBeJudged content (LengthDiffers announced) = ⊥
-MayBeJudged content (Bad fault offset) = may_be_bundle (unread_of content) fault offset ≡ true
-MayBeJudged content (Good info) = Unit {0}
+abbrev pub MayBeGood : (content : List ℕ) → Judgement → Type 0
+MayBeGood content Abandoned = Unit {0}
+MayBeGood content BadLengthItem = ⊥
+MayBeGood content (LengthDiffers announced) = ⊥
+MayBeGood content (Bad fault offset) = may_be_bundle (unread_of content) fault offset ≡ true
+MayBeGood content (Good info) = Unit {0}
 
 abbrev pub IsAllowed : Transfer → Type 0
-IsAllowed transfer = MayBeJudged transfer.content (judgement_of transfer)
+IsAllowed transfer = MayBeGood transfer.content (judgement_of transfer)
 
 -- the fault of a head is that it is a second SESS_INIT
 abbrev pub IsSecondInit : ℕ × OrderFault → Type 0

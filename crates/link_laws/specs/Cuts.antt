@@ -167,7 +167,7 @@ pub record CutsOutputOn (wanted : Wanted) (bytes : List ℕ) : Type 0 where
 -- ---- heads that are all in order
 
 -- if no head is refused, it changes nothing whether a fault of the order ends the run
-abbrev pub IsSameInOrder : Wanted → List ℕ → Type 0
-IsSameInOrder wanted bytes =
+abbrev pub IsSameIfInOrder : Wanted → List ℕ → Type 0
+IsSameIfInOrder wanted bytes =
     (order_of bytes).refused ≡ None
     → unpacking_of (going_on wanted) bytes ≡ unpacking_of (stopping wanted) bytes

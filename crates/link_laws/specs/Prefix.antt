@@ -3,11 +3,11 @@ use Rattle.std.specs.Prelude.{◌≡◌, ℕ, List, ◌++◌}
 use Rattle.link_run.specs.Run.{Tool}
 
 -- the whole begins with this text
-abbrev pub IsFrontOf : List ℕ → List ℕ → Type 0
-IsFrontOf text whole = (rest : List ℕ) × (whole ≡ text ++ rest)
+abbrev pub IsPrefixOf : List ℕ → List ℕ → Type 0
+IsPrefixOf text whole = (rest : List ℕ) × (whole ≡ text ++ rest)
 
 -- The texts that the bytes determine are prefixes of the texts of an input that has these bytes and
 -- then `more`.
-pub record IsPrefixed (tool : Tool) (bytes more : List ℕ) : Type 0 where
-  pub output : IsFrontOf (tool.so_far bytes).output (tool.whole (bytes ++ more)).texts.output
-  pub report : IsFrontOf (tool.so_far bytes).report (tool.whole (bytes ++ more)).texts.report
+pub record HasPrefixTexts (tool : Tool) (bytes more : List ℕ) : Type 0 where
+  pub output : IsPrefixOf (tool.so_far bytes).output (tool.whole (bytes ++ more)).texts.output
+  pub report : IsPrefixOf (tool.so_far bytes).report (tool.whole (bytes ++ more)).texts.report

@@ -26,7 +26,7 @@ good_lines number start (bundle ∷ more) =
     ++ good_lines (suc number) (start + length bundle.bytes) more
 
 -- unpacking the stream returns the bundles, and each of them is good
-pub record GivesBack (options : PackOptions) (bytes stream : List ℕ) : Type 0 where
+pub record UnpacksToBundles (options : PackOptions) (bytes stream : List ℕ) : Type 0 where
   pub output : ((unpack_tool all).whole stream).texts.output ≡ bytes
   pub report : ((unpack_tool all).whole stream).texts.report
       ≡ good_lines 0 0 (divided options.peer_transfer bytes).bundles

@@ -3,7 +3,7 @@ use Rattle.std.specs.Prelude.{◌≡◌, ◌⊎◌, ℕ, List, [], ◌++◌}
 use Rattle.link_wire.specs.Bytes.{AreBytes}
 use Rattle.link_report.specs.Text.{newline}
 use Rattle.link_run.specs.Run.{Texts, Tool}
-use Rattle.link_laws.specs.Prefix.{IsFrontOf}
+use Rattle.link_laws.specs.Prefix.{IsPrefixOf}
 
 -- whole lines: nothing, or a text that ends in a line feed
 abbrev pub AreLines : List ℕ → Type 0
@@ -14,7 +14,7 @@ AreLines text = (text ≡ []) ⊎ ((before : List ℕ) × (text ≡ before ++ ne
 abbrev pub IsShared : (text_of : Texts → List ℕ) → Tool → (bytes common : List ℕ) → Type 0
 IsShared text_of tool bytes common =
     (more : List ℕ) → AreBytes more
-    → IsFrontOf common (text_of (tool.whole (bytes ++ more)).texts)
+    → IsPrefixOf common (text_of (tool.whole (bytes ++ more)).texts)
 
 abbrev pub output_of : Texts → List ℕ
 output_of texts = texts.output
@@ -27,6 +27,6 @@ report_of texts = texts.report
 -- `tcpclkit: byte 0: `, and the rest of the line depends on the bytes that follow.
 pub record WithholdsNothing (tool : Tool) (bytes : List ℕ) : Type 0 where
   pub output : (common : List ℕ) → IsShared output_of tool bytes common
-      → IsFrontOf common (tool.so_far bytes).output
+      → IsPrefixOf common (tool.so_far bytes).output
   pub report : (common : List ℕ) → AreLines common → IsShared report_of tool bytes common
-      → IsFrontOf common (tool.so_far bytes).report
+      → IsPrefixOf common (tool.so_far bytes).report

@@ -19,13 +19,13 @@ ghost use Rattle.link_check.specs.Bundles.{bundle_check_tool};
 ghost use Rattle.link_check.specs.Checking.{check_tool};
 ghost use Rattle.link_pack.specs.Packing.{pack_tool};
 ghost use Rattle.link_laws.specs.Checked.{HasOnlyAllowed};
-ghost use Rattle.link_laws.specs.Cuts.{going_on, stopping, HasEveryByte, HasEveryTakenByte, CutsOutput, CutsOutputOn, IsSameInOrder};
+ghost use Rattle.link_laws.specs.Cuts.{going_on, stopping, HasEveryByte, HasEveryTakenByte, CutsOutput, CutsOutputOn, IsSameIfInOrder};
 ghost use Rattle.link_laws.specs.Listed.{IsListed};
 ghost use Rattle.link_laws.specs.PackedRules.{AllowsLimits, KeepsRules, BreaksNoMore};
 ghost use Rattle.link_laws.specs.PackedStream.{KeepsLimits};
-ghost use Rattle.link_laws.specs.Prefix.{IsPrefixed};
+ghost use Rattle.link_laws.specs.Prefix.{HasPrefixTexts};
 ghost use Rattle.link_laws.specs.Ranges.{OptionsFit, InputFits};
-ghost use Rattle.link_laws.specs.RoundTrip.{all, GivesBack};
+ghost use Rattle.link_laws.specs.RoundTrip.{all, UnpacksToBundles};
 ghost use Rattle.link_laws.specs.SameLines.{HasSameLines};
 ghost use Rattle.link_laws.specs.SameRules.{HasSameRules};
 ghost use Rattle.link_laws.specs.Transfers.{by_transfers};
@@ -39,18 +39,18 @@ use link_wire::laws::exactly_one_reading;
 ///
 /// So a run that is stopped has written a prefix of what a run over all bytes writes.
 pub fn sofar_is_prefix()
-    ensures list { (bytes more : List ℕ) → IsPrefixed list_tool bytes more }
+    ensures list { (bytes more : List ℕ) → HasPrefixTexts list_tool bytes more }
     ensures unpack { (wanted : Wanted) (bytes more : List ℕ)
-        → IsPrefixed (unpack_tool wanted) bytes more }
+        → HasPrefixTexts (unpack_tool wanted) bytes more }
     ensures blocks { (options : BlockOptions) (bytes more : List ℕ)
-        → IsPrefixed (blocks_tool options) bytes more }
-    ensures bundle_blocks { (bytes more : List ℕ) → IsPrefixed bundle_blocks_tool bytes more }
+        → HasPrefixTexts (blocks_tool options) bytes more }
+    ensures bundle_blocks { (bytes more : List ℕ) → HasPrefixTexts bundle_blocks_tool bytes more }
     ensures check { (options : CheckOptions) (bytes more : List ℕ)
-        → IsPrefixed (check_tool options) bytes more }
+        → HasPrefixTexts (check_tool options) bytes more }
     ensures bundle_check { (must : Bool) (bytes more : List ℕ)
-        → IsPrefixed (bundle_check_tool must) bytes more }
+        → HasPrefixTexts (bundle_check_tool must) bytes more }
     ensures pack { (options : PackOptions) (bytes more : List ℕ)
-        → IsPrefixed (pack_tool options) bytes more }
+        → HasPrefixTexts (pack_tool options) bytes more }
 {}
 
 /// A packed stream keeps the limits of the peer, whatever the input is and however packing ends.
@@ -74,7 +74,8 @@ pub fn keeps_limits(options: &PackOptions, bytes: &[u8])
 #[tactic(auto, using(crate::proofs::Packed::is_packed, crate::proofs::Packed::gives_back))]
 pub fn unpack_of_pack(options: &PackOptions, bytes: &[u8])
     ensures { ((pack_tool options.now).whole bytes.now).status ≡ 0
-        → GivesBack options.now bytes.now ((pack_tool options.now).whole bytes.now).texts.output }
+        → UnpacksToBundles options.now bytes.now
+        ((pack_tool options.now).whole bytes.now).texts.output }
 {
     options_fit(options);
     input_fits(bytes);
@@ -183,7 +184,7 @@ pub fn report_cuts_output()
 /// order would end the run.
 #[tactic(auto, using(crate::proofs::Same::same))]
 pub fn same_in_order()
-    ensures { (wanted : Wanted) (bytes : List ℕ) → IsSameInOrder wanted bytes }
+    ensures { (wanted : Wanted) (bytes : List ℕ) → IsSameIfInOrder wanted bytes }
 {}
 
 /// `unpack` can be defined in two ways: by events, and by the transfers of the whole stream.

@@ -4,8 +4,8 @@ use Rattle.std.proofs.lemmas.{Bool.{lt-ltb, le-ltb}, Grind.flat_map-append}
 use Rattle.link_wire.specs.{Device.Input, Limits.{window_size, longest_head}, Message.data_length}
 use Rattle.link_wire.specs.Source.{window_of, Takes, Readies}
 use Rattle.link_wire.specs.Stream.{Entry, End, Clean, Cut, Fault, Stream, Reading, reading_of}
-use Rattle.link_wire.specs.Whole.{ReadWhole}
-use Rattle.link_wire.specs.Session.{source_of, left_of, joined, ReadContact, ReadMessage, CleanEnd, PassedBytes}
+use Rattle.link_wire.specs.Whole.{GivenWhole}
+use Rattle.link_wire.specs.Session.{source_of, left_of, joined, GivenContact, GivenMessage, CleanEnd, PassedBytes}
 use Rattle.link_wire.specs.declared.{IoFault.IoFault, message.Contact.Contact}
 use Rattle.link_wire.specs.declared.{message.Message.Message, session.Session.Session}
 use Rattle.link_wire.proofs.Contacts.{reading-none}
@@ -13,7 +13,7 @@ use Rattle.link_io.proofs.Sources.{Takes-none, Takes-then, Readies-takes}
 use Rattle.link_report.specs.Message.{contact_text, message_text}
 use Rattle.link_run.specs.Made.{IsLasting, shows_fault, stop_of}
 use Rattle.link_run.specs.Run.{Texts, no_texts, ◌then◌, Looks, Devices, Place, devices_at, LastStep, progress_after}
-use Rattle.link_run.specs.Stages.{Stands, AfterStage, MayBegin}
+use Rattle.link_run.specs.Stages.{IsRunAt, AfterStage, MayBegin}
 use Rattle.link_run.specs.Writers.{place_of, on_output, AfterWrite}
 use Rattle.link_run.specs.declared.{next.Next.Next, run.Progress.Progress, run.Status.Status}
 use Rattle.link_run.specs.declared.run.Progress.TheVariants.{More}
@@ -23,7 +23,7 @@ use Rattle.link_run.proofs.Continued.{reading_on}
 use Rattle.link_run.proofs.Runs.{then_assoc, few_over, writes_none}
 use Rattle.link_run.proofs.{Sessions.SameTexts, Stands.{ends, goes_on, written}, Strides.went_with}
 use Rattle.link_list.specs.Listing.{contact_lines, message_lines, listed_lines, listing_by, listing_of, list_tool}
-use Rattle.link_list.specs.ListRun.{most_by, may_go_on, may_follow, IsWaitingAfter, Lists, IsListing, IsDue, IsListedTo, ListedOn, AfterRead, AfterLines, AfterStepOrStride, WaitsForData}
+use Rattle.link_list.specs.ListRun.{most_by, may_go_on, may_follow, HasNoDataYet, IsListingAt, IsListingAtStage, IsLineDue, AreLinesTo, ListsOn, AfterRead, AfterLines, AfterStepOrStride, NextFits}
 use Rattle.link_list.specs.declared.listing.Stage.{Stage}
 use Rattle.link_list.specs.declared.listing.Stage.TheVariants as stage
 
@@ -106,20 +106,20 @@ clean_unshown bytes clean = rw (by_reading, clean) refl
 
 module _ {R W E : Type 0} {look : Looks R W E} {start : Devices R W E} (old new : Session R)
     (mid after : Writers W E)
-    (at : Stands look listing_of start true (place_of (source_of old) mid) []) (contact : Contact)
-    (got : ReadContact look.input old new contact) where
+    (at : IsRunAt look listing_of start true (place_of (source_of old) mid) []) (contact : Contact)
+    (got : GivenContact look.input old new contact) where
   contact_texts : (listing_of []).texts then on_output (contact_text contact) ≡ (listing_of got.given).texts
   contact_texts =
       rw (nothing_listed, by_reading, got.reading, no_lines, append-nil (contact_text contact)) refl
 
   pub contact_listed : (line : List ℕ) (result : Result (Unit {0}) IoFault)
       → AfterWrite look.output look.report mid after (on_output (contact_text contact)) result
-      → AfterStage look listing_of start true (place_of (source_of old) mid) (place_of (source_of new) after) (Lists look.input stage.Message line new) 6 [] (progress_after result)
+      → AfterStage look listing_of start true (place_of (source_of old) mid) (place_of (source_of new) after) (IsListingAt look.input stage.Message line new) 6 [] (progress_after result)
   contact_listed line result gives =
       let size = got.size in
       let clean : (reading_of got.given).end ≡ Clean = rw got.reading refl in
       written 6 (source_of old) (source_of new) mid at got.takes (omega arith) (got.takes.window.less (omega arith)) after (on_output (contact_text contact)) contact_texts
-      (clean_unshown got.given clean) (Lists look.input stage.Message line new)
+      (clean_unshown got.given clean) (IsListingAt look.input stage.Message line new)
       (λ begun. omega arith) (record { session_at = got.at; waits = rw clean refl })
       (λ some. refl) result gives
 
@@ -127,13 +127,13 @@ module _ {R W E : Type 0} {look : Looks R W E} {start : Devices R W E} (old new 
 
 module _ {R W E : Type 0} {look : Looks R W E} {start : Devices R W E} (old new : Session R)
     (w : Writers W E) {history : List ℕ}
-    (at : Stands look listing_of start true (place_of (source_of old) w) history) where
+    (at : IsRunAt look listing_of start true (place_of (source_of old) w) history) where
   module _ (offset : ℕ) (message : Message)
-      (got : ReadMessage look.input old new history offset message) where
+      (got : GivenMessage look.input old new history offset message) where
     few : length (window_of (source_of new)) < window_size
     few = got.takes.window.less got.some
 
-    pub message_read : (piece : ℕ) (later : Next Stage) → WaitsForData (left_of new) later
+    pub message_read : (piece : ℕ) (later : Next Stage) → NextFits (left_of new) later
         → AfterRead look start piece stage.Message old new w (message_text offset message) history later
     message_read piece (next.Stage stage.Message) none =
         let left = got.left in
@@ -156,7 +156,7 @@ module _ {R W E : Type 0} {look : Looks R W E} {start : Devices R W E} (old new 
         rw reading refl in
         goes_on longest_head (source_of old) (source_of new) w at got.takes got.size few w no_texts
         (texts_same history got.given _ reading refl) (unshown_by history got.given _ reading refl)
-        (λ bytes. Lists look.input stage.Data (message_text offset message) new bytes × IsWaitingAfter stage.Message (reading_of bytes).end)
+        (λ bytes. IsListingAt look.input stage.Data (message_text offset message) new bytes × HasNoDataYet stage.Message (reading_of bytes).end)
         (λ begun. got.some)
         (record { session_at = got.at; waits = rw end (refl, refl) }, rw end refl)
         (writes_none look.output look.report w) (λ some. refl)
@@ -187,7 +187,7 @@ pub record Inside (line history : List ℕ) (left : ℕ) : Type 0 where
   pub some : 0 < left
 
 by_end : {R : Type 0} {look : R → Input} (session : Session R) (line history : List ℕ)
-    → Lists look stage.Data line session history → (end : End) → (reading_of history).end ≡ end
+    → IsListingAt look stage.Data line session history → (end : End) → (reading_of history).end ≡ end
     → Inside line history (left_of session)
 by_end session line history at Clean is =
     let waiting : (let s : Stage = stage.Data in s) ≡ stage.Message = rw is at at.waits in
@@ -200,12 +200,12 @@ by_end session line history at (Fault offset fault) is =
     absurd (rw is at at.waits)
 
 pub inside : {R : Type 0} {look : R → Input} (session : Session R) (line history : List ℕ)
-    → Lists look stage.Data line session history → Inside line history (left_of session)
+    → IsListingAt look stage.Data line session history → Inside line history (left_of session)
 inside session line history at = by_end session line history at (reading_of history).end refl
 
 module _ {R W E : Type 0} {look : Looks R W E} {start : Devices R W E} (old mid new : Session R)
     (w : Writers W E) {line history : List ℕ} (bytes : List ℕ)
-    (at : Stands look listing_of start true (place_of (source_of old) w) history)
+    (at : IsRunAt look listing_of start true (place_of (source_of old) w) history)
     (within : Inside line history (left_of old))
     (ready : Readies look.input (source_of old) (source_of mid))
     (gave : PassedBytes look.input mid new history bytes) (some : 0 < length bytes)
@@ -213,7 +213,7 @@ module _ {R W E : Type 0} {look : Looks R W E} {start : Devices R W E} (old mid 
   takes : Takes look.input (source_of old) (source_of new) bytes
   takes = Readies-takes look.input (source_of old) (source_of mid) (source_of new) bytes ready gave.takes some
 
-  pub data_read : (later : Next Stage) → WaitsForData (left_of new) later
+  pub data_read : (later : Next Stage) → NextFits (left_of new) later
       → AfterRead look start piece stage.Data old new w line history later
   data_read (next.Stage stage.Message) none =
       let reading = rw (within.end, le-ltb 0 (left_of new) (omega arith)) at gave.reading in
@@ -234,7 +234,7 @@ module _ {R W E : Type 0} {look : Looks R W E} {start : Devices R W E} (old mid 
       ≡ Cut within.offset within.message (within.content ++ bytes) = rw reading refl in
       goes_on piece (source_of old) (source_of new) w at takes size (takes.window.less some) w no_texts
       (texts_same history bytes _ reading refl) (unshown_by history bytes _ reading refl)
-      (λ given. Lists look.input stage.Data line new given × IsWaitingAfter stage.Data (reading_of given).end)
+      (λ given. IsListingAt look.input stage.Data line new given × HasNoDataYet stage.Data (reading_of given).end)
       (λ begun. some) (record { session_at = gave.at; waits = rw end (refl, within.shown) }, tt)
       (writes_none look.output look.report w) (λ begun. refl)
   data_read others goes = absurd goes
@@ -243,8 +243,8 @@ module _ {R W E : Type 0} {look : Looks R W E} {start : Devices R W E} (old mid 
 
 module _ {R : Type 0} (look : R → Input) (first : Texts) (old : Session R) {history : List ℕ} where
   -- nothing was given yet
-  pub listed_none : (lines : List ℕ) → IsListedTo look first old lines history
-      → ListedOn look first old old lines history
+  pub listed_none : (lines : List ℕ) → AreLinesTo look first old lines history
+      → ListsOn look first old old lines history
   listed_none lines is = record {
     given = [];
     takes = Takes-none look (source_of old);
@@ -253,9 +253,9 @@ module _ {R : Type 0} (look : R → Input) (first : Texts) (old : Session R) {hi
 
   -- one more message was given
   pub listed_more : (mid new : Session R) (lines : List ℕ) (offset : ℕ) (message : Message)
-      → (on : ListedOn look first old mid lines history)
-      → ReadWhole look mid new (history ++ on.given) offset message
-      → ListedOn look first old new (lines ++ message_text offset message) history
+      → (on : ListsOn look first old mid lines history)
+      → GivenWhole look mid new (history ++ on.given) offset message
+      → ListsOn look first old new (lines ++ message_text offset message) history
   listed_more mid new lines offset message on got =
       let passed = got.passed in
       let line = message_text offset message in
@@ -273,9 +273,9 @@ module _ {R : Type 0} (look : R → Input) (first : Texts) (old : Session R) {hi
 
 module _ {R W E : Type 0} {look : Looks R W E} {start : Devices R W E} {piece : ℕ} {now : Stage}
     (old mid new : Session R) (before after : Writers W E) {line history : List ℕ}
-    (due : IsDue look start piece now old mid before line history) where
+    (due : IsLineDue look start piece now old mid before line history) where
   -- the message whose line is due is the latest of those so far
-  pub due_listed : IsListedTo look.input (listing_of history).texts mid line (history ++ due.given)
+  pub due_listed : AreLinesTo look.input (listing_of history).texts mid line (history ++ due.given)
   due_listed = record { session_at = due.session_at; clean = due.clean; texts = due.texts }
 
   same_given : (given : List ℕ) → Takes look.input (source_of mid) (source_of new) given → new ≡ mid
@@ -286,7 +286,7 @@ module _ {R W E : Type 0} {look : Looks R W E} {start : Devices R W E} {piece : 
   pub lines_written : (far : Bool) (last : List ℕ) (result : Result (Unit {0}) IoFault)
       → (far ≡ false → new ≡ mid)
       → AfterLines look (listing_of history).texts mid new before after (history ++ due.given) result
-      → AfterStepOrStride look start piece far now (place_of (source_of old) before) (place_of (source_of new) after) (Lists look.input stage.Message last new) history (progress_after result)
+      → AfterStepOrStride look start piece far now (place_of (source_of old) before) (place_of (source_of new) after) (IsListingAt look.input stage.Message last new) history (progress_after result)
   lines_written far last result near gives =
       let on = gives.2 in
       let bytes = due.given ++ on.given in
@@ -299,7 +299,7 @@ module _ {R W E : Type 0} {look : Looks R W E} {start : Devices R W E} {piece : 
         λ is. omega (arith, same_given on.given on.takes (near is)),
         omega (arith, due.some, due.size),
         written size (source_of old) (source_of new) before due.stood takes (omega (arith, due.size, length-append due.given on.given)) (takes.window.less some) after (on_output gives.0) listed.texts
-            (clean_unshown (history ++ bytes) listed.clean) (Lists look.input stage.Message last new) (λ begun. some)
+            (clean_unshown (history ++ bytes) listed.clean) (IsListingAt look.input stage.Message last new) (λ begun. some)
             (record { session_at = listed.session_at; waits = rw listed.clean refl })
             (λ some. refl) result gives.1,
       )
@@ -327,7 +327,7 @@ pub step_kept : {R W E : Type 0} (look : Looks R W E) (start : Devices R W E) (p
     (line history : List ℕ) → 0 < piece → (later : Stage) → (later ≡ stage.Message → ⊥)
     → AfterRead look start piece now old new after line history (next.Stage later)
     → AfterStepOrStride look start piece far now (place_of (source_of old) before)
-    (place_of (source_of new) after) (IsListing look.input later line new) history (Ok More)
+    (place_of (source_of new) after) (IsListingAtStage look.input later line new) history (Ok More)
 step_kept look start piece far now old new before after line history some stage.Contact undue went = absurd went
 step_kept look start piece far now old new before after line history some stage.Message undue went = absurd (undue refl)
 step_kept look start piece far now old new before after line history some stage.Data undue went =

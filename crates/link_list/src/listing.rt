@@ -2,14 +2,14 @@
 
 ghost use Rattle.std.specs.Prelude.{◌≡◌, ◌<◌, true, false, IsTrue, List, ℕ};
 ghost use Rattle.link_wire.specs.Session.{may_open, may_read, is_opened, left_of, source_of};
-ghost use Rattle.link_run.specs.Reading.{feed_of, SessionWaits, Unread};
+ghost use Rattle.link_run.specs.Reading.{feed_of, SessionWaits, ReadsNothing};
 ghost use Rattle.link_run.specs.Run.{Texts, Devices, devices, looks, NoneFailed};
 ghost use Rattle.link_run.specs.NewRun.{IsNewRun};
 ghost use Rattle.link_run.specs.WholeRun.{AfterRun};
-ghost use Rattle.link_run.specs.Stages.{Stands, AfterStage, IsMore};
+ghost use Rattle.link_run.specs.Stages.{IsRunAt, AfterStage, IsMore};
 ghost use Rattle.link_run.specs.Writers.{AfterWrite, on_output, place_of};
 ghost use Rattle.link_list.specs.Listing.{listing_of, list_tool};
-ghost use Rattle.link_list.specs.ListRun.{may_go_on, may_follow, latest_line, IsListing, Begins, Lists, IsListedTo, AfterRead, AfterLines, AfterStepOrStride, WaitsForData};
+ghost use Rattle.link_list.specs.ListRun.{may_go_on, may_follow, latest_line, IsListingAtStage, IsNewListing, IsListingAt, AreLinesTo, AfterRead, AfterLines, AfterStepOrStride, NextFits};
 
 use link_report::{KeptDigits, MessageText, contact_line};
 use link_run::{Input, Next, PIECE, Progress, Run, RunEnd, Stages, Status, ToolRun, Writers};
@@ -49,7 +49,7 @@ pub type ListRun<R, W, E> = ToolRun<Session<R>, W, E, Listing>;
 impl<R: InDevice, W: OutDevice, E: OutDevice> Stages<Session<R>, W, E> for Listing {
     ghost use Rattle.std.specs.Prelude.{true};
     ghost use Rattle.link_list.specs.Listing.{listing_of};
-    ghost use Rattle.link_list.specs.ListRun.{may_go_on, latest_line, most_given, IsListing};
+    ghost use Rattle.link_list.specs.ListRun.{may_go_on, latest_line, most_given, IsListingAtStage};
 
     ghost made = { λ tool. listing_of };
 
@@ -57,7 +57,7 @@ impl<R: InDevice, W: OutDevice, E: OutDevice> Stages<Session<R>, W, E> for Listi
 
     ghost fits = { λ tool. may_go_on tool.stage };
 
-    ghost knows = { λ tool. IsListing R.state tool.stage (latest_line tool.latest) };
+    ghost knows = { λ tool. IsListingAtStage R.state tool.stage (latest_line tool.latest) };
 
     ghost most = { λ tool. most_given tool.stage };
 
@@ -97,17 +97,17 @@ fn step<R: InDevice, W: OutDevice, E: OutDevice>(
     requires piece { 0 < piece }
     ensures fits { IsMore result → IsTrue (may_go_on tool.new.stage (feed_of input.new)) }
     ensures gives { (start : Devices R W E) (history : List ℕ)
-        → Stands (looks R.state W.state E.state) listing_of start true
+        → IsRunAt (looks R.state W.state E.state) listing_of start true
         (place_of (source_of (feed_of input.old)) writers.old) history
-        → IsListing R.state tool.old.stage (latest_line tool.old.latest) (feed_of input.old)
+        → IsListingAtStage R.state tool.old.stage (latest_line tool.old.latest) (feed_of input.old)
         history
         → AfterStepOrStride (looks R.state W.state E.state) start piece far tool.old.stage
         (place_of (source_of (feed_of input.old)) writers.old)
         (place_of (source_of (feed_of input.new)) writers.new)
-        (IsListing R.state tool.new.stage (latest_line tool.new.latest) (feed_of input.new))
+        (IsListingAtStage R.state tool.new.stage (latest_line tool.new.latest) (feed_of input.new))
         history result }
     ensures waits { (history : List ℕ)
-        → IsListing R.state tool.old.stage (latest_line tool.old.latest) (feed_of input.old)
+        → IsListingAtStage R.state tool.old.stage (latest_line tool.old.latest) (feed_of input.old)
         history
         → SessionWaits (looks R.state W.state E.state) input.old input.new writers.old }
 {
@@ -140,13 +140,13 @@ fn list_contact<R: InDevice, W: OutDevice, E: OutDevice>(
     requires { IsTrue (may_open (feed_of input.old)) }
     ensures fits { IsMore result → IsTrue (may_read (feed_of input.new)) }
     ensures gives { (start : Devices R W E) (line history : List ℕ)
-        → Stands (looks R.state W.state E.state) listing_of start true
+        → IsRunAt (looks R.state W.state E.state) listing_of start true
         (place_of (source_of (feed_of input.old)) writers.old) history
-        → Begins R.state (feed_of input.old) history
+        → IsNewListing R.state (feed_of input.old) history
         → AfterStage (looks R.state W.state E.state) listing_of start true
         (place_of (source_of (feed_of input.old)) writers.old)
         (place_of (source_of (feed_of input.new)) writers.new)
-        (Lists R.state Stage.Message line (feed_of input.new)) 6 history result }
+        (IsListingAt R.state Stage.Message line (feed_of input.new)) 6 history result }
     ensures waits { SessionWaits (looks R.state W.state E.state) input.old input.new writers.old }
 {
     match input.open() {
@@ -174,13 +174,13 @@ fn advance<R: InDevice, W: OutDevice, E: OutDevice>(
     requires piece { 0 < piece }
     ensures fits { IsTrue (may_follow result (feed_of input.new)) }
     ensures gives { (start : Devices R W E) (history : List ℕ)
-        → Stands (looks R.state W.state E.state) listing_of start true
+        → IsRunAt (looks R.state W.state E.state) listing_of start true
         (place_of (source_of (feed_of input.old)) writers.old) history
-        → IsListing R.state stage (latest_line latest.old) (feed_of input.old) history
+        → IsListingAtStage R.state stage (latest_line latest.old) (feed_of input.old) history
         → AfterRead (looks R.state W.state E.state) start piece stage (feed_of input.old)
         (feed_of input.new) writers.new (latest_line latest.new) history result }
     ensures waits { (history : List ℕ)
-        → IsListing R.state stage (latest_line latest.old) (feed_of input.old) history
+        → IsListingAtStage R.state stage (latest_line latest.old) (feed_of input.old) history
         → SessionWaits (looks R.state W.state E.state) input.old input.new writers.old }
 {
     match stage {
@@ -199,13 +199,13 @@ fn read_message<R: InDevice, W: OutDevice, E: OutDevice>(
     requires { IsTrue (may_read (feed_of input.old)) }
     ensures fits { IsTrue (may_follow result (feed_of input.new)) }
     ensures gives { (start : Devices R W E) (piece : ℕ) (history : List ℕ)
-        → Stands (looks R.state W.state E.state) listing_of start true
+        → IsRunAt (looks R.state W.state E.state) listing_of start true
         (place_of (source_of (feed_of input.old)) writers.old) history
-        → Lists R.state Stage.Message (latest_line latest.old) (feed_of input.old) history
+        → IsListingAt R.state Stage.Message (latest_line latest.old) (feed_of input.old) history
         → AfterRead (looks R.state W.state E.state) start piece Stage.Message (feed_of input.old)
         (feed_of input.new) writers.new (latest_line latest.new) history result }
     ensures waits { (history : List ℕ)
-        → Lists R.state Stage.Message (latest_line latest.old) (feed_of input.old) history
+        → IsListingAt R.state Stage.Message (latest_line latest.old) (feed_of input.old) history
         → SessionWaits (looks R.state W.state E.state) input.old input.new writers.old }
 {
     match input.next_message(writers, &mut latest.message) {
@@ -229,13 +229,13 @@ fn pass_data<R: InDevice, W: OutDevice, E: OutDevice>(
     requires piece { 0 < piece }
     ensures fits { IsTrue (may_follow result (feed_of input.new)) }
     ensures gives { (start : Devices R W E) (line history : List ℕ)
-        → Stands (looks R.state W.state E.state) listing_of start true
+        → IsRunAt (looks R.state W.state E.state) listing_of start true
         (place_of (source_of (feed_of input.old)) writers.old) history
-        → Lists R.state Stage.Data line (feed_of input.old) history
+        → IsListingAt R.state Stage.Data line (feed_of input.old) history
         → AfterRead (looks R.state W.state E.state) start piece Stage.Data (feed_of input.old)
         (feed_of input.new) writers.new line history result }
     ensures waits { (line history : List ℕ)
-        → Lists R.state Stage.Data line (feed_of input.old) history
+        → IsListingAt R.state Stage.Data line (feed_of input.old) history
         → SessionWaits (looks R.state W.state E.state) input.old input.new writers.old }
 {
     match input.load_data(writers) {
@@ -252,7 +252,7 @@ fn pass_data<R: InDevice, W: OutDevice, E: OutDevice>(
 fn go_on<R: InDevice, W: OutDevice, E: OutDevice>(input: &Input<Session<R>, W, E>) -> Next<Stage>
     requires { IsTrue (is_opened (feed_of input.now)) }
     ensures fits { IsTrue (may_follow result (feed_of input.now)) }
-    ensures goes { WaitsForData (left_of (feed_of input.now)) result }
+    ensures goes { NextFits (left_of (feed_of input.now)) result }
 {
     if input.left() > 0 {
         return Next::Stage(Stage::Data);
@@ -275,10 +275,10 @@ fn write_lines<R: InDevice, W: OutDevice, E: OutDevice>(
     ensures fits { IsTrue (may_read (feed_of input.new)) }
     ensures near { far ≡ false → input.new ≡ input.old }
     ensures gives { (first : Texts) (history : List ℕ)
-        → IsListedTo R.state first (feed_of input.old) (latest_line latest.old) history
+        → AreLinesTo R.state first (feed_of input.old) (latest_line latest.old) history
         → AfterLines (looks R.state W.state E.state) first (feed_of input.old)
         (feed_of input.new) writers.old writers.new history result }
-    ensures unread { Unread R.state source_of input.old input.new }
+    ensures unread { ReadsNothing R.state source_of input.old input.new }
 {
     'lines: loop {
         match write_line(writers, latest) {

@@ -40,15 +40,15 @@ module _ (id size : ℕ) (before : List JudgedHead) where
       (unrejected_by limits before (Some (Continue false)) endings at none)
 
   -- the segments so far are those of a transfer that has begun
-  begun : (transfer : TransferSoFar) (segments : List SegmentHead)
+  so_far_of-inner : (transfer : TransferSoFar) (segments : List SegmentHead)
       → Some transfer ≡ so_far_of segments
       → (now : TransferSoFar)
       → ((previous : SegmentHead) (earlier : List SegmentHead)
       → Some transfer ≡ so_far_of (previous ∷ earlier)
       → Some now ≡ so_far_of (inner id size ∷ previous ∷ earlier))
       → Some now ≡ so_far_of (inner id size ∷ segments)
-  begun transfer [] is now adds = cc
-  begun transfer (previous ∷ earlier) is now adds = adds previous earlier is
+  so_far_of-inner transfer [] is now adds = cc
+  so_far_of-inner transfer (previous ∷ earlier) is now adds = adds previous earlier is
 
   pub inner_taken : (old new : MessageHistory) (transfer now : TransferSoFar) (session : Since)
       → Remembers old before → old.transfer ≡ Some transfer → old.endings.rejected ≡ false
@@ -74,7 +74,7 @@ module _ (id size : ℕ) (before : List JudgedHead) where
           acked_since = at.answers.acked_since;
         });
         transfer = rw (segments_of-push before head)
-            (begun transfer (segments_of before) (sym was ∙ at.transfer) now adds);
+            (so_far_of-inner transfer (segments_of before) (sym was ∙ at.transfer) now adds);
         endings = rw (newest_then before head) (record {
           terminated = at.endings.terminated;
           rejected = at.endings.rejected;

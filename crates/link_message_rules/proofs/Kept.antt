@@ -37,11 +37,11 @@ module _ (limits : PeerLimits) (before : List JudgedHead) (turn : Option Turn) w
   IsKept message = broken_rules limits before (head_of message) ≡ []
 
   -- limits are about segments
-  unlimited : (message : Message) → segment_of message ≡ None → (limit : Option ℕ)
+  peer_segment-none : (message : Message) → segment_of message ≡ None → (limit : Option ℕ)
       → peer_segment limit message ≡ None
   unfolding peer_segment
-  unlimited message is None = refl
-  unlimited message is (Some limit) = rw is refl
+  peer_segment-none message is None = refl
+  peer_segment-none message is (Some limit) = rw is refl
 
   unlimited_transfer : (message : Message) → segment_of message ≡ None → (limit : Option ℕ)
       → peer_transfer limit before (head_of message) ≡ None
@@ -70,7 +70,7 @@ module _ (limits : PeerLimits) (before : List JudgedHead) (turn : Option Turn) w
   all_none message none keeps unrejected =
       rw (
         keeps.in_session,
-        unlimited message none limits.segment,
+        peer_segment-none message none limits.segment,
         unlimited_transfer message none limits.transfer,
         keeps.acknowledged,
         keeps.alive,

@@ -120,16 +120,16 @@ skips_by ids older id at = skips_first id 63 (kept_runs ids) (ids_of older) at.r
 
 -- ---- one more ID
 
-fewer : (count : ℕ) (kept : List IdRun) (runs : List (List ℕ))
+map-take : (count : ℕ) (kept : List IdRun) (runs : List (List ℕ))
     → map Some kept ≡ map ends_of (take (suc count) runs)
     → map Some (take count kept) ≡ map ends_of (take count runs)
-fewer zero kept runs is = refl
-fewer (suc count) [] [] is = refl
-fewer (suc count) [] (run ∷ runs) is = cc
-fewer (suc count) (one ∷ kept) [] is = cc
-fewer (suc count) (one ∷ kept) (run ∷ runs) is =
+map-take zero kept runs is = refl
+map-take (suc count) [] [] is = refl
+map-take (suc count) [] (run ∷ runs) is = cc
+map-take (suc count) (one ∷ kept) [] is = cc
+map-take (suc count) (one ∷ kept) (run ∷ runs) is =
     let rest : map Some kept ≡ map ends_of (take (suc count) runs) = cc in
-    let shorter = fewer count kept runs rest in
+    let shorter = map-take count kept runs rest in
     cc
 
 pub kept_then : (id count : ℕ) (kept : List IdRun) (runs : List (List ℕ))
@@ -143,7 +143,7 @@ kept_then id count (one ∷ kept) ([] ∷ runs) is = cc
 kept_then id count (one ∷ kept) ((last ∷ older) ∷ runs) is =
     let same_one : one ≡ record { first = end_of last older; last = last } = cc in
     let rest : map Some kept ≡ map ends_of (take count runs) = cc in
-    let shorter = fewer count (one ∷ kept) ((last ∷ older) ∷ runs) is in
+    let shorter = map-take count (one ∷ kept) ((last ∷ older) ∷ runs) is in
     rw same_one (by_test (id == last + 1) rest (rw same_one at shorter))
   where
     ends : IdRun

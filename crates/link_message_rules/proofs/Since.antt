@@ -26,34 +26,34 @@ module _ (first second : Message → Bool) where
   one_later index message more =
       let e : 1 + index + 1 ≡ suc (index + 1) = omega arith in rw e refl
 
-  begun : (message : Message) (more : List Message) (is_first : Bool) → first message ≡ is_first
+  since_of-cons : (message : Message) (more : List Message) (is_first : Bool) → first message ≡ is_first
       → since_of first second (message ∷ more)
       ≡ (if is_first then since_first (list_any second more) else since_of first second more)
-  begun message more true is = rw is refl
-  begun message more false is = rw (is, one_later (position_or_len first more) message more) refl
+  since_of-cons message more true is = rw is refl
+  since_of-cons message more false is = rw (is, one_later (position_or_len first more) message more) refl
 
-  longer : (message : Message) (more : List Message) (last : Message) (is_first : Bool)
+  since_of-push : (message : Message) (more : List Message) (last : Message) (is_first : Bool)
       → first message ≡ is_first
       → since_of first second (more ++ last ∷ [])
       ≡ next_since (since_of first second more) (first last) (second last)
       → since_of first second (message ∷ (more ++ last ∷ []))
       ≡ next_since (since_of first second (message ∷ more)) (first last) (second last)
-  longer message more last true is shorter =
+  since_of-push message more last true is shorter =
       rw (
-        begun message (more ++ last ∷ []) true is,
+        since_of-cons message (more ++ last ∷ []) true is,
         or_push (list_any second) second refl (λ message rest. refl) more last,
-        begun message more true is,
+        since_of-cons message more true is,
       )
       (next_first (list_any second more) (first last) (second last))
-  longer message more last false is shorter =
-      rw (begun message (more ++ last ∷ []) false is, begun message more false is) shorter
+  since_of-push message more last false is shorter =
+      rw (since_of-cons message (more ++ last ∷ []) false is, since_of-cons message more false is) shorter
 
   since_of_push : (before : List Message) (message : Message)
       → since_of first second (before ++ message ∷ [])
       ≡ next_since (since_of first second before) (first message) (second message)
-  since_of_push [] message = begun message [] (first message) refl
+  since_of_push [] message = since_of-cons message [] (first message) refl
   since_of_push (oldest ∷ more) message =
-      longer oldest more message (first oldest) refl (since_of_push more message)
+      since_of-push oldest more message (first oldest) refl (since_of_push more message)
 
 pub keepalives_of_push : (before : List Message) (message : Message)
     → keepalives_of (before ++ message ∷ [])
@@ -97,6 +97,6 @@ pub keepalive_by : (before : List JudgedHead) (message : Message)
 unfolding keepalive
 keepalive_by before message = rule_by_cases _ _ (is_keepalive message)
 
-pub shown : (sends : Bool) → then_some sends rule.Keepalive ≡ rule_in First sends
-shown true = refl
-shown false = refl
+pub then_some_rule_in : (sends : Bool) → then_some sends rule.Keepalive ≡ rule_in First sends
+then_some_rule_in true = refl
+then_some_rule_in false = refl

@@ -138,7 +138,7 @@ fn is_keepalive(message: &MessageBuffer) -> bool
 }
 
 /// The rule of KEEPALIVEs.
-#[tactic(auto, using(crate::proofs::Since::keepalive_by, crate::proofs::Since::shown))]
+#[tactic(auto, using(crate::proofs::Since::keepalive_by, crate::proofs::Since::then_some_rule_in))]
 #[inline(always)]
 pub(crate) fn keepalive(keepalives: Since, message: &MessageBuffer) -> Option<MessageRule>
     ensures { (before : List JudgedHead) → keepalives ≡ keepalives_of (messages_of before)

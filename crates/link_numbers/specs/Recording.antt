@@ -121,7 +121,7 @@ abbrev pub data_status : ℕ → MessageAt → ℕ
 data_status size found = if nat_le (size_of found) (size - found.end) then 0 else 3
 
 -- the numbers are those of the message, and its parts lie where they say
-pub record ShowsMessage (bytes : List ℕ) (offset : ℕ) (part : Part read.Message)
+pub record DescribesMessage (bytes : List ℕ) (offset : ℕ) (part : Part read.Message)
     (answer : Message) (status : ℕ) : Type 0 where
   pub found : MessageAt
   pub lies : LiesAt bytes part found
@@ -132,7 +132,7 @@ pub record ShowsMessage (bytes : List ℕ) (offset : ℕ) (part : Part read.Mess
 pub record ReturnsMessage (bytes : List ℕ) (offset : ℕ) (part : Part read.Message)
     (answer : Message) (status : ℕ) : Type 0 where
   pub whole : (message : read.Message) (rest : List ℕ) → part ≡ Ok (message, rest)
-      → ShowsMessage bytes offset part answer status
+      → DescribesMessage bytes offset part answer status
   pub fault : (fault : WireFault) → part ≡ Err fault
       → (status ≡ wire_status fault) × (answer ≡ no_message (wire_fault fault offset))
 
@@ -189,7 +189,7 @@ abbrev pub item_part : ListOf → ℕ → List ℕ → Part (Option ℕ)
 item_part owner left bytes = item_head_at left bytes >>= λ (head, rest). total_at owner head.kind head.length rest
 
 -- the numbers are those of the item, and its value lies where they say
-pub record ShowsItem (owner : ListOf) (bytes : List ℕ) (offset left : ℕ) (answer : Item)
+pub record DescribesItem (owner : ListOf) (bytes : List ℕ) (offset left : ℕ) (answer : Item)
     (status : ℕ) : Type 0 where
   pub found : ItemAt
   pub lies : ItemLies owner bytes left offset found
@@ -200,6 +200,6 @@ pub record ShowsItem (owner : ListOf) (bytes : List ℕ) (offset left : ℕ) (an
 pub record ReturnsItem (owner : ListOf) (bytes : List ℕ) (offset left : ℕ)
     (part : Part (Option ℕ)) (answer : Item) (status : ℕ) : Type 0 where
   pub whole : (total : Option ℕ) (rest : List ℕ) → part ≡ Ok (total, rest)
-      → ShowsItem owner bytes offset left answer status
+      → DescribesItem owner bytes offset left answer status
   pub fault : (fault : WireFault) → part ≡ Err fault
       → (status ≡ wire_status fault) × (answer ≡ no_item (wire_fault fault offset))

@@ -5,7 +5,7 @@ use Rattle.link_run.specs.Made.{StreamStop, shows_fault, so_far_by, tool_of}
 use Rattle.link_run.specs.Run.{Texts, Outcome, Tool, ◌then◌}
 use Rattle.link_run.proofs.Runs.{texts_as, part_of_more, output_then}
 use Rattle.link_bundle_walk.specs.Bundles.{Packed, Rest, Divided, divided}
-use Rattle.link_bundle_walk.specs.Telling.{SoFar, BundleTelling, stop_by, told_by, told_of, between, Tells, with_run}
+use Rattle.link_bundle_walk.specs.Telling.{SoFar, BundleTelling, stop_by, told_by, told_of, between, WritesRest, with_run}
 use Rattle.link_bundle_walk.proofs.{Outcomes.whole_of, Told.on_ok_by}
 use Rattle.link_pack.specs.Packing.{prelude_bytes, segment_size, sending, transfer_bytes, report_lines, packing_of, packing_by, pack_tool, report_line}
 use Rattle.link_pack.specs.PackRun.{texts_of, pack_telling, Sends}
@@ -14,7 +14,7 @@ use Rattle.link_options.specs.declared.pack.PackOptions.{PackOptions}
 use Rattle.link_pack.proofs.Sending.{segments_none, segments_grow, segments_idle, first_chunks-length, all_given_open, all_given_ended, open_none, holds_if}
 use Rattle.link_transfer.specs.Cutting.{with_bytes, due_of, Cutting}
 use Rattle.link_run.specs.Writers.{on_output, on_report, AfterWrite}
-use Rattle.link_pack.specs.Packer.{cutting, Keeps}
+use Rattle.link_pack.specs.Packer.{cutting, IsCutterIn}
 use Rattle.std.proofs.lemmas.{Bool.Decides.nat_tests, List.length-drop}
 use Rattle.link_transfer.specs.{Cutter.{IsCutterAt, kept_size}, declared.cutter.Cutter.Cutter}
 use Rattle.link_transfer.proofs.Due.{fits_back, fits}
@@ -55,10 +55,10 @@ module _ (options : PackOptions) where
   due_with number begun run whole =
       segments_left number (with_bytes run whole (cutting options begun))
 
-  grown : (number : ℕ) (begun run : List ℕ) (whole : Bool) → 0 < length run
+  segments_of-append : (number : ℕ) (begun run : List ℕ) (whole : Bool) → 0 < length run
       → segments_of number (sending options false begun) ++ due_with number begun run whole
       ≡ segments_of number (sending options whole (begun ++ run))
-  grown number begun run whole some =
+  segments_of-append number begun run whole some =
       let positive = options.some in
       segments_grow number (segment_size options) options.announce begun run whole
       (omega arith) some
@@ -72,13 +72,13 @@ module _ (options : PackOptions) where
         append-nil,
         append-nil,
       ) refl
-  grown_any number begun (byte ∷ bytes) = grown number begun (byte ∷ bytes) false (omega arith)
+  grown_any number begun (byte ∷ bytes) = segments_of-append number begun (byte ∷ bytes) false (omega arith)
 
   -- the same, after the texts of the bundles before it
-  followed : (bundles : List Packed) (segments more all : List ℕ) → segments ++ more ≡ all
+  prelude_bytes-append : (bundles : List Packed) (segments more all : List ℕ) → segments ++ more ≡ all
       → (prelude_bytes options ++ transfer_bytes options 0 bundles ++ segments) ++ more
       ≡ prelude_bytes options ++ transfer_bytes options 0 bundles ++ all
-  followed bundles segments more all is =
+  prelude_bytes-append bundles segments more all is =
       rw (append_assoc (prelude_bytes options ++ transfer_bytes options 0 bundles), is) refl
 
   -- the bundle goes on
@@ -87,7 +87,7 @@ module _ (options : PackOptions) where
       then on_output (due_with (length bundles) begun run false)
       ≡ texts_of options bundles (begun ++ run)
   texts_grown bundles begun run =
-      texts_as (followed bundles _ _ _ (grown_any (length bundles) begun run))
+      texts_as (prelude_bytes-append bundles _ _ _ (grown_any (length bundles) begun run))
       (append-nil (report_lines options 0 bundles))
 
   -- the bundle is whole, and no byte of the next one has come
@@ -104,7 +104,7 @@ module _ (options : PackOptions) where
       let segments = λ (bytes : List ℕ). segments_of n (sending options true bytes) in
       let all = bundles ++ bundle ∷ [] in
       texts_as
-      (followed bundles _ _ _ (grown n begun run true some ∙ ap segments (sym is))
+      (prelude_bytes-append bundles _ _ _ (segments_of-append n begun run true some ∙ ap segments (sym is))
       ∙ rw (
         segments_none (length all) (segment_size options) options.announce,
         transfers_of_push 0 n bundles bundle (omega arith),
@@ -151,7 +151,7 @@ chunks_counted segment size some =
 -- ---- the bytes of a run
 
 kept_as : (options : PackOptions) (cutter : Cutter) (begun : List ℕ) (cuts : Cutting)
-    → cuts ≡ cutting options begun → IsCutterAt cutter cuts → Keeps options cutter begun
+    → cuts ≡ cutting options begun → IsCutterAt cutter cuts → IsCutterIn options cutter begun
 kept_as options cutter begun cuts is at =
     let here = rw is at at in
     record { cut = here; kept = kept_few options cutter begun here }
@@ -164,8 +164,8 @@ module _ {W E : Type 0} (out_look : W → Output) (report_look : E → Output) (
 
   abbrev TellsRun : (now : SoFar) → (old new : Writers W E) → Result (Unit {0}) IoFault → Type 0
   TellsRun now old new result =
-      Tells out_look report_look (texts_of options before.bundles before.begun)
-      (texts_of options now.bundles now.begun) (Keeps options cutter now.begun) old new result
+      WritesRest out_look report_look (texts_of options before.bundles before.begun)
+      (texts_of options now.bundles now.begun) (IsCutterIn options cutter now.begun) old new result
 
   -- the bundle goes on
   pub went_on : (old new : Writers W E) (result : Result (Unit {0}) IoFault)
@@ -192,7 +192,7 @@ module _ {W E : Type 0} (out_look : W → Output) (report_look : E → Output) (
 
     tells_ended : (new : Writers W E) (result : Result (Unit {0}) IoFault)
         → AfterWrite out_look report_look old new (on_output last then on_report line) result
-        → OnOk result (Keeps options cutter []) → TellsRun ended old new result
+        → OnOk result (IsCutterIn options cutter []) → TellsRun ended old new result
     unfolding last
     tells_ended new result wrote known = record {
       texts = on_output last then on_report line;

@@ -1,4 +1,4 @@
--- Relations, but for IsCutterFor, Keeps: what the cutter of a packer has.
+-- Relations, but for IsCutterFor, IsCutterIn: what the cutter of a packer has.
 use Rattle.std.specs.Prelude.{◌≡◌, ℕ, ◌-◌, ◌≤◌, max, false, List}
 use Rattle.link_transfer.specs.Cutter.{IsCutterAt, cut_waits, kept_size}
 use Rattle.link_transfer.specs.Cutting.{Cutting, beginning}
@@ -19,7 +19,7 @@ IsCutterFor options cutter =
     × (cut_waits cutter ≡ false)
 
 -- exactly the bytes `begun` of the current bundle have come
-pub record Keeps (options : PackOptions) (cutter : Cutter) (begun : List ℕ) : Type 0 where
+pub record IsCutterIn (options : PackOptions) (cutter : Cutter) (begun : List ℕ) : Type 0 where
   pub cut : IsCutterAt cutter (cutting options begun)
   -- the cutter keeps less than a segment, or a bundle whose length may still be announced
   pub kept : kept_size cutter ≤ max (segment_size options - 1) options.announce

@@ -72,14 +72,14 @@ impl Packer {
 impl BundleConsumer for Packer {
     ghost use Rattle.std.specs.Prelude.{false, not};
     ghost use Rattle.link_transfer.specs.Cutter.{cut_waits, wanted_by};
-    ghost use Rattle.link_pack.specs.Packer.{Keeps};
+    ghost use Rattle.link_pack.specs.Packer.{IsCutterIn};
     ghost use Rattle.link_pack.specs.PackRun.{pack_telling};
 
     type Options = PackOptions;
 
     ghost telling = { pack_telling };
 
-    ghost knows = { λ options packer now. Keeps options packer.cutter now.begun };
+    ghost knows = { λ options packer now. IsCutterIn options packer.cutter now.begun };
 
     ghost fits = { λ packer. not (cut_waits packer.cutter) };
 

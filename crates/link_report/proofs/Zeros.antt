@@ -40,9 +40,9 @@ with_zeros n few =
     (cases_lt n 10)
 
 -- the text of a multiple of 10,000
-multiple : (round : ℕ) → 0 < round → round < 2 ^ 64 → round % 10000 ≡ 0
+decimal-multiple : (round : ℕ) → 0 < round → round < 2 ^ 64 → round % 10000 ≡ 0
     → decimal round ≡ decimal (round / 10000) ++ zeros
-multiple round some fits is = rw (decimal_four round (omega arith) fits, is) refl
+decimal-multiple round some fits is = rw (decimal_four round (omega arith) fits, is) refl
 
 pub length_of_last : (n : ℕ) → n < 10000 → length (decimal n) ≤ 4
 length_of_last n few = length-decimal-le 4 n (omega arith) few (omega arith)
@@ -51,7 +51,7 @@ length_of_last n few = length-decimal-le 4 n (omega arith) few (omega arith)
 pub length_of_multiple : (round : ℕ) → 0 < round → round < 2 ^ 64 → round % 10000 ≡ 0
     → 4 ≤ length (decimal round)
 length_of_multiple round some fits is =
-    omega (arith, ap length (multiple round some fits is), length-append (decimal (round / 10000)) zeros)
+    omega (arith, ap length (decimal-multiple round some fits is), length-append (decimal (round / 10000)) zeros)
 
 -- the last four digits of a number, over the zeros of a multiple
 pub over_zeros : (n round : ℕ) → 0 < round → n < 2 ^ 64 → round % 10000 ≡ 0
@@ -61,7 +61,7 @@ over_zeros n round some fits zeros_at is =
     let front = decimal (n / 10000) in
     let last = n % 10000 in
     let same : round / 10000 ≡ n / 10000 = omega arith in
-    let text : decimal round ≡ front ++ zeros = multiple round some (omega arith) zeros_at ∙ rw same refl in
+    let text : decimal round ≡ front ++ zeros = decimal-multiple round some (omega arith) zeros_at ∙ rw same refl in
     let short : length (decimal last) ≤ 4 = length_of_last last (omega arith) in
     let size : length (decimal round) - length (decimal last) ≡ length front + (4 - length (decimal last)) = omega (arith, ap length text, length-append front zeros) in
     rw (size, text, take-append-add front zeros (4 - length (decimal last)), append_assoc, ← (with_zeros last (omega arith)), ← (decimal_four n (omega arith) fits)) refl

@@ -8,7 +8,7 @@ ghost use Rattle.link_bundle_types.specs.ShortNames.{IsShort, HasShortNames};
 ghost use Rattle.link_report.specs.Eid.{eid_text};
 ghost use Rattle.link_report.specs.Identity.{fragment_text, origin_text, identity_text};
 ghost use Rattle.link_report.specs.Text.{escaped, number_text};
-ghost use Rattle.link_report.specs.Written.{Wrote};
+ghost use Rattle.link_report.specs.Written.{PutsText};
 
 use crate::page::{write_bytes, write_escaped, write_number};
 use crate::put::{LINE_MAX, Line, put_bytes};
@@ -31,7 +31,7 @@ pub(crate) const IDENTITY_MAX: usize = 2 * EID_MAX + 105 + FRAGMENT_MAX;
 fn write_name(page: &mut [u8], at: usize, name: &[u8]) -> usize
     requires short { length name.now ≤ EID_LIMIT }
     requires room { at + EID_MAX ≤ length page.old }
-    ensures { Wrote page.old page.new at result EID_MAX (codes "dtn:" ++ escaped name.now) }
+    ensures { PutsText page.old page.new at result EID_MAX (codes "dtn:" ++ escaped name.now) }
 {
     let at = write_bytes(page, at, *b"dtn:");
     write_escaped(page, at, name)
@@ -42,7 +42,7 @@ fn write_name(page: &mut [u8], at: usize, name: &[u8]) -> usize
 #[inline(never)]
 fn write_three(page: &mut [u8], at: usize, allocator: u64, node: u64, service: u64) -> usize
     requires { at + EID_MAX ≤ length page.old }
-    ensures { Wrote page.old page.new at result EID_MAX
+    ensures { PutsText page.old page.new at result EID_MAX
         (number_text (codes "ipn:") allocator ++ number_text (codes ".") node
         ++ number_text (codes ".") service) }
 {
@@ -57,7 +57,7 @@ fn write_three(page: &mut [u8], at: usize, allocator: u64, node: u64, service: u
 pub fn write_eid(page: &mut [u8], at: usize, eid: &EidView<'_>) -> usize
     requires short { IsShort (viewed_eid eid.now) }
     requires room { at + EID_MAX ≤ length page.old }
-    ensures { Wrote page.old page.new at result EID_MAX (eid_text (viewed_eid eid.now)) }
+    ensures { PutsText page.old page.new at result EID_MAX (eid_text (viewed_eid eid.now)) }
 {
     match *eid {
         EidView::DtnNone => write_bytes(page, at, *b"dtn:none"),
@@ -77,7 +77,7 @@ pub fn write_eid(page: &mut [u8], at: usize, eid: &EidView<'_>) -> usize
 #[inline(never)]
 fn write_part(page: &mut [u8], at: usize, offset: u64, total: u64) -> usize
     requires { at + FRAGMENT_MAX ≤ length page.old }
-    ensures { Wrote page.old page.new at result FRAGMENT_MAX
+    ensures { PutsText page.old page.new at result FRAGMENT_MAX
         (number_text (codes " fragment=") offset ++ number_text (codes "/") total) }
 {
     let at = write_number(page, at, *b" fragment=", offset);
@@ -89,7 +89,7 @@ fn write_part(page: &mut [u8], at: usize, offset: u64, total: u64) -> usize
 #[inline(always)]
 pub fn write_fragment(page: &mut [u8], at: usize, fragment: Option<(u64, u64)>) -> usize
     requires { at + FRAGMENT_MAX ≤ length page.old }
-    ensures { Wrote page.old page.new at result FRAGMENT_MAX (fragment_text fragment) }
+    ensures { PutsText page.old page.new at result FRAGMENT_MAX (fragment_text fragment) }
 {
     match fragment {
         Some((offset, total)) => write_part(page, at, offset, total),
@@ -105,7 +105,7 @@ pub fn write_fragment(page: &mut [u8], at: usize, fragment: Option<(u64, u64)>) 
 fn write_origin(page: &mut [u8], at: usize, source: &EidView<'_>, time: u64, sequence: u64) -> usize
     requires short { IsShort (viewed_eid source.now) }
     requires room { at + EID_MAX + 63 ≤ length page.old }
-    ensures { Wrote page.old page.new at result (EID_MAX + 63)
+    ensures { PutsText page.old page.new at result (EID_MAX + 63)
         (origin_text (viewed_eid source.now) time sequence) }
 {
     let at = write_bytes(page, at, *b"source=");

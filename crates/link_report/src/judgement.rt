@@ -6,7 +6,7 @@ ghost use Rattle.link_bundle_types.specs.ShortNames.{HasShortNames};
 ghost use Rattle.link_report.specs.BundleFault.{code_text};
 ghost use Rattle.link_report.specs.Text.{number_text};
 ghost use Rattle.link_report.specs.Judgement.{judged_transfer, outcome_text, good_text, judgement_text, viewed_judgement, IsShortJudgement};
-ghost use Rattle.link_report.specs.Written.{Wrote};
+ghost use Rattle.link_report.specs.Written.{PutsText};
 
 use crate::bundle_fault::code_of;
 use crate::identity::{IDENTITY_MAX, write_identity};
@@ -125,7 +125,7 @@ pub fn judge_view<'a>(
 #[inline(never)]
 fn write_bad(page: &mut [u8], at: usize, fault: BundleFault, offset: u64) -> usize
     requires { at + OUTCOME_MAX ≤ length page.old }
-    ensures { Wrote page.old page.new at result OUTCOME_MAX
+    ensures { PutsText page.old page.new at result OUTCOME_MAX
         (codes "bad=" ++ code_text fault ++ number_text (codes " byte=") offset) }
 {
     let at = write_bytes(page, at, *b"bad=");
@@ -138,7 +138,7 @@ fn write_bad(page: &mut [u8], at: usize, fault: BundleFault, offset: u64) -> usi
 #[inline(always)]
 pub fn write_outcome(page: &mut [u8], at: usize, judgement: &JudgementView<'_>) -> usize
     requires { at + OUTCOME_MAX ≤ length page.old }
-    ensures { Wrote page.old page.new at result OUTCOME_MAX
+    ensures { PutsText page.old page.new at result OUTCOME_MAX
         (outcome_text (viewed_judgement judgement.now)) }
 {
     match judgement {
@@ -158,7 +158,7 @@ pub fn write_outcome(page: &mut [u8], at: usize, judgement: &JudgementView<'_>) 
 fn write_good(page: &mut [u8], at: usize, judgement: &JudgementView<'_>) -> usize
     requires short { IsShortJudgement (viewed_judgement judgement.now) }
     requires room { at + 1 + IDENTITY_MAX ≤ length page.old }
-    ensures { Wrote page.old page.new at result (1 + IDENTITY_MAX)
+    ensures { PutsText page.old page.new at result (1 + IDENTITY_MAX)
         (good_text (viewed_judgement judgement.now)) }
 {
     match judgement {
@@ -179,7 +179,7 @@ fn write_good(page: &mut [u8], at: usize, judgement: &JudgementView<'_>) -> usiz
 pub(crate) fn write_judgement(page: &mut [u8], at: usize, judgement: &JudgementView<'_>) -> usize
     requires short { IsShortJudgement (viewed_judgement judgement.now) }
     requires room { at + JUDGEMENT_MAX ≤ length page.old }
-    ensures { Wrote page.old page.new at result JUDGEMENT_MAX
+    ensures { PutsText page.old page.new at result JUDGEMENT_MAX
         (judgement_text (viewed_judgement judgement.now)) }
 {
     let at = write_outcome(page, at, judgement);

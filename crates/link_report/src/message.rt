@@ -5,7 +5,7 @@ ghost use Rattle.link_wire.specs.MessageBuffer.{message_of, message_with};
 ghost use Rattle.link_report.specs.Reason.{name_in, refuse_names, term_names, reject_names};
 ghost use Rattle.link_report.specs.Text.{hex2, number_text};
 ghost use Rattle.link_report.specs.Message.{flags_text, reason_text, item_text, items_text, parameters_text, start_items_text, segment_text, body_text, contact_text, message_text};
-ghost use Rattle.link_report.specs.Written.{Wrote};
+ghost use Rattle.link_report.specs.Written.{PutsText};
 
 use crate::kept_digits::KeptDigits;
 use crate::page::{write_bytes, write_escaped, write_hex2, write_hex4, write_number, write_text};
@@ -48,7 +48,7 @@ fn write_reason(page: &mut [u8], at: usize, reason: u8, name: &str) -> usize
 #[tactic(auto, unfolding(crate::specs::Message::item_text))]
 fn write_item(page: &mut [u8], at: usize, item: &Item) -> usize
     requires { at + 34 ≤ length page.old }
-    ensures { Wrote page.old page.new at result 34 (item_text item.now) }
+    ensures { PutsText page.old page.new at result 34 (item_text item.now) }
 {
     let at = write_bytes(page, at, *b" item=");
     let at = write_hex2(page, at, item.flags);
@@ -64,7 +64,7 @@ fn write_item(page: &mut [u8], at: usize, item: &Item) -> usize
 fn write_items(page: &mut [u8], at: usize, items: &[Item]) -> usize
     requires room { at + ITEMS_MAX ≤ length page.old }
     requires items { length items.now ≤ MAX_ITEMS }
-    ensures { Wrote page.old page.new at result ITEMS_MAX (items_text items.now) }
+    ensures { PutsText page.old page.new at result ITEMS_MAX (items_text items.now) }
 {
     let mut end = write_number(page, at, *b" items=", items.len() as u64);
     for item in items {
@@ -110,7 +110,7 @@ fn write_session(
 fn write_start_items(page: &mut [u8], at: usize, flags: u8, items: &[Item]) -> usize
     requires room { at + ITEMS_MAX ≤ length page.old }
     requires items { length items.now ≤ MAX_ITEMS }
-    ensures { Wrote page.old page.new at result ITEMS_MAX (start_items_text flags items.now) }
+    ensures { PutsText page.old page.new at result ITEMS_MAX (start_items_text flags items.now) }
 {
     if flags & START != START {
         return at;
@@ -127,7 +127,7 @@ fn write_start_items(page: &mut [u8], at: usize, flags: u8, items: &[Item]) -> u
 fn write_segment(page: &mut [u8], at: usize, flags: u8, id: u64, items: &[Item], size: u64) -> usize
     requires room { at + BODY_MAX ≤ length page.old }
     requires items { length items.now ≤ MAX_ITEMS }
-    ensures { Wrote page.old page.new at result BODY_MAX (segment_text flags id items.now size) }
+    ensures { PutsText page.old page.new at result BODY_MAX (segment_text flags id items.now size) }
 {
     let at = write_bytes(page, at, *b" xfer-segment flags=");
     let at = write_hex2(page, at, flags);
@@ -158,7 +158,7 @@ fn write_refuse(page: &mut [u8], at: usize, reason: u8, id: u64) -> usize
 #[inline(never)]
 fn write_sess_term(page: &mut [u8], at: usize, flags: u8, reason: u8) -> usize
     requires { at + REASON_MAX ≤ length page.old }
-    ensures { Wrote page.old page.new at result REASON_MAX
+    ensures { PutsText page.old page.new at result REASON_MAX
         (codes " sess-term" ++ flags_text flags ++ reason_text reason (name_in term_names reason)) }
 {
     let at = write_bytes(page, at, *b" sess-term flags=");
@@ -192,7 +192,7 @@ fn write_body(page: &mut [u8], at: usize, fields: &Fields, node: &[u8], items: &
     requires room { at + BODY_MAX ≤ length page.old }
     requires node { length node.now ≤ MAX_NODE_ID }
     requires items { length items.now ≤ MAX_ITEMS }
-    ensures { Wrote page.old page.new at result BODY_MAX (body_text (message_with fields.now
+    ensures { PutsText page.old page.new at result BODY_MAX (body_text (message_with fields.now
         (record { items = node.now }) (record { items = items.now }))) }
 {
     match *fields {
@@ -230,7 +230,7 @@ fn write_message(
     requires room { at + TEXT_MAX ≤ length page.old }
     requires node { length node.now ≤ MAX_NODE_ID }
     requires items { length items.now ≤ MAX_ITEMS }
-    ensures { Wrote page.old page.new at result TEXT_MAX (message_text offset (message_with
+    ensures { PutsText page.old page.new at result TEXT_MAX (message_text offset (message_with
         fields.now (record { items = node.now }) (record { items = items.now }))) }
 {
     let at = kept.write(page, at, offset);

@@ -5,7 +5,7 @@ ghost use Rattle.link_bundle_types.specs.BundleView.{viewed_info};
 ghost use Rattle.link_bundle_types.specs.ShortNames.{HasShortNames};
 ghost use Rattle.link_report.specs.ShortNames.{HasShortNames-prop};
 ghost use Rattle.link_report.specs.Packed.{packed_text, viewed_packed};
-ghost use Rattle.link_report.specs.Written.{Wrote};
+ghost use Rattle.link_report.specs.Written.{PutsText};
 
 use crate::identity::write_identity;
 use crate::page::{write_bytes, write_number};
@@ -54,7 +54,8 @@ pub struct PackedText<'a> {
 fn write_packed(page: &mut [u8], at: usize, entry: &PackedView<'_>) -> usize
     requires short { HasShortNames (viewed_info entry.now.info) }
     requires room { at + TEXT_MAX ≤ length page.old }
-    ensures { Wrote page.old page.new at result TEXT_MAX (packed_text (viewed_packed entry.now)) }
+    ensures { PutsText page.old page.new at result TEXT_MAX
+        (packed_text (viewed_packed entry.now)) }
 {
     let at = write_number(page, at, *b"bundle ", entry.number);
     let at = write_number(page, at, *b" segments=", entry.segments);

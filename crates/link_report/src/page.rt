@@ -4,7 +4,7 @@
 
 ghost use Rattle.std.specs.Prelude.{◌≡◌, ◌+◌, ◌*◌, ◌<◌, ◌≤◌, [], ◌∷◌, ◌++◌, length, take, decimal};
 ghost use Rattle.link_report.specs.Text.{hex2, hex4, escaped, escaped_byte, is_plain, number_text};
-ghost use Rattle.link_report.specs.Written.{Wrote};
+ghost use Rattle.link_report.specs.Written.{PutsText};
 
 use link_wire::copy_into;
 
@@ -63,7 +63,7 @@ fn write_counted(page: &mut [u8], at: usize, number: u64, count: usize) -> usize
 fn write_long(page: &mut [u8], at: usize, number: u64) -> usize
     requires many { 1000 ≤ number }
     requires room { at + 20 ≤ length page.old }
-    ensures { Wrote page.old page.new at result 20 (decimal number) }
+    ensures { PutsText page.old page.new at result 20 (decimal number) }
 {
     let count = number.ilog10() as usize + 1;
     write_counted(page, at, number, count)
@@ -77,7 +77,7 @@ fn write_long(page: &mut [u8], at: usize, number: u64) -> usize
 #[inline(always)]
 pub fn write_decimal(page: &mut [u8], at: usize, number: u64) -> usize
     requires { at + 20 ≤ length page.old }
-    ensures { Wrote page.old page.new at result 20 (decimal number) }
+    ensures { PutsText page.old page.new at result 20 (decimal number) }
 {
     match number {
         0..10 => write_counted(page, at, number, 1),
@@ -139,7 +139,7 @@ fn is_plain(byte: u8) -> bool
 #[inline(always)]
 fn write_escaped_byte(page: &mut [u8], at: usize, byte: u8) -> usize
     requires { at + 4 ≤ length page.old }
-    ensures { Wrote page.old page.new at result 4 (escaped_byte byte) }
+    ensures { PutsText page.old page.new at result 4 (escaped_byte byte) }
 {
     if is_plain(byte) {
         return write_byte(page, at, byte);
@@ -156,7 +156,7 @@ fn write_escaped_byte(page: &mut [u8], at: usize, byte: u8) -> usize
 #[tactic(auto, unfolding(crate::specs::Text::escaped))]
 pub(crate) fn write_escaped(page: &mut [u8], at: usize, bytes: &[u8]) -> usize
     requires { at + 4 * length bytes.now ≤ length page.old }
-    ensures { Wrote page.old page.new at result (4 * length bytes.now) (escaped bytes.now) }
+    ensures { PutsText page.old page.new at result (4 * length bytes.now) (escaped bytes.now) }
 {
     let mut end = at;
     for byte in bytes {
@@ -175,7 +175,7 @@ pub fn write_number<const N: usize>(
     number: u64,
 ) -> usize
     requires { at + N + 20 ≤ length page.old }
-    ensures { Wrote page.old page.new at result (N + 20) (number_text label.entry number) }
+    ensures { PutsText page.old page.new at result (N + 20) (number_text label.entry number) }
 {
     let at = write_bytes(page, at, label);
     write_decimal(page, at, number)

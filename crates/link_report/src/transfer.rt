@@ -4,7 +4,7 @@ ghost use Rattle.std.specs.Prelude.{◌≡◌, ◌+◌, ◌≤◌, [], length};
 ghost use Rattle.link_report.specs.Judgement.{viewed_judgement, IsShortJudgement};
 ghost use Rattle.link_report.specs.ShortNames.{IsShortJudgement-prop};
 ghost use Rattle.link_report.specs.Transfer.{extent_text, transfer_text, viewed_transfer};
-ghost use Rattle.link_report.specs.Written.{Wrote};
+ghost use Rattle.link_report.specs.Written.{PutsText};
 
 use crate::judgement::{Judgement, JudgementView, write_judgement};
 use crate::page::{write_bytes, write_number};
@@ -55,7 +55,7 @@ pub struct TransferText<'a> {
 #[inline(always)]
 fn write_extent(page: &mut [u8], at: usize, id: u64, start: u64, written: u64, size: u64) -> usize
     requires { at + 113 ≤ length page.old }
-    ensures { Wrote page.old page.new at result 113 (extent_text id start written size) }
+    ensures { PutsText page.old page.new at result 113 (extent_text id start written size) }
 {
     let at = write_number(page, at, *b"transfer ", id);
     let at = write_number(page, at, *b" start=", start);
@@ -71,7 +71,7 @@ fn write_extent(page: &mut [u8], at: usize, id: u64, start: u64, written: u64, s
 fn write_transfer(page: &mut [u8], at: usize, entry: &TransferView<'_>) -> usize
     requires short { IsShortJudgement (viewed_judgement entry.now.judgement) }
     requires room { at + TEXT_MAX ≤ length page.old }
-    ensures { Wrote page.old page.new at result TEXT_MAX
+    ensures { PutsText page.old page.new at result TEXT_MAX
         (transfer_text (viewed_transfer entry.now)) }
 {
     let at = write_extent(page, at, entry.id, entry.start, entry.written, entry.length);

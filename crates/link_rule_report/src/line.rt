@@ -1,7 +1,7 @@
 //! The line of a broken rule, as a text.
 
 ghost use Rattle.std.specs.Prelude.{◌+◌, ◌≤◌, length};
-ghost use Rattle.link_report.specs.Written.{Wrote};
+ghost use Rattle.link_report.specs.Written.{PutsText};
 ghost use Rattle.link_rule_report.specs.Line.{place_text, subject_text, rule_line};
 
 use crate::names::{LEVEL_MAX, level_name, rule_name};
@@ -33,7 +33,7 @@ pub struct RuleText {
 #[tactic(auto, unfolding(crate::specs::Line::place_text))]
 fn write_place(page: &mut [u8], at: usize, place: BundlePlace) -> usize
     requires { at + SUBJECT_MAX ≤ length page.old }
-    ensures { Wrote page.old page.new at result SUBJECT_MAX (place_text place) }
+    ensures { PutsText page.old page.new at result SUBJECT_MAX (place_text place) }
 {
     match place {
         BundlePlace::Transfer(id) => write_number(page, at, *b" transfer=", id),
@@ -45,7 +45,7 @@ fn write_place(page: &mut [u8], at: usize, place: BundlePlace) -> usize
 #[tactic(auto, unfolding(crate::specs::Line::subject_text))]
 fn write_subject(page: &mut [u8], at: usize, rule: &BrokenRule) -> usize
     requires { at + SUBJECT_MAX ≤ length page.old }
-    ensures { Wrote page.old page.new at result SUBJECT_MAX (subject_text rule.now) }
+    ensures { PutsText page.old page.new at result SUBJECT_MAX (subject_text rule.now) }
 {
     match *rule {
         BrokenRule::Message(_) => at,
@@ -59,7 +59,7 @@ fn write_subject(page: &mut [u8], at: usize, rule: &BrokenRule) -> usize
 #[inline(never)]
 pub fn write_rule(page: &mut [u8], at: usize, line: &RuleText) -> usize
     requires { at + RULE_LINE_MAX ≤ length page.old }
-    ensures { Wrote page.old page.new at result RULE_LINE_MAX
+    ensures { PutsText page.old page.new at result RULE_LINE_MAX
         (rule_line line.now.offset line.now.rule) }
 {
     let rule = &line.rule;

@@ -4,7 +4,7 @@ ghost use Rattle.std.specs.Prelude.{◌≡◌, ◌+◌, ◌≤◌, ◌++◌, len
 ghost use Rattle.link_block_report.specs.Words.{integer_text};
 ghost use Rattle.link_report.specs.Message.{flags_text};
 ghost use Rattle.link_report.specs.Text.{hex2, hex4, number_text};
-ghost use Rattle.link_report.specs.Written.{Wrote};
+ghost use Rattle.link_report.specs.Written.{PutsText};
 ghost use Rattle.link_rule_report.specs.Words.{answer_text, hyphenated, order_words, message_words, fault_words, transfer_words, control_words, endpoint_name, endpoint_block, limit_words, target_words, bundle_words, rule_words};
 
 use crate::rule::BrokenRule;
@@ -38,7 +38,7 @@ fn write_two<const N: usize, const M: usize>(
     next: u64,
 ) -> usize
     requires { at + N + M + 40 ≤ length page.old }
-    ensures { Wrote page.old page.new at result (N + M + 40)
+    ensures { PutsText page.old page.new at result (N + M + 40)
         (number_text label.entry number ++ number_text next_label.entry next) }
 {
     let at = write_number(page, at, label, number);
@@ -60,7 +60,7 @@ fn write_byte_flags(page: &mut [u8], at: usize, flags: u8) -> usize
 /// Writes the type byte of a message.
 fn write_type(page: &mut [u8], at: usize, kind: u8) -> usize
     requires { at + 8 ≤ length page.old }
-    ensures { Wrote page.old page.new at result 8 (codes " type=" ++ hex2 kind) }
+    ensures { PutsText page.old page.new at result 8 (codes " type=" ++ hex2 kind) }
 {
     let at = write_bytes(page, at, *b" type=");
     write_hex2(page, at, kind)
@@ -70,7 +70,7 @@ fn write_type(page: &mut [u8], at: usize, kind: u8) -> usize
 #[tactic(auto, unfolding(link_report::specs::Text::hex4))]
 fn write_item_type(page: &mut [u8], at: usize, kind: u16) -> usize
     requires { at + 10 ≤ length page.old }
-    ensures { Wrote page.old page.new at result 10 (codes " type=" ++ hex4 kind) }
+    ensures { PutsText page.old page.new at result 10 (codes " type=" ++ hex4 kind) }
 {
     let [high, low] = kind.to_be_bytes();
     let at = write_bytes(page, at, *b" type=");
@@ -81,7 +81,7 @@ fn write_item_type(page: &mut [u8], at: usize, kind: u16) -> usize
 /// Writes a reason, which is one byte.
 fn write_reason(page: &mut [u8], at: usize, reason: u8) -> usize
     requires { at + 10 ≤ length page.old }
-    ensures { Wrote page.old page.new at result 10 (codes " reason=" ++ hex2 reason) }
+    ensures { PutsText page.old page.new at result 10 (codes " reason=" ++ hex2 reason) }
 {
     let at = write_bytes(page, at, *b" reason=");
     write_hex2(page, at, reason)
@@ -104,7 +104,7 @@ fn answer_text(fault: AnswerFault) -> &'static str
 /// Writes the ID of a transfer, and what is wrong with an answer to it.
 fn write_answer(page: &mut [u8], at: usize, id: u64, fault: AnswerFault) -> usize
     requires { at + 48 ≤ length page.old }
-    ensures { Wrote page.old page.new at result 48
+    ensures { PutsText page.old page.new at result 48
         (number_text (codes " id=") id ++ codes " fault=" ++ answer_text fault) }
 {
     let at = write_number(page, at, *b" id=", id);
@@ -132,7 +132,7 @@ fn write_hyphenated(page: &mut [u8], at: usize, text: &str) -> usize
 #[tactic(auto, unfolding(crate::specs::Words::order_words))]
 fn write_order(page: &mut [u8], at: usize, fault: OrderFault) -> usize
     requires { at + ORDER_MAX ≤ length page.old }
-    ensures { Wrote page.old page.new at result ORDER_MAX (order_words fault) }
+    ensures { PutsText page.old page.new at result ORDER_MAX (order_words fault) }
 {
     let at = write_bytes(page, at, *b" fault=");
     write_hyphenated(page, at, order_words(fault))
@@ -142,7 +142,7 @@ fn write_order(page: &mut [u8], at: usize, fault: OrderFault) -> usize
 #[tactic(auto, unfolding(link_report::specs::Text::number_text))]
 fn write_passed(page: &mut [u8], at: usize, size: u128, limit: u64) -> usize
     requires { at + WORDS_MAX ≤ length page.old }
-    ensures { Wrote page.old page.new at result WORDS_MAX
+    ensures { PutsText page.old page.new at result WORDS_MAX
         (number_text (codes " length=") size ++ number_text (codes " limit=") limit) }
 {
     let at = write_bytes(page, at, *b" length=");
@@ -154,7 +154,7 @@ fn write_passed(page: &mut [u8], at: usize, size: u128, limit: u64) -> usize
 #[tactic(auto, unfolding(crate::specs::Words::message_words))]
 fn write_message(page: &mut [u8], at: usize, rule: &MessageRule) -> usize
     requires { at + WORDS_MAX ≤ length page.old }
-    ensures { Wrote page.old page.new at result WORDS_MAX (message_words rule.now) }
+    ensures { PutsText page.old page.new at result WORDS_MAX (message_words rule.now) }
 {
     match *rule {
         MessageRule::ContactFlags { flags }
@@ -210,7 +210,7 @@ fn write_message(page: &mut [u8], at: usize, rule: &MessageRule) -> usize
 #[tactic(auto, unfolding(crate::specs::Words::fault_words))]
 fn write_fault(page: &mut [u8], at: usize, fault: BundleFault, byte: u64) -> usize
     requires { at + WORDS_MAX ≤ length page.old }
-    ensures { Wrote page.old page.new at result WORDS_MAX (fault_words fault byte) }
+    ensures { PutsText page.old page.new at result WORDS_MAX (fault_words fault byte) }
 {
     let at = write_bytes(page, at, *b" code=");
     let at = write_text(page, at, code_of(fault));
@@ -221,7 +221,7 @@ fn write_fault(page: &mut [u8], at: usize, fault: BundleFault, byte: u64) -> usi
 #[tactic(auto, unfolding(crate::specs::Words::transfer_words))]
 fn write_transfer(page: &mut [u8], at: usize, rule: &TransferRule) -> usize
     requires { at + WORDS_MAX ≤ length page.old }
-    ensures { Wrote page.old page.new at result WORDS_MAX (transfer_words rule.now) }
+    ensures { PutsText page.old page.new at result WORDS_MAX (transfer_words rule.now) }
 {
     match *rule {
         TransferRule::Unfinished { length } => write_number(page, at, *b" length=", length),
@@ -239,7 +239,7 @@ fn write_transfer(page: &mut [u8], at: usize, rule: &TransferRule) -> usize
 #[tactic(auto, unfolding(crate::specs::Words::control_words))]
 fn write_control(page: &mut [u8], at: usize, flags: u64) -> usize
     requires { at + CONTROL_MAX ≤ length page.old }
-    ensures { Wrote page.old page.new at result CONTROL_MAX (control_words flags) }
+    ensures { PutsText page.old page.new at result CONTROL_MAX (control_words flags) }
 {
     let at = write_bytes(page, at, *b" flags=");
     write_flags(page, at, flags)
@@ -264,7 +264,7 @@ fn endpoint_name(endpoint: Endpoint) -> &'static str
 #[tactic(auto, unfolding(crate::specs::Words::endpoint_block))]
 fn write_endpoint_block(page: &mut [u8], at: usize, endpoint: Endpoint) -> usize
     requires { at + 27 ≤ length page.old }
-    ensures { Wrote page.old page.new at result 27 (endpoint_block endpoint) }
+    ensures { PutsText page.old page.new at result 27 (endpoint_block endpoint) }
 {
     match endpoint {
         Endpoint::PreviousNode(block) | Endpoint::SecuritySource(block) => {
@@ -277,7 +277,7 @@ fn write_endpoint_block(page: &mut [u8], at: usize, endpoint: Endpoint) -> usize
 /// Writes which endpoint ID it is.
 fn write_endpoint(page: &mut [u8], at: usize, endpoint: Endpoint) -> usize
     requires { at + WORDS_MAX ≤ length page.old }
-    ensures { Wrote page.old page.new at result WORDS_MAX
+    ensures { PutsText page.old page.new at result WORDS_MAX
         (codes " of=" ++ endpoint_name endpoint ++ endpoint_block endpoint) }
 {
     let at = write_bytes(page, at, *b" of=");
@@ -288,7 +288,7 @@ fn write_endpoint(page: &mut [u8], at: usize, endpoint: Endpoint) -> usize
 /// Writes the number of a block and its flags, or the flags of its security context.
 fn write_block_flags(page: &mut [u8], at: usize, block: u64, flags: u64) -> usize
     requires { at + WORDS_MAX ≤ length page.old }
-    ensures { Wrote page.old page.new at result WORDS_MAX
+    ensures { PutsText page.old page.new at result WORDS_MAX
         (number_text (codes " block=") block ++ control_words flags) }
 {
     let at = write_number(page, at, *b" block=", block);
@@ -299,7 +299,7 @@ fn write_block_flags(page: &mut [u8], at: usize, block: u64, flags: u64) -> usiz
 #[tactic(auto, unfolding(crate::specs::Words::target_words))]
 fn write_target(page: &mut [u8], at: usize, block: u64, target: Option<u64>) -> usize
     requires { at + WORDS_MAX ≤ length page.old }
-    ensures { Wrote page.old page.new at result WORDS_MAX
+    ensures { PutsText page.old page.new at result WORDS_MAX
         (number_text (codes " block=") block ++ target_words target) }
 {
     let at = write_number(page, at, *b" block=", block);
@@ -312,7 +312,7 @@ fn write_target(page: &mut [u8], at: usize, block: u64, target: Option<u64>) -> 
 /// Writes the number of a security block, and the ID of its security context.
 fn write_context(page: &mut [u8], at: usize, block: u64, context: Integer) -> usize
     requires { at + WORDS_MAX ≤ length page.old }
-    ensures { Wrote page.old page.new at result WORDS_MAX
+    ensures { PutsText page.old page.new at result WORDS_MAX
         (number_text (codes " block=") block ++ codes " context=" ++ integer_text context) }
 {
     let at = write_number(page, at, *b" block=", block);
@@ -323,7 +323,7 @@ fn write_context(page: &mut [u8], at: usize, block: u64, context: Integer) -> us
 /// Writes the offset, the length and the total length of a fragment.
 fn write_fragment(page: &mut [u8], at: usize, offset: u64, size: u64, total: u64) -> usize
     requires { at + WORDS_MAX ≤ length page.old }
-    ensures { Wrote page.old page.new at result WORDS_MAX
+    ensures { PutsText page.old page.new at result WORDS_MAX
         (number_text (codes " offset=") offset ++ number_text (codes " length=") size
         ++ number_text (codes " total=") total) }
 {
@@ -335,7 +335,7 @@ fn write_fragment(page: &mut [u8], at: usize, offset: u64, size: u64, total: u64
 #[tactic(auto, unfolding(crate::specs::Words::limit_words))]
 fn write_hop_limit(page: &mut [u8], at: usize, blocks: u64, limit: Option<u64>) -> usize
     requires { at + WORDS_MAX ≤ length page.old }
-    ensures { Wrote page.old page.new at result WORDS_MAX
+    ensures { PutsText page.old page.new at result WORDS_MAX
         (number_text (codes " blocks=") blocks ++ limit_words limit) }
 {
     let at = write_number(page, at, *b" blocks=", blocks);
@@ -349,7 +349,7 @@ fn write_hop_limit(page: &mut [u8], at: usize, blocks: u64, limit: Option<u64>) 
 #[tactic(auto, unfolding(crate::specs::Words::bundle_words))]
 fn write_bundle(page: &mut [u8], at: usize, rule: &BundleRule) -> usize
     requires { at + WORDS_MAX ≤ length page.old }
-    ensures { Wrote page.old page.new at result WORDS_MAX (bundle_words rule.now) }
+    ensures { PutsText page.old page.new at result WORDS_MAX (bundle_words rule.now) }
 {
     match *rule {
         BundleRule::PrimaryCheck { .. }
@@ -412,7 +412,7 @@ fn write_bundle(page: &mut [u8], at: usize, rule: &BundleRule) -> usize
 #[tactic(auto, unfolding(crate::specs::Words::rule_words))]
 pub(crate) fn write_words(page: &mut [u8], at: usize, rule: &BrokenRule) -> usize
     requires { at + WORDS_MAX ≤ length page.old }
-    ensures { Wrote page.old page.new at result WORDS_MAX (rule_words rule.now) }
+    ensures { PutsText page.old page.new at result WORDS_MAX (rule_words rule.now) }
 {
     match rule {
         BrokenRule::Message(rule) => write_message(page, at, rule),

@@ -7,7 +7,7 @@ use Rattle.link_cbor.specs.declared.head.Head.{Head as HeadItem}
 use Rattle.link_cbor.specs.Head.{Whole, front_by, head_front, whole_of}
 use Rattle.link_rules.specs.declared.heads.{Found.Found, WalkStage.TheVariants.Inside}
 use Rattle.link_rules.specs.Heads.{content_size}
-use Rattle.link_rules.specs.HeadWalk.{HasFound, HasNoted}
+use Rattle.link_rules.specs.HeadWalk.{HasFound, NotesHead}
 use Rattle.link_rules.proofs.Walks.{found_head, or_none}
 
 abbrev pub is_small : ℕ → Bool
@@ -33,14 +33,14 @@ and_false false = refl
 abbrev head_of : ℕ → HeadItem
 head_of byte = record { major = byte / 32; value = Some (byte % 32) }
 
-front : (bytes : List ℕ) → 0 < length bytes → nat_lt (get_or bytes 0 0 % 32) 24 ≡ true
+head_front-one_byte : (bytes : List ℕ) → 0 < length bytes → nat_lt (get_or bytes 0 0 % 32) 24 ≡ true
     → head_front bytes ≡ Whole (head_of (get_or bytes 0 0)) 1
 unfolding head_front front_by
-front [] some small = absurd (omega arith)
-front (byte ∷ rest) some small = rw small refl
+head_front-one_byte [] some small = absurd (omega arith)
+head_front-one_byte (byte ∷ rest) some small = rw small refl
 
 noted : (found : Found) (offset byte : ℕ) → nat_lt (byte % 32) 24 ≡ true
-    → HasNoted found found offset (head_of byte) 1
+    → NotesHead found found offset (head_of byte) 1
 noted found offset byte small = record {
   long = rw small (sym (or_none found.long));
   string = sym (or_none found.string);
@@ -65,7 +65,7 @@ found_small found offset taken seen piece here within is come small =
     let some : 0 < length (drop taken piece) = omega (arith, length-drop taken piece) in
     let first : get_or (drop taken piece) 0 0 ≡ get_or piece taken 0 = grind (arith, get_or-drop) in
     let begins : head_front (drop taken piece) ≡ Whole (head_of (get_or piece taken 0)) 1 =
-    rw first at (front rest some (rw first parts.0)) in
+    rw first at (head_front-one_byte rest some (rw first parts.0)) in
     subst (λ (left : ℕ). HasFound found (Inside left) (seen ++ take (taken + 1) piece))
     (no_content byte (not-true _ parts.1))
     (found_head found found offset taken 1 seen piece (head_of byte) here (omega arith)

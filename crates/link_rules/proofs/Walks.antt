@@ -11,28 +11,28 @@ use Rattle.link_cbor.proofs.{HeadLaws.{head_alone, whole_stays, ill_formed_stays
 use Rattle.link_rules.specs.declared.heads.{WalkStage.WalkStage, WalkStage.TheVariants.{Inside, Head, Ended}}
 use Rattle.link_rules.specs.declared.heads.{Found.Found, HeadWalk.HeadWalk}
 use Rattle.link_rules.specs.Heads.{content_size, is_long, is_open_string, is_open_item, is_encoded, first_from}
-use Rattle.link_rules.specs.HeadWalk.{first_left, HasSought, HasFound, HasNoted, IsAtStage, HasSeen, HasWalked, HasTaken}
+use Rattle.link_rules.specs.HeadWalk.{first_left, HasSought, HasFound, NotesHead, IsAtStage, HasSeen, HasWalked, TakesRun}
 
 -- ---- the definition, step by step
 
 -- bytes of the last head and of its string
-pub inside : (sought : HeadItem → ℕ → Bool) (left offset : ℕ) (run more : List ℕ) → length run ≤ left
+pub first_from-append : (sought : HeadItem → ℕ → Bool) (left offset : ℕ) (run more : List ℕ) → length run ≤ left
     → first_from sought left offset (run ++ more)
     ≡ first_from sought (left - length run) (offset + length run) more
 unfolding first_from
-inside sought left offset [] more within =
+first_from-append sought left offset [] more within =
     let here : left - 0 ≡ left = omega arith in
     let next : offset + 0 ≡ offset = omega arith in
     rw (here, next) refl
-inside sought zero offset (byte ∷ run) more within = absurd (omega arith)
-inside sought (suc left) offset (byte ∷ run) more within =
+first_from-append sought zero offset (byte ∷ run) more within = absurd (omega arith)
+first_from-append sought (suc left) offset (byte ∷ run) more within =
     let here : suc left - suc (length run) ≡ left - length run = omega arith in
     let next : offset + suc (length run) ≡ offset + 1 + length run = omega arith in
-    rw (here, next) (inside sought left (offset + 1) run more (omega arith))
+    rw (here, next) (first_from-append sought left (offset + 1) run more (omega arith))
 
-empty_is_cut : head_front [] ≡ Cut
+head_front-nil : head_front [] ≡ Cut
 unfolding head_front
-empty_is_cut = refl
+head_front-nil = refl
 
 -- a whole head
 pub at_head : (sought : HeadItem → ℕ → Bool) (offset : ℕ) (run more : List ℕ) (head : HeadItem)
@@ -41,19 +41,19 @@ pub at_head : (sought : HeadItem → ℕ → Bool) (offset : ℕ) (run more : Li
     ≡ (if sought head (length run) then Some offset
     else first_from sought (content_size head) (offset + length run) more)
 unfolding first_from
-at_head sought offset [] more head whole = let cut = empty_is_cut in cc
+at_head sought offset [] more head whole = let cut = head_front-nil in cc
 at_head sought offset (byte ∷ rest) more head whole =
     let here : (suc (length rest) - 1 + content_size head) - length rest ≡ content_size head =
     omega arith in
     let next : offset + 1 + length rest ≡ offset + suc (length rest) = omega arith in
-    let found = inside sought (suc (length rest) - 1 + content_size head) (offset + 1) rest more
+    let found = first_from-append sought (suc (length rest) - 1 + content_size head) (offset + 1) rest more
     (omega arith) in
     rw (whole_stays (byte ∷ rest) more head (suc (length rest)) whole, first_from, found, here, next)
 
 at_ill_formed : (sought : HeadItem → ℕ → Bool) (offset : ℕ) (bytes more : List ℕ)
     → head_front bytes ≡ IllFormed → first_from sought 0 offset (bytes ++ more) ≡ None
 unfolding first_from
-at_ill_formed sought offset [] more wrong = let cut = empty_is_cut in cc
+at_ill_formed sought offset [] more wrong = let cut = head_front-nil in cc
 at_ill_formed sought offset (byte ∷ rest) more wrong =
     rw (ill_formed_stays (byte ∷ rest) more wrong, first_from) refl
 
@@ -92,7 +92,7 @@ found_inside found left seen run come within = each come (λ sought first come. 
       let there : length (seen ++ run) ≡ length seen + length run = length-append seen run in
       rw (append_assoc seen run more, there) (come.reads (run ++ more)
       ∙ ap (λ (rest : Option ℕ). option_or first rest)
-      (inside sought left (length seen) run more within));
+      (first_from-append sought left (length seen) run more within));
 })
 
 -- where a head begins, no byte of it is seen
@@ -134,7 +134,7 @@ sought_whole sought found offset seen head come within whole = record {
 found_whole : (old new : Found) (offset : ℕ) (seen : List ℕ) (head : HeadItem) (size : ℕ)
     → HasFound old (Head offset) seen → offset ≤ length seen
     → head_front (drop offset seen) ≡ Whole head (length (drop offset seen))
-    → size ≡ length (drop offset seen) → HasNoted old new offset head size
+    → size ≡ length (drop offset seen) → NotesHead old new offset head size
     → HasFound new (Inside (content_size head)) seen
 found_whole old new offset seen head size come within whole sized noted = record {
   long = rw (noted.long, sized) (sought_whole is_long _ offset seen head come.long within whole);
@@ -149,7 +149,7 @@ found_whole old new offset seen head size come within whole sized noted = record
 found_next : (old new : Found) (offset : ℕ) (seen run : List ℕ) (head : HeadItem) (size : ℕ)
     → HasFound old (Inside 0) seen → offset ≡ length seen
     → head_front run ≡ Whole head (length run) → size ≡ length run
-    → HasNoted old new offset head size
+    → NotesHead old new offset head size
     → HasFound new (Inside (content_size head)) (seen ++ run)
 found_next old new offset seen run head size come here whole sized noted =
     let rest : drop offset (seen ++ run) ≡ run = rw here (drop-append_seam seen run) in
@@ -192,7 +192,7 @@ pub found_head : (old new : Found) (offset taken size : ℕ) (seen piece : List 
     → offset ≡ length seen → taken ≤ length piece
     → whole_of (head_front (drop taken piece)) ≡ Some (head, size)
     → taken + size ≤ length piece → HasFound old (Inside 0) (seen ++ take taken piece)
-    → HasNoted old new ((offset + taken) % 2 ^ 64) head size
+    → NotesHead old new ((offset + taken) % 2 ^ 64) head size
     → length (seen ++ take (taken + size) piece) < 2 ^ 63
     → HasFound new (Inside (content_size head)) (seen ++ take (taken + size) piece)
 found_head old new offset taken size seen piece head here within front ends come noted small =
@@ -278,7 +278,7 @@ pub head_whole : (offset : ℕ) (found noted : Found) (old new : HeadScan) (coun
     (seen run : List ℕ) (head : HeadItem) (size : ℕ) → HasSeen (Head offset) found old count seen
     → 1 ≡ length run → length (seen ++ run) < 2 ^ 63
     → head_front (drop offset (seen ++ run)) ≡ Whole head (length (drop offset (seen ++ run)))
-    → size ≡ length (drop offset (seen ++ run)) → HasNoted found noted offset head size
+    → size ≡ length (drop offset (seen ++ run)) → NotesHead found noted offset head size
     → HasScannedHead new []
     → HasSeen (Inside (content_size head)) noted new ((count + 1) % 2 ^ 64) (seen ++ run)
 head_whole offset found noted old new count seen run head size come one small whole sized with_it
@@ -292,8 +292,8 @@ head_whole offset found noted old new count seen run head size come one small wh
 
 -- ---- one run after another
 
-pub taken_then : (old middle new : HeadWalk) (run more : List ℕ) → HasTaken old middle run
-    → HasTaken middle new more → HasTaken old new (run ++ more)
+pub taken_then : (old middle new : HeadWalk) (run more : List ℕ) → TakesRun old middle run
+    → TakesRun middle new more → TakesRun old new (run ++ more)
 taken_then old middle new run more first second = record {
   seen = λ seen small come.
       let joined = append_assoc seen run more in
@@ -303,13 +303,13 @@ taken_then old middle new run more first second = record {
 
 -- ---- what is found in the bytes seen
 
-none_left : (sought : HeadItem → ℕ → Bool) (stage : WalkStage) (head : HeadScan) (seen : List ℕ)
+first_left-nil : (sought : HeadItem → ℕ → Bool) (stage : WalkStage) (head : HeadScan) (seen : List ℕ)
     → IsAtStage stage head seen → first_left sought stage seen [] ≡ None
 unfolding first_from
-none_left sought (Inside left) head seen stands = refl
-none_left sought (Head offset) head seen stands =
+first_left-nil sought (Inside left) head seen stands = refl
+first_left-nil sought (Head offset) head seen stands =
     rw (append-nil (drop offset seen)) (at_cut sought offset (drop offset seen) stands.cut)
-none_left sought Ended head seen stands = refl
+first_left-nil sought Ended head seen stands = refl
 
 pub or_none : (found : Option ℕ) → option_or found None ≡ found
 or_none None = refl
@@ -320,4 +320,4 @@ pub sought_now : (sought : HeadItem → ℕ → Bool) (found : Option ℕ) (stag
     → IsAtStage stage head seen → found ≡ first_from sought 1 0 seen
 sought_now sought found stage head seen come stands =
     let reads = come.reads [] in
-    rw (append-nil seen, none_left sought stage head seen stands, or_none found) at (sym reads)
+    rw (append-nil seen, first_left-nil sought stage head seen stands, or_none found) at (sym reads)

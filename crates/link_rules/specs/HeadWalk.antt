@@ -36,7 +36,7 @@ abbrev pub noted : (sought : HeadItem → ℕ → Bool) → (old : Option ℕ) �
 noted sought old offset head size = option_or old (then_some (sought head size) offset)
 
 -- what is found before a head of `size` bytes at `offset`, and what is found with it
-pub record HasNoted (old new : Found) (offset : ℕ) (head : HeadItem) (size : ℕ) : Type 0 where
+pub record NotesHead (old new : Found) (offset : ℕ) (head : HeadItem) (size : ℕ) : Type 0 where
   pub long : new.long ≡ noted is_long old.long offset head size
   pub string : new.string ≡ noted is_open_string old.string offset head size
   pub item : new.item ≡ noted is_open_item old.item offset head size
@@ -66,6 +66,6 @@ abbrev pub HasWalked : HeadWalk → List ℕ → Type 0
 HasWalked walk seen = HasSeen walk.stage walk.found walk.head walk.count seen
 
 -- the walk has taken exactly these bytes
-pub record HasTaken (old new : HeadWalk) (run : List ℕ) : Type 0 where
+pub record TakesRun (old new : HeadWalk) (run : List ℕ) : Type 0 where
   pub seen : (seen : List ℕ) → length (seen ++ run) < 2 ^ 63 → HasWalked old seen
       → HasWalked new (seen ++ run)

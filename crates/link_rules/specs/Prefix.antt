@@ -3,5 +3,5 @@ use Rattle.std.specs.Prelude.{◌≡◌, ℕ, List, take}
 use Rattle.link_rules.specs.declared.unread.Prefix.{Prefix}
 
 -- it has the first four of exactly these bytes
-pub record Begins (prefix : Prefix) (seen : List ℕ) : Type 0 where
+pub record IsPrefixAt (prefix : Prefix) (seen : List ℕ) : Type 0 where
   pub bytes : prefix.bytes.items ≡ take 4 seen

@@ -109,14 +109,14 @@ const NONE_FOUND: Found = Found {
 
 impl Found {
     ghost use Rattle.std.specs.{Bool.then_some, Option.option_or};
-    ghost use Rattle.link_rules.specs.HeadWalk.{HasFound, HasNoted};
+    ghost use Rattle.link_rules.specs.HeadWalk.{HasFound, NotesHead};
     ghost use Rattle.link_rules.specs.declared.heads.WalkStage.TheVariants.{Inside};
 
     /// Keeps the offset of a head of `size` bytes, if it is the first of its kind.
     // Inlined: the head of a short string is one byte, and it should cost no call.
     #[inline(always)]
     fn note(&mut self, offset: u64, head: Head, size: usize)
-        ensures { HasNoted self.old self.new offset head size }
+        ensures { NotesHead self.old self.new offset head size }
     {
         if size == 1 && head.value.is_some() {
             return;
@@ -126,7 +126,7 @@ impl Found {
 
     /// Keeps the offset of any head, if it is the first of its kind.
     fn note_any(&mut self, offset: u64, head: Head, size: usize)
-        ensures { HasNoted self.old self.new offset head size }
+        ensures { NotesHead self.old self.new offset head size }
     {
         if is_long(head, size) {
             self.note_long(offset);
@@ -233,7 +233,7 @@ pub struct HeadWalk {
 }
 
 impl HeadWalk {
-    ghost use Rattle.link_rules.specs.HeadWalk.{HasWalked, HasTaken};
+    ghost use Rattle.link_rules.specs.HeadWalk.{HasWalked, TakesRun};
 
     /// A walk that has seen no byte.
     pub fn new() -> HeadWalk
@@ -298,7 +298,7 @@ impl HeadWalk {
 
     /// Takes any piece of the bundle.
     fn take_any(&mut self, piece: &[u8])
-        ensures { HasTaken self.old self.new piece.now }
+        ensures { TakesRun self.old self.new piece.now }
     {
         let mut taken = 0;
         while taken < piece.len() {
@@ -312,7 +312,7 @@ impl HeadWalk {
         requires some { 0 < length piece.now }
         ensures some { 0 < result }
         ensures within { result ≤ length piece.now }
-        ensures taken { HasTaken self.old self.new (take result piece.now) }
+        ensures taken { TakesRun self.old self.new (take result piece.now) }
     {
         match self.stage {
             WalkStage::Inside(0) => self.next_heads(piece),
@@ -335,7 +335,7 @@ impl HeadWalk {
         requires some { 0 < length piece.now }
         ensures some { 0 < result }
         ensures within { result ≤ length piece.now }
-        ensures taken { HasTaken self.old self.new (take result piece.now) }
+        ensures taken { TakesRun self.old self.new (take result piece.now) }
     {
         let offset = self.count;
         let (taken, left) = self.found.take_heads(offset, piece);
@@ -357,7 +357,7 @@ impl HeadWalk {
         requires some { 0 < length piece.now }
         ensures some { 0 < result }
         ensures within { result ≤ length piece.now }
-        ensures taken { HasTaken self.old self.new (take result piece.now) }
+        ensures taken { TakesRun self.old self.new (take result piece.now) }
     {
         let passed = left.min(piece.len() as u64) as usize;
         self.pass(left, &piece[..passed]);
@@ -369,7 +369,7 @@ impl HeadWalk {
     fn pass(&mut self, left: u64, run: &[u8])
         requires stage { self.old.stage ≡ WalkStage.Inside left }
         requires within { length run.now ≤ left }
-        ensures { HasTaken self.old self.new run.now }
+        ensures { TakesRun self.old self.new run.now }
     {
         let size = run.len() as u64;
         self.stage = WalkStage::Inside(left - size);
@@ -381,7 +381,7 @@ impl HeadWalk {
     #[inline(never)]
     fn head_byte(&mut self, offset: u64, byte: u8)
         requires { self.old.stage ≡ WalkStage.Head offset }
-        ensures { HasTaken self.old self.new (byte ∷ []) }
+        ensures { TakesRun self.old self.new (byte ∷ []) }
     {
         self.count = self.count.wrapping_add(1);
         let mut scan = self.head;

@@ -30,11 +30,11 @@ pub struct Prefix {
 impl Prefix {
     ghost use Rattle.std.specs.Prelude.{◌≡◌, [], List, ◌++◌, ℕ};
     ghost use Rattle.link_rules.specs.Heads.{is_tagged};
-    ghost use Rattle.link_rules.specs.Prefix.{Begins};
+    ghost use Rattle.link_rules.specs.Prefix.{IsPrefixAt};
 
     /// Before the first byte.
     pub fn new() -> Prefix
-        ensures { Begins result [] }
+        ensures { IsPrefixAt result [] }
     {
         Prefix {
             bytes: ArrayVec::new(),
@@ -43,7 +43,7 @@ impl Prefix {
 
     /// Makes it new.
     pub fn restart(&mut self)
-        ensures { Begins self.new [] }
+        ensures { IsPrefixAt self.new [] }
     {
         self.bytes.clear();
     }
@@ -51,7 +51,8 @@ impl Prefix {
     /// Takes the next piece of the bundle. Most pieces come after the first bytes.
     #[inline(always)]
     pub fn take(&mut self, piece: &[u8])
-        ensures { (seen : List ℕ) → Begins self.old seen → Begins self.new (seen ++ piece.now) }
+        ensures { (seen : List ℕ) → IsPrefixAt self.old seen
+            → IsPrefixAt self.new (seen ++ piece.now) }
     {
         if !self.bytes.is_full() {
             self.take_first(piece);
@@ -60,7 +61,8 @@ impl Prefix {
 
     /// Takes a piece, if there is room for bytes.
     fn take_first(&mut self, piece: &[u8])
-        ensures { (seen : List ℕ) → Begins self.old seen → Begins self.new (seen ++ piece.now) }
+        ensures { (seen : List ℕ) → IsPrefixAt self.old seen
+            → IsPrefixAt self.new (seen ++ piece.now) }
     {
         for byte in piece {
             if self.bytes.is_full() {
@@ -72,7 +74,7 @@ impl Prefix {
 
     /// Whether the bundle begins with tag 55799 and an array of indefinite length.
     pub fn is_tagged(&self) -> bool
-        ensures { (seen : List ℕ) → Begins self.now seen → result ≡ is_tagged seen }
+        ensures { (seen : List ℕ) → IsPrefixAt self.now seen → result ≡ is_tagged seen }
     {
         matches!(self.bytes.as_slice(), [0xd9, 0xd9, 0xf7, 0x9f])
     }

@@ -31,15 +31,15 @@ LastGoesOn [] more = Unit {0}
 LastGoesOn (head ∷ []) more = GrowsTo head more
 LastGoesOn (head ∷ second ∷ rest) more = ⊥
 
-pub record GoesOn (before after : Stream) : Type 0 where
+pub record StreamGoesOn (before after : Stream) : Type 0 where
   pub rest : Stream
   pub are : after ≡ record { entries = before.entries ++ rest.entries; end = rest.end }
   pub follows : LastGoesOn (cut_heads before.end) (rest.entries ++ cut_heads rest.end)
   -- a fault that lasts stays the same
   pub stays : shows_fault (stop_of before.end) ≡ true → after ≡ before
 
-goes_on_entry : (first : Entry) (before after : Stream) → GoesOn before after
-    → GoesOn (with_entry first before) (with_entry first after)
+goes_on_entry : (first : Entry) (before after : Stream) → StreamGoesOn before after
+    → StreamGoesOn (with_entry first before) (with_entry first after)
 goes_on_entry first before after on = record {
   rest = on.rest;
   are = ap (with_entry first) on.are;
@@ -60,7 +60,7 @@ module _ (offset : ℕ) (message : Message) (bytes more : List ℕ) where
 
   -- the data is cut
   cut_on : (before after : Stream) → length bytes < data_length message
-      → GoesOn (with_data_of offset message bytes before)
+      → StreamGoesOn (with_data_of offset message bytes before)
       (with_data_of offset message (bytes ++ more) after)
   cut_on before after short =
       rw (lt-ltb (length bytes) (data_length message) short) (record {
@@ -71,8 +71,8 @@ module _ (offset : ℕ) (message : Message) (bytes more : List ℕ) where
       })
 
   -- the data is whole
-  whole_on : (before after : Stream) → data_length message ≤ length bytes → GoesOn before after
-      → GoesOn (with_data_of offset message bytes before)
+  whole_on : (before after : Stream) → data_length message ≤ length bytes → StreamGoesOn before after
+      → StreamGoesOn (with_data_of offset message bytes before)
       (with_data_of offset message (bytes ++ more) after)
   whole_on before after whole on =
       rw (le-ltb (length bytes) (data_length message) whole, le-ltb (length (bytes ++ more)) (data_length message) (omega (arith, length-append bytes more)), take-append-le (data_length message) bytes more whole)
@@ -83,7 +83,7 @@ module _ (offset : ℕ) (message : Message) (bytes more : List ℕ) where
 -- a fault that lasts stays the same
 fault_on : (offset byte : ℕ) (bytes more : List ℕ) (fault : WireFault)
     → message_at (byte ∷ bytes) ≡ Err fault
-    → GoesOn (stream_at offset (byte ∷ bytes)) (stream_at offset ((byte ∷ bytes) ++ more))
+    → StreamGoesOn (stream_at offset (byte ∷ bytes)) (stream_at offset ((byte ∷ bytes) ++ more))
 fault_on offset byte bytes more fault is =
     rw (stream_at-fault offset byte bytes fault is) (record {
       rest = stream_at offset ((byte ∷ bytes) ++ more);
@@ -96,10 +96,10 @@ fault_on offset byte bytes more fault is =
 
 module _ (count : ℕ) (more : List ℕ)
     (later : (offset : ℕ) (bytes : List ℕ) → length bytes ≤ count
-    → GoesOn (stream_at offset bytes) (stream_at offset (bytes ++ more))) where
+    → StreamGoesOn (stream_at offset bytes) (stream_at offset (bytes ++ more))) where
   message_on : (offset : ℕ) (bytes : List ℕ) (message : Message) (rest : List ℕ)
       → length bytes ≤ suc count → message_at bytes ≡ Ok (message, rest)
-      → GoesOn (stream_at offset bytes) (stream_at offset (bytes ++ more))
+      → StreamGoesOn (stream_at offset bytes) (stream_at offset (bytes ++ more))
   message_on offset bytes message rest fewer is =
       let size = data_length message in
       let place = offset + (length bytes - length rest) + size in
@@ -114,11 +114,11 @@ module _ (count : ℕ) (more : List ℕ)
 
   read_on : (offset byte : ℕ) (bytes : List ℕ) (read : Result (Message × List ℕ) WireFault)
       → length bytes ≤ count → message_at (byte ∷ bytes) ≡ read
-      → GoesOn (stream_at offset (byte ∷ bytes)) (stream_at offset ((byte ∷ bytes) ++ more))
+      → StreamGoesOn (stream_at offset (byte ∷ bytes)) (stream_at offset ((byte ∷ bytes) ++ more))
   read_on offset byte bytes (Ok (message, rest)) fewer is = message_on offset (byte ∷ bytes) message rest (omega arith) is
   read_on offset byte bytes (Err fault) fewer is = fault_on offset byte bytes more fault is
 
-none_on : (offset : ℕ) (more : List ℕ) → GoesOn (stream_at offset []) (stream_at offset more)
+none_on : (offset : ℕ) (more : List ℕ) → StreamGoesOn (stream_at offset []) (stream_at offset more)
 none_on offset more =
     rw stream_at-nil (record {
       rest = stream_at offset more;
@@ -128,14 +128,14 @@ none_on offset more =
     })
 
 stream_on_upto : (count : ℕ) (more : List ℕ) (offset : ℕ) (bytes : List ℕ) → length bytes ≤ count
-    → GoesOn (stream_at offset bytes) (stream_at offset (bytes ++ more))
+    → StreamGoesOn (stream_at offset bytes) (stream_at offset (bytes ++ more))
 stream_on_upto count more offset [] fewer = none_on offset more
 stream_on_upto zero more offset (byte ∷ bytes) fewer = absurd (omega arith)
 stream_on_upto (suc count) more offset (byte ∷ bytes) fewer =
     read_on count more (stream_on_upto count more) offset byte bytes (message_at (byte ∷ bytes)) (omega arith) refl
 
 pub stream_on : (offset : ℕ) (bytes more : List ℕ)
-    → GoesOn (stream_at offset bytes) (stream_at offset (bytes ++ more))
+    → StreamGoesOn (stream_at offset bytes) (stream_at offset (bytes ++ more))
 stream_on offset bytes more = stream_on_upto (length bytes) more offset bytes (omega arith)
 
 -- ---- a stream with its contact header
@@ -146,7 +146,7 @@ stream_of reading = record { entries = reading.entries; end = reading.end }
 pub record ReadingGoesOn (before after : Reading) : Type 0 where
   -- the contact header stays the same, or it was not read yet
   pub contact : (after.contact ≡ before.contact) ⊎ ((before.contact ≡ None) × (before.entries ≡ []))
-  pub messages : GoesOn (stream_of before) (stream_of after)
+  pub messages : StreamGoesOn (stream_of before) (stream_of after)
   pub stays : shows_fault (stop_of before.end) ≡ true → after ≡ before
 
 reading_on_by : (bytes more : List ℕ) (read : Result (Contact × List ℕ) WireFault)

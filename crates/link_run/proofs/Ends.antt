@@ -10,7 +10,7 @@ use Rattle.link_wire.specs.declared.fault.WireFault.TheVariants as wire
 use Rattle.link_report.specs.{Fault.fault_text}
 use Rattle.link_report.proofs.Faults.{some_fault}
 use Rattle.link_run.specs.Made.{StreamStop, Made, IsLasting, whole_by, so_far_by, shows_fault, tool_of, is_lasting, stop_of}
-use Rattle.link_run.specs.Run.{Texts, EndsAtFault}
+use Rattle.link_run.specs.Run.{Texts, HasNoEarlierFault}
 use Rattle.link_run.proofs.Runs.{ReportsFaults, few_over}
 
 -- ---- where a recorded stream stops
@@ -108,7 +108,7 @@ unshown_front made lasting front more unshown =
 
 -- bytes that show no fault
 pub ends_unshown : (made : List ℕ → Made) → IsLasting made → (bytes : List ℕ)
-    → shows_fault (made bytes).stop ≡ false → EndsAtFault (tool_of made) bytes
+    → shows_fault (made bytes).stop ≡ false → HasNoEarlierFault (tool_of made) bytes
 ends_unshown made lasting bytes unshown = λ front rest parts some.
     unshown_front made lasting front rest
     (ap (λ (all : List ℕ). shows_fault (made all).stop) (sym parts) ∙ unshown)
@@ -119,7 +119,7 @@ pub ends_shown : (made : List ℕ → Made) → IsLasting made → (history give
     → shows_fault (made history).stop ≡ false
     → ((count : ℕ) → count < length given
     → shows_fault (made (history ++ take count given)).stop ≡ false)
-    → EndsAtFault (tool_of made) (history ++ given)
+    → HasNoEarlierFault (tool_of made) (history ++ given)
 ends_shown made lasting history given unshown shown_last = λ front rest parts some.
     let sizes = ap length parts in
     ⊎_elim

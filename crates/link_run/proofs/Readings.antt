@@ -3,7 +3,7 @@ use Rattle.std.proofs.Common.{◌≡◌, ℕ, inl, List, [], Option, Result, Ok,
 use Rattle.link_wire.specs.Session.{AfterNext, AfterLoad}
 use Rattle.link_wire.specs.declared.{fault.Stop.Stop, message.Message.Message}
 use Rattle.link_wire.specs.declared.session.Session.{Session}
-use Rattle.link_run.specs.{Run.Looks, Reading.{ReadsMessage, ReadsData}}
+use Rattle.link_run.specs.{Run.Looks, Reading.{AfterFetchMessage, AfterFetchData}}
 use Rattle.link_run.specs.{Writers.{on_output, Writes}, declared.input.Input.Input}
 use Rattle.link_run.specs.declared.{log.Log.Log, writers.Writers.Writers}
 
@@ -13,12 +13,12 @@ module _ {R W E : Type 0} (look : Looks R W E)
     (writes : Writes look.output look.report before after (on_output [])) where
   pub message_given : (next : Result (Option (ℕ × Message)) Stop)
       → AfterNext look.input old new history next
-      → ReadsMessage look old new before after history next
+      → AfterFetchMessage look old new before after history next
   message_given (Ok next) gives = (writes, gives)
   message_given (Err why) gives = inl (writes, gives)
 
   pub data_given : (next : Result ℕ Stop) → AfterLoad look.input old new history next
-      → ReadsData look old new before after history next
+      → AfterFetchData look old new before after history next
   data_given (Ok n) gives = (writes, gives)
   data_given (Err why) gives = inl (writes, gives)
 

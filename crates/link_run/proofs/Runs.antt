@@ -6,12 +6,12 @@ use Rattle.std.specs.Io.KnownBytes.{Consumes, Appends, prepend_known}
 use Rattle.std.proofs.KnownBytes.{Consumes-trans, Appends-nil, Appends-trans}
 use Rattle.link_io.proofs.Windows.{range_none}
 use Rattle.link_wire.specs.{Device.{Input, Output}, Limits.window_size}
-use Rattle.link_wire.specs.Source.{reader_of, window_of, ahead, Takes, StopsAfter, IsOver}
+use Rattle.link_wire.specs.Source.{reader_of, window_of, ahead, Takes, TakesThenStops, IsOver}
 use Rattle.link_wire.specs.declared.IoFault.{IoFault}
 use Rattle.link_wire.specs.declared.IoFault.TheVariants as io
 use Rattle.link_wire.specs.declared.Source.{Source}
-use Rattle.link_run.specs.Run.{Texts, no_texts, ◌then◌, Tool, Looks, Devices, Place, devices_at, NoneFailed, HasWritten, HandedBack, AllGiven, FinishedRun, AreDue, IsBehind, EndedRun}
-use Rattle.link_run.specs.Writers.{place_of, on_output, Writes, WritesPart, AfterWrite, Unsettled}
+use Rattle.link_run.specs.Run.{Texts, no_texts, ◌then◌, Tool, Looks, Devices, Place, devices_at, NoneFailed, HasWritten, ReturnedDevices, AllGiven, FinishedRun, AreDue, IsBehind, EndedRun}
+use Rattle.link_run.specs.Writers.{place_of, on_output, Writes, WritesPart, AfterWrite, FailedSettle}
 use Rattle.link_run.specs.declared.{run.Status.Status, writers.Writers.Writers}
 
 -- what is ahead is the window and then what the reader has left
@@ -46,7 +46,7 @@ module _ {R W E : Type 0} (look : Looks R W E) where
   -- the devices as the run returns them; the bytes taken include those that were not given
   pub written_left : (start : Devices R W E) (now : Place R W E) (bytes : List ℕ) (texts : Texts)
       → HasWritten look start now bytes texts
-      → HandedBack look start (devices_at now) (bytes
+      → ReturnedDevices look start (devices_at now) (bytes
       ++ window_of now.source) texts
   written_left start now bytes texts written = record {
     takes = Consumes-trans (look.input start.reader).left (ahead look.input now.source) (look.input (reader_of now.source)).left bytes (window_of now.source) written.takes (Consumes-ahead (window_of now.source) (look.input (reader_of now.source)).left);
@@ -60,15 +60,15 @@ pub few_over : {R : Type 0} (look : R → Input) (s : Source R) → IsOver look 
 few_over look s over = omega (arith, ap length (range_none s.window s.start s.end over.ended.1))
 
 -- a prefix of the bytes determines these texts
-pub record StoodAt (tool : Tool) (given : List ℕ) (texts : Texts) : Type 0 where
+pub record IsWrittenAtPrefix (tool : Tool) (given : List ℕ) (texts : Texts) : Type 0 where
   pub front : List ℕ
   pub rest : List ℕ
   pub parts : given ≡ front ++ rest
   pub is : texts ≡ tool.so_far front
 
 -- the texts written so far: the report is empty, or a prefix of the bytes determines them
-abbrev pub Stood : Tool → (given : List ℕ) → Texts → Type 0
-Stood tool given texts = (texts.report ≡ []) ⊎ StoodAt tool given texts
+abbrev pub IsWrittenSoFar : Tool → (given : List ℕ) → Texts → Type 0
+IsWrittenSoFar tool given texts = (texts.report ≡ []) ⊎ IsWrittenAtPrefix tool given texts
 
 module _ {R W E : Type 0} (look : Looks R W E) where
   pub written_as : {start : Devices R W E} {now : Place R W E} {xs ys : List ℕ} {p q : Texts}
@@ -147,7 +147,7 @@ module _ {R W E : Type 0} (look : Looks R W E) where
 
   -- if the output failed, no line of the report is about bytes that the output lacks
   behind : (tool : Tool) (given : List ℕ) (before : Texts) (output report : ℕ)
-      → Stood tool given before → report ≡ 0
+      → IsWrittenSoFar tool given before → report ≡ 0
       → ((length before.report + report ≡ 0)
       ⊎ IsBehind tool given (length before.output + output) (length before.report + report))
   behind tool given before output report stood none =
@@ -186,7 +186,7 @@ module _ {R W E : Type 0} (look : Looks R W E) where
       → before then texts ≡ due
       → AreDue look tool (devices_at (place_of s new)) given (window_of s)
       due
-      → length (window_of s) < window_size → (0 < length texts.output → Stood tool given before)
+      → length (window_of s) < window_size → (0 < length texts.output → IsWrittenSoFar tool given before)
       → WritesPart look.output look.report old new texts fault
       → EndedRun look tool start (devices_at (place_of s new)) given
       (Err fault)
@@ -234,7 +234,7 @@ module _ {R W E : Type 0} (look : Looks R W E) where
       → HasWritten look start (place_of s old) given (tool.so_far given)
       → NoneFailed look (devices_at (place_of s old))
       → tool.shows given ≡ false → length (window_of s) < window_size
-      → Unsettled look.output look.report old new fault
+      → FailedSettle look.output look.report old new fault
       → EndedRun look tool start (devices_at (place_of s new)) given
       (Err fault)
   settle_lost tool faults start s old new given fault written sound unshown few part =
@@ -265,7 +265,7 @@ module _ {R W E : Type 0} (look : Looks R W E) where
       → HasWritten look start (place_of old w) history texts
       → NoneFailed look (devices_at (place_of old w))
       → texts ≡ tool.so_far (history ++ given) → tool.shows (history ++ given) ≡ false
-      → StopsAfter look.input old new given fault
+      → TakesThenStops look.input old new given fault
       → EndedRun look tool start (devices_at (place_of new w))
       (history ++ given) (Err fault)
   reader_lost tool start old new w history given texts io.Read written sound due unshown stops =

@@ -1,9 +1,9 @@
 -- How a run ends if its session stops. The tool depends only on the reading of its input.
 use Rattle.std.proofs.Common.{◌≡◌, ℕ, ◌<◌, ◌≤◌, inl, inr, true, false, List, [], ◌++◌, length, take, Some, None, Result, Err, ⊎_elim, refl, ap, sym, ◌∙◌, append-nil, arith}
 use Rattle.link_wire.specs.Limits.{window_size, longest_head}
-use Rattle.link_wire.specs.Source.{window_of, Takes, StopsAfter}
+use Rattle.link_wire.specs.Source.{window_of, Takes, TakesThenStops}
 use Rattle.link_wire.specs.Stream.{End, Clean, Cut, Fault, Reading, reading_of, ended}
-use Rattle.link_wire.specs.Session.{source_of, joined, IsSessionAt, IsRead, IsUndecided, SameMessages, ShownLast, AfterOpen, AfterNext, AfterLoad}
+use Rattle.link_wire.specs.Session.{source_of, joined, IsSessionAt, IsRead, IsUndecided, SameMessages, OnlyLastShows, AfterOpen, AfterNext, AfterLoad}
 use Rattle.link_wire.specs.declared.{IoFault.IoFault, Source.Source, fault.Stop.Stop}
 use Rattle.link_wire.specs.declared.fault.Stop.TheVariants as stop
 use Rattle.link_wire.specs.declared.{fault.WireFault.WireFault, session.Session.Session}
@@ -11,8 +11,8 @@ use Rattle.link_wire.proofs.Contacts.{reading-none}
 use Rattle.link_report.specs.{Fault.fault_text, declared.fault.Fault.Fault as ReportedFault}
 use Rattle.link_report.specs.declared.fault.Fault.TheVariants.{Wire}
 use Rattle.link_run.specs.Made.{Made, with_fault, whole_by, shows_fault, tool_of, is_lasting, stop_of}
-use Rattle.link_run.specs.Reading.{NotHandedOn, ReadsMessage, ReadsData}
-use Rattle.link_run.specs.{Run.{Texts, ◌then◌, Looks, Devices, devices_at, LastStep}, Stages.Stands}
+use Rattle.link_run.specs.Reading.{NotHandedOn, AfterFetchMessage, AfterFetchData}
+use Rattle.link_run.specs.{Run.{Texts, ◌then◌, Looks, Devices, devices_at, LastStep}, Stages.IsRunAt}
 use Rattle.link_run.specs.Writers.{place_of, on_report, AfterLastWrite, AfterEnd}
 use Rattle.link_run.specs.declared.{run.Status.Status, writers.Writers.Writers}
 use Rattle.link_run.proofs.Ends.{lasts, few_at_fault, undecided_unshown, standing_unshown}
@@ -42,7 +42,7 @@ then_fault fault texts = texts_as (append-nil texts.output) refl
 
 -- a part of a message shows no fault before its last byte
 pub part_unshown : (of : Reading → Made) (history given : List ℕ)
-    → SameTexts of (reading_of history) → ShownLast history given
+    → SameTexts of (reading_of history) → OnlyLastShows history given
     → (count : ℕ) → count < length given
     → shows_fault (of (reading_of (history ++ take count given))).stop ≡ false
 part_unshown of history given same last count less =
@@ -53,7 +53,7 @@ part_unshown of history given same last count less =
 module _ {R W E : Type 0} {look : Looks R W E} {made : List ℕ → Made} {start : Devices R W E}
     {history : List ℕ} (of : Reading → Made) (is : (bytes : List ℕ) → made bytes ≡ of (reading_of bytes))
     (most : ℕ) (old new : Source R) (before after : Writers W E)
-    (at : Stands look made start true (place_of old before) history) where
+    (at : IsRunAt look made start true (place_of old before) history) where
   -- a fault of the wire is reported
   wire_fault : {given : List ℕ} (offset : ℕ) (fault : WireFault) (reading : Reading)
       (answer : Result Status IoFault)
@@ -87,7 +87,7 @@ module _ {R W E : Type 0} {look : Looks R W E} {made : List ℕ → Made} {start
 
   -- the reader failed
   reader_fault : {given : List ℕ} (fault : IoFault) (answer : Result Status IoFault)
-      → StopsAfter look.input old new given fault → length given ≤ most
+      → TakesThenStops look.input old new given fault → length given ≤ most
       → (of (reading_of (history ++ given))).texts ≡ (made history).texts
       → shows_fault (of (reading_of (history ++ given))).stop ≡ false
       → answer ≡ Err fault → after ≡ before
@@ -99,7 +99,7 @@ module _ {R W E : Type 0} {look : Looks R W E} {made : List ℕ → Made} {start
 module _ {R W E : Type 0} {look : Looks R W E} {made : List ℕ → Made} {start : Devices R W E}
     {history : List ℕ} (of : Reading → Made) (is : (bytes : List ℕ) → made bytes ≡ of (reading_of bytes)) where
   module _ (old new : Session R) (before : Writers W E)
-      (at : Stands look made start true (place_of (source_of old) before) history) where
+      (at : IsRunAt look made start true (place_of (source_of old) before) history) where
     here : (made history).texts ≡ (of (reading_of history)).texts
     here = ap (λ (m : Made). m.texts) (is history)
 
@@ -141,7 +141,7 @@ module _ {R W E : Type 0} {look : Looks R W E} {made : List ℕ → Made} {start
         (ap (λ b. shows_fault (of (reading_of b)).stop) (append-nil history) ∙ ap shows_fault stops ∙ standing_unshown old.offset old.left _ session.left) gives.0 gives.1
 
   module _ (old new : Session R) (before mid after : Writers W E)
-      (at : Stands look made start true (place_of (source_of old) before) history)
+      (at : IsRunAt look made start true (place_of (source_of old) before) history)
       (session : IsSessionAt look.input old history) where
     -- a writer failed to hand on what was written before the read
     lost : (most : ℕ) (why : Stop) (answer : Result Status IoFault)
@@ -153,7 +153,7 @@ module _ {R W E : Type 0} {look : Looks R W E} {made : List ℕ → Made} {start
         rw (not_on.unread, as_failed.0, as_failed.1) (not_handed_on (source_of old) before mid at most not_on.fault not_on.few not_on.unsettled)
 
     pub message_ended : SameTexts of (reading_of history) → (why : Stop) (answer : Result Status IoFault)
-        → ReadsMessage look old new before mid history (Err why)
+        → AfterFetchMessage look old new before mid history (Err why)
         → AfterEnd look.output look.report why mid after answer
         → LastStep look (tool_of made) start (devices_at (place_of (source_of new) after)) longest_head history answer
     message_ended same why answer got gives =
@@ -164,7 +164,7 @@ module _ {R W E : Type 0} {look : Looks R W E} {made : List ℕ → Made} {start
 
     pub data_ended : (most : ℕ) → (of (reading_of history)).stop ≡ stop_of (reading_of history).end
         → (why : Stop) (answer : Result Status IoFault)
-        → ReadsData look old new before mid history (Err why)
+        → AfterFetchData look old new before mid history (Err why)
         → AfterEnd look.output look.report why mid after answer
         → LastStep look (tool_of made) start (devices_at (place_of (source_of new) after)) most history answer
     data_ended most stops why answer got gives =
@@ -176,7 +176,7 @@ module _ {R W E : Type 0} {look : Looks R W E} {made : List ℕ → Made} {start
 module _ {R W E : Type 0} {look : Looks R W E} {made : List ℕ → Made} {start : Devices R W E}
     (of : Reading → Made) (is : (bytes : List ℕ) → made bytes ≡ of (reading_of bytes))
     (old new : Session R) (before after : Writers W E)
-    (at : Stands look made start true (place_of (source_of old) before) []) where
+    (at : IsRunAt look made start true (place_of (source_of old) before) []) where
   none : (made []).texts ≡ (of (reading_of [])).texts
   none = ap (λ (m : Made). m.texts) (is [])
 

@@ -1,19 +1,19 @@
--- A step of a run for which `Stands` holds: the run goes on, it ends, or a device fails.
+-- A step of a run for which `IsRunAt` holds: the run goes on, it ends, or a device fails.
 use Rattle.std.proofs.Common.{◌≡◌, ℕ, ◌<◌, ◌≤◌, ◌⊎◌, inl, inr, Bool, true, false, List, [], ◌++◌, length, take, Result, Ok, Err, ⊎_elim, refl, ap, sym, ◌∙◌, append-nil, arith}
-use Rattle.link_wire.specs.{Limits.window_size, Source.{window_of, Takes, StopsAfter, IsOver}}
+use Rattle.link_wire.specs.{Limits.window_size, Source.{window_of, Takes, TakesThenStops, IsOver}}
 use Rattle.link_wire.specs.declared.{IoFault.IoFault, Source.Source}
 use Rattle.link_run.specs.Made.{Made, whole_by, shows_fault, tool_of}
-use Rattle.link_run.specs.Run.{Texts, no_texts, ◌then◌, Looks, Devices, Place, devices_at, NoneFailed, HasWritten, AreDue, LastStep, WentOn, EndedRun, AfterStep, answer_of, progress_after}
-use Rattle.link_run.specs.Stages.{Stands, AfterStage, written_by}
-use Rattle.link_run.specs.Writers.{place_of, Writes, WritesPart, AfterWrite, AfterLastWrite, Unsettled}
+use Rattle.link_run.specs.Run.{Texts, no_texts, ◌then◌, Looks, Devices, Place, devices_at, NoneFailed, HasWritten, AreDue, LastStep, ContinuedStep, EndedRun, AfterStep, answer_of, progress_after}
+use Rattle.link_run.specs.Stages.{IsRunAt, AfterStage, written_by}
+use Rattle.link_run.specs.Writers.{place_of, Writes, WritesPart, AfterWrite, AfterLastWrite, FailedSettle}
 use Rattle.link_run.specs.declared.{run.Status.Status, writers.Writers.Writers}
 use Rattle.link_run.proofs.Ends.{unshown_sofar, shown_sofar, made_reports, ends_unshown, ends_shown}
-use Rattle.link_run.proofs.Runs.{Stood, then_none, written_as, written_given, written_on, sound_given, sound_written, all_given, answered, writer_lost, settle_lost, reader_lost}
+use Rattle.link_run.proofs.Runs.{IsWrittenSoFar, then_none, written_as, written_given, written_on, sound_given, sound_written, all_given, answered, writer_lost, settle_lost, reader_lost}
 
 -- the bytes so far determine what was written, or the report is empty
 stood_by : (begun : Bool) (made : List ℕ → Made) (history given : List ℕ)
     → shows_fault (made history).stop ≡ false
-    → Stood (tool_of made) (history ++ given) (written_by begun (made history))
+    → IsWrittenSoFar (tool_of made) (history ++ given) (written_by begun (made history))
 stood_by true made history given unshown = inr (record {
   front = history;
   rest = given;
@@ -24,7 +24,7 @@ stood_by false made history given unshown = inl refl
 
 module _ {R W E : Type 0} {look : Looks R W E} {made : List ℕ → Made} {start : Devices R W E}
     {begun : Bool} {history : List ℕ} (most : ℕ) (old new : Source R) (before : Writers W E)
-    (at : Stands look made start begun (place_of old before) history) where
+    (at : IsRunAt look made start begun (place_of old before) history) where
   -- these bytes are given
   module _ {given : List ℕ} (takes : Takes look.input old new given)
       (size : length given ≤ most) (few : length (window_of new) < window_size) where
@@ -45,7 +45,7 @@ module _ {R W E : Type 0} {look : Looks R W E} {made : List ℕ → Made} {start
         (due : had then texts ≡ (made bytes).texts)
         (unshown : shows_fault (made bytes).stop ≡ false) where
       pub stands_on : Writes look.output look.report before after texts
-          → Stands look made start true (place_of new after) bytes
+          → IsRunAt look made start true (place_of new after) bytes
       stands_on writes = record {
         written = written_on look start new before after bytes had texts still writes.output
             writes.report due;
@@ -57,7 +57,7 @@ module _ {R W E : Type 0} {look : Looks R W E} {made : List ℕ → Made} {start
       pub goes_on : (knows : List ℕ → Type 0) → (begun ≡ true → 0 < length given) → knows bytes
           → Writes look.output look.report before after texts
           → (0 < most → begun ≡ true)
-          → WentOn old new (λ bytes. Stands look made start true (place_of new after) bytes × knows bytes) most history
+          → ContinuedStep old new (λ bytes. IsRunAt look made start true (place_of new after) bytes × knows bytes) most history
       goes_on knows some known writes only = record {
         given = given;
         some = λ may. some (only may);
@@ -134,7 +134,7 @@ module _ {R W E : Type 0} {look : Looks R W E} {made : List ℕ → Made} {start
   -- the reader failed after these bytes, which show no fault
   pub read_fails : (given : List ℕ) (after : Writers W E) (fault : IoFault)
       (answer : Result Status IoFault)
-      → StopsAfter look.input old new given fault → length given ≤ most
+      → TakesThenStops look.input old new given fault → length given ≤ most
       → written_by begun (made history) ≡ (made (history ++ given)).texts
       → shows_fault (made (history ++ given)).stop ≡ false → answer ≡ Err fault → after ≡ before
       → LastStep look (tool_of made) start (devices_at (place_of new after)) most history answer
@@ -150,10 +150,10 @@ module _ {R W E : Type 0} {look : Looks R W E} {made : List ℕ → Made} {start
 
 module _ {R W E : Type 0} {look : Looks R W E} {made : List ℕ → Made} {start : Devices R W E}
     {history : List ℕ} (source : Source R) (before after : Writers W E)
-    (at : Stands look made start true (place_of source before) history) where
-  -- after what was written was handed on, `Stands` holds as before
+    (at : IsRunAt look made start true (place_of source before) history) where
+  -- after what was written was handed on, `IsRunAt` holds as before
   pub settled : Writes look.output look.report before after no_texts
-      → Stands look made start true (place_of source after) history
+      → IsRunAt look made start true (place_of source after) history
   settled writes = record {
     written = written_on look start source before after history (made history).texts no_texts
         at.written writes.output writes.report (then_none (made history).texts);
@@ -164,7 +164,7 @@ module _ {R W E : Type 0} {look : Looks R W E} {made : List ℕ → Made} {start
 
   -- if handing on fails, no text is lost
   pub not_handed_on : (most : ℕ) (fault : IoFault) → length (window_of source) < window_size
-      → Unsettled look.output look.report before after fault
+      → FailedSettle look.output look.report before after fault
       → LastStep look (tool_of made) start (devices_at (place_of source after)) most history (Err fault)
   not_handed_on most fault few part = record {
     given = [];

@@ -3,14 +3,14 @@ use Rattle.std.proofs.Common.{◌≡◌, ℕ, ◌+◌, ◌≤◌, Bool, List, �
 use Rattle.std.proofs.lemmas.Bool.{cases_lt}
 use Rattle.link_wire.specs.declared.{IoFault.IoFault, Source.Source}
 use Rattle.link_run.specs.Made.{Made, tool_of}
-use Rattle.link_run.specs.Run.{Tool, Looks, Devices, Place, WentOn, LastStep, AfterStep}
-use Rattle.link_run.specs.{Stages.{Stands, AfterStage, IsMore}, declared.run.Progress.Progress}
+use Rattle.link_run.specs.Run.{Tool, Looks, Devices, Place, ContinuedStep, LastStep, AfterStep}
+use Rattle.link_run.specs.{Stages.{IsRunAt, AfterStage, IsMore}, declared.run.Progress.Progress}
 use Rattle.link_run.specs.declared.run.{Progress.TheVariants.{More, Done}, Status.Status}
 
 -- a step that went on, with another relation that holds of the history and the bytes given
 pub went_with : {R : Type 0} {old new : Source R} {first second : List ℕ → Type 0} {most : ℕ}
-    {history : List ℕ} → (went : WentOn old new first most history)
-    → second (history ++ went.given) → WentOn old new second most history
+    {history : List ℕ} → (went : ContinuedStep old new first most history)
+    → second (history ++ went.given) → ContinuedStep old new second most history
 went_with went stands = record {
   given = went.given;
   some = went.some;
@@ -22,9 +22,9 @@ went_with went stands = record {
 
 -- a step that went on, and then one that goes on too
 went_later : {R : Type 0} {old mid new : Source R} {between stands : List ℕ → Type 0}
-    {first second : ℕ} {history : List ℕ} → (went : WentOn old mid between first history)
-    → WentOn mid new stands second (history ++ went.given)
-    → WentOn old new stands (first + second) history
+    {first second : ℕ} {history : List ℕ} → (went : ContinuedStep old mid between first history)
+    → ContinuedStep mid new stands second (history ++ went.given)
+    → ContinuedStep old new stands (first + second) history
 went_later {stands} {first} {history} went more =
     let one = went.count in
     let two = more.count in
@@ -62,7 +62,7 @@ module _ {R W E : Type 0} (look : Looks R W E) (tool : Tool) (start : Devices R 
   module _ (old mid new : Place R W E) (between stands : List ℕ → Type 0) (history : List ℕ) where
     -- a step that went on, and then another step
     pub step_then : (first second : ℕ) (result : Result Progress IoFault)
-        → (went : WentOn old.source mid.source between first history)
+        → (went : ContinuedStep old.source mid.source between first history)
         → AfterStep look tool start mid new stands second (history ++ went.given) result
         → AfterStep look tool start old new stands (first + second) history result
     step_then first second (Ok More) went gives = went_later went gives
@@ -76,7 +76,7 @@ pub stage_kept : {R W E : Type 0} (look : Looks R W E) (made later : List ℕ �
     (result : Result Progress IoFault) → later ≡ made → (IsMore result → answer ≡ None)
     → AfterStage look made start begun old new knows most history result
     → AfterStep look (tool_of made) start old new
-    (λ bytes. (answer ≡ None) × (Stands look later start begun new bytes × knows bytes))
+    (λ bytes. (answer ≡ None) × (IsRunAt look later start begun new bytes × knows bytes))
     most history result
 stage_kept look made later start begun old new knows most history answer (Ok More) same none went =
     went_with went (none tt, (rw same went.at.0, went.at.1))

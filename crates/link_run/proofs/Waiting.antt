@@ -5,20 +5,20 @@ use Rattle.std.proofs.KnownBytes.{Appends-trans}
 use Rattle.std.proofs.lemmas.List.Elements.{All-nil, All-push, All-weaker}
 use Rattle.link_wire.specs.{Device.{Input as Seen, Output}, declared.IoFault.IoFault}
 use Rattle.link_wire.specs.declared.Source.{Source}
-use Rattle.link_run.specs.{Made.{Made, tool_of}, Reading.{Unread, CallWaits}}
-use Rattle.link_run.specs.Run.{Texts, Tool, Looks, Devices, Place, Wait, Waits, then_waits, noted, waits_by, HasShown, IsWaitAt, IsPrompt, WasPrompt, WaitsOnce, LastStep}
+use Rattle.link_run.specs.{Made.{Made, tool_of}, Reading.{ReadsNothing, CallWaits}}
+use Rattle.link_run.specs.Run.{Texts, Tool, Looks, Devices, Place, Wait, Waits, then_waits, noted, waits_by, HasHandedOn, IsWaitOfPlace, IsPrompt, IsPromptWithin, WaitsOnce, LastStep}
 use Rattle.link_run.specs.WholeRun.{devices_of, ran_of, IsLogOf, AfterRunFrom}
-use Rattle.link_run.specs.{Stages.Stands, declared.input.Input.Input}
+use Rattle.link_run.specs.{Stages.IsRunAt, declared.input.Input.Input}
 use Rattle.link_run.specs.declared.run.{Status.Status, RunEnd.RunEnd}
 use Rattle.link_run.specs.declared.writers.Writers.{Writers}
 use Rattle.link_run.proofs.Ends.{unshown_sofar}
 
 module _ {S R W E : Type 0} {look : R → Seen} {source : S → Source R} where
-  pub unread_none : (same : Input S W E) → Unread look source same same
+  pub unread_none : (same : Input S W E) → ReadsNothing look source same same
   unread_none same = record { reach = refl; waits = refl }
 
-  pub unread_then : {old mid new : Input S W E} → Unread look source old mid
-      → Unread look source mid new → Unread look source old new
+  pub unread_then : {old mid new : Input S W E} → ReadsNothing look source old mid
+      → ReadsNothing look source mid new → ReadsNothing look source old new
   unread_then first later = record {
     reach = later.reach ∙ first.reach;
     waits = later.waits ∙ first.waits;
@@ -34,7 +34,7 @@ module _ {S R W E : Type 0} {look : Looks R W E} {source : S → Source R} {enou
     (before : Writers W E) where
   -- after a call, others read nothing
   pub waits_then : {old mid new : Input S W E} → CallWaits look source enough old mid before
-      → Unread look.input source mid new → CallWaits look source enough old new before
+      → ReadsNothing look.input source mid new → CallWaits look source enough old new before
   waits_then first later =
       ⊎_elim
       (λ none. inl (later.waits ∙ none.0, ⊎_elim (λ some. inl some) (λ same. inr (later.reach ∙ same)) none.1))
@@ -49,8 +49,8 @@ never_longer {R} {W} {E} before after last same more =
 
 -- a text was written, and later all was handed on
 shown_after : {start now later : Output} (text due : List ℕ)
-    → Appends start.written now.written text → HasShown now later [] → text ≡ due
-    → HasShown start later due
+    → Appends start.written now.written text → HasHandedOn now later [] → text ≡ due
+    → HasHandedOn start later due
 shown_after {start} {now} {later} text due wrote shown is = record {
   written = rw (append-nil text, is) at
       (Appends-trans start.written now.written later.written text [] wrote shown.written);
@@ -60,7 +60,7 @@ shown_after {start} {now} {later} text due wrote shown is = record {
 module _ {R W E : Type 0} {look : Looks R W E} {made : List ℕ → Made} {start : Devices R W E} where
   -- a run waits with nothing in hand
   prompt_at : {place : Place R W E} {history : List ℕ} {wait : Wait W E}
-      → Stands look made start true place history → IsWaitAt look place wait
+      → IsRunAt look made start true place history → IsWaitOfPlace look place wait
       → IsPrompt look (tool_of made) start history wait
   prompt_at {history} stands is =
       let texts = made history in
@@ -79,10 +79,10 @@ module _ {R W E : Type 0} {look : Looks R W E} {made : List ℕ → Made} {start
   -- a stage waits before it is given a byte and before it writes, so its run has nothing in hand
   pub prompt_once : {S : Type 0} (reader_of : S → R) (begun : Bool) {place : Place R W E}
       {history : List ℕ} {spared : Type 0} {before after : Waits S W E}
-      → Stands look made start begun place history → (begun ≡ false → after ≡ before)
-      → WaitsOnce spared before after (IsWaitAt look place)
+      → IsRunAt look made start begun place history → (begun ≡ false → after ≡ before)
+      → WaitsOnce spared before after (IsWaitOfPlace look place)
       → WaitsOnce spared (waits_by reader_of before) (waits_by reader_of after)
-      (λ wait. IsWaitAt look place wait × IsPrompt look (tool_of made) start history wait)
+      (λ wait. IsWaitOfPlace look place wait × IsPrompt look (tool_of made) start history wait)
   prompt_once reader_of true stands begins waits =
       ⊎_elim (λ none. inl (ap (waits_by reader_of) none.0, none.1))
       (λ waited. inr (waited.0, ap (waits_by reader_of) waited.1, (waited.2, prompt_at stands waited.2))) waits
@@ -92,13 +92,13 @@ module _ {R W E : Type 0} {look : Looks R W E} {made : List ℕ → Made} {start
 
 module _ {R W E : Type 0} (look : Looks R W E) (tool : Tool) (start : Devices R W E) where
   abbrev ArePrompt : List ℕ → List (Wait W E) → Type 0
-  ArePrompt given = All (WasPrompt look tool start given)
+  ArePrompt given = All (IsPromptWithin look tool start given)
 
   -- more bytes were given since
   still_prompt : (given more : List ℕ) (waits : List (Wait W E)) → ArePrompt given waits
       → ArePrompt (given ++ more) waits
   still_prompt given more waits were =
-      All-weaker (WasPrompt look tool start given) (WasPrompt look tool start (given ++ more))
+      All-weaker (IsPromptWithin look tool start given) (IsPromptWithin look tool start (given ++ more))
       (λ wait was. record {
         front = was.front;
         rest = was.rest ++ more;
@@ -117,13 +117,13 @@ module _ {R W E : Type 0} (look : Looks R W E) (tool : Tool) (start : Devices R 
   waited_none before = record {
     since = [];
     are = ap (λ each. record { from = before.from; each = each }) (sym (append-nil before.each));
-    prompt = All-nil (WasPrompt look tool start []);
+    prompt = All-nil (IsPromptWithin look tool start []);
   }
 
   pub waited_more : {spared : Type 0} {place : Place R W E} (given more : List ℕ)
       (before now later : Waits R W E) → Waited given before now
       → WaitsOnce spared now later
-      (λ wait. IsWaitAt look place wait × IsPrompt look tool start given wait)
+      (λ wait. IsWaitOfPlace look place wait × IsPrompt look tool start given wait)
       → Waited (given ++ more) before later
   waited_more given more before now later waited waits =
       let still = still_prompt given more waited.since waited.prompt in
@@ -133,7 +133,7 @@ module _ {R W E : Type 0} (look : Looks R W E) (tool : Tool) (start : Devices R 
         since = waited.since ++ once.0 ∷ [];
         are = once.1 ∙ ap (λ all. noted all once.0) waited.are
             ∙ ap (λ each. record { from = before.from; each = each }) (append_assoc before.each waited.since (once.0 ∷ []));
-        prompt = All-push (WasPrompt look tool start (given ++ more)) waited.since once.0 still
+        prompt = All-push (IsPromptWithin look tool start (given ++ more)) waited.since once.0 still
             (record { front = given; rest = more; parts = refl; prompt = once.2.1 });
       })
       waits
@@ -146,7 +146,7 @@ module _ {R W E : Type 0} (look : Looks R W E) (tool : Tool) (start : Devices R 
       → LastStep look tool start now most history answer
       → Waited history before between
       → WaitsOnce spared between later
-      (λ wait. IsWaitAt look place wait × IsPrompt look tool start history wait)
+      (λ wait. IsWaitOfPlace look place wait × IsPrompt look tool start history wait)
       → AfterRunFrom look tool start before end
   ran_on history end returned answered log last waited waits =
       let all = waited_more history last.given _ _ _ waited waits in

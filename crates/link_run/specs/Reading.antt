@@ -4,7 +4,7 @@ use Rattle.std.specs.Prelude.{◌≡◌, ℕ, ◌<◌, ◌⊎◌, true, List, []
 use Rattle.link_wire.specs.Device.{Input as Seen}
 use Rattle.link_wire.specs.Limits.{window_size}
 use Rattle.link_wire.specs.MessageBuffer.{message_of, SegmentHasTotals}
-use Rattle.link_wire.specs.Session.{source_of, left_of, may_open, is_opened, data_in, HasStopped, IsSessionAt, HasNext, with_message_read, AfterNext, AfterLoad}
+use Rattle.link_wire.specs.Session.{source_of, left_of, may_open, is_opened, data_in, HasStopped, IsSessionAt, HasEnoughForNext, with_message_read, AfterNext, AfterLoad}
 use Rattle.link_wire.specs.Source.{window_of, at_hand, front_of, reach, IsLive, HasEnded, HasFailed, AfterReadyFront}
 use Rattle.link_wire.specs.declared.IoFault.{IoFault}
 use Rattle.link_wire.specs.declared.IoFault.TheVariants as io
@@ -12,8 +12,8 @@ use Rattle.link_wire.specs.declared.{Source.Source, fault.Stop.Stop}
 use Rattle.link_wire.specs.declared.fault.Stop.TheVariants as stop
 use Rattle.link_wire.specs.declared.message.{Message.Message, MessageBuffer.MessageBuffer}
 use Rattle.link_wire.specs.declared.session.Session.{Session}
-use Rattle.link_run.specs.Run.{Looks, Waits, IsWaitAt, WaitsOnce, IsSpared}
-use Rattle.link_run.specs.Writers.{place_of, on_output, next_line, Writes, Unsettled}
+use Rattle.link_run.specs.Run.{Looks, Waits, IsWaitOfPlace, WaitsOnce, IsSpared}
+use Rattle.link_run.specs.Writers.{place_of, on_output, next_line, Writes, FailedSettle}
 use Rattle.link_run.specs.declared.{input.Input.Input, writers.Writers.Writers}
 
 module _ {S W E : Type 0} where
@@ -28,7 +28,7 @@ module _ {S W E : Type 0} where
 -- The session has enough bytes at hand for what comes next. Before the contact header this always
 -- holds, since a run has written nothing yet.
 abbrev pub HasEnough : {R : Type 0} → (R → Seen) → Session R → Type 0
-HasEnough look session = (may_open session ≡ true) ⊎ HasNext look session
+HasEnough look session = (may_open session ≡ true) ⊎ HasEnoughForNext look session
 
 module _ {R W E : Type 0} (look : Looks R W E)
     (old new : Session R) (before after : Writers W E) where
@@ -38,44 +38,44 @@ module _ {R W E : Type 0} (look : Looks R W E)
     pub is : why ≡ stop.Io fault
     pub unread : new ≡ old
     pub few : length (window_of (source_of old)) < window_size
-    pub unsettled : Unsettled look.output look.report before after fault
+    pub unsettled : FailedSettle look.output look.report before after fault
 
   -- Nothing was written, and the session gave this message or stopped; or a writer failed to hand
   -- on what was written.
-  abbrev pub ReadsMessage : (history : List ℕ) → Result (Option (ℕ × Message)) Stop → Type 0
-  ReadsMessage history (Ok next) =
+  abbrev pub AfterFetchMessage : (history : List ℕ) → Result (Option (ℕ × Message)) Stop → Type 0
+  AfterFetchMessage history (Ok next) =
       Writes look.output look.report before after (on_output [])
       × AfterNext look.input old new history (Ok next)
-  ReadsMessage history (Err why) =
+  AfterFetchMessage history (Err why) =
       (Writes look.output look.report before after (on_output [])
       × AfterNext look.input old new history (Err why))
       ⊎ NotHandedOn why
 
-  -- as `ReadsMessage`, for the data of the open segment
-  abbrev pub ReadsData : (history : List ℕ) → Result ℕ Stop → Type 0
-  ReadsData history (Ok n) =
+  -- as `AfterFetchMessage`, for the data of the open segment
+  abbrev pub AfterFetchData : (history : List ℕ) → Result ℕ Stop → Type 0
+  AfterFetchData history (Ok n) =
       Writes look.output look.report before after (on_output [])
       × AfterLoad look.input old new history (Ok n)
-  ReadsData history (Err why) =
+  AfterFetchData history (Err why) =
       (Writes look.output look.report before after (on_output [])
       × AfterLoad look.input old new history (Err why))
       ⊎ NotHandedOn why
 
 -- Nothing was written, and the source made bytes ready, ended or stopped; or a writer failed to
 -- hand on what was written, and nothing was read.
-abbrev pub ReadsBytes : {R W E : Type 0} → Looks R W E → (old new : Source R)
+abbrev pub AfterFetchBytes : {R W E : Type 0} → Looks R W E → (old new : Source R)
     → (before after : Writers W E) → Result ℕ IoFault → Type 0
-ReadsBytes look old new before after (Ok n) =
+AfterFetchBytes look old new before after (Ok n) =
     Writes look.output look.report before after (on_output [])
     × AfterReadyFront look.input old new (Ok n)
-ReadsBytes look old new before after (Err fault) =
+AfterFetchBytes look old new before after (Err fault) =
     (Writes look.output look.report before after (on_output [])
     × AfterReadyFront look.input old new (Err fault))
     ⊎ ((new ≡ old) × (length (window_of old) < window_size)
-    × Unsettled look.output look.report before after fault)
+    × FailedSettle look.output look.report before after fault)
 
 -- a call read nothing, and did not wait
-pub record Unread {S R W E : Type 0} (look : R → Seen) (source : S → Source R)
+pub record ReadsNothing {S R W E : Type 0} (look : R → Seen) (source : S → Source R)
     (old new : Input S W E) : Type 0 where
   pub reach : reach look (source (feed_of new)) ≡ reach look (source (feed_of old))
   pub waits : waits_of new ≡ waits_of old
@@ -86,7 +86,7 @@ abbrev pub CallWaits : {S R W E : Type 0} → Looks R W E → (source : S → So
     → (enough : Type 0) → (old new : Input S W E) → (before : Writers W E) → Type 0
 CallWaits look source enough old new before =
     WaitsOnce (IsSpared look.input enough (source (feed_of old)) (source (feed_of new)))
-    (waits_of old) (waits_of new) (IsWaitAt look (place_of (source (feed_of old)) before))
+    (waits_of old) (waits_of new) (IsWaitOfPlace look (place_of (source (feed_of old)) before))
 
 -- the same for a call of a session
 abbrev pub SessionWaits : {R W E : Type 0} → Looks R W E → (old new : Input (Session R) W E)
@@ -95,12 +95,12 @@ SessionWaits look old new before =
     CallWaits look source_of (HasEnough look.input (feed_of old)) old new before
 
 -- what holds after a call that reads the head of the next message into `message`
-pub record GetsMessage {R W E : Type 0} (look : Looks R W E)
+pub record FetchesMessage {R W E : Type 0} (look : Looks R W E)
     (old new : Input (Session R) W E) (before after : Writers W E)
     (message : MessageBuffer) (result : Result (Option ℕ) Stop) : Type 0 where
   pub opened : IsTrue (is_opened (feed_of new))
   pub gives : (history : List ℕ) → IsSessionAt look.input (feed_of old) history
-      → ReadsMessage look (feed_of old) (feed_of new) before after history
+      → AfterFetchMessage look (feed_of old) (feed_of new) before after history
       (with_message_read (message_of message) result)
   pub waits : (history : List ℕ) → IsSessionAt look.input (feed_of old) history
       → SessionWaits look old new before
@@ -112,7 +112,7 @@ pub record GetsMessage {R W E : Type 0} (look : Looks R W E)
       → (new ≡ old) × (after ≡ before) × (result ≡ Err why)
 
 -- what holds after a call that makes data of the segment ready
-pub record GetsData {R W E : Type 0} (look : Looks R W E)
+pub record FetchesData {R W E : Type 0} (look : Looks R W E)
     (old new : Input (Session R) W E) (before after : Writers W E)
     (result : Result ℕ Stop) : Type 0 where
   pub size : IfOk result (λ n. n ≡ length (data_in look.input (feed_of new)))
@@ -120,7 +120,7 @@ pub record GetsData {R W E : Type 0} (look : Looks R W E)
   pub here : 0 < length (data_in look.input (feed_of old)) → after ≡ before
   pub opened : IsTrue (is_opened (feed_of old)) → IsTrue (is_opened (feed_of new))
   pub gives : (history : List ℕ) → IsSessionAt look.input (feed_of old) history
-      → ReadsData look (feed_of old) (feed_of new) before after history result
+      → AfterFetchData look (feed_of old) (feed_of new) before after history result
   pub waits : (history : List ℕ) → IsSessionAt look.input (feed_of old) history
       → SessionWaits look old new before
   pub left : IfErr result (λ why. left_of (feed_of new) ≡ left_of (feed_of old))
@@ -130,14 +130,14 @@ pub record GetsData {R W E : Type 0} (look : Looks R W E)
 
 -- A source that has ended or failed returns this again. Or a writer failed to hand on what was
 -- written.
-abbrev pub EndsAgain : {R W E : Type 0} → Looks R W E → (before after : Writers W E)
+abbrev pub AfterEndedLoad : {R W E : Type 0} → Looks R W E → (before after : Writers W E)
     → (again result : Result ℕ IoFault) → Type 0
-EndsAgain look before after again result =
+AfterEndedLoad look before after again result =
     ((result ≡ again) × Writes look.output look.report before after (on_output []))
-    ⊎ ((result ≡ Err io.Write) × Unsettled look.output look.report before after io.Write)
+    ⊎ ((result ≡ Err io.Write) × FailedSettle look.output look.report before after io.Write)
 
 -- what holds after a call that makes bytes ready
-pub record GetsBytes {R W E : Type 0} (look : Looks R W E)
+pub record FetchesBytes {R W E : Type 0} (look : Looks R W E)
     (old new : Input (Source R) W E) (before after : Writers W E)
     (result : Result ℕ IoFault) : Type 0 where
   pub size : IfOk result (λ n. n ≡ length (front_of look.input (feed_of new)))
@@ -145,11 +145,11 @@ pub record GetsBytes {R W E : Type 0} (look : Looks R W E)
   pub here : 0 < length (front_of look.input (feed_of old))
       → (new ≡ old) × (after ≡ before) × (result ≡ Ok (length (front_of look.input (feed_of old))))
   pub gives : IsLive look.input (feed_of old)
-      → ReadsBytes look (feed_of old) (feed_of new) before after result
+      → AfterFetchBytes look (feed_of old) (feed_of new) before after result
   pub waits : CallWaits look (λ source. source) (0 < length (at_hand look.input (feed_of old)))
       old new before
   pub line : next_line after ≡ next_line before
   pub ended : HasEnded (feed_of old)
-      → (feed_of new ≡ feed_of old) × EndsAgain look before after (Ok 0) result
+      → (feed_of new ≡ feed_of old) × AfterEndedLoad look before after (Ok 0) result
   pub failed : (fault : IoFault) → HasFailed (feed_of old) fault
-      → (feed_of new ≡ feed_of old) × EndsAgain look before after (Err fault) result
+      → (feed_of new ≡ feed_of old) × AfterEndedLoad look before after (Err fault) result

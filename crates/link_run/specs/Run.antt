@@ -113,19 +113,19 @@ waits_by reader_of waits = record {
 }
 
 -- Since the device was as in `start`, exactly this text was written, and all of it was handed on.
-pub record HasShown (start now : Output) (text : List ℕ) : Type 0 where
+pub record HasHandedOn (start now : Output) (text : List ℕ) : Type 0 where
   pub written : Appends start.written now.written text
   pub handed : now.handed ≡ now.written
 
 module _ {R W E : Type 0} (look : Looks R W E) where
   -- The run waited at this place: since then nothing was given, and earlier texts were handed on.
   -- Of the bytes taken from the reader, less than a window was not given.
-  pub record IsWaitAt (place : Place R W E) (wait : Wait W E) : Type 0 where
+  pub record IsWaitOfPlace (place : Place R W E) (wait : Wait W E) : Type 0 where
     pub given : wait.0.given ≡ given_by place.source
     pub ahead : wait.0.ahead ≡ length (window_of place.source)
     pub few : wait.0.ahead < window_size
-    pub output : HasShown (look.output place.output) (look.output wait.1.output) []
-    pub report : HasShown (look.report place.report) (look.report wait.1.report) []
+    pub output : HasHandedOn (look.output place.output) (look.output wait.1.output) []
+    pub report : HasHandedOn (look.report place.report) (look.report wait.1.report) []
     pub output_kept : (look.output wait.1.output).failed ≡ (look.output place.output).failed
     pub report_kept : (look.report wait.1.report).failed ≡ (look.report place.report).failed
 
@@ -136,15 +136,15 @@ module _ {R W E : Type 0} (look : Looks R W E) where
       pub count : wait.0.given ≡ length given
       pub few : wait.0.ahead < window_size
       pub unshown : tool.shows given ≡ false
-      pub output : HasShown (look.output start.output) (look.output wait.1.output)
+      pub output : HasHandedOn (look.output start.output) (look.output wait.1.output)
           (tool.so_far given).output
-      pub report : HasShown (look.report start.report) (look.report wait.1.report)
+      pub report : HasHandedOn (look.report start.report) (look.report wait.1.report)
           (tool.so_far given).report
       pub output_sound : (look.output wait.1.output).failed ≡ false
       pub report_sound : (look.report wait.1.report).failed ≡ false
 
     -- the same, for a prefix of these bytes
-    pub record WasPrompt (given : List ℕ) (wait : Wait W E) : Type 0 where
+    pub record IsPromptWithin (given : List ℕ) (wait : Wait W E) : Type 0 where
       pub front : List ℕ
       pub rest : List ℕ
       pub parts : given ≡ front ++ rest
@@ -168,18 +168,18 @@ abbrev pub StepWaits : {R W E : Type 0} → Looks R W E → Tool → (start : De
     → (before after : Waits R W E) → Type 0
 StepWaits look tool start given enough old new before after =
     WaitsOnce (IsSpared look.input enough old.source new.source) before after
-    (λ wait. IsWaitAt look old wait × IsPrompt look tool start given wait)
+    (λ wait. IsWaitOfPlace look old wait × IsPrompt look tool start given wait)
 
 -- No proper prefix of the bytes shows a fault: nothing is given after one is shown.
-abbrev pub EndsAtFault : Tool → List ℕ → Type 0
-EndsAtFault tool given =
+abbrev pub HasNoEarlierFault : Tool → List ℕ → Type 0
+HasNoEarlierFault tool given =
     (front rest : List ℕ) → given ≡ front ++ rest → 0 < length rest → tool.shows front ≡ false
 
 module _ {R : Type 0} where
   -- A step was not the last. It was given at most `most` bytes, and at least one if `most` is not
   -- 0. The relation `stands` holds of the history and these bytes. Less than a window of bytes was
   -- read and not given, so no more was read than is needed.
-  pub record WentOn (old new : Source R) (stands : List ℕ → Type 0) (most : ℕ)
+  pub record ContinuedStep (old new : Source R) (stands : List ℕ → Type 0) (most : ℕ)
       (history : List ℕ) : Type 0 where
     pub given : List ℕ
     pub some : 0 < most → 0 < length given
@@ -205,7 +205,8 @@ module _ {R W E : Type 0} (look : Looks R W E) where
         (look.report now.report).written texts.report
 
   -- as `HasWritten`, for the devices that a run has returned: these bytes were taken
-  pub record HandedBack (start now : Devices R W E) (bytes : List ℕ) (texts : Texts) : Type 0 where
+  pub record ReturnedDevices (start now : Devices R W E) (bytes : List ℕ)
+      (texts : Texts) : Type 0 where
     pub takes : Consumes (look.input start.reader).left (look.input now.reader).left bytes
     pub writes : Appends (look.output start.output).written (look.output now.output).written texts.output
     pub reports : Appends (look.report start.report).written
@@ -222,7 +223,7 @@ module _ {R W E : Type 0} (look : Looks R W E) where
       (status : Status) : Type 0 where
     pub unread : List ℕ
     pub few : length unread < window_size
-    pub written : HandedBack start now (given ++ unread) (tool.whole given).texts
+    pub written : ReturnedDevices start now (given ++ unread) (tool.whole given).texts
     pub sound : NoneFailed now
     pub ends : status.0 ≡ (tool.whole given).status
     pub settled : AllGiven now unread
@@ -232,7 +233,7 @@ module _ {R W E : Type 0} (look : Looks R W E) where
   -- and the texts are those that they determine.
   pub record LostReader (tool : Tool) (start now : Devices R W E) (given : List ℕ) : Type 0 where
     pub unshown : tool.shows given ≡ false
-    pub written : HandedBack start now given (tool.so_far given)
+    pub written : ReturnedDevices start now given (tool.so_far given)
     pub failed : (look.input now.reader).failed ≡ true
     pub output : (look.output now.output).failed ≡ false
     pub report : (look.report now.report).failed ≡ false
@@ -240,12 +241,12 @@ module _ {R W E : Type 0} (look : Looks R W E) where
   -- A byte past the longest input was read, and no device failed. The bytes `past` of the last read
   -- were not given. The bytes `given` show no fault, and the texts are those that `given`
   -- determines.
-  pub record PassedLimit (tool : Tool) (start now : Devices R W E) (given : List ℕ) : Type 0 where
+  pub record ExceededLimit (tool : Tool) (start now : Devices R W E) (given : List ℕ) : Type 0 where
     pub unshown : tool.shows given ≡ false
     pub past : List ℕ
     pub few : length past ≤ window_size
     pub limit : longest_input < length given + length past
-    pub written : HandedBack start now (given ++ past) (tool.so_far given)
+    pub written : ReturnedDevices start now (given ++ past) (tool.so_far given)
     pub reader : (look.input now.reader).failed ≡ false
     pub output : (look.output now.output).failed ≡ false
     pub report : (look.report now.report).failed ≡ false
@@ -278,7 +279,7 @@ module _ {R W E : Type 0} (look : Looks R W E) where
     pub are_due : AreDue tool now given unread due
     pub output_count : ℕ
     pub report_count : ℕ
-    pub written : HandedBack start now (given ++ unread)
+    pub written : ReturnedDevices start now (given ++ unread)
         (record { output = take output_count due.output; report = take report_count due.report })
     pub reader : (look.input now.reader).failed ≡ false
     pub failed : IsLost tool now given due output_count report_count
@@ -292,7 +293,7 @@ module _ {R W E : Type 0} (look : Looks R W E) where
   -- what holds after each failure; a run never fails for lack of memory
   abbrev pub FailedRun : Tool → Devices R W E → Devices R W E → List ℕ → IoFault → Type 0
   FailedRun tool start now given io.Read = LostReader tool start now given
-  FailedRun tool start now given io.InputTooLong = PassedLimit tool start now given
+  FailedRun tool start now given io.InputTooLong = ExceededLimit tool start now given
   FailedRun tool start now given io.Write = LostWriter tool start now given
   FailedRun tool start now given io.Memory = ⊥
 
@@ -308,13 +309,13 @@ module _ {R W E : Type 0} (look : Looks R W E) where
     pub given : List ℕ
     pub size : length given ≤ most
     pub gave : EndedRun tool start now (history ++ given) answer
-    pub ends : EndsAtFault tool (history ++ given)
+    pub ends : HasNoEarlierFault tool (history ++ given)
 
   -- what holds after a step, by its result
   abbrev pub AfterStep : Tool → Devices R W E → (old new : Place R W E) → (stands : List ℕ → Type 0)
       → (most : ℕ) → (history : List ℕ) → Result Progress IoFault → Type 0
   AfterStep tool start old new stands most history (Ok More) =
-      WentOn old.source new.source stands most history
+      ContinuedStep old.source new.source stands most history
   AfterStep tool start old new stands most history (Ok (Done status)) =
       LastStep tool start (devices_at new) most history (Ok status)
   AfterStep tool start old new stands most history (Err fault) =
@@ -329,7 +330,7 @@ module _ {R W E : Type 0} (look : Looks R W E) where
       × AfterStep tool start old new stands size history result
 
 -- this is the result of a run's last step
-abbrev pub EndsRun : Result Progress IoFault → Type 0
-EndsRun (Ok More) = ⊥
-EndsRun (Ok (Done status)) = Unit {0}
-EndsRun (Err fault) = Unit {0}
+abbrev pub IsLastResult : Result Progress IoFault → Type 0
+IsLastResult (Ok More) = ⊥
+IsLastResult (Ok (Done status)) = Unit {0}
+IsLastResult (Err fault) = Unit {0}

@@ -12,7 +12,7 @@ written_by false made = no_texts
 
 -- Since its devices were as in `start`, the run was given exactly these bytes, and has written
 -- exactly what they determine. No device failed, and the bytes show no fault.
-pub record Stands {R W E : Type 0} (look : Looks R W E) (made : List ℕ → Made)
+pub record IsRunAt {R W E : Type 0} (look : Looks R W E) (made : List ℕ → Made)
     (start : Devices R W E) (begun : Bool) (now : Place R W E) (history : List ℕ) : Type 0 where
   pub written : HasWritten look start now history (written_by begun (made history))
   pub sound : NoneFailed look (devices_at now)
@@ -25,14 +25,14 @@ pub record MayBegin (made : List ℕ → Made) (begun : Bool) : Type 0 where
   pub unshown : shows_fault (made []).stop ≡ false
   pub lasting : IsLasting made
 
--- what holds after a step; if it is not the last, `Stands` and `knows` hold of the bytes so far
+-- what holds after a step; if it is not the last, `IsRunAt` and `knows` hold of the bytes so far
 abbrev pub AfterStage : {R W E : Type 0} → Looks R W E → (made : List ℕ → Made)
     → (start : Devices R W E) → (begun : Bool) → (old new : Place R W E)
     → (knows : List ℕ → Type 0) → (most : ℕ) → (history : List ℕ)
     → Result Progress IoFault → Type 0
 AfterStage look made start begun old new knows most history result =
     AfterStep look (tool_of made) start old new
-    (λ bytes. Stands look made start begun new bytes × knows bytes) most history result
+    (λ bytes. IsRunAt look made start begun new bytes × knows bytes) most history result
 
 -- what holds after a stride of stages: the same as after a step, but with another bound
 abbrev pub AfterStageStride : {R W E : Type 0} → Looks R W E → (made : List ℕ → Made)

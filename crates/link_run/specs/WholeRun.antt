@@ -1,7 +1,7 @@
 -- What holds after a whole run.
 use Rattle.std.specs.Prelude.{◌≡◌, ℕ, List, Result, All}
 use Rattle.link_wire.specs.declared.IoFault.{IoFault}
-use Rattle.link_run.specs.Run.{Tool, Looks, Devices, devices, Wait, Waits, then_waits, WasPrompt, EndsAtFault, EndedRun}
+use Rattle.link_run.specs.Run.{Tool, Looks, Devices, devices, Wait, Waits, then_waits, IsPromptWithin, HasNoEarlierFault, EndedRun}
 use Rattle.link_run.specs.declared.{run.{RunEnd.RunEnd, Status.Status}, log.Ran.Ran}
 
 module _ {R W E : Type 0} where
@@ -27,8 +27,8 @@ module _ {R W E : Type 0} (look : Looks R W E) where
       (answer : Result Status IoFault) : Type 0 where
     pub given : List ℕ
     pub gave : EndedRun look tool start now given answer
-    pub ends : EndsAtFault tool given
-    pub prompt : All (WasPrompt look tool start given) waits
+    pub ends : HasNoEarlierFault tool given
+    pub prompt : All (IsPromptWithin look tool start given) waits
 
   -- What holds after a whole run. Its log has the devices with which it began, those that it
   -- returned, and all of its waits.

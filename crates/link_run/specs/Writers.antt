@@ -85,7 +85,7 @@ module _ {W E : Type 0} (out_look : W → Output) (report_look : E → Output) w
 
   -- A writer failed to hand on what was written, and no text was added. The output is handed on
   -- before the report.
-  pub record Unsettled (old new : Writers W E) (fault : IoFault) : Type 0 where
+  pub record FailedSettle (old new : Writers W E) (fault : IoFault) : Type 0 where
     pub kind : fault ≡ io.Write
     pub output : Appends (out_look old.output).written (out_look new.output).written []
     pub report : Appends (report_look old.report).written (report_look new.report).written []
@@ -97,4 +97,4 @@ module _ {W E : Type 0} (out_look : W → Output) (report_look : E → Output) w
   -- everything written was handed on, or a writer failed
   abbrev pub AfterSettle : Writers W E → Writers W E → Result (Unit {0}) IoFault → Type 0
   AfterSettle old new (Ok done) = Writes old new (on_output [])
-  AfterSettle old new (Err fault) = Unsettled old new fault
+  AfterSettle old new (Err fault) = FailedSettle old new fault

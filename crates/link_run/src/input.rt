@@ -9,9 +9,9 @@ ghost use Rattle.link_wire.specs.MessageBuffer.{message_of, SegmentHasTotals};
 ghost use Rattle.link_wire.specs.Session.{source_of, may_read, is_opened, data_in, left_of, IsSessionAt, HasStopped};
 ghost use Rattle.link_wire.specs.Limits.{window_size};
 ghost use Rattle.link_wire.specs.Source.{window_of, at_hand, front_of, IsLive};
-ghost use Rattle.link_run.specs.Run.{looks, IsWaitAt, WaitsOnce};
-ghost use Rattle.link_run.specs.Reading.{feed_of, waits_of, GetsBytes, GetsData, GetsMessage, HasEnough, NotHandedOn, Unread};
-ghost use Rattle.link_run.specs.Writers.{place_of, on_output, next_line, Writes, Unsettled};
+ghost use Rattle.link_run.specs.Run.{looks, IsWaitOfPlace, WaitsOnce};
+ghost use Rattle.link_run.specs.Reading.{feed_of, waits_of, FetchesBytes, FetchesData, FetchesMessage, HasEnough, NotHandedOn, ReadsNothing};
+ghost use Rattle.link_run.specs.Writers.{place_of, on_output, next_line, Writes, FailedSettle};
 
 use crate::log::Log;
 use crate::writers::Writers;
@@ -99,7 +99,7 @@ impl<S, W, E> Input<S, W, E> {
 impl<R: InDevice, W: OutDevice, E: OutDevice> Input<Session<R>, W, E> {
     ghost use Rattle.std.specs.Prelude.{◌≤◌, None, take};
     ghost use Rattle.link_wire.specs.Session.{may_open, PassedBytes, AfterOpen};
-    ghost use Rattle.link_wire.specs.Whole.{ReadWhole, PassedQuiet};
+    ghost use Rattle.link_wire.specs.Whole.{GivenWhole, PassedQuiet};
 
     /// Reads the contact header, as [`Session::open`] does.
     ///
@@ -131,7 +131,7 @@ impl<R: InDevice, W: OutDevice, E: OutDevice> Input<Session<R>, W, E> {
         message: &mut MessageBuffer,
     ) -> Result<Option<u64>, Stop>
         requires { IsTrue (may_read (feed_of self.old)) }
-        ensures { GetsMessage (looks R.state W.state E.state)
+        ensures { FetchesMessage (looks R.state W.state E.state)
             self.old self.new writers.old writers.new message.new result }
     {
         match self.feed.next_here(message) {
@@ -150,7 +150,7 @@ impl<R: InDevice, W: OutDevice, E: OutDevice> Input<Session<R>, W, E> {
         ensures none { result ≡ None → (self.new ≡ self.old) × (message.new ≡ message.old) }
         ensures may_read { IsTrue (may_read (feed_of self.new)) }
         ensures gives { (history : List ℕ) → IsSessionAt R.state (feed_of self.old) history
-            → IfSome result (λ offset. ReadWhole R.state (feed_of self.old) (feed_of self.new)
+            → IfSome result (λ offset. GivenWhole R.state (feed_of self.old) (feed_of self.new)
             history offset (message_of message.new)) }
         ensures totals { IfSome result (λ offset. SegmentHasTotals message.new) }
         ensures opened { IsTrue (is_opened (feed_of self.new)) }
@@ -158,7 +158,7 @@ impl<R: InDevice, W: OutDevice, E: OutDevice> Input<Session<R>, W, E> {
         ensures shrinks { IfSome result (λ offset.
             length (window_of (source_of (feed_of self.new)))
             < length (window_of (source_of (feed_of self.old)))) }
-        ensures unread { Unread R.state source_of self.old self.new }
+        ensures unread { ReadsNothing R.state source_of self.old self.new }
     {
         self.feed.next_whole(message)
     }
@@ -176,7 +176,7 @@ impl<R: InDevice, W: OutDevice, E: OutDevice> Input<Session<R>, W, E> {
             → PassedQuiet R.state (feed_of self.old) (feed_of self.new) history result }
         ensures opened { IsTrue (is_opened (feed_of self.new)) }
         ensures stopped { (stop : _) → HasStopped (feed_of self.old) stop → result ≡ 0 }
-        ensures unread { Unread R.state source_of self.old self.new }
+        ensures unread { ReadsNothing R.state source_of self.old self.new }
     {
         self.feed.pass_quiet()
     }
@@ -189,7 +189,7 @@ impl<R: InDevice, W: OutDevice, E: OutDevice> Input<Session<R>, W, E> {
     /// session has not stopped. A session that has stopped returns its stop again.
     #[inline(always)]
     pub fn load_data(&mut self, writers: &mut Writers<W, E>) -> Result<usize, Stop>
-        ensures { GetsData (looks R.state W.state E.state)
+        ensures { FetchesData (looks R.state W.state E.state)
             self.old self.new writers.old writers.new result }
     {
         if self.feed.loaded().is_empty() {
@@ -217,7 +217,7 @@ impl<R: InDevice, W: OutDevice, E: OutDevice> Input<Session<R>, W, E> {
         ensures none { count ≡ 0 → self.new ≡ self.old }
         ensures stopped { (stop : _) → HasStopped (feed_of self.old) stop
             → HasStopped (feed_of self.new) stop }
-        ensures unread { Unread R.state source_of self.old self.new }
+        ensures unread { ReadsNothing R.state source_of self.old self.new }
     {
         self.feed.pass(count);
     }
@@ -247,7 +247,7 @@ impl<R: InDevice, W: OutDevice, E: OutDevice> Input<Source<R>, W, E> {
     /// a fault of the source, it reads nothing and returns the same result again.
     #[inline(always)]
     pub fn ready_bytes(&mut self, writers: &mut Writers<W, E>) -> Result<usize, IoFault>
-        ensures { GetsBytes (looks R.state W.state E.state)
+        ensures { FetchesBytes (looks R.state W.state E.state)
             self.old self.new writers.old writers.new result }
     {
         if self.feed.front().is_empty() {
@@ -273,7 +273,7 @@ impl<R: InDevice, W: OutDevice, E: OutDevice> Input<Source<R>, W, E> {
             (take count (front_of R.state (feed_of self.old))) }
         ensures live { IsLive R.state (feed_of self.old) → IsLive R.state (feed_of self.new) }
         ensures none { count ≡ 0 → self.new ≡ self.old }
-        ensures unread { Unread R.state (λ source. source) self.old self.new }
+        ensures unread { ReadsNothing R.state (λ source. source) self.old self.new }
     {
         self.feed.give_front(count);
     }
@@ -288,7 +288,7 @@ fn read_message<R: InDevice, W: OutDevice, E: OutDevice>(
     message: &mut MessageBuffer,
 ) -> Result<Option<u64>, Stop>
     requires { IsTrue (may_read (feed_of input.old)) }
-    ensures { GetsMessage (looks R.state W.state E.state)
+    ensures { FetchesMessage (looks R.state W.state E.state)
         input.old input.new writers.old writers.new message.new result }
 {
     if let Some(offset) = input.feed.next_ahead(message) {
@@ -306,7 +306,7 @@ fn load_on<R: InDevice, W: OutDevice, E: OutDevice>(
     writers: &mut Writers<W, E>,
 ) -> Result<usize, Stop>
     requires { data_in R.state (feed_of input.old) ≡ [] }
-    ensures { GetsData (looks R.state W.state E.state)
+    ensures { FetchesData (looks R.state W.state E.state)
         input.old input.new writers.old writers.new result }
 {
     settle_before(&input.feed, writers, &mut input.log)?;
@@ -321,7 +321,7 @@ fn read_bytes<R: InDevice, W: OutDevice, E: OutDevice>(
     writers: &mut Writers<W, E>,
 ) -> Result<usize, IoFault>
     requires { front_of R.state (feed_of input.old) ≡ [] }
-    ensures { GetsBytes (looks R.state W.state E.state)
+    ensures { FetchesBytes (looks R.state W.state E.state)
         input.old input.new writers.old writers.new result }
 {
     settle_before_bytes(&input.feed, writers, &mut input.log)?;
@@ -343,7 +343,7 @@ fn settle_before<R: InDevice, W: OutDevice, E: OutDevice>(
         writers.old writers.new) }
     ensures waits { IfOk result (λ _. (history : List ℕ) → IsSessionAt R.state session.now history
         → WaitsOnce (HasEnough R.state session.now) log.old.waits log.new.waits
-        (IsWaitAt (looks R.state W.state E.state)
+        (IsWaitOfPlace (looks R.state W.state E.state)
         (place_of (source_of session.now) writers.old))) }
     ensures none { IfErr result (λ _. log.new ≡ log.old) }
     ensures line { next_line writers.new ≡ next_line writers.old }
@@ -379,10 +379,10 @@ fn settle_before_bytes<R: InDevice, W: OutDevice, E: OutDevice>(
     ensures gives { MatchResult result
         (λ _. Writes W.state E.state writers.old writers.new (on_output []))
         (λ fault. (length (window_of source.now) < window_size)
-        × Unsettled W.state E.state writers.old writers.new fault) }
+        × FailedSettle W.state E.state writers.old writers.new fault) }
     ensures waits { IfOk result (λ _. WaitsOnce (0 < length (at_hand R.state source.now))
         log.old.waits log.new.waits
-        (IsWaitAt (looks R.state W.state E.state) (place_of source.now writers.old))) }
+        (IsWaitOfPlace (looks R.state W.state E.state) (place_of source.now writers.old))) }
     ensures none { IfErr result (λ _. log.new ≡ log.old) }
     ensures line { next_line writers.new ≡ next_line writers.old }
 {

@@ -2,7 +2,7 @@
 
 ghost use Rattle.std.specs.Prelude.{◌≡◌, ◌<◌, ℕ, List, [], Result, Err};
 ghost use Rattle.link_wire.specs.declared.IoFault.{IoFault};
-ghost use Rattle.link_run.specs.Run.{Tool, Devices, Place, Waits, answer_of, devices, devices_at, looks, AfterStep, AfterStride, EndsRun, StepWaits};
+ghost use Rattle.link_run.specs.Run.{Tool, Devices, Place, Waits, answer_of, devices, devices_at, looks, AfterStep, AfterStride, IsLastResult, StepWaits};
 ghost use Rattle.link_run.specs.WholeRun.{AfterRunFrom, IsLogOf, devices_of, ran_of};
 ghost use Rattle.link_run.specs.declared.run.Progress.{Progress};
 
@@ -153,8 +153,8 @@ pub trait Run<R: InDevice, W: OutDevice, E: OutDevice>: Sized {
         ensures waits { (start : Devices R W E) (history : List ℕ) → stands self.old start history
             → StepWaits (looks R.state W.state E.state) (tool self.old) start history
             (has_next self.old) (place self.old) (place self.new) (waits self.old) (waits self.new) }
-        ensures goes_on { most self.new ≡ 0 → EndsRun result }
-        ensures ends { EndsRun result → has_ended self.new result }
+        ensures goes_on { most self.new ≡ 0 → IsLastResult result }
+        ensures ends { IsLastResult result → has_ended self.new result }
         ensures again { (answer : _) → has_ended self.old answer
             → (self.new ≡ self.old) × (result ≡ answer) };
 
@@ -175,8 +175,8 @@ pub trait Run<R: InDevice, W: OutDevice, E: OutDevice>: Sized {
         ensures waits { (start : Devices R W E) (history : List ℕ) → stands self.old start history
             → StepWaits (looks R.state W.state E.state) (tool self.old) start history
             (has_next self.old) (place self.old) (place self.new) (waits self.old) (waits self.new) }
-        ensures goes_on { most self.new ≡ 0 → EndsRun result }
-        ensures ends { EndsRun result → has_ended self.new result }
+        ensures goes_on { most self.new ≡ 0 → IsLastResult result }
+        ensures ends { IsLastResult result → has_ended self.new result }
         ensures again { (answer : _) → has_ended self.old answer
             → (self.new ≡ self.old) × (result ≡ answer) };
 

@@ -2,10 +2,10 @@
 
 ghost use Rattle.std.specs.Prelude.{◌≡◌, ◌<◌, ℕ, Bool, false, List, [], IsTrue, Err, None};
 ghost use Rattle.link_wire.specs.declared.IoFault.{IoFault};
-ghost use Rattle.link_run.specs.Run.{Devices, looks, EndsRun};
+ghost use Rattle.link_run.specs.Run.{Devices, looks, IsLastResult};
 ghost use Rattle.link_run.specs.Made.{Made, tool_of};
 ghost use Rattle.link_run.specs.Reading.{feed_of, waits_of, CallWaits};
-ghost use Rattle.link_run.specs.Stages.{Stands, AfterStage, AfterStageStride, IsMore, RunHasEnded};
+ghost use Rattle.link_run.specs.Stages.{IsRunAt, AfterStage, AfterStageStride, IsMore, RunHasEnded};
 ghost use Rattle.link_run.specs.Writers.{place_of};
 
 use crate::input::{Feed, Input};
@@ -44,14 +44,14 @@ pub trait Stages<S: Feed, W: OutDevice, E: OutDevice>: Sized {
         ensures made { made self.new ≡ made self.old }
         ensures fits { IsMore result → IsTrue (fits self.new (feed_of input.new)) }
         ensures gives { (start : Devices S.Reader W E) (history : List ℕ)
-            → Stands (looks S.Reader.state W.state E.state) (made self.old) start
+            → IsRunAt (looks S.Reader.state W.state E.state) (made self.old) start
             (begun self.old) (place_of (S.source (feed_of input.old)) writers.old) history
             → knows self.old (feed_of input.old) history
             → AfterStage (looks S.Reader.state W.state E.state) (made self.old) start
             (begun self.new) (place_of (S.source (feed_of input.old)) writers.old)
             (place_of (S.source (feed_of input.new)) writers.new)
             (knows self.new (feed_of input.new)) (most self.old) history result }
-        ensures goes_on { most self.new ≡ 0 → EndsRun result }
+        ensures goes_on { most self.new ≡ 0 → IsLastResult result }
         ensures waits { (history : List ℕ) → knows self.old (feed_of input.old) history
             → CallWaits (looks S.Reader.state W.state E.state) S.source
             (S.has_next (feed_of input.old)) input.old input.new writers.old }
@@ -70,14 +70,14 @@ pub trait Stages<S: Feed, W: OutDevice, E: OutDevice>: Sized {
         ensures made { made self.new ≡ made self.old }
         ensures fits { IsMore result → IsTrue (fits self.new (feed_of input.new)) }
         ensures gives { (start : Devices S.Reader W E) (history : List ℕ)
-            → Stands (looks S.Reader.state W.state E.state) (made self.old) start
+            → IsRunAt (looks S.Reader.state W.state E.state) (made self.old) start
             (begun self.old) (place_of (S.source (feed_of input.old)) writers.old) history
             → knows self.old (feed_of input.old) history
             → AfterStageStride (looks S.Reader.state W.state E.state) (made self.old) start
             (begun self.new) (place_of (S.source (feed_of input.old)) writers.old)
             (place_of (S.source (feed_of input.new)) writers.new)
             (knows self.new (feed_of input.new)) (most self.old) history result }
-        ensures goes_on { most self.new ≡ 0 → EndsRun result }
+        ensures goes_on { most self.new ≡ 0 → IsLastResult result }
         ensures waits { (history : List ℕ) → knows self.old (feed_of input.old) history
             → CallWaits (looks S.Reader.state W.state E.state) S.source
             (S.has_next (feed_of input.old)) input.old input.new writers.old }
@@ -151,7 +151,7 @@ impl<S: Feed, W: OutDevice, E: OutDevice, T: Stages<S, W, E> + Drop> Run<S::Read
     ghost place = { λ run. place_of (S.source (feed_of run.input)) run.writers };
 
     ghost stands = { λ run start history. (run.answer ≡ None)
-        × (Stands (looks S.Reader.state W.state E.state) (T.made run.tool) start
+        × (IsRunAt (looks S.Reader.state W.state E.state) (T.made run.tool) start
         (T.begun run.tool) (place_of (S.source (feed_of run.input)) run.writers) history
         × T.knows run.tool (feed_of run.input) history) };
 
@@ -209,7 +209,7 @@ impl<S: Feed, W: OutDevice, E: OutDevice, T: Stages<S, W, E> + Drop> Run<S::Read
 fn keep(answer: &mut Option<Result<Status, IoFault>>, progress: Result<Progress, IoFault>)
     ensures more { IsMore progress → answer.new ≡ answer.old }
     ensures going { answer.new ≡ None → IsMore progress }
-    ensures ends { EndsRun progress → RunHasEnded answer.new progress }
+    ensures ends { IsLastResult progress → RunHasEnded answer.new progress }
 {
     match progress {
         Ok(Progress::More) => {}

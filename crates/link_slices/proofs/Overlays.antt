@@ -1,7 +1,7 @@
 -- Slices that a text was written to.
 use Rattle.std.proofs.Common.{◌≡◌, ℕ, suc, min, List, [], ◌∷◌, ◌++◌, length, take, drop, refl, ap, append_assoc, arith}
 use Rattle.std.proofs.lemmas.List.{drop_all, take_at, drop_at}
-use Rattle.link_slices.specs.Slice.{HoldsFront, KeepsRest, overlaid, labelled}
+use Rattle.link_slices.specs.Slice.{HoldsPrefix, LeavesRest, overlaid, labelled}
 
 -- a piece that was written after the text
 pub after_piece : (before text piece : List ℕ) (at : ℕ)
@@ -23,13 +23,13 @@ pub overlaid_nothing : (before : List ℕ) → overlaid before [] ≡ before
 overlaid_nothing [] = refl
 overlaid_nothing (x ∷ before) = refl
 
-pub holds_front : (before text : List ℕ) → HoldsFront (overlaid before text) text
+pub holds_front : (before text : List ℕ) → HoldsPrefix (overlaid before text) text
 holds_front [] [] = refl
 holds_front [] (y ∷ text) = refl
 holds_front (x ∷ before) [] = refl
 holds_front (x ∷ before) (y ∷ text) = ap (λ (xs : List ℕ). y ∷ xs) (holds_front before text)
 
-pub keeps_rest : (before text : List ℕ) → KeepsRest before (overlaid before text) text
+pub keeps_rest : (before text : List ℕ) → LeavesRest before (overlaid before text) text
 keeps_rest [] [] = refl
 keeps_rest [] (y ∷ text) = refl
 keeps_rest (x ∷ before) [] = refl

@@ -1,6 +1,6 @@
 -- A run over slices: it never fails, and what it has written is in its slices.
 use Rattle.std.proofs.Common.{◌≡◌, ◌≤◌, ◌⊎◌, ◌==◌, Bool, if◌then◌else◌, ℕ, true, false, List, [], ◌++◌, length, Option, Some, None, Result, Ok, Err, refl, ap, sym, ◌∙◌, inl, inr, ⊎_elim, append-nil, append_assoc, length-append, arith}
-use Rattle.link_run.specs.Run.{Tool, Texts, Looks, Devices, HandedBack, FinishedRun, EndedRun}
+use Rattle.link_run.specs.Run.{Tool, Texts, Looks, Devices, ReturnedDevices, FinishedRun, EndedRun}
 use Rattle.link_run.specs.WholeRun.{devices_of}
 use Rattle.link_run.specs.declared.run.{RunEnd.RunEnd, Status.Status}
 use Rattle.link_tools.specs.Options.{AfterTool}
@@ -9,7 +9,7 @@ use Rattle.link_wire.specs.declared.IoFault.TheVariants.{Read, InputTooLong, Wri
 use Rattle.link_slices.specs.Options.{blocks_numbers, blocks_in_range, blocks_in, check_numbers, check_in_range, check_in}
 use Rattle.link_slices.specs.Reading.{reading_tool}
 use Rattle.link_slices.specs.Tool.{Slices, texts_status, blocks_tool_of, check_tool_of}
-use Rattle.link_slices.specs.Run.{HasWritten, IsWrittenOver, ReturnsTool}
+use Rattle.link_slices.specs.Run.{AfterSliceRun, IsWrittenOver, ReturnsTool}
 use Rattle.link_slices.specs.declared.{reading.Reading.Reading}
 use Rattle.link_slices.specs.declared.running.{Run.Run, Wants.Wants, Written.Written}
 use Rattle.link_slices.proofs.Overlays.{holds_front, keeps_rest, overlaid_nothing}
@@ -17,14 +17,14 @@ use Rattle.link_slices.proofs.Overlays.{holds_front, keeps_rest, overlaid_nothin
 -- ---- runs
 
 -- what was written since: texts, and how the run of the tool over these bytes went
-pub record Ran (tool : Option Tool)
+pub record RanTool (tool : Option Tool)
     (bytes output_start output_end report_start report_end : List ℕ)
     (answer : Result Status IoFault) : Type 0 where
   pub output : List ℕ
   pub report : List ℕ
   pub output_is : output_end ≡ output_start ++ output
   pub report_is : report_end ≡ report_start ++ report
-  pub wrote : HasWritten tool bytes output report answer
+  pub wrote : AfterSliceRun tool bytes output report answer
 
 module _ {R W E : Type 0} (look : Looks R W E)
     (start : Devices R W E) (end : RunEnd R W E)
@@ -40,12 +40,12 @@ module _ {R W E : Type 0} (look : Looks R W E)
     (sound_report : (look.report end.report).failed ≡ false)
     (short : length bytes ≤ longest_input) where
   module _ (tool : Tool) where
-    bytes_are : (given : List ℕ) (texts : Texts) → HandedBack look start (devices_of end) given texts
+    bytes_are : (given : List ℕ) (texts : Texts) → ReturnedDevices look start (devices_of end) given texts
         → bytes ≡ given ++ left
     bytes_are given texts back = rw (full, rest) at back.takes
 
     finished : (given : List ℕ) (status : Status) → FinishedRun look tool start (devices_of end) given status
-        → Ran (Some tool) bytes output_start output_end report_start report_end (Ok status)
+        → RanTool (Some tool) bytes output_start output_end report_start report_end (Ok status)
     finished given status run =
         let parts = bytes_are (given ++ run.unread) (tool.whole given).texts run.written in
         let same : tool.whole bytes ≡ tool.whole given = ⊎_elim
@@ -78,13 +78,13 @@ module _ {R W E : Type 0} (look : Looks R W E)
 
     ran : (answer : Result Status IoFault) (given : List ℕ)
         → EndedRun look tool start (devices_of end) given answer
-        → Ran (Some tool) bytes output_start output_end report_start report_end answer
+        → RanTool (Some tool) bytes output_start output_end report_start report_end answer
     ran (Ok status) given run = finished given status run
     ran (Err fault) given run = absurd (no_fault fault given run)
 
   -- the memory was refused
   lacked : (answer : Result Status IoFault) → answer ≡ Err Memory → devices_of end ≡ start
-      → Ran None bytes output_start output_end report_start report_end answer
+      → RanTool None bytes output_start output_end report_start report_end answer
   lacked (Ok status) is unchanged = let never : Ok status ≡ Err Memory = is in cc
   lacked (Err fault) is unchanged =
       let refused : Err fault ≡ Err Memory = is in
@@ -102,7 +102,7 @@ module _ {R W E : Type 0} (look : Looks R W E)
 
   -- a run of the tool, or of one that was refused its memory
   pub tool_ran : (tool : Option Tool) → AfterTool look tool start end
-      → Ran tool bytes output_start output_end report_start report_end end.answer
+      → RanTool tool bytes output_start output_end report_start report_end end.answer
   tool_ran (Some tool) run = ran tool end.answer run.whole.given run.whole.gave
   tool_ran None run = lacked end.answer run.is run.unchanged
 
@@ -125,7 +125,7 @@ module _ (wants : Wants) (old new : Slices) (output_text report_text : List ℕ)
       })
       (gives : code ≡ texts_status wants output.fits report.fits) where
     pub ok_returned : (tool : Option Tool) (bytes : List ℕ)
-        → HasWritten tool bytes output_text report_text (Ok status)
+        → AfterSliceRun tool bytes output_text report_text (Ok status)
         → ReturnsTool tool bytes wants old new run code
     ok_returned None bytes wrote = absurd wrote
     ok_returned (Some tool) bytes wrote = record {
@@ -144,7 +144,7 @@ module _ (wants : Wants) (old new : Slices) (output_text report_text : List ℕ)
       (numbers : run ≡ record { exit_status = 0; output_length = 0; report_length = 0 })
       (gives : code ≡ 8) where
     pub err_returned : (tool : Option Tool) (bytes : List ℕ)
-        → HasWritten tool bytes output_text report_text (Err fault)
+        → AfterSliceRun tool bytes output_text report_text (Err fault)
         → ReturnsTool tool bytes wants old new run code
     err_returned (Some tool) bytes wrote = absurd wrote
     err_returned None bytes wrote = record {
@@ -156,10 +156,10 @@ module _ (wants : Wants) (old new : Slices) (output_text report_text : List ℕ)
 
 -- ---- what the exports say of it
 
-chosen : (test : Bool) (one other : Reading)
+reading_tool-if : (test : Bool) (one other : Reading)
     → reading_tool (if test then one else other) ≡ (if test then reading_tool one else reading_tool other)
-chosen true one other = refl
-chosen false one other = refl
+reading_tool-if true one other = refl
+reading_tool-if false one other = refl
 
 some_if : (test : Bool) (one other : Reading) → (if test then Some one else None) ≡ Some other
     → one ≡ other
@@ -171,14 +171,14 @@ pub blocks_are : (words : List ℕ) (reading : Reading) → blocks_in words ≡ 
     → reading_tool reading ≡ blocks_tool_of (blocks_numbers words)
 blocks_are words reading is =
     ap reading_tool (sym (some_if (blocks_in_range words) _ reading is))
-    ∙ chosen ((blocks_numbers words).bundles == 1) _ _
+    ∙ reading_tool-if ((blocks_numbers words).bundles == 1) _ _
 
 -- the tool that the options of `check` ask for
 pub check_is : (words : List ℕ) (reading : Reading) → check_in words ≡ Some reading
     → reading_tool reading ≡ check_tool_of (check_numbers words)
 check_is words reading is =
     ap reading_tool (sym (some_if (check_in_range words) _ reading is))
-    ∙ chosen ((check_numbers words).bundles == 1) _ _
+    ∙ reading_tool-if ((check_numbers words).bundles == 1) _ _
 
 -- a run returns no TCPCLKIT_RANGE
 pub in_range : (tool : Option Tool) (bytes : List ℕ) (wants : Wants) (old new : Slices) (run : Run)

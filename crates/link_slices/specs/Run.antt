@@ -15,26 +15,26 @@ use Rattle.link_slices.specs.declared.running.Written.{Written}
 -- ---- how the run has gone
 
 -- the texts are those of this outcome, and the run ended with its status
-pub record WroteAll (whole : Outcome) (output report : List ℕ) (status : Status) : Type 0 where
+pub record WholeTexts (whole : Outcome) (output report : List ℕ) (status : Status) : Type 0 where
   pub output_is : output ≡ whole.texts.output
   pub report_is : report ≡ whole.texts.report
   pub ends : status.0 ≡ whole.status
 
 -- no text was written, since the request for memory was refused
-pub record WroteNothing (output report : List ℕ) (fault : IoFault) : Type 0 where
+pub record NoTexts (output report : List ℕ) (fault : IoFault) : Type 0 where
   pub no_output : output ≡ []
   pub no_report : report ≡ []
   pub lacks : fault ≡ io.Memory
 
 -- What a run of the tool over these bytes has written. No device failed, so it has an exit status.
 -- `None` is a tool that was refused its memory.
-abbrev pub HasWritten : Option Tool → (bytes output report : List ℕ) → Result Status IoFault
+abbrev pub AfterSliceRun : Option Tool → (bytes output report : List ℕ) → Result Status IoFault
     → Type 0
-HasWritten (Some tool) bytes output report (Ok status) =
-    WroteAll (tool.whole bytes) output report status
-HasWritten (Some tool) bytes output report (Err fault) = ⊥
-HasWritten None bytes output report (Ok status) = ⊥
-HasWritten None bytes output report (Err fault) = WroteNothing output report fault
+AfterSliceRun (Some tool) bytes output report (Ok status) =
+    WholeTexts (tool.whole bytes) output report status
+AfterSliceRun (Some tool) bytes output report (Err fault) = ⊥
+AfterSliceRun None bytes output report (Ok status) = ⊥
+AfterSliceRun None bytes output report (Err fault) = NoTexts output report fault
 
 -- The slice was `before`, and now is `slice`: the text was written to its start, as far as it fits.
 -- `written` has the length of the whole text, up to 2^64 - 1, and whether all of it fits.
@@ -44,10 +44,11 @@ pub record IsWrittenOver (text before slice : List ℕ) (written : Written) : Ty
   pub fits : written.fits ≡ nat_le (length text) (length slice)
 
 -- the slices have the texts that a run of the tool has written
-pub record RanWhole (tool : Option Tool) (bytes : List ℕ) (old new : Slices) (ended : Ended) : Type 0 where
+pub record WrittenSlices (tool : Option Tool) (bytes : List ℕ) (old new : Slices)
+    (ended : Ended) : Type 0 where
   pub output_text : List ℕ
   pub report_text : List ℕ
-  pub wrote : HasWritten tool bytes output_text report_text ended.answer
+  pub wrote : AfterSliceRun tool bytes output_text report_text ended.answer
   pub output : IsWrittenOver output_text old.output new.output ended.output
   pub report : IsWrittenOver report_text old.report new.report ended.report
 

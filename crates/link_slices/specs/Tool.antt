@@ -7,7 +7,7 @@ use Rattle.link_check.specs.Checking.{check_tool}
 use Rattle.link_run.specs.Run.{Tool, Outcome}
 use Rattle.link_unpack.specs.Unpacking.{unpack_tool}
 use Rattle.link_slices.specs.Options.{unpack_numbers, wanted_of, blocks_numbers, block_options_of, check_numbers, check_options_of}
-use Rattle.link_slices.specs.Slice.{HoldsFront, KeepsRest}
+use Rattle.link_slices.specs.Slice.{HoldsPrefix, LeavesRest}
 use Rattle.link_slices.specs.declared.running.Run.{Run}
 use Rattle.link_slices.specs.declared.running.Wants.{Wants}
 use Rattle.link_slices.specs.declared.options.BlocksNumbers.{BlocksNumbers}
@@ -31,10 +31,10 @@ pub record TextsReturned (whole : Outcome) (wants : Wants)
     (old_output old_report output report : List ℕ)
     (run : Run)
     (status : ℕ) : Type 0 where
-  pub output_front : HoldsFront output whole.texts.output
-  pub output_rest : KeepsRest old_output output whole.texts.output
-  pub report_front : HoldsFront report whole.texts.report
-  pub report_rest : KeepsRest old_report report whole.texts.report
+  pub output_front : HoldsPrefix output whole.texts.output
+  pub output_rest : LeavesRest old_output output whole.texts.output
+  pub report_front : HoldsPrefix report whole.texts.report
+  pub report_rest : LeavesRest old_report report whole.texts.report
   pub output_length : run.output_length ≡ min (length whole.texts.output) (2 ^ 64 - 1)
   pub report_length : run.report_length ≡ min (length whole.texts.report) (2 ^ 64 - 1)
   pub exit : run.exit_status ≡ whole.status
@@ -58,8 +58,8 @@ pub record ReturnsNothing (old new : Slices) (run : Run) (status : ℕ) : Type 0
 -- `unpack_in_range` of Options.
 
 -- the recording was unpacked with these options
-abbrev pub Unpacks : (words bytes : List ℕ) → Wants → (old new : Slices) → Run → ℕ → Type 0
-Unpacks words bytes wants old new run status =
+abbrev pub ReturnsUnpacked : (words bytes : List ℕ) → Wants → (old new : Slices) → Run → ℕ → Type 0
+ReturnsUnpacked words bytes wants old new run status =
     ReturnsTexts ((unpack_tool (wanted_of (unpack_numbers words))).whole bytes)
     wants old new run status
 
@@ -69,8 +69,8 @@ blocks_tool_of numbers =
     if numbers.bundles == 1 then bundle_blocks_tool else blocks_tool (block_options_of numbers)
 
 -- the blocks were shown with these options
-abbrev pub ShowsBlocks : (words bytes : List ℕ) → Wants → (old new : Slices) → Run → ℕ → Type 0
-ShowsBlocks words bytes wants old new run status =
+abbrev pub ReturnsBlocks : (words bytes : List ℕ) → Wants → (old new : Slices) → Run → ℕ → Type 0
+ReturnsBlocks words bytes wants old new run status =
     ReturnsTexts ((blocks_tool_of (blocks_numbers words)).whole bytes) wants old new run status
 
 -- the tool that these options of `check` ask for
@@ -80,6 +80,6 @@ check_tool_of numbers =
     else check_tool (check_options_of numbers)
 
 -- the rules were judged with these options
-abbrev pub JudgesRules : (words bytes : List ℕ) → Wants → (old new : Slices) → Run → ℕ → Type 0
-JudgesRules words bytes wants old new run status =
+abbrev pub ReturnsRules : (words bytes : List ℕ) → Wants → (old new : Slices) → Run → ℕ → Type 0
+ReturnsRules words bytes wants old new run status =
     ReturnsTexts ((check_tool_of (check_numbers words)).whole bytes) wants old new run status

@@ -4,7 +4,7 @@ ghost use Rattle.std.specs.Prelude.{◌≡◌, [], length, Option};
 ghost use Rattle.link_run.specs.Run.{Tool, devices, looks};
 ghost use Rattle.link_tools.specs.Options.{AfterTool};
 ghost use Rattle.link_slices.specs.Tool.{texts_status};
-ghost use Rattle.link_slices.specs.Run.{HasWritten, IsWrittenOver, RanWhole, ReturnsTool};
+ghost use Rattle.link_slices.specs.Run.{AfterSliceRun, IsWrittenOver, WrittenSlices, ReturnsTool};
 
 use crate::device::{SliceReader, SliceWriter};
 use link_numbers::status::{MEMORY, OK, TOO_SMALL};
@@ -89,7 +89,7 @@ fn run_between<'a, 'b, 'c, T: SliceTool>(
     ensures output_before { result.output.history.before ≡ output.entry.history.before }
     ensures report { result.report.room.ghost_name ≡ report.entry.room.ghost_name }
     ensures report_before { result.report.history.before ≡ report.entry.history.before }
-    ensures run { HasWritten (T.tool tool) bytes.now result.output.history.text
+    ensures run { AfterSliceRun (T.tool tool) bytes.now result.output.history.text
         result.report.history.text result.answer }
 {
     tool.run(SliceReader::new(bytes), output, report)
@@ -118,7 +118,7 @@ fn run_taken<'a, 'b, 'c, T: SliceTool>(
     ensures output_before { output.new.history.before ≡ output.old.history.before }
     ensures report { report.new.room.ghost_name ≡ report.old.room.ghost_name }
     ensures report_before { report.new.history.before ≡ report.old.history.before }
-    ensures run { HasWritten (T.tool tool) bytes.now output.new.history.text
+    ensures run { AfterSliceRun (T.tool tool) bytes.now output.new.history.text
         report.new.history.text result }
 {
     let end = run_between(tool, bytes, taken(output), taken(report));
@@ -141,7 +141,7 @@ fn written_by(writer: &SliceWriter<'_>) -> Written
 /// Runs the tool over the bytes to its end, into these slices.
 fn run_whole<T: SliceTool>(tool: T, bytes: &[u8], output: &mut [u8], report: &mut [u8]) -> Ended
     requires { T.ready tool }
-    ensures { RanWhole (T.tool tool) bytes.now
+    ensures { WrittenSlices (T.tool tool) bytes.now
         (record { output = output.old; report = report.old })
         (record { output = output.new; report = report.new })
         result }

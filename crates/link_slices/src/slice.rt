@@ -1,14 +1,14 @@
 //! Texts that are copied into slices of the caller.
 
 ghost use Rattle.std.specs.Prelude.{◌≡◌, ℕ, ◌-◌, ◌^◌, ◌≤◌, List, ◌++◌, length, min, nat_le, take, drop};
-ghost use Rattle.link_slices.specs.Slice.{HoldsFront, KeepsRest, overlaid};
+ghost use Rattle.link_slices.specs.Slice.{HoldsPrefix, LeavesRest, overlaid};
 
 /// Copies the text into the slice, as far as there is room, and returns whether there was.
 ///
 /// The bytes after the text stay as they were.
 pub fn copy_front(slice: &mut [u8], text: &[u8]) -> bool
-    ensures front { HoldsFront slice.new text.now }
-    ensures rest { KeepsRest slice.old slice.new text.now }
+    ensures front { HoldsPrefix slice.new text.now }
+    ensures rest { LeavesRest slice.old slice.new text.now }
     ensures whole { slice.new ≡ overlaid slice.old text.now }
     ensures fits { result ≡ nat_le (length text.now) (length slice.new) }
 {

@@ -7,7 +7,7 @@
 ghost use Rattle.std.specs.Prelude.{◌≡◌, true, false};
 ghost use Rattle.link_list.specs.Listing.{list_tool};
 ghost use Rattle.link_slices.specs.Options.{unpack_in_range, blocks_in_range, check_in_range};
-ghost use Rattle.link_slices.specs.Tool.{ReturnsTexts, Unpacks, ShowsBlocks, JudgesRules};
+ghost use Rattle.link_slices.specs.Tool.{ReturnsTexts, ReturnsUnpacked, ReturnsBlocks, ReturnsRules};
 
 use crate::options::{blocks_in, check_in, wanted_in};
 use crate::reading::Reading;
@@ -40,7 +40,7 @@ pub fn unpack_into(
     answer: &mut Run,
 ) -> u32
     ensures range { unpack_in_range options.now ≡ false → (result ≡ 6) × (answer.new ≡ answer.old) }
-    ensures run { unpack_in_range options.now ≡ true → Unpacks options.now bytes.now wants
+    ensures run { unpack_in_range options.now ≡ true → ReturnsUnpacked options.now bytes.now wants
         (record { output = output.old; report = report.old })
         (record { output = output.new; report = report.new })
         answer.new result }
@@ -70,7 +70,7 @@ pub fn blocks_into(
     answer: &mut Run,
 ) -> u32
     ensures range { blocks_in_range options.now ≡ false → (result ≡ 6) × (answer.new ≡ answer.old) }
-    ensures run { blocks_in_range options.now ≡ true → ShowsBlocks options.now bytes.now wants
+    ensures run { blocks_in_range options.now ≡ true → ReturnsBlocks options.now bytes.now wants
         (record { output = output.old; report = report.old })
         (record { output = output.new; report = report.new })
         answer.new result }
@@ -93,7 +93,7 @@ pub fn check_into(
     answer: &mut Run,
 ) -> u32
     ensures range { check_in_range options.now ≡ false → (result ≡ 6) × (answer.new ≡ answer.old) }
-    ensures run { check_in_range options.now ≡ true → JudgesRules options.now bytes.now wants
+    ensures run { check_in_range options.now ≡ true → ReturnsRules options.now bytes.now wants
         (record { output = output.old; report = report.old })
         (record { output = output.new; report = report.new })
         answer.new result }

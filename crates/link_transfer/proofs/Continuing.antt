@@ -17,20 +17,20 @@ module _ (before : List Message) (id : ℕ) (is_open : continuable before ≡ So
   unfolding refusal
   may_continue = rw (parts.0, parts.1, eq-eqb id id refl)
 
-  belongs : is_stray before (Segment 0 id) ≡ false
+  is_stray-false : is_stray before (Segment 0 id) ≡ false
   unfolding is_stray
-  belongs = rw (parts.1, eq-eqb id id refl)
+  is_stray-false = rw (parts.1, eq-eqb id id refl)
 
   pub continues_open : effect_of before (Segment 0 id) ≡ Some (turn.Continue false)
   unfolding effect_of turn_of
-  continues_open = ap (λ stray. effect_by stray (turn_by (open_of before) (Segment 0 id))) belongs
+  continues_open = ap (λ stray. effect_by stray (turn_by (open_of before) (Segment 0 id))) is_stray-false
 
   pub joiner_stays : (joiner : Joiner) (message : Message) → event_of message ≡ Segment 0 id
       → IsJoinerAt joiner before → IsJoinerAt joiner (with_taken before message)
   unfolding with_taken
   joiner_stays joiner message is at =
       let more = IsJoinerAt-then joiner before message (Segment 0 id) is at in
-      rw (is, belongs) (record {
+      rw (is, is_stray-false) (record {
         initiated = more.initiated;
         terminated = more.terminated;
         transfer = at.transfer ∙ parts.1 ∙ more.transfer;

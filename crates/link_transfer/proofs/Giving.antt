@@ -7,7 +7,7 @@ use Rattle.std.proofs.Math.Bool.{and-false, and-true}
 use Rattle.link_wire.specs.Bytes.{IsByte}
 use Rattle.link_transfer.specs.Chunks.{chunk_count, chunks, first_chunks}
 use Rattle.link_transfer.specs.Cutting.{Cutting, beginning, due, due_of, announcement, is_first, is_last, next_chunk, next_cut, after_cut, without_chunk, uncut}
-use Rattle.link_transfer.specs.Cutter.{IsCutterAt, IsGiven, cut_waits, kept_size}
+use Rattle.link_transfer.specs.Cutter.{IsCutterAt, IsLastChunk, cut_waits, kept_size}
 use Rattle.link_transfer.specs.{Held.{is_last_of, announcement_of, cut_of}, declared.cut.Cut.Cut}
 use Rattle.link_transfer.specs.declared.cutter.Cutter.{Cutter}
 use Rattle.link_transfer.proofs.Chunking.{first_chunks-zero, first_chunks-push}
@@ -119,7 +119,7 @@ left_some false segment hold count size some few =
     grind (arith, nat_tests, fits segment (count + 1) size some)
 
 -- the changes by a cut that returns a chunk
-pub record Gives (old new : Cutter) (last : Bool) : Type 0 where
+pub record CutsChunk (old new : Cutter) (last : Bool) : Type 0 where
   pub segment : new.segment ≡ old.segment
   pub hold : new.hold ≡ old.hold
   pub given : new.held.given ≡ take (min old.segment (length old.held.bytes)) old.held.bytes
@@ -128,9 +128,9 @@ pub record Gives (old new : Cutter) (last : Bool) : Type 0 where
   pub ended : new.ended ≡ (old.ended && not last)
 
 -- the bytes given last are the next chunk
-chunk_given : (old new : Cutter) (so_far : Cutting) (last : Bool) → Gives old new last
+chunk_given : (old new : Cutter) (so_far : Cutting) (last : Bool) → CutsChunk old new last
     → IsCutterAt old so_far
-    → length so_far.given < due so_far → IsGiven (Some (next_chunk so_far)) new.held.given
+    → length so_far.given < due so_far → IsLastChunk (Some (next_chunk so_far)) new.held.given
 unfolding due
 chunk_given old new so_far last gives at few =
     let left = uncut so_far in
@@ -140,14 +140,14 @@ chunk_given old new so_far last gives at few =
       omega (arith, length-take so_far.segment left, at.some),
     )
 
-rest_is : (old new : Cutter) (so_far : Cutting) (last : Bool) → Gives old new last
+rest_is : (old new : Cutter) (so_far : Cutting) (last : Bool) → CutsChunk old new last
     → IsCutterAt old so_far
     → new.held.bytes ≡ drop so_far.segment (uncut so_far)
 rest_is old new so_far last gives at =
     gives.bytes ∙ ap₂ (λ segment bytes. drop (min segment (length bytes)) bytes) at.segment at.held ∙ drop_min so_far.segment (uncut so_far)
 
 -- a cut keeps no more than was kept before
-kept_after : (old new : Cutter) (so_far : Cutting) (last : Bool) → Gives old new last
+kept_after : (old new : Cutter) (so_far : Cutting) (last : Bool) → CutsChunk old new last
     → IsCutterAt old so_far
     → kept_size new ≤ max so_far.segment (so_far.hold + 1)
 kept_after old new so_far last gives at =
@@ -170,7 +170,7 @@ next_left so_far is whole below =
     rw whole (grind (arith, nat_tests))
 
 with_next : (old new : Cutter) (so_far : Cutting) (last : Bool) → is_last so_far ≡ last
-    → Gives old new last → IsCutterAt old so_far
+    → CutsChunk old new last → IsCutterAt old so_far
     → length so_far.given < due so_far
     → IsCutterAt new (cond last
     (record (beginning so_far.segment so_far.hold) { chunk = Some (next_chunk so_far) })
@@ -219,7 +219,7 @@ with_next old new so_far false is gives at few =
     }
 
 pub IsCutterAt-cut : (old new : Cutter) (so_far : Cutting) → cut_waits old ≡ true
-    → Gives old new (is_last so_far) → IsCutterAt old so_far
+    → CutsChunk old new (is_last so_far) → IsCutterAt old so_far
     → IsCutterAt new (after_cut so_far)
 unfolding after_cut
 IsCutterAt-cut old new so_far waiting gives at =

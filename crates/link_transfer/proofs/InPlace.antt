@@ -6,7 +6,7 @@ use Rattle.link_wire.specs.Bytes.{AreBytes}
 use Rattle.link_transfer.specs.Cutting.{Cutting, with_bytes, is_last, next_chunk, next_cut, after_cut, without_chunk}
 use Rattle.link_transfer.specs.{Cutter.{IsCutterAt, cut_waits}, Held.{waits, cut_of, is_chunk}}
 use Rattle.link_transfer.specs.declared.{cut.Cut.Cut, cutter.Cutter.Cutter}
-use Rattle.link_transfer.proofs.Giving.{Gives, same_cut, next_cut-at, last-at, IsCutterAt-cut, IsCutterAt-unshown}
+use Rattle.link_transfer.proofs.Giving.{CutsChunk, same_cut, next_cut-at, last-at, IsCutterAt-cut, IsCutterAt-unshown}
 use Rattle.link_transfer.proofs.Steps.{IsCutterAt-push}
 
 -- ---- the numbers of bytes that are exactly the next chunk
@@ -80,11 +80,11 @@ module _ (old : Cutter) (so_far : Cutting) (bytes : List ℕ) (last : Bool)
         room = omega (arith, none, few);
       }) at
 
-  waiting : cut_waits taken ≡ true
-  waiting = chunk_waits old.begun last old.segment old.hold (length bytes) is
+  cut_waits-true : cut_waits taken ≡ true
+  cut_waits-true = chunk_waits old.begun last old.segment old.hold (length bytes) is
 
   pub here_cut : next_cut now ≡ Some (record { first = not old.begun; last = last; announce = None })
-  here_cut = sym (next_cut-at taken now taken_at waiting) ∙ ap (λ (cut : Cut). Some cut) (chunk_cut old.begun last old.segment old.hold (length bytes) few)
+  here_cut = sym (next_cut-at taken now taken_at cut_waits-true) ∙ ap (λ (cut : Cut). Some cut) (chunk_cut old.begun last old.segment old.hold (length bytes) few)
 
   pub here_chunk : next_chunk now ≡ bytes
   here_chunk = ap₂ (λ segment (left : List ℕ). take segment left) (sym taken_at.segment) (sym taken_at.held) ∙ take_all old.segment bytes few
@@ -92,7 +92,7 @@ module _ (old : Cutter) (so_far : Cutting) (bytes : List ℕ) (last : Bool)
   last_same : is_last now ≡ last
   last_same = sym (last-at taken now taken_at) ∙ ap (λ (cut : Cut). cut.last) (chunk_cut old.begun last old.segment old.hold (length bytes) few)
 
-  gives : Gives taken cut last
+  gives : CutsChunk taken cut last
   gives = record {
     segment = refl;
     hold = refl;
@@ -103,7 +103,7 @@ module _ (old : Cutter) (so_far : Cutting) (bytes : List ℕ) (last : Bool)
   }
 
   cut_at : IsCutterAt cut (after_cut now)
-  cut_at = IsCutterAt-cut taken cut now waiting (subst (Gives taken cut) (sym last_same) gives) taken_at
+  cut_at = IsCutterAt-cut taken cut now cut_waits-true (subst (CutsChunk taken cut) (sym last_same) gives) taken_at
 
   pub here_after : (new : Cutter) → new.segment ≡ old.segment → new.hold ≡ old.hold
       → new.held.given ≡ [] → length new.held.bytes ≡ 0 → new.begun ≡ not last → new.ended ≡ false

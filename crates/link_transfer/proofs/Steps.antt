@@ -6,7 +6,7 @@ use Rattle.std.specs.Bool.{OnFalse}
 use Rattle.std.proofs.lemmas.Bool.Decides.{nat_tests}
 use Rattle.std.proofs.lemmas.List.{length-drop, length-append, drop-append-le, drop_all}
 use Rattle.link_transfer.specs.Cutting.{Cutting, beginning, due, due_of, next_cut, with_bytes, shown_by}
-use Rattle.link_transfer.specs.{Cutter.{IsCutterAt, IsGiven, cut_waits}, Held.waits}
+use Rattle.link_transfer.specs.{Cutter.{IsCutterAt, IsLastChunk, cut_waits}, Held.waits}
 use Rattle.link_transfer.specs.declared.cutter.Cutter.{Cutter}
 use Rattle.link_transfer.proofs.Chunking.{first_chunks-zero, first_chunks-append}
 use Rattle.link_transfer.proofs.Due.{waits_as_due, given_within, due_more, chunk_left}
@@ -40,12 +40,12 @@ all_given false cutter so_far at is =
     grind (arith, nat_tests)
 
 -- the bytes shown are the chunk of the last cut, which is not empty, or else the bytes held
-pub shown_left : (chunk : Option (List ℕ)) (given left : List ℕ) → IsGiven chunk given
+pub shown_left : (chunk : Option (List ℕ)) (given left : List ℕ) → IsLastChunk chunk given
     → length given ≡ 0 → left ≡ shown_by chunk left
 shown_left None given left is none = refl
 shown_left (Some chunk) given left is none = absurd (omega (arith, is.1, ap length is.0))
 
-pub shown_chunk : (chunk : Option (List ℕ)) (given left : List ℕ) → IsGiven chunk given
+pub shown_chunk : (chunk : Option (List ℕ)) (given left : List ℕ) → IsLastChunk chunk given
     → 0 < length given → given ≡ shown_by chunk left
 shown_chunk None given left is some = absurd (omega (arith, ap length is))
 shown_chunk (Some chunk) given left is some = is.0

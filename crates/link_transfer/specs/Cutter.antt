@@ -24,9 +24,9 @@ abbrev pub kept_size : Cutter → ℕ
 kept_size cutter = length cutter.held.given + length cutter.held.bytes
 
 -- the chunk of the last cut is this and has a byte, or there is none
-abbrev pub IsGiven : Option (List ℕ) → List ℕ → Type 0
-IsGiven None given = given ≡ []
-IsGiven (Some chunk) given = (given ≡ chunk) × (0 < length chunk)
+abbrev pub IsLastChunk : Option (List ℕ) → List ℕ → Type 0
+IsLastChunk None given = given ≡ []
+IsLastChunk (Some chunk) given = (given ≡ chunk) × (0 < length chunk)
 
 -- the cutter has this history
 pub record IsCutterAt (cutter : Cutter) (so_far : Cutting) : Type 0 where
@@ -41,7 +41,7 @@ pub record IsCutterAt (cutter : Cutter) (so_far : Cutting) : Type 0 where
   pub left : so_far.whole ≡ true → length so_far.given < due so_far
   -- the rest is held, and the chunk of the last cut is kept
   pub held : cutter.held.bytes ≡ uncut so_far
-  pub chunk : IsGiven so_far.chunk cutter.held.given
+  pub chunk : IsLastChunk so_far.chunk cutter.held.given
   pub begun : cutter.begun ≡ nat_lt 0 (length so_far.given)
   pub ended : cutter.ended ≡ so_far.whole
   -- no more is kept than the bytes of one segment, or one byte more than may be announced

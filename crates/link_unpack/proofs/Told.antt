@@ -10,7 +10,7 @@ use Rattle.link_run.specs.{Run.{no_texts, ◌then◌}, Writers.{on_output, on_re
 use Rattle.link_run.specs.declared.writers.Writers.{Writers}
 use Rattle.link_run.proofs.Runs.{texts_as}
 use Rattle.link_walk.specs.Walk.{Head, WalkEvent, MessageHead, closes as closes_head, is_last, is_beginning, open_with, open_after_event, data_size, has_open, abandons}
-use Rattle.link_walk.specs.Telling.{ComesAfter, Tells, data_ends}
+use Rattle.link_walk.specs.Telling.{HeadComes, Tells, data_ends}
 use Rattle.link_judge.specs.{Transfers.{Transfer, closes, continued}, TransferJudge.{begun, grown}}
 use Rattle.link_judge.specs.Unpacking.{part_of, parts_of, order_line, Told, line_due, good_due, transfers_at, told_event, told_after, unpack_telling}
 use Rattle.link_judge.proofs.Counts.{size_then, open_then, size_with_data, open_with_data}
@@ -18,8 +18,8 @@ use Rattle.link_judge.proofs.Effects.{zero_eq, Does, Strays, Passes, Begins, Con
 use Rattle.link_judge.proofs.Events.{open_is, told_push, data_after, told_none, whole_if}
 use Rattle.link_judge.proofs.Heads.{transfers_same, transfer_begins, transfer_continues}
 use Rattle.link_judge.proofs.Texts.{parts_more, parts_sum}
-use Rattle.link_unpack.specs.TransferScan.{IsAtTransfer}
-use Rattle.link_unpack.specs.Unpacker.{IsAtLatest, KnowsTold}
+use Rattle.link_unpack.specs.TransferScan.{IsTransferScanAt}
+use Rattle.link_unpack.specs.Unpacker.{IsTransferScanAtLatest, IsUnpackerAt}
 use Rattle.link_unpack.specs.declared.transfer.TransferScan.{TransferScan}
 use Rattle.link_unpack.specs.declared.unpacker.Unpacker.{Unpacker}
 use Rattle.link_options.specs.declared.wanted.Wanted.{Wanted}
@@ -29,14 +29,14 @@ use Rattle.link_unpack.proofs.Transfers.{part_of-begun, follows_same, same_parts
 
 module _ (wanted : Wanted) where
   pub sum_at : (now : TransferScan) (transfer : Transfer) (earlier : List Transfer)
-      → IsAtTransfer wanted now transfer earlier
+      → IsTransferScanAt wanted now transfer earlier
       → now.start + now.written ≡ length (parts_of wanted (transfer ∷ earlier))
   sum_at now transfer earlier at = parts_sum wanted transfer earlier _ _ at.start at.written
 
   -- the latest transfer is continued without data
   pub continued_at : (now : TransferScan) (transfers : List Transfer) (closed is_open : Bool)
-      → is_open ≡ not closed → IsAtLatest wanted now true transfers
-      → IsAtLatest wanted now is_open (continued transfers [] closed)
+      → is_open ≡ not closed → IsTransferScanAtLatest wanted now true transfers
+      → IsTransferScanAtLatest wanted now is_open (continued transfers [] closed)
   continued_at now transfers closed is_open is at = record {
     transfer = grown at.transfer [] closed;
     earlier = at.earlier;
@@ -69,8 +69,8 @@ module _ (wanted : Wanted) where
         → now.latest.start + now.latest.written ≡ length (parts_of wanted next.transfers)
         → now.latest.total ≤ data_size before → now.good ≡ next.good
         → (open_after_event (has_open before) event ≡ true
-        → IsAtLatest wanted now.latest true next.transfers)
-        → KnowsTold wanted now (before ++ event ∷ [])
+        → IsTransferScanAtLatest wanted now.latest true next.transfers)
+        → IsUnpackerAt wanted now (before ++ event ∷ [])
     known now sum total good at_open = record {
       sum = rw next_is sum;
       total = omega (arith, size_then before event);
@@ -83,8 +83,8 @@ module _ (wanted : Wanted) where
         → parts_of wanted next.transfers ≡ parts_of wanted (told_after wanted before).transfers
         → next.report ≡ (told_after wanted before).report ++ text
         → AfterWrite out_look report_look old new (on_report text) result
-        → OnOk result (KnowsTold wanted now (before ++ event ∷ []))
-        → Tells out_look report_look (unpack_telling wanted) (KnowsTold wanted now) before
+        → OnOk result (IsUnpackerAt wanted now (before ++ event ∷ []))
+        → Tells out_look report_look (unpack_telling wanted) (IsUnpackerAt wanted now) before
         (event ∷ []) old new result
     tells out_look report_look old new result now text parts lines wrote knows = record {
       texts = on_report text;
@@ -96,18 +96,18 @@ module _ (wanted : Wanted) where
   -- ---- data of the open transfer, which may be the last of it
 
   -- the scan follows a transfer that has these further bytes, whichever it is
-  abbrev pub Follows : (old now : TransferScan) → (bytes : List ℕ) → Type 0
-  Follows old now bytes =
+  abbrev pub ScansFurther : (old now : TransferScan) → (bytes : List ℕ) → Type 0
+  ScansFurther old now bytes =
       (transfer : Transfer) (closed : Bool) (earlier : List Transfer)
-      → IsAtTransfer wanted old transfer earlier
-      → IsAtTransfer wanted now (grown transfer bytes closed) earlier
+      → IsTransferScanAt wanted old transfer earlier
+      → IsTransferScanAt wanted now (grown transfer bytes closed) earlier
 
   module _ (before : List WalkEvent) (bytes : List ℕ) (whole : Bool) (old : Unpacker)
-      (knows : KnowsTold wanted old before) (opened : has_open before ≡ true) where
+      (knows : IsUnpackerAt wanted old before) (opened : has_open before ≡ true) where
     abbrev was : Told
     was = told_after wanted before
 
-    abbrev at : IsAtLatest wanted old.latest true was.transfers
+    abbrev at : IsTransferScanAtLatest wanted old.latest true was.transfers
     at = knows.at_open opened
 
     abbrev new : Transfer
@@ -116,8 +116,8 @@ module _ (wanted : Wanted) where
     abbrev pub data_transfers : List Transfer
     data_transfers = new ∷ at.earlier
 
-    pub data_latest : (now : TransferScan) → Follows old.latest now bytes → {is_open : Bool} → is_open ≡ not whole
-        → IsAtLatest wanted now is_open data_transfers
+    pub data_latest : (now : TransferScan) → ScansFurther old.latest now bytes → {is_open : Bool} → is_open ≡ not whole
+        → IsTransferScanAtLatest wanted now is_open data_transfers
     data_latest now follows is = record {
       transfer = new;
       earlier = at.earlier;
@@ -134,8 +134,8 @@ module _ (wanted : Wanted) where
         (open_is at.transfer.closed at.opened)
 
     pub data_known : (now : Unpacker) → now.latest.total ≤ old.latest.total + length bytes
-        → now.good ≡ (old.good && good_due whole data_transfers) → Follows old.latest now.latest bytes
-        → KnowsTold wanted now (before ++ data_ends bytes whole)
+        → now.good ≡ (old.good && good_due whole data_transfers) → ScansFurther old.latest now.latest bytes
+        → IsUnpackerAt wanted now (before ++ data_ends bytes whole)
     data_known now total good follows = record {
       sum = rw data_next (sum_at now.latest new at.earlier (follows at.transfer whole at.earlier at.follows));
       total = omega (arith, size_with_data before bytes whole, knows.total);
@@ -147,7 +147,7 @@ module _ (wanted : Wanted) where
 
     -- these bytes of the data are to be written
     module _ (part : List ℕ) (has_part : (transfer : Transfer) (closed : Bool)
-        (earlier : List Transfer) → IsAtTransfer wanted old.latest transfer earlier
+        (earlier : List Transfer) → IsTransferScanAt wanted old.latest transfer earlier
         → part_of wanted (grown transfer bytes closed) ≡ part_of wanted transfer ++ part) where
       data_parts : parts_of wanted data_transfers ≡ parts_of wanted was.transfers ++ part
       data_parts =
@@ -162,8 +162,8 @@ module _ (wanted : Wanted) where
           (from to : Writers W E) (result : Result (Unit {0}) IoFault) (now : Unpacker)
           → AfterWrite out_look report_look from to
           (on_output part then on_report (line_due wanted whole data_transfers)) result
-          → OnOk result (KnowsTold wanted now (before ++ data_ends bytes whole))
-          → Tells out_look report_look (unpack_telling wanted) (KnowsTold wanted now) before
+          → OnOk result (IsUnpackerAt wanted now (before ++ data_ends bytes whole))
+          → Tells out_look report_look (unpack_telling wanted) (IsUnpackerAt wanted now) before
           (data_ends bytes whole) from to result
       data_tells out_look report_look from to result now wrote known = record {
         texts = on_output part then on_report (line_due wanted whole data_transfers);
@@ -195,14 +195,14 @@ module _ (wanted : Wanted) where
   pub record AtHead (now : TransferScan) (transfers : List Transfer) (effect : Option Turn)
       (closing opened : Bool) : Type 0 where
     pub sum : now.start + now.written ≡ length (parts_of wanted transfers)
-    pub closed : closing ≡ true → IsAtLatest wanted now false transfers
-    pub opens : open_with effect closing opened ≡ true → IsAtLatest wanted now true transfers
+    pub closed : closing ≡ true → IsTransferScanAtLatest wanted now false transfers
+    pub opens : open_with effect closing opened ≡ true → IsTransferScanAtLatest wanted now true transfers
 
   -- the head's segment is in the latest transfer, which it closes or not
   at_segment : (now : TransferScan) (transfers : List Transfer) (effect : Option Turn)
       (closing opened : Bool) → now.start + now.written ≡ length (parts_of wanted transfers)
       → open_with effect closing opened ≡ not closing
-      → ((is_open : Bool) → is_open ≡ not closing → IsAtLatest wanted now is_open transfers)
+      → ((is_open : Bool) → is_open ≡ not closing → IsTransferScanAtLatest wanted now is_open transfers)
       → AtHead now transfers effect closing opened
   at_segment now transfers effect closing opened sum goes at = record {
     sum = sum;
@@ -213,11 +213,11 @@ module _ (wanted : Wanted) where
   pub at_head : (before now : TransferScan) (transfers : List Transfer) (effect : Option Turn)
       (sent : Message) (opened : Bool) → Does effect sent opened
       → before.start + before.written ≡ length (parts_of wanted transfers)
-      → (opened ≡ true → IsAtLatest wanted before true transfers)
+      → (opened ≡ true → IsTransferScanAtLatest wanted before true transfers)
       → ((first : SegmentHead) (closed : Bool) (earlier : List Transfer) → is_beginning effect ≡ true
       → sent ≡ message.Segment first → is_start first.flags ≡ true
       → before.start + before.written ≡ length (parts_of wanted earlier)
-      → IsAtTransfer wanted now (begun first closed) earlier)
+      → IsTransferScanAt wanted now (begun first closed) earlier)
       → (is_beginning effect ≡ false → now ≡ before)
       → AtHead now (transfers_at effect transfers sent) effect
       (is_last effect && (data_length sent == 0)) opened
@@ -253,7 +253,7 @@ unfolding told_after parts_of
 says_nothing wanted = refl
 
 pub knows_nothing : (wanted : Wanted) (now : Unpacker) → now.latest.start + now.latest.written ≡ 0
-    → now.latest.total ≡ 0 → now.good ≡ true → KnowsTold wanted now []
+    → now.latest.total ≡ 0 → now.good ≡ true → IsUnpackerAt wanted now []
 unfolding parts_of data_size has_open
 knows_nothing wanted now sum total good = record {
   sum = rw (told_none wanted) sum;
@@ -277,7 +277,7 @@ in_turn before first second third =
     append_assoc (before ++ first) second third ∙ append_assoc before first (second ++ third)
 
 module _ {W E : Type 0} (out_look : W → Output) (report_look : E → Output) (wanted : Wanted)
-    (before : List WalkEvent) (head : Head) (comes : ComesAfter before head) where
+    (before : List WalkEvent) (head : Head) (comes : HeadComes before head) where
   abbrev had : Told
   had = told_after wanted before
 
@@ -286,8 +286,8 @@ module _ {W E : Type 0} (out_look : W → Output) (report_look : E → Output) (
 
   pub head_tells : (old new : Writers W E) (result : Result (Unit {0}) IoFault) (now : Unpacker)
       → AfterWrite out_look report_look old new (on_report (head_lines wanted had head)) result
-      → OnOk result (KnowsTold wanted now (before ++ MessageHead head ∷ []))
-      → Tells out_look report_look (unpack_telling wanted) (KnowsTold wanted now) before
+      → OnOk result (IsUnpackerAt wanted now (before ++ MessageHead head ∷ []))
+      → Tells out_look report_look (unpack_telling wanted) (IsUnpackerAt wanted now) before
       (MessageHead head ∷ []) old new result
   head_tells old new result now wrote knows =
       tells wanted before (MessageHead head) out_look report_look old new result now
@@ -295,13 +295,13 @@ module _ {W E : Type 0} (out_look : W → Output) (report_look : E → Output) (
       (head_parts wanted had.transfers head.turn head.message (has_open before) does)
       (in_turn had.report _ _ _) wrote knows
 
-  pub head_known : (old now : Unpacker) → KnowsTold wanted old before
+  pub head_known : (old now : Unpacker) → IsUnpackerAt wanted old before
       → now.latest.total ≡ old.latest.total
       → now.good ≡ (((old.good && not (is_some head.fault)) && good_due (abandons head.turn) had.transfers)
       && good_due (closes_head head) (transfers_at head.turn had.transfers head.message))
       → AtHead wanted now.latest (transfers_at head.turn had.transfers head.message) head.turn
       (closes_head head) (has_open before)
-      → KnowsTold wanted now (before ++ MessageHead head ∷ [])
+      → IsUnpackerAt wanted now (before ++ MessageHead head ∷ [])
   head_known old now knows total good at =
       known wanted before (MessageHead head) now at.sum (rw total knows.total)
       (good ∙ ap (λ g. ((g && not (is_some head.fault)) && good_due (abandons head.turn) had.transfers)

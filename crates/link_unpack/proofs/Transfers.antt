@@ -8,7 +8,7 @@ use Rattle.link_wire.specs.declared.message.SegmentHead.{SegmentHead}
 use Rattle.link_judge.specs.{Transfers.Transfer, TransferJudge.{begun, grown}}
 use Rattle.link_judge.specs.Unpacking.{is_selected, part_of, parts_of, judgement_of, entry_of}
 use Rattle.link_judge.proofs.{Texts.parts_more, Judging.judging_same}
-use Rattle.link_unpack.specs.TransferScan.{IsAtTransfer}
+use Rattle.link_unpack.specs.TransferScan.{IsTransferScanAt}
 use Rattle.link_unpack.specs.declared.transfer.TransferScan.{TransferScan}
 use Rattle.link_options.specs.declared.wanted.Wanted.{Wanted}
 
@@ -40,7 +40,7 @@ part_of-payload wanted transfer piece more closed selected payload is = rw (sele
 -- ---- the line of a transfer
 
 pub line_is : (wanted : Wanted) (now : TransferScan) (transfer : Transfer) (earlier : List Transfer)
-    → IsAtTransfer wanted now transfer earlier → (judgement : Judgement)
+    → IsTransferScanAt wanted now transfer earlier → (judgement : Judgement)
     → judgement ≡ judgement_of transfer
     → transfer_text
     (record {
@@ -62,8 +62,8 @@ same_part : (wanted : Wanted) (transfer : Transfer) (closed : Bool)
 same_part wanted transfer closed = rw (append-nil transfer.content) refl
 
 pub follows_same : (wanted : Wanted) (now : TransferScan) (transfer : Transfer) (closed : Bool)
-    (earlier : List Transfer) → IsAtTransfer wanted now transfer earlier
-    → IsAtTransfer wanted now (grown transfer [] closed) earlier
+    (earlier : List Transfer) → IsTransferScanAt wanted now transfer earlier
+    → IsTransferScanAt wanted now (grown transfer [] closed) earlier
 follows_same wanted now transfer closed earlier follows = record {
   judging = judging_same now.judge transfer closed follows.judging;
   start = follows.start;

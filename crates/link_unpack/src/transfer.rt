@@ -34,8 +34,8 @@ impl TransferScan {
     ghost use Rattle.link_bundle.specs.Scan.{HasJudged};
     ghost use Rattle.link_judge.specs.Transfers.{Transfer};
     ghost use Rattle.link_judge.specs.Unpacking.{parts_of, part_of, line_of, judgement_of, is_good};
-    ghost use Rattle.link_judge.specs.TransferJudge.{IsJudging, begun, grown};
-    ghost use Rattle.link_unpack.specs.TransferScan.{IsAtTransfer};
+    ghost use Rattle.link_judge.specs.TransferJudge.{IsTransferJudgeAt, begun, grown};
+    ghost use Rattle.link_unpack.specs.TransferScan.{IsTransferScanAt};
     ghost use Rattle.link_options.specs.declared.wanted.Wanted.{Wanted};
 
     /// Makes a scan for the first transfer of a stream.
@@ -60,7 +60,7 @@ impl TransferScan {
             (earlier : List Transfer)
             → message_of message.now ≡ Message.Segment head → is_start head.flags ≡ true
             → self.old.start + self.old.written ≡ length (parts_of wanted earlier)
-            → IsAtTransfer wanted self.new (begun head closed) earlier }
+            → IsTransferScanAt wanted self.new (begun head closed) earlier }
         ensures total { self.new.total ≡ self.old.total }
     {
         self.judge.begin(message);
@@ -76,11 +76,11 @@ impl TransferScan {
     pub fn take<'a>(&mut self, wanted: &Wanted, piece: &'a [u8]) -> &'a [u8]
         ensures follows { (transfer : Transfer) (closed : _) (earlier : List Transfer)
             → self.old.total + length piece.now < 2 ^ 63
-            → IsAtTransfer wanted.now self.old transfer earlier
-            → IsAtTransfer wanted.now self.new (grown transfer piece.now closed) earlier }
+            → IsTransferScanAt wanted.now self.old transfer earlier
+            → IsTransferScanAt wanted.now self.new (grown transfer piece.now closed) earlier }
         ensures part { (transfer : Transfer) (closed : _) (earlier : List Transfer)
             → self.old.total + length piece.now < 2 ^ 63
-            → IsAtTransfer wanted.now self.old transfer earlier
+            → IsTransferScanAt wanted.now self.old transfer earlier
             → part_of wanted.now (grown transfer piece.now closed) ≡ part_of wanted.now
             transfer ++ result.now }
         ensures total { self.new.total ≤ self.old.total + length piece.now }
@@ -99,7 +99,7 @@ impl TransferScan {
     fn part<'a>(&self, wanted: &Wanted, piece: &'a [u8]) -> &'a [u8]
         requires { length piece.now ≤ self.now.judge.size }
         ensures part { (transfer : Transfer) (closed : _)
-            → IsJudging self.now.judge (grown transfer piece.now closed)
+            → IsTransferJudgeAt self.now.judge (grown transfer piece.now closed)
             → part_of wanted.now (grown transfer piece.now closed) ≡ part_of wanted.now
             transfer ++ result.now }
         ensures size { length result.now ≤ length piece.now }
@@ -122,10 +122,10 @@ impl TransferScan {
     #[inline(always)]
     pub fn line(&self, abandoned: bool) -> TransferText<'_>
         ensures text { (wanted : Wanted) (transfer : Transfer) (earlier : List Transfer)
-            → IsAtTransfer wanted self.now transfer earlier → abandoned ≡ not transfer.closed
+            → IsTransferScanAt wanted self.now transfer earlier → abandoned ≡ not transfer.closed
             → transfer_text (viewed_transfer result.entry) ≡ line_of wanted transfer earlier }
         ensures good { (wanted : Wanted) (transfer : Transfer) (earlier : List Transfer)
-            → IsAtTransfer wanted self.now transfer earlier → abandoned ≡ not transfer.closed
+            → IsTransferScanAt wanted self.now transfer earlier → abandoned ≡ not transfer.closed
             → is_good (viewed_judgement result.entry.judgement) ≡ is_good (judgement_of transfer) }
     {
         TransferText {

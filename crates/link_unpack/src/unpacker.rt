@@ -7,8 +7,8 @@ ghost use Rattle.link_run.specs.WholeRun.{AfterRun};
 ghost use Rattle.link_run.specs.Writers.{AfterWrite, on_report};
 ghost use Rattle.link_judge.specs.Transfers.{Transfer};
 ghost use Rattle.link_judge.specs.Unpacking.{line_of, is_good, judgement_of, unpack_telling, unpack_tool, line_due, good_due};
-ghost use Rattle.link_unpack.specs.TransferScan.{IsAtTransfer};
-ghost use Rattle.link_unpack.specs.Unpacker.{IsAtLatest, KnowsTold};
+ghost use Rattle.link_unpack.specs.TransferScan.{IsTransferScanAt};
+ghost use Rattle.link_unpack.specs.Unpacker.{IsTransferScanAtLatest, IsUnpackerAt};
 ghost use Rattle.link_options.specs.declared.wanted.Wanted.{Wanted};
 
 use crate::transfer::TransferScan;
@@ -29,7 +29,7 @@ pub struct Unpacker {
 impl Unpacker {
     /// What is known before a stream has begun.
     pub fn new() -> Unpacker
-        ensures { (wanted : Wanted) → KnowsTold wanted result [] }
+        ensures { (wanted : Wanted) → IsUnpackerAt wanted result [] }
     {
         Unpacker {
             latest: TransferScan::new(),
@@ -43,7 +43,7 @@ impl Consumer for Unpacker {
 
     ghost telling = { unpack_telling };
 
-    ghost knows = { KnowsTold };
+    ghost knows = { IsUnpackerAt };
 
     #[inline(always)]
     fn manner(options: &Wanted) -> Manner {
@@ -104,11 +104,11 @@ fn report<W: OutDevice, E: OutDevice>(
     unpacker: &mut Unpacker,
 ) -> Result<(), IoFault>
     ensures gives { (transfers : List Transfer) → (due ≡ true
-        → IsAtLatest wanted.now unpacker.old.latest abandoned transfers)
+        → IsTransferScanAtLatest wanted.now unpacker.old.latest abandoned transfers)
         → AfterWrite W.state E.state writers.old writers.new (on_report (line_due wanted.now due
         transfers)) result }
     ensures good { (transfers : List Transfer) → (due ≡ true
-        → IsAtLatest wanted.now unpacker.old.latest abandoned transfers)
+        → IsTransferScanAtLatest wanted.now unpacker.old.latest abandoned transfers)
         → unpacker.new.good ≡ (unpacker.old.good && good_due due transfers) }
     ensures latest { unpacker.new.latest ≡ unpacker.old.latest }
 {
@@ -127,12 +127,12 @@ fn report_line<W: OutDevice, E: OutDevice>(
     unpacker: &mut Unpacker,
 ) -> Result<(), IoFault>
     ensures gives { (wanted : Wanted) (transfer : Transfer) (earlier : List Transfer)
-        → IsAtTransfer wanted unpacker.old.latest transfer earlier
+        → IsTransferScanAt wanted unpacker.old.latest transfer earlier
         → abandoned ≡ not transfer.closed
         → AfterWrite W.state E.state writers.old writers.new (on_report (line_of wanted transfer
         earlier)) result }
     ensures good { (wanted : Wanted) (transfer : Transfer) (earlier : List Transfer)
-        → IsAtTransfer wanted unpacker.old.latest transfer earlier
+        → IsTransferScanAt wanted unpacker.old.latest transfer earlier
         → abandoned ≡ not transfer.closed
         → unpacker.new.good ≡ (unpacker.old.good && is_good (judgement_of transfer)) }
     ensures latest { unpacker.new.latest ≡ unpacker.old.latest }

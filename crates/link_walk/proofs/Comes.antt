@@ -19,7 +19,7 @@ use Rattle.link_transfer.specs.declared.joiner.Turn.TheVariants as turn
 use Rattle.link_transfer.proofs.Joining.{IsJoinerAt-then, refusal-at, effect-at, taken-at}
 use Rattle.link_walk.specs.Walk.{Head, head_at, is_last, is_beginning, closes, is_plain, WalkEvent, MessageHead, Data, Whole, data_events, open_with, open_after_event, has_open, Walked, head_events, content_events, contact_events, taken_with, with_judged, with_entry_unless, with_next, none_walked, walked_of, walked, Telling}
 use Rattle.link_walk.specs.declared.consumer.Manner.{Manner}
-use Rattle.link_walk.specs.WalkRun.{stage_in, stage_by, IsWaiting, is_open_at, walked_before, IsAt}
+use Rattle.link_walk.specs.WalkRun.{stage_in, stage_by, StageFits, is_open_at, walked_before, IsWalkAtReading}
 use Rattle.link_walk.specs.declared.walk.Stage.{Stage}
 use Rattle.link_walk.specs.declared.walk.Stage.TheVariants as stage
 use Rattle.link_walk.proofs.Heads.{entry, heads_clean, with_head, heads_with, other_has_none, continues_some, open_then, has_open-append, data_keeps}
@@ -77,7 +77,7 @@ module _ (manner : Manner) (before : Walked) (head : Entry) where
 -- ---- the state, by what the heads have told
 
 -- these events have come, and the walk is at this stage
-pub record Has (events : List WalkEvent) (now : Stage) (joiner : Joiner) (told : Walked)
+pub record HasEvents (events : List WalkEvent) (now : Stage) (joiner : Joiner) (told : Walked)
     : Type 0 where
   pub unrefused : told.refused ≡ None
   pub judges : IsJoinerAt joiner told.taken
@@ -85,14 +85,14 @@ pub record Has (events : List WalkEvent) (now : Stage) (joiner : Joiner) (told :
   pub opened : has_open events ≡ is_open_at now told.taken
 
 -- a reading tells exactly these events
-pub record Comes (telling : Telling) (now : Stage) (joiner : Joiner) (reading : Reading)
+pub record TellsEvents (telling : Telling) (now : Stage) (joiner : Joiner) (reading : Reading)
     (events : List WalkEvent) : Type 0 where
-  pub has : Has events now joiner (walked telling.manner reading)
-  pub waits : IsWaiting now (walked_before telling.manner reading) reading.end
+  pub has : HasEvents events now joiner (walked telling.manner reading)
+  pub waits : StageFits now (walked_before telling.manner reading) reading.end
 
 module _ {telling : Telling} {now : Stage} {joiner : Joiner} {reading : Reading} where
-  pub told_at : {knows : List WalkEvent → Type 0} → IsAt telling knows now joiner reading
-      → Comes telling now joiner reading (walked telling.manner reading).events
+  pub told_at : {knows : List WalkEvent → Type 0} → IsWalkAtReading telling knows now joiner reading
+      → TellsEvents telling now joiner reading (walked telling.manner reading).events
   told_at at = record {
     has = record {
       unrefused = at.unrefused;
@@ -103,8 +103,8 @@ module _ {telling : Telling} {now : Stage} {joiner : Joiner} {reading : Reading}
     waits = at.waits;
   }
 
-  pub knows_at : {events : List WalkEvent} → Comes telling now joiner reading events
-      → (knows : List WalkEvent → Type 0) → knows events → IsAt telling knows now joiner reading
+  pub knows_at : {events : List WalkEvent} → TellsEvents telling now joiner reading events
+      → (knows : List WalkEvent → Type 0) → knows events → IsWalkAtReading telling knows now joiner reading
   knows_at at knows known = record {
     unrefused = at.has.unrefused;
     judges = at.has.judges;
@@ -119,13 +119,13 @@ in_segment None = (λ is. cc, λ is. cc)
 in_segment (Some effect) = (λ is. cc, λ is. cc)
 
 -- no bytes that were given wait for the contact header
-pub never_contact : (before : Walked) (end : End) → IsWaiting stage.Contact before end → ⊥
+pub never_contact : (before : Walked) (end : End) → StageFits stage.Contact before end → ⊥
 never_contact before Clean waits = cc
 never_contact before (Cut offset sent content) waits =
     (in_segment (effect_of before.taken (event_of sent))).1 waits
 never_contact before (Fault offset fault) waits = waits
 
-clean_by : (before : Walked) (end : End) → IsWaiting stage.Message before end → end ≡ Clean
+clean_by : (before : Walked) (end : End) → StageFits stage.Message before end → end ≡ Clean
 clean_by before Clean waits = refl
 clean_by before (Cut offset sent content) waits =
     absurd ((in_segment (effect_of before.taken (event_of sent))).0 waits)
@@ -133,14 +133,14 @@ clean_by before (Fault offset fault) waits = absurd waits
 
 -- before the head of a message, the reading ends between two messages
 pub at_clean : {telling : Telling} {joiner : Joiner} {reading : Reading}
-    {events : List WalkEvent} → Comes telling stage.Message joiner reading events
+    {events : List WalkEvent} → TellsEvents telling stage.Message joiner reading events
     → reading.end ≡ Clean
 at_clean {telling} {joiner} {reading} at =
     clean_by (walked_before telling.manner reading) reading.end at.waits
 
 -- the contact header has come
 pub contact_comes : (telling : Telling) (joiner : Joiner) (contact : Contact) → IsJoinerAt joiner []
-    → Comes telling stage.Message joiner
+    → TellsEvents telling stage.Message joiner
     (record { contact = Some contact; entries = []; end = Clean }) (contact_events (Some contact))
 unfolding walked_of has_open open_of
 contact_comes telling joiner contact judges =
@@ -153,7 +153,7 @@ waits_with : (manner : Manner) (contact : Option Contact) (entries : List Entry)
     (sent : Message) (content : List ℕ) (left : ℕ)
     → (let rest : Stream = if nat_lt 0 left then ended (Cut offset sent content)
     else with_entry (entry offset sent content) (ended Clean) in
-    IsWaiting (stage_by (effect_of (walked_of manner contact entries).taken (event_of sent)) left)
+    StageFits (stage_by (effect_of (walked_of manner contact entries).taken (event_of sent)) left)
     (walked_of manner contact (entries ++ rest.entries)) rest.end)
 waits_with manner contact entries offset sent content zero = refl
 waits_with manner contact entries offset sent content (suc left) =
@@ -163,9 +163,9 @@ waits_with manner contact entries offset sent content (suc left) =
 with_comes : (telling : Telling) (joiner : Joiner) (reading : Reading) (offset : ℕ)
     (sent : Message) (content : List ℕ) (left : ℕ) {events : List WalkEvent} (was : Walked)
     → was ≡ walked_before telling.manner reading
-    → Has events (stage_by (effect_of was.taken (event_of sent)) left) joiner
+    → HasEvents events (stage_by (effect_of was.taken (event_of sent)) left) joiner
     (with_next telling.manner was (entry offset sent content))
-    → Comes telling (stage_by (effect_of was.taken (event_of sent)) left) joiner
+    → TellsEvents telling (stage_by (effect_of was.taken (event_of sent)) left) joiner
     (with_head reading offset sent content left) events
 with_comes telling joiner reading offset sent content left {events} was same has =
     let manner = telling.manner in
@@ -226,7 +226,7 @@ no_content (Some effect) size =
     not_both n = grind (arith, nat_tests)
 
 module _ (manner : Manner) (was : Walked) (old new : Joiner) {events : List WalkEvent}
-    (has : Has events stage.Message old was) (head : Entry)
+    (has : HasEvents events stage.Message old was) (head : Entry)
     (may : MayTake manner was.taken head.message)
     (judges : IsJoinerAt new (with_taken was.taken head.message)) where
   abbrev here : Head
@@ -252,7 +252,7 @@ module _ (manner : Manner) (was : Walked) (old new : Joiner) {events : List Walk
   head_has : (all : List WalkEvent) (later : Stage) → events ++ told ≡ all
       → stage_by here.turn (data_length head.message) ≡ later
       → content_events here.turn (data_length head.message) head.content ≡ []
-      → Has all later new (with_next manner was head)
+      → HasEvents all later new (with_next manner was head)
   head_has all later all_is later_is none =
       rw (next_taken manner was head has.unrefused may) (record {
         unrefused = refl;
@@ -262,7 +262,7 @@ module _ (manner : Manner) (was : Walked) (old new : Joiner) {events : List Walk
       })
 
 module _ (telling : Telling) (old : Joiner) {reading : Reading} {events : List WalkEvent}
-    (at : Comes telling stage.Message old reading events) (offset : ℕ) (sent : Message) where
+    (at : TellsEvents telling stage.Message old reading events) (offset : ℕ) (sent : Message) where
   abbrev had : Walked
   had = walked telling.manner reading
 
@@ -275,7 +275,7 @@ module _ (telling : Telling) (old : Joiner) {reading : Reading} {events : List W
   -- the state after a head that the walk takes
   pub head_comes : (new : Joiner) (after : Reading) → after ≡ with_message offset sent reading
       → MayTake telling.manner had.taken sent → IsJoinerAt new (with_taken had.taken sent)
-      → Comes telling (stage_by does (data_length sent)) new after
+      → TellsEvents telling (stage_by does (data_length sent)) new after
       (events ++ head_events telling.manner.all_heads (head_at had.taken offset sent))
   head_comes new after is may judges =
       rw is
@@ -360,9 +360,9 @@ more_open (Some effect) left bytes was first taken is opened other =
 data_has : (manner : Manner) (before : Walked) (joiner : Joiner) {events : List WalkEvent}
     (offset : ℕ) (sent : Message) (content bytes : List ℕ) (left : ℕ)
     → data_length sent ≡ length content + (length bytes + left) → 0 < length bytes
-    → Has events (stage_in (effect_of before.taken (event_of sent))) joiner
+    → HasEvents events (stage_in (effect_of before.taken (event_of sent))) joiner
     (with_next manner before (entry offset sent content))
-    → Has (events ++ told_in (stage_in (effect_of before.taken (event_of sent))) left bytes)
+    → HasEvents (events ++ told_in (stage_in (effect_of before.taken (event_of sent))) left bytes)
     (stage_by (effect_of before.taken (event_of sent)) left) joiner
     (with_next manner before (entry offset sent (content ++ bytes)))
 data_has manner before joiner {events} offset sent content bytes left size some has =
@@ -399,13 +399,13 @@ later_is effect other zero is = refl
 later_is effect other (suc left) is = is
 
 module _ (telling : Telling) (effect : Option Turn) {joiner : Joiner} {reading after : Reading}
-    {events : List WalkEvent} (at : Comes telling (stage_in effect) joiner reading events)
+    {events : List WalkEvent} (at : TellsEvents telling (stage_in effect) joiner reading events)
     (from left : ℕ) (bytes : List ℕ) (is : after ≡ with_data left bytes reading)
     (some : 0 < length bytes) where
   data_by : (end : End) → reading.end ≡ end
-      → IsWaiting (stage_in effect) (walked_before telling.manner reading) end
+      → StageFits (stage_in effect) (walked_before telling.manner reading) end
       → IsLeft from (length bytes + left) end
-      → Comes telling (stage_by effect left) joiner after
+      → TellsEvents telling (stage_by effect left) joiner after
       (events ++ told_in (stage_in effect) left bytes)
   data_by Clean ends waits to_come = absurd ((in_segment effect).0 (sym waits))
   data_by (Cut offset sent content) ends waits to_come =
@@ -425,7 +425,7 @@ module _ (telling : Telling) (effect : Option Turn) {joiner : Joiner} {reading a
 
   -- data of a segment has come
   pub data_comes : IsLeft from (length bytes + left) reading.end
-      → Comes telling (stage_by effect left) joiner after
+      → TellsEvents telling (stage_by effect left) joiner after
       (events ++ told_in (stage_in effect) left bytes)
   data_comes to_come = data_by reading.end refl at.waits to_come
 
@@ -444,9 +444,9 @@ quiet_event sent is = (cc, refl)
 module _ (telling : Telling) (unwanted : telling.manner.all_heads ≡ false) (joiner : Joiner)
     {events : List WalkEvent} where
   -- a quiet message is no event, and changes neither the order nor the open transfer
-  one_quiet : (was : Walked) (head : Entry) → Has events stage.Message joiner was
+  one_quiet : (was : Walked) (head : Entry) → HasEvents events stage.Message joiner was
       → is_quiet head.message ≡ true
-      → Has events stage.Message joiner (with_next telling.manner was head)
+      → HasEvents events stage.Message joiner (with_next telling.manner was head)
   one_quiet was head has quiet =
       let sent = head.message in
       let is = quiet_event sent quiet in
@@ -461,9 +461,9 @@ module _ (telling : Telling) (unwanted : telling.manner.all_heads ≡ false) (jo
       events stage.Message (rw (unwanted, may, does) (append-nil events)) (rw (does, is.1) refl)
       (rw does refl)
 
-  all_quiet : (entries : List Entry) (was : Walked) → Has events stage.Message joiner was
+  all_quiet : (entries : List Entry) (was : Walked) → HasEvents events stage.Message joiner was
       → All IsQuiet entries
-      → Has events stage.Message joiner (fold (with_next telling.manner) was entries)
+      → HasEvents events stage.Message joiner (fold (with_next telling.manner) was entries)
   all_quiet [] was has quiet = has
   all_quiet (head ∷ more) was has quiet =
       all_quiet more (with_next telling.manner was head)
@@ -471,9 +471,9 @@ module _ (telling : Telling) (unwanted : telling.manner.all_heads ≡ false) (jo
       (All-tail IsQuiet head more quiet)
 
   pub quiet_comes : {reading : Reading} (after : Reading) (entries : List Entry)
-      → Comes telling stage.Message joiner reading events
+      → TellsEvents telling stage.Message joiner reading events
       → after ≡ joined reading (record { entries = entries; end = Clean }) → All IsQuiet entries
-      → Comes telling stage.Message joiner after events
+      → TellsEvents telling stage.Message joiner after events
   quiet_comes {reading} after entries at is quiet =
       rw is (record {
         has = rw (

@@ -4,7 +4,7 @@ use Rattle.std.proofs.KnownBytes.{Consumes-trans}
 use Rattle.link_io.proofs.Sources.{Takes-none, Takes-then}
 use Rattle.link_wire.specs.{Device.Input, Inner.{PassedInner, inner_segment}, Limits.longest_head}
 use Rattle.link_wire.specs.Message.{data_length}
-use Rattle.link_wire.specs.Session.{source_of, left_of, IsSessionAt, ReadContact, CleanEnd, ReadMessage, LoadedData, PassedBytes, with_message}
+use Rattle.link_wire.specs.Session.{source_of, left_of, IsSessionAt, GivenContact, CleanEnd, GivenMessage, LoadedData, PassedBytes, with_message}
 use Rattle.link_wire.specs.Source.{Takes, ahead, given_by}
 use Rattle.link_wire.specs.Stream.{Entry, Clean, Cut, Stream, ended, with_entry, Reading, reading_of, cut_heads}
 use Rattle.link_wire.specs.{Whole.PassedQuiet, declared.IoFault.IoFault}
@@ -27,15 +27,15 @@ use Rattle.link_run.specs.declared.next.Next.TheVariants as next
 use Rattle.link_run.proofs.Ends.{ends_unshown, made_reports, unshown_sofar}
 use Rattle.link_run.proofs.Runs.{few_over, sound_given, writer_lost, written_given}
 use Rattle.link_run.proofs.{Sessions.{then_fault, part_unshown}, Stands.{ends, stands_on}}
-use Rattle.link_walk.specs.Telling.{ComesAfter, Tells, data_ends, inner_events, inner_head}
+use Rattle.link_walk.specs.Telling.{HeadComes, Tells, data_ends, inner_events, inner_head}
 use Rattle.link_walk.specs.Walk.{head_at, is_plain, WalkEvent, ContactHeader, MessageHead, Whole, data_events, data_size, data_size_of, has_open, Walked, walked, head_events, Telling, told_of}
-use Rattle.link_walk.specs.WalkRun.{Walks, WalkStands, StandsNext, At, AfterWalkStep, IsWaitingAfter, Finishes, TakesAll, most_by, stage_in, stage_by}
+use Rattle.link_walk.specs.WalkRun.{IsWalkAt, IsTellingRunAt, AfterWalkBytes, WalkState, AfterWalkStep, HasNoDataYet, TellsEnd, TakesMessages, most_by, stage_in, stage_by}
 use Rattle.link_walk.specs.declared.walk.Stage.{Stage}
 use Rattle.link_walk.specs.declared.walk.Stage.TheVariants as stage
-use Rattle.link_walk.proofs.Comes.{Comes, MayTake, told_at, knows_at, told_in, contact_comes, head_comes, data_comes, quiet_comes, stage_some}
+use Rattle.link_walk.proofs.Comes.{TellsEvents, MayTake, told_at, knows_at, told_in, contact_comes, head_comes, data_comes, quiet_comes, stage_some}
 use Rattle.link_walk.proofs.Heads.{continues_some, data_size-append, data_size-data}
 use Rattle.link_walk.proofs.Tellings.{tells_none}
-use Rattle.link_walk.proofs.Texts.{by_reading, made_is, texts_are, stop_is, same_texts, at_unshown, nothing_told}
+use Rattle.link_walk.proofs.Texts.{by_reading, told_of-reading, texts_are, stop_is, same_texts, at_unshown, nothing_told}
 
 abbrev pub events_at : Telling → List ℕ → List WalkEvent
 events_at telling bytes = (walked telling.manner (reading_of bytes)).events
@@ -43,26 +43,26 @@ events_at telling bytes = (walked telling.manner (reading_of bytes)).events
 -- ---- the events of the bytes that were given
 
 -- The session was given these bytes. They tell exactly these events, and the walk is at this stage.
-pub record HasCome {R : Type 0} (look : R → Input) (telling : Telling) (now : Stage)
+pub record HasToldEvents {R : Type 0} (look : R → Input) (telling : Telling) (now : Stage)
     (session : Session R) (joiner : Joiner) (history : List ℕ) (events : List WalkEvent)
     : Type 0 where
   pub session_at : IsSessionAt look session history
-  pub comes : Comes telling now joiner (reading_of history) events
+  pub comes : TellsEvents telling now joiner (reading_of history) events
   pub size : data_size events ≤ length history
 
 -- the events of the history, and what a walk that has come this far has told
 module _ {R C : Type 0} {look : R → Input} {telling : Telling} {now : Stage} {session : Session R}
     {joiner : Joiner} {history : List ℕ} where
   pub come_at : {knows : C → List WalkEvent → Type 0} {consumer : C}
-      → Walks look telling knows now session joiner consumer history
-      → HasCome look telling now session joiner history (events_at telling history)
+      → IsWalkAt look telling knows now session joiner consumer history
+      → HasToldEvents look telling now session joiner history (events_at telling history)
   come_at walks =
       record { session_at = walks.session_at; comes = told_at walks.at; size = walks.size }
 
   walks_on : {events : List WalkEvent}
-      → HasCome look telling now session joiner history events
+      → HasToldEvents look telling now session joiner history events
       → (knows : C → List WalkEvent → Type 0) (consumer : C) → knows consumer events
-      → Walks look telling knows now session joiner consumer history
+      → IsWalkAt look telling knows now session joiner consumer history
   walks_on come knows consumer known = record {
     session_at = come.session_at;
     at = knows_at come.comes (knows consumer) known;
@@ -94,8 +94,8 @@ nothing_yet telling = ap (λ (w : Walked). w.events) (nothing_told telling.manne
 -- the contact header has come
 pub contact_come : {R : Type 0} {look : R → Input} (telling : Telling) {joiner : Joiner}
     {old new : Session R} {contact : Contact} → IsJoinerAt joiner []
-    → (got : ReadContact look old new contact)
-    → HasCome look telling stage.Message new joiner got.given
+    → (got : GivenContact look old new contact)
+    → HasToldEvents look telling stage.Message new joiner got.given
     (events_at telling [] ++ ContactHeader contact ∷ [])
 contact_come telling {joiner = joiner} {contact = contact} judges got =
     rw (nothing_yet telling) (record {
@@ -107,9 +107,9 @@ contact_come telling {joiner = joiner} {contact = contact} judges got =
 -- data of a segment has come
 pub data_come : {R : Type 0} {look : R → Input} {telling : Telling} {old new : Session R}
     (effect : Option Turn) {joiner : Joiner} {history bytes : List ℕ} {events : List WalkEvent}
-    {left : ℕ} → HasCome look telling (stage_in effect) old joiner history events
+    {left : ℕ} → HasToldEvents look telling (stage_in effect) old joiner history events
     → PassedBytes look old new history bytes → left_of new ≡ left → 0 < length bytes
-    → HasCome look telling (stage_by effect left) new joiner (history ++ bytes)
+    → HasToldEvents look telling (stage_by effect left) new joiner (history ++ bytes)
     (events ++ told_in (stage_in effect) left bytes)
 data_come {old = old} {new = new} effect {bytes = bytes} come gave left_is some =
     rw (← left_is) (record {
@@ -127,16 +127,16 @@ data_come {old = old} {new = new} effect {bytes = bytes} come gave left_is some 
 
 module _ {R : Type 0} {look : R → Input} {telling : Telling} {old : Session R} {joiner : Joiner}
     {history : List ℕ} {events : List WalkEvent}
-    (come : HasCome look telling stage.Message old joiner history events) where
+    (come : HasToldEvents look telling stage.Message old joiner history events) where
   abbrev taken : List Message
   taken = (walked telling.manner (reading_of history)).taken
 
   -- the head of a message was taken
   pub head_come : {new : Session R} {offset : ℕ} {sent : Message}
-      (got : ReadMessage look old new history offset sent) (after : Joiner)
+      (got : GivenMessage look old new history offset sent) (after : Joiner)
       → MayTake telling.manner taken sent → IsJoinerAt after (with_taken taken sent)
       → (later : Stage) → later ≡ stage_by (effect_of taken (event_of sent)) (data_length sent)
-      → HasCome look telling later new after (history ++ got.given)
+      → HasToldEvents look telling later new after (history ++ got.given)
       (events ++ head_events telling.manner.all_heads (head_at taken offset sent))
   head_come {offset = offset} {sent = sent} got after may judges later later_is =
       let head = head_at taken offset sent in
@@ -157,7 +157,7 @@ module _ {R : Type 0} {look : R → Input} {telling : Telling} {old : Session R}
   -- quiet messages were passed over
   pub quiet_come : {new : Session R} {count : ℕ} → telling.manner.all_heads ≡ false
       → (got : PassedQuiet look old new history count)
-      → HasCome look telling stage.Message new joiner (history ++ got.given) (events ++ [])
+      → HasToldEvents look telling stage.Message new joiner (history ++ got.given) (events ++ [])
   quiet_come unwanted got = rw (append-nil events) (record {
     session_at = got.passed.at;
     comes = quiet_comes telling unwanted joiner (reading_of (history ++ got.given)) got.entries
@@ -168,7 +168,7 @@ module _ {R : Type 0} {look : R → Input} {telling : Telling} {old : Session R}
   -- an inner segment was passed, which is a head and then all of its data
   pub inner_come : {new : Session R} (id : ℕ) (content : List ℕ) → continuable taken ≡ Some id
       → (got : PassedInner look old new history id content)
-      → HasCome look telling stage.Message new joiner (history ++ (got.read.given ++ content))
+      → HasToldEvents look telling stage.Message new joiner (history ++ (got.read.given ++ content))
       (events
       ++ inner_events telling.manner.all_heads (inner_head got.offset id (length content)) content)
   inner_come id content is_open got =
@@ -191,32 +191,32 @@ module _ {R : Type 0} {look : R → Input} {telling : Telling} {old : Session R}
 
 module _ {R : Type 0} {look : R → Input} {telling : Telling} {now : Stage} {session : Session R}
     {joiner : Joiner} {bytes : List ℕ} {events : List WalkEvent}
-    (come : HasCome look telling now session joiner bytes events) where
+    (come : HasToldEvents look telling now session joiner bytes events) where
   texts_told : (told_of telling bytes).texts ≡ telling.texts events
   texts_told = texts_are telling bytes ∙ ap telling.texts come.comes.has.known
 
-  unshown : shows_fault (told_of telling bytes).stop ≡ false
-  unshown = at_unshown telling now bytes come.comes.has.unrefused come.comes.waits
+  shows_fault-false : shows_fault (told_of telling bytes).stop ≡ false
+  shows_fault-false = at_unshown telling now bytes come.comes.has.unrefused come.comes.waits
 
 -- These bytes were given, and the events that they add were told.
 module _ {R W E C : Type 0} {look : Looks R W E} {start : Devices R W E} {telling : Telling}
     (knows : C → List WalkEvent → Type 0) (old : Session R) {new : Session R} (before : Writers W E)
     {later : Stage} {joiner : Joiner} {history given : List ℕ} {added : List WalkEvent}
-    (stood : WalkStands look start telling old before history)
+    (stood : IsTellingRunAt look start telling old before history)
     (takes : Takes look.input (source_of old) (source_of new) given)
     (some : 0 < length given)
-    (come : HasCome look.input telling later new joiner (history ++ given)
+    (come : HasToldEvents look.input telling later new joiner (history ++ given)
     (events_at telling history ++ added))
     (after : Writers W E) (consumer : C) where
   pub told_next : (result : Result (Unit {0}) IoFault)
       → Tells look.output look.report telling (knows consumer) (events_at telling history) added
       before after result
-      → StandsNext look start telling knows new after joiner consumer (history ++ given)
+      → AfterWalkBytes look start telling knows new after joiner consumer (history ++ given)
       (next_of later result)
   told_next (Ok done) tells = (
     stands_on (length given) (source_of old) (source_of new) before stood takes (omega arith)
         (takes.window.less some) after tells.texts
-        (rw (texts_are telling history, texts_told come) tells.said) (unshown come) tells.wrote,
+        (rw (texts_are telling history, texts_told come) tells.said) (shows_fault-false come) tells.wrote,
     walks_on come knows consumer tells.known,
   )
   told_next (Err fault) tells =
@@ -228,7 +228,7 @@ module _ {R W E C : Type 0} {look : Looks R W E} {start : Devices R W E} {tellin
             stood.written takes)
             (sound_given look (source_of old) (source_of new) before given stood.sound takes)
             (rw (texts_are telling history, texts_told come) tells.said)
-            (inl (sym (unshown_sofar (made bytes).stop (made bytes).texts (unshown come))))
+            (inl (sym (unshown_sofar (made bytes).stop (made bytes).texts (shows_fault-false come))))
             (takes.window.less some)
             (λ some. inr (record {
               front = history;
@@ -237,11 +237,11 @@ module _ {R W E C : Type 0} {look : Looks R W E} {start : Devices R W E} {tellin
               is = sym (unshown_sofar (made history).stop (made history).texts stood.unshown);
             }))
             tells.wrote,
-        ends_unshown made stood.lasting bytes (unshown come),
+        ends_unshown made stood.lasting bytes (shows_fault-false come),
       )
 
   pub told_step : (piece : ℕ) (now : Stage) → length given ≤ most_by piece now
-      → IsWaitingAfter now (reading_of (history ++ given)).end
+      → HasNoDataYet now (reading_of (history ++ given)).end
       → (result : Result (Unit {0}) IoFault)
       → Tells look.output look.report telling (knows consumer) (events_at telling history) added
       before after result
@@ -263,12 +263,12 @@ module _ {R W E C : Type 0} {look : Looks R W E} {start : Devices R W E} {tellin
 none_in : (offset : ℕ) (sent : Message) (test : Bool) (entries : List Entry)
     → (let rest : Stream = if test then ended (Cut offset sent [])
     else with_entry (record { offset = offset; message = sent; content = [] }) (ended Clean) in
-    IsWaitingAfter stage.Message rest.end)
+    HasNoDataYet stage.Message rest.end)
 none_in offset sent true entries = refl
 none_in offset sent false entries = tt
 
 pub waits_after : (offset : ℕ) (sent : Message) (reading after : Reading)
-    → after ≡ with_message offset sent reading → IsWaitingAfter stage.Message after.end
+    → after ≡ with_message offset sent reading → HasNoDataYet stage.Message after.end
 waits_after offset sent reading after is =
     rw is (none_in offset sent (nat_lt 0 (data_length sent)) reading.entries)
 
@@ -276,19 +276,19 @@ waits_after offset sent reading after is =
 
 module _ {R W E : Type 0} {look : Looks R W E} {start : Devices R W E} (telling : Telling)
     {history : List ℕ} (old new : Session R) (before : Writers W E)
-    (stood : WalkStands look start telling old before history) (after : Writers W E)
+    (stood : IsTellingRunAt look start telling old before history) (after : Writers W E)
     (unrefused : (walked telling.manner (reading_of history)).refused ≡ None) where
   abbrev here : Walked
   here = walked telling.manner (reading_of history)
 
   -- the stream has ended between two messages
   pub finished : CleanEnd look.input old new history → (answer : Result Status IoFault)
-      → Finishes look.output look.report telling here.taken here.events before after answer
+      → TellsEnd look.output look.report telling here.taken here.events before after answer
       → LastStep look (tool_of (told_of telling)) start
       (devices_at (place_of (source_of new) after)) longest_head history answer
   finished got answer gives =
       let same : told_of telling (history ++ []) ≡ by_reading telling (reading_of history) =
-      ap (told_of telling) (append-nil history) ∙ made_is telling history in
+      ap (told_of telling) (append-nil history) ∙ told_of-reading telling history in
       let stops = stop_is telling (reading_of history) unrefused ∙ ap stop_of got.clean in
       ends longest_head (source_of old) (source_of new) before stood got.takes (omega arith)
       (few_over look.input (source_of new) got.over) after gives.0
@@ -297,7 +297,7 @@ module _ {R W E : Type 0} {look : Looks R W E} {start : Devices R W E} (telling 
 
   -- the run ends at a head that is not in order
   pub refused : {offset : ℕ} {sent : Message}
-      (got : ReadMessage look.input old new history offset sent)
+      (got : GivenMessage look.input old new history offset sent)
       → cut_heads (reading_of history).end ≡ [] → (fault : OrderFault)
       → walked telling.manner (reading_of (history ++ got.given))
       ≡ record here { refused = Some (offset, fault) }
@@ -312,27 +312,27 @@ module _ {R W E : Type 0} {look : Looks R W E} {start : Devices R W E} (telling 
       let bytes = history ++ got.given in
       ends longest_head (source_of old) (source_of new) before stood got.takes got.size
       (got.takes.window.less got.some) after (on_report (fault_text (Order offset fault)))
-      (rw (texts_are telling history, made_is telling bytes, is)
+      (rw (texts_are telling history, told_of-reading telling bytes, is)
       (then_fault (Order offset fault) (telling.texts here.events)))
       (inr (
-        rw (made_is telling bytes, is) refl,
+        rw (told_of-reading telling bytes, is) refl,
         stays,
         λ count less.
-            rw made_is
+            rw told_of-reading
             (part_unshown (by_reading telling) history got.given
             (same_texts telling (reading_of history) unrefused clean) got.shown_last count less),
       ))
-      answer (rw (made_is telling bytes, is) gives)
+      answer (rw (told_of-reading telling bytes, is) gives)
 
 -- ---- data is made ready in the window, and then a step takes it
 
 module _ {R W E C : Type 0} {look : Looks R W E} {start : Devices R W E} {telling : Telling}
     {knows : C → List WalkEvent → Type 0} {now : Stage} {old mid : Session R}
     {had : Joiner} {earlier : C} {history : List ℕ} {n : ℕ} (writers : Writers W E)
-    (stood : WalkStands look start telling old writers history)
-    (walks : Walks look.input telling knows now old had earlier history)
+    (stood : IsTellingRunAt look start telling old writers history)
+    (walks : IsWalkAt look.input telling knows now old had earlier history)
     (ready : LoadedData look.input old mid history n) where
-  stands_ready : WalkStands look start telling mid writers history
+  stands_ready : IsTellingRunAt look start telling mid writers history
   stands_ready =
       record {
         written = record {
@@ -352,15 +352,15 @@ module _ {R W E C : Type 0} {look : Looks R W E} {start : Devices R W E} {tellin
         lasting = stood.lasting;
       }
 
-  walks_ready : Walks look.input telling knows now mid had earlier history
+  walks_ready : IsWalkAt look.input telling knows now mid had earlier history
   walks_ready = record { session_at = ready.at; at = walks.at; size = walks.size }
 
   -- the step that takes it is the step that made it ready
   pub ready_step : (size piece : ℕ) (new : Session R) (after : Writers W E) (joiner : Joiner)
       (consumer : C) (result : Next Stage) → 0 < most_by size now
       → most_by size now ≤ most_by piece now
-      → (WalkStands look start telling mid writers history
-      → Walks look.input telling knows now mid had earlier history
+      → (IsTellingRunAt look start telling mid writers history
+      → IsWalkAt look.input telling knows now mid had earlier history
       → AfterWalkStep look start telling knows size now mid new after joiner consumer history result)
       → AfterWalkStep look start telling knows piece now old new after joiner consumer history result
   ready_step size piece new after joiner consumer (next.Stage later) some within taken =
@@ -385,8 +385,8 @@ module _ {R W E C : Type 0} {look : Looks R W E} {start : Devices R W E} {tellin
 
 module _ {R W E C : Type 0} {look : Looks R W E} {telling : Telling}
     {knows : C → List WalkEvent → Type 0} where
-  pub none_taken : (first : At R W E C)
-      → TakesAll look telling knows first first (next.Stage stage.Message)
+  pub none_taken : (first : WalkState R W E C)
+      → TakesMessages look telling knows first first (next.Stage stage.Message)
   none_taken first = record {
     holds = λ start history stood walks. record {
       given = [];
@@ -396,11 +396,11 @@ module _ {R W E C : Type 0} {look : Looks R W E} {telling : Telling}
   }
 
   -- quiet messages were passed over, if any
-  pub quiet_taken : {old : At R W E C} {input : _} (count : ℕ)
+  pub quiet_taken : {old : WalkState R W E C} {input : _} (count : ℕ)
       → telling.manner.all_heads ≡ false → (count ≡ 0 → input ≡ old.input)
       → ((history : List ℕ) → IsSessionAt look.input (feed_of old.input) history
       → PassedQuiet look.input (feed_of old.input) (feed_of input) history count)
-      → TakesAll look telling knows old (record old { input = input }) (next.Stage stage.Message)
+      → TakesMessages look telling knows old (record old { input = input }) (next.Stage stage.Message)
   quiet_taken {old} zero unwanted none passed = rw (none refl) (none_taken old)
   quiet_taken {old} (suc count) unwanted none passed = record {
     holds = λ start history stood walks.
@@ -419,20 +419,20 @@ module _ {R W E C : Type 0} {look : Looks R W E} {telling : Telling}
 
   -- One more inner segment is taken. Its head is at the next offset, and comes after the events so
   -- far.
-  pub turn_taken : {first old new : At R W E C} (offset id : ℕ) (content : List ℕ)
-      → TakesAll look telling knows first old (next.Stage stage.Message)
+  pub turn_taken : {first old new : WalkState R W E C} (offset id : ℕ) (content : List ℕ)
+      → TakesMessages look telling knows first old (next.Stage stage.Message)
       → new.joiner ≡ old.joiner → offset ≡ given_by (source_of (feed_of old.input))
       → ((taken : List Message) → IsJoinerAt old.joiner taken → Some id ≡ continuable taken)
       → ((history : List ℕ) → IsSessionAt look.input (feed_of old.input) history
       → PassedInner look.input (feed_of old.input) (feed_of new.input) history id content)
       → (result : Result (Unit {0}) IoFault)
       → ((events : List WalkEvent) → knows old.consumer events
-      → ComesAfter events (inner_head offset id (length content))
+      → HeadComes events (inner_head offset id (length content))
       → has_open events ≡ true → data_size events + length content < 2 ^ 63
       → Tells look.output look.report telling (knows new.consumer) events
       (inner_events telling.manner.all_heads (inner_head offset id (length content)) content)
       old.writers new.writers result)
-      → TakesAll look telling knows first new (next_of stage.Message result)
+      → TakesMessages look telling knows first new (next_of stage.Message result)
   turn_taken {first} {old} {new} offset id content was same is opened passes result tells = record {
     holds = λ start history stood walks.
         let so_far = was.holds start history stood walks in

@@ -6,14 +6,14 @@ use Rattle.link_wire.specs.{Source.{window_of, Takes}, Stream.reading_of}
 use Rattle.link_wire.specs.declared.Source.{Source}
 use Rattle.link_wire.specs.declared.session.Session.{Session}
 use Rattle.link_transfer.specs.declared.joiner.Joiner.{Joiner}
-use Rattle.link_run.specs.{Made.tool_of, Next.{progress_of, stage_after}, Reading.{feed_of, Unread}}
-use Rattle.link_run.specs.Run.{Looks, Devices, WentOn, AfterStep}
+use Rattle.link_run.specs.{Made.tool_of, Next.{progress_of, stage_after}, Reading.{feed_of, ReadsNothing}}
+use Rattle.link_run.specs.Run.{Looks, Devices, ContinuedStep, AfterStep}
 use Rattle.link_run.specs.Stages.{AfterStage, AfterStageStride}
 use Rattle.link_run.specs.declared.{next.Next.Next}
 use Rattle.link_run.specs.declared.next.Next.TheVariants as next
 use Rattle.link_run.proofs.{Stands.last_step, Strides.{went_with, step_then}, Waiting.waits_then}
 use Rattle.link_walk.specs.Walk.{WalkEvent, Telling, told_of}
-use Rattle.link_walk.specs.WalkRun.{At, place_at, most_by, most_given, walked_before, Walks, IsWalking, StandsIf, AfterWalkStep, AfterWalkStride, TakesWhole, ComesTo, Steps, Strides, TakesAll}
+use Rattle.link_walk.specs.WalkRun.{WalkState, place_at, most_by, most_given, walked_before, IsWalkAt, IsWalkAtStage, IfNextStage, AfterWalkStep, AfterWalkStride, TakesSome, IfWalkComesTo, Steps, Strides, TakesMessages}
 use Rattle.link_walk.specs.declared.walk.Stage.{Stage}
 use Rattle.link_walk.specs.declared.walk.Stage.TheVariants as stage
 use Rattle.link_walk.proofs.Comes.{never_contact}
@@ -35,18 +35,18 @@ few_later look mid new given takes few =
 
 walking_at : {R C : Type 0} {look : R → Seen} {telling : Telling}
     {knows : C → List WalkEvent → Type 0} {session : Session R} {joiner : Joiner} {consumer : C}
-    {history : List ℕ} (now : Stage) → Walks look telling knows now session joiner consumer history
-    → IsWalking look telling knows now joiner consumer session history
+    {history : List ℕ} (now : Stage) → IsWalkAt look telling knows now session joiner consumer history
+    → IsWalkAtStage look telling knows now joiner consumer session history
 walking_at {telling = telling} {history = history} stage.Contact at =
     absurd (never_contact (walked_before telling.manner (reading_of history))
     (reading_of history).end at.at.waits)
 walking_at now at = at
 
 module _ {R W E C : Type 0} (look : Looks R W E) (start : Devices R W E) (telling : Telling)
-    (knows : C → List WalkEvent → Type 0) (old new : At R W E C) (history : List ℕ) where
+    (knows : C → List WalkEvent → Type 0) (old new : WalkState R W E C) (history : List ℕ) where
   -- a step that went on, and then a stride
-  far_later : (mid : At R W E C) {stands : List ℕ → Type 0} {most : ℕ} (result : Next Stage)
-      → (went : WentOn (source_of (feed_of old.input)) (source_of (feed_of mid.input)) stands most
+  far_later : (mid : WalkState R W E C) {stands : List ℕ → Type 0} {most : ℕ} (result : Next Stage)
+      → (went : ContinuedStep (source_of (feed_of old.input)) (source_of (feed_of mid.input)) stands most
       history)
       → AfterWalkStride look start telling knows mid new (history ++ went.given) result
       → AfterWalkStride look start telling knows old new history result
@@ -54,7 +54,7 @@ module _ {R W E C : Type 0} (look : Looks R W E) (start : Devices R W E) (tellin
     most + far.0,
     (let some = far.1 in omega arith),
     step_then look (tool_of (told_of telling)) start (place_at old) (place_at mid) (place_at new)
-        stands (StandsIf look start telling knows new result) history most far.0
+        stands (IfNextStage look start telling knows new result) history most far.0
         (progress_of result) went far.2,
   )
 
@@ -72,9 +72,9 @@ module _ {R W E C : Type 0} (look : Looks R W E) (start : Devices R W E) (tellin
   )
 
 module _ {R W E C : Type 0} {look : Looks R W E} {telling : Telling}
-    {knows : C → List WalkEvent → Type 0} {now : Stage} {old : At R W E C} where
+    {knows : C → List WalkEvent → Type 0} {now : Stage} {old : WalkState R W E C} where
   -- a step is a stride
-  pub stride_of : {new : At R W E C} {result : Next Stage} {piece : ℕ}
+  pub stride_of : {new : WalkState R W E C} {result : Next Stage} {piece : ℕ}
       → Steps look telling knows piece now old new result → 0 < most_by piece now
       → Strides look telling knows now old new result
   stride_of {new} {result} {piece} step some = record {
@@ -85,10 +85,10 @@ module _ {R W E C : Type 0} {look : Looks R W E} {telling : Telling}
   }
 
   -- a step, and then a stride that reads nothing
-  pub stride_then : {later : Stage} {mid new : At R W E C} {result : Next Stage} {piece : ℕ}
+  pub stride_then : {later : Stage} {mid new : WalkState R W E C} {result : Next Stage} {piece : ℕ}
       → Steps look telling knows piece now old mid (next.Stage later)
       → Strides look telling knows later mid new result
-      → Unread look.input source_of mid.input new.input
+      → ReadsNothing look.input source_of mid.input new.input
       → Strides look telling knows now old new result
   stride_then {later} {mid} {new} {result} step stride unread = record {
     holds = λ start history at walks.
@@ -100,10 +100,10 @@ module _ {R W E C : Type 0} {look : Looks R W E} {telling : Telling}
   }
 
   -- a step, and then messages that lie whole in the window
-  pub stride_whole : {mid new : At R W E C} {result : Next Stage} {piece : ℕ}
+  pub stride_whole : {mid new : WalkState R W E C} {result : Next Stage} {piece : ℕ}
       → Steps look telling knows piece now old mid (next.Stage stage.Message)
-      → 0 < most_by piece now → TakesAll look telling knows mid new result
-      → Unread look.input source_of mid.input new.input
+      → 0 < most_by piece now → TakesMessages look telling knows mid new result
+      → ReadsNothing look.input source_of mid.input new.input
       → Strides look telling knows now old new result
   stride_whole {mid} {new} {result} {piece} step some whole unread = record {
     holds = λ start history at walks.
@@ -112,7 +112,7 @@ module _ {R W E C : Type 0} {look : Looks R W E} {telling : Telling}
           most_by piece now + length taken.given,
           omega arith,
           step_then look (tool_of (told_of telling)) start (place_at old) (place_at mid)
-              (place_at new) _ (StandsIf look start telling knows new result) history
+              (place_at new) _ (IfNextStage look start telling knows new result) history
               (most_by piece now) (length taken.given) (progress_of result) went
               (as_step start (history ++ went.given) result went.window taken),
         );
@@ -123,9 +123,9 @@ module _ {R W E C : Type 0} {look : Looks R W E} {telling : Telling}
       -- these messages are a step, whose bound is the number of its bytes
       as_step : (start : Devices R W E) (bytes : List ℕ) (result : Next Stage)
           → length (window_of (source_of (feed_of mid.input))) < window_size
-          → (taken : TakesWhole look start telling knows mid new bytes result)
+          → (taken : TakesSome look start telling knows mid new bytes result)
           → AfterStep look (tool_of (told_of telling)) start (place_at mid) (place_at new)
-          (StandsIf look start telling knows new result) (length taken.given) bytes
+          (IfNextStage look start telling knows new result) (length taken.given) bytes
           (progress_of result)
       as_step start bytes (next.Stage now) few taken = record {
         given = taken.given;
@@ -149,16 +149,16 @@ module _ {R W E C : Type 0} {look : Looks R W E} {telling : Telling}
 
 -- the walk after a step or a stride
 abbrev knows_next : {R W E C : Type 0} → Looks R W E → Telling → (C → List WalkEvent → Type 0)
-    → (now : Stage) → At R W E C → Next Stage → List ℕ → Type 0
+    → (now : Stage) → WalkState R W E C → Next Stage → List ℕ → Type 0
 knows_next look telling knows now new result =
-    IsWalking look.input telling knows (stage_after now result) new.joiner
+    IsWalkAtStage look.input telling knows (stage_after now result) new.joiner
     new.consumer (feed_of new.input)
 
 module _ {R W E C : Type 0} {look : Looks R W E} {telling : Telling}
-    {knows : C → List WalkEvent → Type 0} {now : Stage} {old new : At R W E C} where
+    {knows : C → List WalkEvent → Type 0} {now : Stage} {old new : WalkState R W E C} where
   pub step_kept : (result : Next Stage) → Steps look telling knows 4096 now old new result
       → (start : Devices R W E) (history : List ℕ)
-      → ComesTo look telling knows start now old history
+      → IfWalkComesTo look telling knows start now old history
       (AfterStage look (told_of telling) start true (place_at old) (place_at new)
       (knows_next look telling knows now new result) (most_given now) history (progress_of result))
   step_kept (next.Stage later) step = λ start history at walks.
@@ -169,7 +169,7 @@ module _ {R W E C : Type 0} {look : Looks R W E} {telling : Telling}
 
   pub stride_kept : (result : Next Stage) → Strides look telling knows now old new result
       → (start : Devices R W E) (history : List ℕ)
-      → ComesTo look telling knows start now old history
+      → IfWalkComesTo look telling knows start now old history
       (AfterStageStride look (told_of telling) start true (place_at old) (place_at new)
       (knows_next look telling knows now new result) (most_given now) history (progress_of result))
   stride_kept (next.Stage later) stride = λ start history at walks.

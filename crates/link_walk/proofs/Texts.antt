@@ -15,7 +15,7 @@ use Rattle.link_run.proofs.Continued.{LastGoesOn, ReadingGoesOn, reading_on}
 use Rattle.link_run.proofs.Sessions.{IsUncut, SameTexts}
 use Rattle.link_walk.specs.Walk.{WalkEvent, Walked, with_judged, with_entry_unless, with_next, none_walked, walked_of, walked, Telling, stop_by, told_by, told_of}
 use Rattle.link_walk.specs.declared.consumer.Manner.{Manner}
-use Rattle.link_walk.specs.{WalkRun.{IsWaiting, Walks, walked_before}, declared.walk.Stage.Stage}
+use Rattle.link_walk.specs.{WalkRun.{StageFits, IsWalkAt, walked_before}, declared.walk.Stage.Stage}
 use Rattle.link_walk.specs.declared.walk.Stage.TheVariants as stage
 use Rattle.link_walk.proofs.Heads.{entry}
 
@@ -23,15 +23,15 @@ use Rattle.link_walk.proofs.Heads.{entry}
 abbrev pub by_reading : Telling → Reading → Made
 by_reading telling reading = told_by telling reading.end (walked telling.manner reading)
 
-pub made_is : (telling : Telling) (bytes : List ℕ)
+pub told_of-reading : (telling : Telling) (bytes : List ℕ)
     → told_of telling bytes ≡ by_reading telling (reading_of bytes)
 unfolding told_of
-made_is telling bytes = refl
+told_of-reading telling bytes = refl
 
 pub texts_are : (telling : Telling) (bytes : List ℕ)
     → (told_of telling bytes).texts
     ≡ telling.texts (walked telling.manner (reading_of bytes)).events
-texts_are telling bytes = ap (λ (m : Made). m.texts) (made_is telling bytes)
+texts_are telling bytes = ap (λ (m : Made). m.texts) (told_of-reading telling bytes)
 
 -- a run that has not been ended by a head stops where the reading does
 pub stop_is : (telling : Telling) (reading : Reading)
@@ -39,23 +39,23 @@ pub stop_is : (telling : Telling) (reading : Reading)
     → (by_reading telling reading).stop ≡ stop_of reading.end
 stop_is telling reading none = ap (λ refused. stop_by refused reading.end) none
 
-uncut : (end : End) → IsUncut end → cut_heads end ≡ []
-uncut (Cut offset message content) is = absurd is
-uncut end is = refl
+cut_heads-nil : (end : End) → IsUncut end → cut_heads end ≡ []
+cut_heads-nil (Cut offset message content) is = absurd is
+cut_heads-nil end is = refl
 
 -- bytes that complete no head add no text
 pub same_texts : (telling : Telling) (first : Reading)
     → (walked telling.manner first).refused ≡ None → cut_heads first.end ≡ [] → SameTexts (by_reading telling) first
 same_texts telling first unrefused none = λ other same is.
     let walks : walked telling.manner other ≡ walked telling.manner first =
-    rw (same.contact, same.entries, none, uncut other.end is) refl in (
+    rw (same.contact, same.entries, none, cut_heads-nil other.end is) refl in (
       ap (λ (w : Walked). telling.texts w.events) walks,
       stop_is telling other (ap (λ (w : Walked). w.refused) walks ∙ unrefused),
     )
 
 -- ---- the state
 
-waiting_unshown : (now : Stage) (before : Walked) (end : End) → IsWaiting now before end
+waiting_unshown : (now : Stage) (before : Walked) (end : End) → StageFits now before end
     → shows_fault (stop_of end) ≡ false
 waiting_unshown now before (Fault offset fault) waits = absurd waits
 waiting_unshown now before end waits = refl
@@ -63,23 +63,23 @@ waiting_unshown now before end waits = refl
 -- between two messages, and inside data, no fault is shown
 pub at_unshown : (telling : Telling) (now : Stage) (bytes : List ℕ)
     → (walked telling.manner (reading_of bytes)).refused ≡ None
-    → IsWaiting now (walked_before telling.manner (reading_of bytes)) (reading_of bytes).end
+    → StageFits now (walked_before telling.manner (reading_of bytes)) (reading_of bytes).end
     → shows_fault (told_of telling bytes).stop ≡ false
 at_unshown telling now bytes unrefused waits =
     let reading = reading_of bytes in
-    rw (made_is telling bytes, stop_is telling reading unrefused)
+    rw (told_of-reading telling bytes, stop_is telling reading unrefused)
     (waiting_unshown now (walked_before telling.manner reading) reading.end waits)
 
 -- if the reading waits for data, some is to come
 some_left : (now : Stage) (before : Walked) (offset left : ℕ) (end : End)
-    → IsLeft offset left end → IsWaiting now before end → (now ≡ stage.Message → ⊥) → 0 < left
+    → IsLeft offset left end → StageFits now before end → (now ≡ stage.Message → ⊥) → 0 < left
 some_left now before offset left Clean is waits in_segment = absurd (in_segment waits)
 some_left now before offset left (Cut from sent content) is waits in_segment = is.0
 some_left now before offset left (Fault from fault) is waits in_segment = absurd is
 
 pub some_to_come : {R C : Type 0} {look : R → Input} {telling : Telling}
     {knows : C → List WalkEvent → Type 0} {now : Stage} {session : Session R} {joiner : Joiner}
-    {consumer : C} {history : List ℕ} → Walks look telling knows now session joiner consumer history
+    {consumer : C} {history : List ℕ} → IsWalkAt look telling knows now session joiner consumer history
     → (now ≡ stage.Message → ⊥) → 0 < left_of session
 some_to_come {telling = telling} {now = now} {session = session} {history = history} walks
     in_segment =
@@ -99,7 +99,7 @@ module _ (telling : Telling) where
 
   pub nothing_shown : shows_fault (told_of telling []).stop ≡ false
   nothing_shown =
-      rw (made_is telling [], stop_is telling (reading_of []) nothing_refused, reading-none) refl
+      rw (told_of-reading telling [], stop_is telling (reading_of []) nothing_refused, reading-none) refl
 
   pub before_all : SameTexts (by_reading telling) (reading_of [])
   before_all =

@@ -24,7 +24,7 @@ viewed_head head = record {
 
 -- The head may come after these events: it is judged after the messages that were taken, and the
 -- same transfer is open after both.
-pub record ComesAfter (before : List WalkEvent) (head : Head) : Type 0 where
+pub record HeadComes (before : List WalkEvent) (head : Head) : Type 0 where
   pub taken : List Message
   pub is : head ≡ head_at taken head.offset head.message
   pub opened : has_open before ≡ is_some (open_of taken)
@@ -44,7 +44,7 @@ pub record InnerComes (manner : Manner) (before : List WalkEvent) (head : Head) 
   pub told : manner.all_heads ≡ true
   pub id : ℕ
   pub is : head ≡ inner_head head.offset id size
-  pub comes : ComesAfter before head
+  pub comes : HeadComes before head
   pub opened : has_open before ≡ true
   pub few : data_size before + size < 2 ^ 63
 
@@ -68,17 +68,17 @@ viewed_events view.LeftOpen = LeftOpen ∷ []
 -- while a transfer is open, and no more than 2^63 - 1 bytes of it.
 abbrev pub MayCome : Manner → (before : List WalkEvent) → EventView → Type 0
 MayCome manner before (view.Contact contact) = before ≡ []
-MayCome manner before (view.Head head) = ComesAfter before (viewed_head head)
+MayCome manner before (view.Head head) = HeadComes before (viewed_head head)
 MayCome manner before (view.Inner head bytes) =
     InnerComes manner before (viewed_head head) (length bytes.now)
 MayCome manner before (view.Data bytes whole) =
     (has_open before ≡ true) × (data_size before + length bytes.now < 2 ^ 63)
 MayCome manner before view.LeftOpen = has_open before ≡ true
 
-abbrev pub HasTotals : EventView → Type 0
-HasTotals (view.Head head) = SegmentHasTotals head.message.now
-HasTotals (view.Inner head bytes) = SegmentHasTotals head.message.now
-HasTotals event = Unit {0}
+abbrev pub EventHasTotals : EventView → Type 0
+EventHasTotals (view.Head head) = SegmentHasTotals head.message.now
+EventHasTotals (view.Inner head bytes) = SegmentHasTotals head.message.now
+EventHasTotals event = Unit {0}
 
 module _ {W E : Type 0} (out_look : W → Output) (report_look : E → Output)
     (telling : Telling) (knows : List WalkEvent → Type 0) (before added : List WalkEvent)

@@ -1,4 +1,5 @@
--- Relations, but for Begins, Walks, most_given: the state of a walk over the transfers of a stream.
+-- Relations, but for IsNewWalk, IsWalkAt, most_given: the state of a walk over the transfers of a
+-- stream.
 use Rattle.std.specs.Prelude.{◌≡◌, ℕ, ◌<◌, ◌≤◌, Bool, true, is_some, if◌then◌else◌, zero, suc, List, [], ◌++◌, length, Option, Some, None, Result}
 use Rattle.link_wire.specs.Device.{Input as Seen, Output}
 use Rattle.link_wire.specs.Limits.{longest_head}
@@ -15,10 +16,10 @@ use Rattle.link_transfer.specs.declared.joiner.Turn.{Turn}
 use Rattle.link_report.specs.Fault.{fault_text}
 use Rattle.link_report.specs.declared.fault.Fault.TheVariants.{Order}
 use Rattle.link_run.specs.Made.{tool_of}
-use Rattle.link_run.specs.Run.{Texts, ◌then◌, Looks, Devices, Place, devices_at, EndedRun, EndsAtFault, WentOn, LastStep, AfterStep}
+use Rattle.link_run.specs.Run.{Texts, ◌then◌, Looks, Devices, Place, devices_at, EndedRun, HasNoEarlierFault, ContinuedStep, LastStep, AfterStep}
 use Rattle.link_run.specs.Next.{next_of, progress_of}
 use Rattle.link_run.specs.Reading.{feed_of, SessionWaits}
-use Rattle.link_run.specs.Stages.{Stands}
+use Rattle.link_run.specs.Stages.{IsRunAt}
 use Rattle.link_run.specs.Writers.{place_of, on_report, AfterLastWrite}
 use Rattle.link_run.specs.declared.{input.Input.Input, next.Next.Next, run.Status.Status}
 use Rattle.link_run.specs.declared.next.Next.TheVariants as next
@@ -86,10 +87,10 @@ EndsAtHead out_look report_look offset fault old new result =
 
 -- A stream has ended between two messages: what is said of its end was written, and the status is
 -- 0 if everything is good, and else 1.
-abbrev pub Finishes : {W E : Type 0} → (W → Output) → (E → Output) → Telling
+abbrev pub TellsEnd : {W E : Type 0} → (W → Output) → (E → Output) → Telling
     → (taken : List Message) → (events : List WalkEvent) → (old new : Writers W E)
     → Result Status IoFault → Type 0
-Finishes out_look report_look telling taken events old new answer =
+TellsEnd out_look report_look telling taken events old new answer =
     (texts : Texts)
     × (telling.texts events then texts ≡ telling.texts (events ++ end_events taken))
     × AfterLastWrite out_look report_look old new texts
@@ -98,11 +99,11 @@ Finishes out_look report_look telling taken events old new answer =
 -- ---- the state
 
 -- the stage, by how the reading of the bytes so far ends; `before` is what its whole messages tell
-abbrev pub IsWaiting : Stage → (before : Walked) → End → Type 0
-IsWaiting now before Clean = now ≡ stage.Message
-IsWaiting now before (Cut offset sent content) =
+abbrev pub StageFits : Stage → (before : Walked) → End → Type 0
+StageFits now before Clean = now ≡ stage.Message
+StageFits now before (Cut offset sent content) =
     now ≡ stage_in (effect_of before.taken (event_of sent))
-IsWaiting now before (Fault offset fault) = ⊥
+StageFits now before (Fault offset fault) = ⊥
 
 -- Whether a transfer is open. One whose last segment is being read is open until all of its data
 -- has come.
@@ -112,27 +113,28 @@ is_open_at _ taken = is_some (open_of taken)
 
 -- How the reading ends after a step, if data of a segment is still to come. A step that reads a
 -- head is given none of that data.
-abbrev pub IsWaitingAfter : Stage → End → Type 0
-IsWaitingAfter stage.Message (Cut offset message content) = content ≡ []
-IsWaitingAfter now end = Unit {0}
+abbrev pub HasNoDataYet : Stage → End → Type 0
+HasNoDataYet stage.Message (Cut offset message content) = content ≡ []
+HasNoDataYet now end = Unit {0}
 
 -- what the whole messages of a reading tell
 abbrev pub walked_before : Manner → Reading → Walked
 walked_before manner reading = walked_of manner reading.contact reading.entries
 
 -- the state of a walk whose bytes so far have this reading
-pub record IsAt (telling : Telling) (knows : List WalkEvent → Type 0) (now : Stage) (joiner : Joiner)
+pub record IsWalkAtReading (telling : Telling) (knows : List WalkEvent → Type 0) (now : Stage)
+    (joiner : Joiner)
     (reading : Reading) : Type 0 where
   pub unrefused : (walked telling.manner reading).refused ≡ None
   pub judges : IsJoinerAt joiner (walked telling.manner reading).taken
   pub known : knows (walked telling.manner reading).events
   pub opened : has_open (walked telling.manner reading).events
       ≡ is_open_at now (walked telling.manner reading).taken
-  pub waits : IsWaiting now (walked_before telling.manner reading) reading.end
+  pub waits : StageFits now (walked_before telling.manner reading) reading.end
 
 module _ {R C : Type 0} (look : R → Seen) (telling : Telling) (knows : C → List WalkEvent → Type 0) where
   -- a walk that begins was given nothing
-  pub record Begins (session : Session R) (joiner : Joiner) (consumer : C) (history : List ℕ)
+  pub record IsNewWalk (session : Session R) (joiner : Joiner) (consumer : C) (history : List ℕ)
       : Type 0 where
     pub nothing : history ≡ []
     pub opens : may_open session ≡ true
@@ -140,30 +142,32 @@ module _ {R C : Type 0} (look : R → Seen) (telling : Telling) (knows : C → L
     pub known : knows consumer []
 
   -- the state of a walk that was given these bytes
-  pub record Walks (now : Stage) (session : Session R) (joiner : Joiner) (consumer : C)
+  pub record IsWalkAt (now : Stage) (session : Session R) (joiner : Joiner) (consumer : C)
       (history : List ℕ) : Type 0 where
     pub session_at : IsSessionAt look session history
-    pub at : IsAt telling (knows consumer) now joiner (reading_of history)
+    pub at : IsWalkAtReading telling (knows consumer) now joiner (reading_of history)
     pub size : data_size (walked telling.manner (reading_of history)).events ≤ length history
 
-  abbrev pub IsWalking : Stage → Joiner → C → Session R → (history : List ℕ) → Type 0
-  IsWalking stage.Contact joiner consumer session history = Begins session joiner consumer history
-  IsWalking now joiner consumer session history = Walks now session joiner consumer history
+  abbrev pub IsWalkAtStage : Stage → Joiner → C → Session R → (history : List ℕ) → Type 0
+  IsWalkAtStage stage.Contact joiner consumer session history = IsNewWalk session joiner consumer
+      history
+  IsWalkAtStage now joiner consumer session history = IsWalkAt now session joiner consumer history
 
--- `Stands` for a walk
-abbrev pub WalkStands : {R W E : Type 0} → Looks R W E → Devices R W E → Telling → Session R
+-- `IsRunAt` for a walk
+abbrev pub IsTellingRunAt : {R W E : Type 0} → Looks R W E → Devices R W E → Telling → Session R
     → Writers W E → (history : List ℕ) → Type 0
-WalkStands look start telling session writers history =
-    Stands look (told_of telling) start true (place_of (source_of session) writers) history
+IsTellingRunAt look start telling session writers history =
+    IsRunAt look (told_of telling) start true (place_of (source_of session) writers) history
 
 -- what a function of the walk reads, writes and changes
-pub record At (R W E C : Type 0) : Type 0 where
+pub record WalkState (R W E C : Type 0) : Type 0 where
   pub input : Input (Session R) W E
   pub writers : Writers W E
   pub joiner : Joiner
   pub consumer : C
 
-abbrev pub at : {R W E C : Type 0} → Input (Session R) W E → Writers W E → Walker C → At R W E C
+abbrev pub at : {R W E C : Type 0} → Input (Session R) W E → Writers W E → Walker C
+    → WalkState R W E C
 at input writers walker = record {
   input = input;
   writers = writers;
@@ -171,62 +175,63 @@ at input writers walker = record {
   consumer = walker.consumer;
 }
 
-abbrev pub place_at : {R W E C : Type 0} → At R W E C → Place R W E
+abbrev pub place_at : {R W E C : Type 0} → WalkState R W E C → Place R W E
 place_at now = place_of (source_of (feed_of now.input)) now.writers
 
 module _ {R W E C : Type 0} (look : Looks R W E) (start : Devices R W E) (telling : Telling)
     (knows : C → List WalkEvent → Type 0) where
-  -- `WalkStands` and `Walks` hold
-  abbrev pub StandsAt : Stage → Session R → Writers W E → Joiner → C → List ℕ → Type 0
-  StandsAt now session writers joiner consumer history =
-      WalkStands look start telling session writers history
-      × Walks look.input telling knows now session joiner consumer history
+  -- `IsTellingRunAt` and `IsWalkAt` hold
+  abbrev pub IsWalkRunAt : Stage → Session R → Writers W E → Joiner → C → List ℕ → Type 0
+  IsWalkRunAt now session writers joiner consumer history =
+      IsTellingRunAt look start telling session writers history
+      × IsWalkAt look.input telling knows now session joiner consumer history
 
   -- what holds after a step at the stage `now`
   abbrev pub AfterWalkStep : (piece : ℕ) → (now : Stage) → (old new : Session R)
       → Writers W E → Joiner → C → (history : List ℕ) → Next Stage → Type 0
   AfterWalkStep piece now old new after joiner consumer history (next.Stage later) =
-      WentOn (source_of old) (source_of new)
-      (λ bytes. StandsAt later new after joiner consumer bytes
-      × IsWaitingAfter now (reading_of bytes).end) (most_by piece now) history
+      ContinuedStep (source_of old) (source_of new)
+      (λ bytes. IsWalkRunAt later new after joiner consumer bytes
+      × HasNoDataYet now (reading_of bytes).end) (most_by piece now) history
   AfterWalkStep piece now old new after joiner consumer history (next.Ended answer) =
       LastStep look (tool_of (told_of telling)) start
       (devices_at (place_of (source_of new) after)) (most_by piece now) history answer
 
   -- the state of the walk if a stage comes next
-  abbrev pub StandsIf : At R W E C → Next Stage → (history : List ℕ) → Type 0
-  StandsIf new (next.Stage now) history =
-      StandsAt now (feed_of new.input) new.writers new.joiner new.consumer history
-  StandsIf new (next.Ended answer) history = Unit {0}
+  abbrev pub IfNextStage : WalkState R W E C → Next Stage → (history : List ℕ) → Type 0
+  IfNextStage new (next.Stage now) history =
+      IsWalkRunAt now (feed_of new.input) new.writers new.joiner new.consumer history
+  IfNextStage new (next.Ended answer) history = Unit {0}
 
   -- what holds after a stride, which was given at most some number of bytes
-  abbrev pub AfterWalkStride : (old new : At R W E C) → (history : List ℕ) → Next Stage → Type 0
+  abbrev pub AfterWalkStride : (old new : WalkState R W E C) → (history : List ℕ) → Next Stage
+      → Type 0
   AfterWalkStride old new history next =
       (size : ℕ) × (0 < size)
       × AfterStep look (tool_of (told_of telling)) start (place_at old) (place_at new)
-      (StandsIf new next) size history (progress_of next)
+      (IfNextStage new next) size history (progress_of next)
 
 -- ---- messages that lie whole in the window
 
 module _ {R W E C : Type 0} (look : Looks R W E) (start : Devices R W E) (telling : Telling)
     (knows : C → List WalkEvent → Type 0) where
   -- what holds after these bytes were given: a stage comes next, or the run has ended
-  abbrev pub StandsNext : Session R → Writers W E → Joiner → C → (history : List ℕ) → Next Stage
+  abbrev pub AfterWalkBytes : Session R → Writers W E → Joiner → C → (history : List ℕ) → Next Stage
       → Type 0
-  StandsNext session writers joiner consumer history (next.Stage now) =
-      StandsAt look start telling knows now session writers joiner consumer history
-  StandsNext session writers joiner consumer history (next.Ended answer) =
+  AfterWalkBytes session writers joiner consumer history (next.Stage now) =
+      IsWalkRunAt look start telling knows now session writers joiner consumer history
+  AfterWalkBytes session writers joiner consumer history (next.Ended answer) =
       EndedRun look (tool_of (told_of telling)) start
       (devices_at (place_of (source_of session) writers)) history answer
-      × EndsAtFault (tool_of (told_of telling)) history
+      × HasNoEarlierFault (tool_of (told_of telling)) history
 
   -- some bytes were given, or none; then a stage comes next, or the run has ended
-  pub record TakesWhole (old new : At R W E C) (history : List ℕ) (result : Next Stage)
+  pub record TakesSome (old new : WalkState R W E C) (history : List ℕ) (result : Next Stage)
       : Type 0 where
     pub given : List ℕ
     pub takes : Takes look.input (source_of (feed_of old.input)) (source_of (feed_of new.input))
         given
-    pub stands : StandsNext (feed_of new.input) new.writers new.joiner new.consumer
+    pub stands : AfterWalkBytes (feed_of new.input) new.writers new.joiner new.consumer
         (history ++ given) result
 
 -- ---- what the functions of the walk do
@@ -234,38 +239,40 @@ module _ {R W E C : Type 0} (look : Looks R W E) (start : Devices R W E) (tellin
 module _ {R W E C : Type 0} (look : Looks R W E) (telling : Telling)
     (knows : C → List WalkEvent → Type 0) where
   -- the walk was given these bytes, and comes to the stage `now`
-  abbrev pub ComesTo : (start : Devices R W E) → (now : Stage) → At R W E C → (history : List ℕ)
+  abbrev pub IfWalkComesTo : (start : Devices R W E) → (now : Stage) → WalkState R W E C
+      → (history : List ℕ)
       → (after : Type 0) → Type 0
-  ComesTo start now old history after =
-      WalkStands look start telling (feed_of old.input) old.writers history
-      → IsWalking look.input telling knows now old.joiner old.consumer
+  IfWalkComesTo start now old history after =
+      IsTellingRunAt look start telling (feed_of old.input) old.writers history
+      → IsWalkAtStage look.input telling knows now old.joiner old.consumer
       (feed_of old.input) history
       → after
 
   -- a call at the stage `now` waits at most once
-  abbrev pub WalkWaits : (now : Stage) → (old new : At R W E C) → Type 0
+  abbrev pub WalkWaits : (now : Stage) → (old new : WalkState R W E C) → Type 0
   WalkWaits now old new =
       (history : List ℕ)
-      → IsWalking look.input telling knows now old.joiner old.consumer
+      → IsWalkAtStage look.input telling knows now old.joiner old.consumer
       (feed_of old.input) history
       → SessionWaits look old.input new.input old.writers
 
   -- a step at the stage `now`
-  pub record Steps (piece : ℕ) (now : Stage) (old new : At R W E C) (result : Next Stage)
+  pub record Steps (piece : ℕ) (now : Stage) (old new : WalkState R W E C) (result : Next Stage)
       : Type 0 where
-    pub holds : (start : Devices R W E) (history : List ℕ) → ComesTo start now old history
+    pub holds : (start : Devices R W E) (history : List ℕ) → IfWalkComesTo start now old history
         (AfterWalkStep look start telling knows piece now (feed_of old.input) (feed_of new.input)
         new.writers new.joiner new.consumer history result)
     pub waits : WalkWaits now old new
 
   -- a stride that begins at the stage `now`
-  pub record Strides (now : Stage) (old new : At R W E C) (result : Next Stage) : Type 0 where
-    pub holds : (start : Devices R W E) (history : List ℕ) → ComesTo start now old history
+  pub record Strides (now : Stage) (old new : WalkState R W E C)
+      (result : Next Stage) : Type 0 where
+    pub holds : (start : Devices R W E) (history : List ℕ) → IfWalkComesTo start now old history
         (AfterWalkStride look start telling knows old new history result)
     pub waits : WalkWaits now old new
 
   -- messages that lie whole in the window are taken, or none
-  pub record TakesAll (old new : At R W E C) (result : Next Stage) : Type 0 where
+  pub record TakesMessages (old new : WalkState R W E C) (result : Next Stage) : Type 0 where
     pub holds : (start : Devices R W E) (history : List ℕ)
-        → ComesTo start stage.Message old history
-        (TakesWhole look start telling knows old new history result)
+        → IfWalkComesTo start stage.Message old history
+        (TakesSome look start telling knows old new history result)

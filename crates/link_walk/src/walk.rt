@@ -7,14 +7,14 @@ ghost use Rattle.link_wire.specs.Session.{source_of, may_open, may_read, is_open
 ghost use Rattle.link_transfer.specs.Event.{event_of};
 ghost use Rattle.link_transfer.specs.Joiner.{IsJoinerAt};
 ghost use Rattle.link_transfer.specs.Order.{effect_of, refusal, open_of, with_taken};
-ghost use Rattle.link_run.specs.Reading.{feed_of, Unread};
+ghost use Rattle.link_run.specs.Reading.{feed_of, ReadsNothing};
 ghost use Rattle.link_run.specs.Made.{tool_of};
 ghost use Rattle.link_run.specs.Run.{no_texts, devices, looks, NoneFailed};
 ghost use Rattle.link_run.specs.NewRun.{IsNewRun};
 ghost use Rattle.link_wire.specs.declared.message.Message.{Message};
 ghost use Rattle.link_walk.specs.Walk.{WalkEvent, told_of, data_size, has_open, head_at};
-ghost use Rattle.link_walk.specs.Telling.{ComesAfter, Tells, inner_events, inner_head};
-ghost use Rattle.link_walk.specs.WalkRun.{Steps, Strides, TakesAll, at, EndsAtHead, TellsHead, Finishes, may_go_on, may_follow, stage_by};
+ghost use Rattle.link_walk.specs.Telling.{HeadComes, Tells, inner_events, inner_head};
+ghost use Rattle.link_walk.specs.WalkRun.{Steps, Strides, TakesMessages, at, EndsAtHead, TellsHead, TellsEnd, may_go_on, may_follow, stage_by};
 
 use crate::consumer::{Consumer, EventView};
 use crate::head::{HeadView, is_last};
@@ -60,7 +60,7 @@ pub type WalkRun<R, W, E, C> = ToolRun<Session<R>, W, E, Walk<C>>;
 impl<R: InDevice, W: OutDevice, E: OutDevice, C: Consumer> Stages<Session<R>, W, E> for Walk<C> {
     ghost use Rattle.std.specs.Prelude.{true};
     ghost use Rattle.link_walk.specs.Walk.{told_of};
-    ghost use Rattle.link_walk.specs.WalkRun.{may_go_on, most_given, IsWalking};
+    ghost use Rattle.link_walk.specs.WalkRun.{may_go_on, most_given, IsWalkAtStage};
 
     ghost made = { λ tool. told_of (C.telling tool.options) };
 
@@ -68,7 +68,7 @@ impl<R: InDevice, W: OutDevice, E: OutDevice, C: Consumer> Stages<Session<R>, W,
 
     ghost fits = { λ tool. may_go_on tool.stage };
 
-    ghost knows = { λ tool. IsWalking R.state (C.telling tool.options) (C.knows tool.options)
+    ghost knows = { λ tool. IsWalkAtStage R.state (C.telling tool.options) (C.knows tool.options)
         tool.stage tool.walker.joiner tool.walker.consumer };
 
     ghost most = { λ tool. most_given tool.stage };
@@ -349,7 +349,7 @@ impl<C: Consumer> Walker<C> {
         ensures gives { 0 < size → Steps (looks R.state W.state E.state) (C.telling options.now)
             (C.knows options.now) size (Stage.Data last)
             (at input.old writers.old self.old) (at input.new writers.new self.new) result }
-        ensures unread { Unread R.state source_of input.old input.new }
+        ensures unread { ReadsNothing R.state source_of input.old input.new }
     {
         let whole = is_last_data(last, size, input.left());
         let bytes = &input.loaded()[..size];
@@ -376,10 +376,10 @@ impl<C: Consumer> Walker<C> {
     ) -> Next<Stage>
         requires { IsTrue (may_read (feed_of input.old)) }
         ensures fits { IsTrue (may_follow result (feed_of input.new)) }
-        ensures gives { TakesAll (looks R.state W.state E.state) (C.telling options.now)
+        ensures gives { TakesMessages (looks R.state W.state E.state) (C.telling options.now)
             (C.knows options.now)
             (at input.old writers.old self.old) (at input.new writers.new self.new) result }
-        ensures unread { Unread R.state source_of input.old input.new }
+        ensures unread { ReadsNothing R.state source_of input.old input.new }
     {
         let Some(id) = self.joiner.continuable() else {
             return Next::Stage(Stage::Message);
@@ -414,7 +414,7 @@ impl<C: Consumer> Walker<C> {
         ensures items { self.new.message.items.items ≡ [] }
         ensures joiner { self.new.joiner ≡ self.old.joiner }
         ensures gives { (before : List WalkEvent) → C.knows options.now self.old.consumer before
-            → ComesAfter before (inner_head offset id (length bytes.now))
+            → HeadComes before (inner_head offset id (length bytes.now))
             → has_open before ≡ true → data_size before + length bytes.now < 2 ^ 63
             → Tells W.state E.state (C.telling options.now) (C.knows options.now self.new.consumer)
             before (inner_events (C.telling options.now).manner.all_heads
@@ -451,7 +451,7 @@ impl<C: Consumer> Walker<C> {
             → message_of message.now ≡ inner_segment id (length bytes.now)
             → (C.telling options.now).manner.all_heads ≡ true
             → C.knows options.now consumer.old before
-            → ComesAfter before (inner_head offset id (length bytes.now))
+            → HeadComes before (inner_head offset id (length bytes.now))
             → has_open before ≡ true → data_size before + length bytes.now < 2 ^ 63
             → Tells W.state E.state (C.telling options.now) (C.knows options.now consumer.new)
             before (inner_events true (inner_head offset id (length bytes.now)) bytes.now)
@@ -476,7 +476,7 @@ impl<C: Consumer> Walker<C> {
         ensures gives { (taken : List Message) (events : List WalkEvent)
             → IsJoinerAt self.old.joiner taken → C.knows options.now self.old.consumer events
             → has_open events ≡ is_some (open_of taken)
-            → Finishes W.state E.state (C.telling options.now) taken events writers.old writers.new
+            → TellsEnd W.state E.state (C.telling options.now) taken events writers.old writers.new
             result }
     {
         if self.joiner.open().is_some() {

@@ -56,7 +56,7 @@ be-number k xs are size =
     sym (ap (λ n. be n (big_number n xs)) (sym size) ∙ ap (bytes_high_first (length xs)) (sym bare) ∙ bytes_of_number xs 0 are)
 
 -- the bytes begin with this spelling, and the rest follows it
-pub record Begins (spelled : Spelling) (bytes rest : List ℕ) : Type 0 where
+pub record BeginsWithSpelling (spelled : Spelling) (bytes rest : List ℕ) : Type 0 where
   pub before : List ℕ
   pub is : spelled before
   pub parts : bytes ≡ before ++ rest
@@ -64,7 +64,7 @@ pub record Begins (spelled : Spelling) (bytes rest : List ℕ) : Type 0 where
 -- what was read is spelled in a prefix of the bytes, and the rest follows this prefix
 pub record Found {A : Type 0} (part : List ℕ → Part A) (spelled : A → Spelling) : Type 0 where
   pub by : (bytes : List ℕ) (value : A) (rest : List ℕ) → AreBytes bytes
-      → part bytes ≡ Ok (value, rest) → Begins (spelled value) bytes rest
+      → part bytes ≡ Ok (value, rest) → BeginsWithSpelling (spelled value) bytes rest
 
 pub found_pure : {A : Type 0} (value : A) {spelled : A → Spelling} → spelled value []
     → Found (λ bytes. Ok (value, bytes)) spelled

@@ -8,8 +8,8 @@ use Rattle.link_io.specs.Device.{Input}
 use Rattle.link_wire.specs.{Part.{Part, ◌>>=◌, bytes_at, number_at}, Message.skipped_at}
 use Rattle.link_wire.proofs.Skips.{skipped_at-there, skipped_at-add}
 use Rattle.link_io.specs.Source.{IsLive}
-use Rattle.link_io.proofs.Sources.{Takes-none, Takes-then, StopsAfter-then}
-use Rattle.link_wire.specs.Getting.{Needs, IsPart, IsFault, Gets, with_value}
+use Rattle.link_io.proofs.Sources.{Takes-none, Takes-then, TakesThenStops-then}
+use Rattle.link_wire.specs.Getting.{Needs, IsPart, IsFault, ReadsPart, with_value}
 use Rattle.link_wire.specs.declared.fault.{WireFault.WireFault, WireFault.TheVariants.Truncated}
 use Rattle.link_wire.specs.declared.halt.Halt.{Halt}
 use Rattle.link_wire.specs.declared.halt.Halt.TheVariants as halt
@@ -72,8 +72,8 @@ module _ {A B : Type 0} (part : List ℕ → Part A) (next : A × List ℕ → P
 module _ {R A B : Type 0} {look : R → Input} {part : List ℕ → Part A}
     (next : A × List ℕ → Part B) where
   -- the part was not read, so nothing after it was read
-  pub exit : {old new : Source R} {stop : Halt} → Gets look part old new (Err stop)
-      → Gets look (λ bytes. part bytes >>= next) old new (Err stop)
+  pub exit : {old new : Source R} {stop : Halt} → ReadsPart look part old new (Err stop)
+      → ReadsPart look (λ bytes. part bytes >>= next) old new (Err stop)
   exit {stop = halt.Wire fault} met = record {
     by = record {
       given = met.by.given;
@@ -92,8 +92,8 @@ module _ {R A B : Type 0} {look : R → Input} {part : List ℕ → Part A}
 
   -- the part was read, and then what depends on its value
   pub after : {old mid new : Source R} {value : A} {outcome : Result B Halt}
-      → Gets look part old mid (Ok value) → Gets look (λ bytes. next (value, bytes)) mid new outcome
-      → Gets look (λ bytes. part bytes >>= next) old new outcome
+      → ReadsPart look part old mid (Ok value) → ReadsPart look (λ bytes. next (value, bytes)) mid new outcome
+      → ReadsPart look (λ bytes. part bytes >>= next) old new outcome
   after {old} {mid} {new} {value} {outcome = Ok result} got more = record {
     by = record {
       given = got.by.given ++ more.by.given;
@@ -113,7 +113,7 @@ module _ {R A B : Type 0} {look : R → Input} {part : List ℕ → Part A}
   after {old} {mid} {new} {value} {outcome = Err (halt.Io fault)} got more = record {
     by = record {
       given = got.by.given ++ more.by.given;
-      stops = StopsAfter-then look old mid new got.by.given more.by.given fault got.by.takes more.by.stops;
+      stops = TakesThenStops-then look old mid new got.by.given more.by.given fault got.by.takes more.by.stops;
       is_cut = cut_then part next value got.by.given more.by.given got.by.is more.by.is_cut;
     };
   }
@@ -121,41 +121,41 @@ module _ {R A B : Type 0} {look : R → Input} {part : List ℕ → Part A}
 module _ {R A : Type 0} {look : R → Input} where
   -- the source is live after a part was read
   pub is_live : {part : List ℕ → Part A} {old new : Source R} {value : A}
-      → Gets look part old new (Ok value) → IsLive look new
+      → ReadsPart look part old new (Ok value) → IsLive look new
   is_live got = got.by.live
 
   -- a part that is defined in another way
   pub same_part : {part other : List ℕ → Part A} {old new : Source R} {outcome : Result A Halt}
-      → ((bytes : List ℕ) → part bytes ≡ other bytes) → Gets look part old new outcome
-      → Gets look other old new outcome
+      → ((bytes : List ℕ) → part bytes ≡ other bytes) → ReadsPart look part old new outcome
+      → ReadsPart look other old new outcome
   same_part {old} {new} {outcome} same got =
-      let P : (List ℕ → Part A) → Type 0 = λ p. Gets look p old new outcome in
+      let P : (List ℕ → Part A) → Type 0 = λ p. ReadsPart look p old new outcome in
       subst P (fun_ext same) got
 
   -- a `?` that returns its error
   pub exiting : {part : List ℕ → Part A} {old new : Source R} {stop : Halt}
       (outcome : Result A Halt) → IsErrAnd outcome (λ e. e ≡ stop)
-      → Gets look part old new (Err stop) → Gets look part old new outcome
+      → ReadsPart look part old new (Err stop) → ReadsPart look part old new outcome
   exiting (Ok value) is met = absurd is
   exiting (Err e) is met = rw is met
 
   -- a `?` that returns its error, in a function that leaves the value with its caller
   pub leaving : {part : List ℕ → Part A} {old new : Source R} {stop : Halt} (value : A)
       (outcome : Result (Unit {0}) Halt) → IsErrAnd outcome (λ e. e ≡ stop)
-      → Gets look part old new (Err stop) → Gets look part old new (with_value value outcome)
+      → ReadsPart look part old new (Err stop) → ReadsPart look part old new (with_value value outcome)
   leaving value (Ok done) is met = absurd is
   leaving value (Err e) is met = rw is met
 
   -- a value that needs no byte
   pub pure : {source : Source R} {value : A} → IsLive look source
-      → Gets look (λ bytes. Ok (value, bytes)) source source (Ok value)
+      → ReadsPart look (λ bytes. Ok (value, bytes)) source source (Ok value)
   pure {source} live = record {
     by = record { given = []; takes = Takes-none look source; live = live; is = record { is_part = λ more. refl; needs = λ count fewer. absurd (omega arith) } };
   }
 
   -- a fault that needs no byte: what was read before breaks a rule
   pub refuse : {source : Source R} {fault : WireFault} → fault ≢ Truncated
-      → Gets look (λ bytes. let outcome : Part A = Err fault in
+      → ReadsPart look (λ bytes. let outcome : Part A = Err fault in
       outcome) source source (Err (halt.Wire fault))
   refuse {source} not = record {
     by = record {
@@ -169,12 +169,12 @@ module _ {R A : Type 0} {look : R → Input} where
   -- what was read before decides which part comes
   module _ (part other : List ℕ → Part A) {old new : Source R} {test : Bool}
       {outcome : Result A Halt} where
-    pub if_true : test ≡ true → Gets look part old new outcome
-        → Gets look (λ bytes. if test then part bytes else other bytes) old new outcome
+    pub if_true : test ≡ true → ReadsPart look part old new outcome
+        → ReadsPart look (λ bytes. if test then part bytes else other bytes) old new outcome
     if_true is h = rw is h
 
-    pub if_false : test ≡ false → Gets look other old new outcome
-        → Gets look (λ bytes. if test then part bytes else other bytes) old new outcome
+    pub if_false : test ≡ false → ReadsPart look other old new outcome
+        → ReadsPart look (λ bytes. if test then part bytes else other bytes) old new outcome
     if_false is h = rw is h
 
 -- ---- a function that reads part after part, from a live source
@@ -182,44 +182,44 @@ module _ {R A : Type 0} {look : R → Input} where
 module _ {R A B : Type 0} {look : R → Input} {part : List ℕ → Part A}
     (next : A × List ℕ → Part B) {old new : Source R} where
   pub step : {mid : Source R} {value : A} {outcome : Result B Halt}
-      → (IsLive look old → Gets look part old mid (Ok value))
-      → (IsLive look mid → Gets look (λ bytes. next (value, bytes)) mid new outcome)
-      → IsLive look old → Gets look (λ bytes. part bytes >>= next) old new outcome
+      → (IsLive look old → ReadsPart look part old mid (Ok value))
+      → (IsLive look mid → ReadsPart look (λ bytes. next (value, bytes)) mid new outcome)
+      → IsLive look old → ReadsPart look (λ bytes. part bytes >>= next) old new outcome
   step got more live = let here = got live in after next here (more (is_live here))
 
-  pub stop_in : {stop : Halt} → (IsLive look old → Gets look part old new (Err stop))
-      → IsLive look old → Gets look (λ bytes. part bytes >>= next) old new (Err stop)
+  pub stop_in : {stop : Halt} → (IsLive look old → ReadsPart look part old new (Err stop))
+      → IsLive look old → ReadsPart look (λ bytes. part bytes >>= next) old new (Err stop)
   stop_in met live = exit next (met live)
 
 module _ {R A : Type 0} {look : R → Input} {part : List ℕ → Part A} {old new : Source R}
     {stop : Halt} where
   pub leave : (value : A) (outcome : Result (Unit {0}) Halt) → IsErrAnd outcome (λ e. e ≡ stop)
-      → (IsLive look old → Gets look part old new (Err stop))
-      → IsLive look old → Gets look part old new (with_value value outcome)
+      → (IsLive look old → ReadsPart look part old new (Err stop))
+      → IsLive look old → ReadsPart look part old new (with_value value outcome)
   leave value outcome is met live = leaving value outcome is (met live)
 
 module _ {R : Type 0} {look : R → Input} {old new : Source R} where
   -- a number is read from the bytes of its field
-  pub number_read : (n : ℕ) (field : List ℕ) → Gets look (bytes_at n) old new (Ok field)
-      → Gets look (number_at n) old new (Ok (big_number n field))
+  pub number_read : (n : ℕ) (field : List ℕ) → ReadsPart look (bytes_at n) old new (Ok field)
+      → ReadsPart look (number_at n) old new (Ok (big_number n field))
   unfolding number_at
   number_read n field got = after _ got (pure (is_live got))
 
-  pub byte_read : (field : List ℕ) → Gets look (bytes_at 1) old new (Ok field)
-      → Gets look (number_at 1) old new (Ok (slice_index field 0))
+  pub byte_read : (field : List ℕ) → ReadsPart look (bytes_at 1) old new (Ok field)
+      → ReadsPart look (number_at 1) old new (Ok (slice_index field 0))
   byte_read field got =
       let same : big_number 1 field ≡ slice_index field 0 = omega arith in
       rw (← same) (number_read 1 field got)
 
-  pub number_exit : (n : ℕ) {stop : Halt} → Gets look (bytes_at n) old new (Err stop)
-      → Gets look (number_at n) old new (Err stop)
+  pub number_exit : (n : ℕ) {stop : Halt} → ReadsPart look (bytes_at n) old new (Err stop)
+      → ReadsPart look (number_at n) old new (Err stop)
   unfolding number_at
   number_exit n got = exit _ got
 
 module _ {R : Type 0} {look : R → Input} where
   -- no bytes are skipped
   pub skip_none : {source : Source R} → IsLive look source
-      → Gets look (skipped_at 0) source source (Ok tt)
+      → ReadsPart look (skipped_at 0) source source (Ok tt)
   skip_none {source} live = record {
     by = record {
       given = [];
@@ -230,13 +230,13 @@ module _ {R : Type 0} {look : R → Input} where
   }
 
   module _ {old mid new : Source R} (a b : ℕ) where
-    pub skip_more : (n : ℕ) {piece : List ℕ} → a + b ≡ n → Gets look (skipped_at a) old mid (Ok tt)
-        → Gets look (bytes_at b) mid new (Ok piece) → Gets look (skipped_at n) old new (Ok tt)
+    pub skip_more : (n : ℕ) {piece : List ℕ} → a + b ≡ n → ReadsPart look (skipped_at a) old mid (Ok tt)
+        → ReadsPart look (bytes_at b) mid new (Ok piece) → ReadsPart look (skipped_at n) old new (Ok tt)
     unfolding skipped_at
     skip_more n is passed piece = rw (← is) (same_part (skipped_at-add a b) (after _ passed (after _ piece (pure (is_live piece)))))
 
-    pub skip_exit : (n : ℕ) {stop : Halt} → a + b ≤ n → Gets look (skipped_at a) old mid (Ok tt)
-        → Gets look (bytes_at b) mid new (Err stop) → Gets look (skipped_at n) old new (Err stop)
+    pub skip_exit : (n : ℕ) {stop : Halt} → a + b ≤ n → ReadsPart look (skipped_at a) old mid (Ok tt)
+        → ReadsPart look (bytes_at b) mid new (Err stop) → ReadsPart look (skipped_at n) old new (Err stop)
     unfolding skipped_at
     skip_exit n within passed met =
         let parts : a + (b + (n - (a + b))) ≡ n = omega arith in

@@ -2,7 +2,7 @@
 use Rattle.std.proofs.Common.{◌≡◌, ℕ, zero, suc, ◌+◌, ◌-◌, ◌<◌, List, [], ◌∷◌, ◌++◌, Option, Result, Ok, Err, eqb, false, arith, refl, ap, sym, append_assoc}
 use Rattle.std.proofs.lemmas.Bool.{ne_eqb}
 use Rattle.link_io.specs.{Device.Input, Source.IsLive}
-use Rattle.link_wire.specs.Getting.{Gets}
+use Rattle.link_wire.specs.Getting.{ReadsPart}
 use Rattle.link_wire.proofs.Gettings.{exit, after, pure, refuse, is_live, if_false}
 use Rattle.link_wire.specs.declared.message.ListOf.{ListOf}
 use Rattle.link_wire.specs.Message.{item_head_at, total_at, items_at}
@@ -31,31 +31,31 @@ some_left left some = ne_eqb left 0 (λ none. omega arith)
 module _ {R : Type 0} {look : R → Input} (owner : ListOf) where
   -- no bytes of the list are left
   pub items_none : (room left : ℕ) {source : Source R} → left ≡ 0 → IsLive look source
-      → Gets look (items_at owner room left) source source (Ok [])
+      → ReadsPart look (items_at owner room left) source source (Ok [])
   unfolding items_at
   items_none zero left none live = rw none (pure live)
   items_none (suc room) left none live = rw none (pure live)
 
   module _ {old mid : Source R} (left : ℕ) (some : 0 < left) where
     -- the head of the next item was not read
-    pub items_exit : (room : ℕ) {stop : Halt} → Gets look (item_head_at left) old mid (Err stop)
-        → Gets look (items_at owner room left) old mid (Err stop)
+    pub items_exit : (room : ℕ) {stop : Halt} → ReadsPart look (item_head_at left) old mid (Err stop)
+        → ReadsPart look (items_at owner room left) old mid (Err stop)
     unfolding items_at
     items_exit zero met = if_false _ _ (some_left left some) (exit _ met)
     items_exit (suc room) met = if_false _ _ (some_left left some) (exit _ met)
 
-    module _ {head : ItemHead} (got : Gets look (item_head_at left) old mid (Ok head)) where
+    module _ {head : ItemHead} (got : ReadsPart look (item_head_at left) old mid (Ok head)) where
       -- there is no room for the next item
       pub items_full : (room : ℕ) → room ≡ 0
-          → Gets look (items_at owner room left) old mid (Err (halt.Wire wire.TooManyItems))
+          → ReadsPart look (items_at owner room left) old mid (Err (halt.Wire wire.TooManyItems))
       unfolding items_at
       items_full room none =
           rw none (if_false _ _ (some_left left some) (after _ got (refuse (λ e. cc))))
 
       -- the value of the next item was not read
       pub items_exit_total : (room less : ℕ) {new : Source R} {stop : Halt} → room ≡ suc less
-          → Gets look (total_at owner head.kind head.length) mid new (Err stop)
-          → Gets look (items_at owner room left) old new (Err stop)
+          → ReadsPart look (total_at owner head.kind head.length) mid new (Err stop)
+          → ReadsPart look (items_at owner room left) old new (Err stop)
       unfolding items_at
       items_exit_total room less is met =
           rw is (if_false _ _ (some_left left some) (after _ got (exit _ met)))
@@ -63,9 +63,9 @@ module _ {R : Type 0} {look : R → Input} (owner : ListOf) where
       -- the next item, and those after it
       pub items_more : (room less : ℕ) {next new : Source R} (total : Option ℕ)
           (outcome : Result (List Item) Halt) → room ≡ suc less
-          → Gets look (total_at owner head.kind head.length) mid next (Ok total)
-          → Gets look (items_at owner less (left - (5 + head.length))) next new outcome
-          → Gets look (items_at owner room left) old new
+          → ReadsPart look (total_at owner head.kind head.length) mid next (Ok total)
+          → ReadsPart look (items_at owner less (left - (5 + head.length))) next new outcome
+          → ReadsPart look (items_at owner room left) old new
           (with_before (item_of head total ∷ []) outcome)
       unfolding items_at
       items_more room less total (Ok items) is known others =

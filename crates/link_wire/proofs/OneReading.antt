@@ -65,16 +65,16 @@ none_begins part value spelled bytes fault only is = λ before more spells same.
     let never = sym is ∙ ap part same ∙ only.by before spells more in absurd (cc)
 
 -- the bytes from an offset on spell this stream
-abbrev StandsIn : ℕ → List ℕ → Stream → Type 0
-StandsIn offset bytes stream = IsStream stream.entries stream.end offset bytes
+abbrev SpellsStream : ℕ → List ℕ → Stream → Type 0
+SpellsStream offset bytes stream = IsStream stream.entries stream.end offset bytes
 
 -- a head that was read, and the bytes after it
 module _ (offset : ℕ) (message : Message) (head rest : List ℕ) (spells : HeadSpelled message head)
     (are : AreBytes rest) where
   with_data-stands : (later : ℕ → List ℕ → Stream)
       → (let after = drop (data_length message) rest in (at : ℕ)
-      → StandsIn at after (later at after))
-      → StandsIn offset (head ++ rest)
+      → SpellsStream at after (later at after))
+      → SpellsStream offset (head ++ rest)
       (with_data_of offset message rest
       (later (offset + length head + data_length message) (drop (data_length message) rest)))
   with_data-stands later stands = ⊎_elim
@@ -104,9 +104,9 @@ stream_at-bad offset (b ∷ bytes) fault some is = stream_at-fault offset b byte
 module _ (offset : ℕ) (bytes : List ℕ) where
   head_stands : 0 < length bytes → AreBytes bytes
       → ((at : ℕ) (after : List ℕ) → length after < length bytes → AreBytes after
-      → StandsIn at after (stream_at at after))
+      → SpellsStream at after (stream_at at after))
       → (read : Result (Message × List ℕ) WireFault) → message_at bytes ≡ read
-      → StandsIn offset bytes (stream_at offset bytes)
+      → SpellsStream offset bytes (stream_at offset bytes)
   head_stands some are next (Err fault) is =
       rw (stream_at-bad offset bytes fault some is)
       (refl, (λ none. let never : length bytes ≡ 0 = ap length none in absurd (omega arith)), (λ message. none_begins message_at message (HeadSpelled message) bytes fault (only_message message) is), is)
@@ -123,7 +123,7 @@ module _ (offset : ℕ) (bytes : List ℕ) where
 
 -- at most `count` bytes spell the stream that is read from them
 stream_stands : (count offset : ℕ) (bytes : List ℕ) → length bytes ≤ count → AreBytes bytes
-    → StandsIn offset bytes (stream_at offset bytes)
+    → SpellsStream offset bytes (stream_at offset bytes)
 stream_stands count offset [] few are = rw (stream_at-nil offset) refl
 stream_stands zero offset (b ∷ bytes) few are = absurd (omega arith)
 stream_stands (suc count) offset (b ∷ bytes) few are =

@@ -60,8 +60,8 @@ rest_none place offset left (Fault from fault) is = absurd is
 module _ (reading : Reading) (history : List ℕ) (part : Stream) (offset left place : ℕ)
     (is : IsLeft offset left part.end)
     (reads : (more : List ℕ) → reading_of (history ++ more) ≡ joined reading (appended part (rest_after place left part.end more))) where
-  pub settled : reading_of history ≡ joined reading part
-  settled =
+  pub reading_of-joined : reading_of history ≡ joined reading part
+  reading_of-joined =
       ap reading_of (sym (append-nil history)) ∙ reads []
       ∙ ap (λ rest. joined reading (appended part rest)) (rest_none place offset left part.end is)
       ∙ ap (λ entries. joined reading (record { entries = entries; end = part.end })) (append-nil part.entries)
@@ -69,7 +69,7 @@ module _ (reading : Reading) (history : List ℕ) (part : Stream) (offset left p
   pub goes_on_from : (more : List ℕ)
       → reading_of (history ++ more)
       ≡ joined (reading_of history) (rest_after place left (reading_of history).end more)
-  goes_on_from more = rw (settled, append_assoc) (reads more)
+  goes_on_from more = rw (reading_of-joined, append_assoc) (reads more)
 
 -- if no data is to come, the end is clean
 pub clean_end : (offset left : ℕ) (end : End) → IsLeft offset left end → left ≡ 0 → end ≡ Clean

@@ -7,17 +7,17 @@ use Rattle.link_wire.specs.Part.{Part, number_at}
 use Rattle.link_wire.specs.Message.{contact_at, message_at, fields_at, data_length}
 use Rattle.link_io.specs.Source.{window_of, is_fresh, IsSourceAt, IsLive, IsOver, Takes, Readies}
 use Rattle.link_wire.specs.Limits.{window_size}
-use Rattle.link_wire.specs.Getting.{Needs, IsPart, IsFault, WholePart, Gets, OneKind}
+use Rattle.link_wire.specs.Getting.{Needs, IsPart, IsFault, WholePart, ReadsPart, OneKind}
 use Rattle.link_wire.specs.Stream.{Entry, End, Clean, Cut, Fault, Stream, ended, stream_at, Reading, reading_of}
-use Rattle.link_wire.specs.Session.{joined, data_after, rest_after, IsLeft, IsUndecided, SameMessages, ShownLast, is_unopened, reads_next, may_open, may_read, left_of, HasStopped, IsSessionAt, ReadContact, AfterOpen, ReadMessage, AfterNext, PassedBytes, LoadedData, AfterLoad, AfterData}
-use Rattle.link_io.proofs.Sources.{fresh_at, fresh_live, IsSourceAt-then, Takes-then, Readies-takes, Readies-over, StopsAfter-then}
+use Rattle.link_wire.specs.Session.{joined, data_after, rest_after, IsLeft, IsUndecided, SameMessages, OnlyLastShows, is_unopened, reads_next, may_open, may_read, left_of, HasStopped, IsSessionAt, GivenContact, AfterOpen, GivenMessage, AfterNext, PassedBytes, LoadedData, AfterLoad, AfterData}
+use Rattle.link_io.proofs.Sources.{fresh_at, fresh_live, IsSourceAt-then, Takes-then, Readies-takes, Readies-over, TakesThenStops-then}
 use Rattle.link_wire.proofs.{Gettings.{after, IsFault-then, cut_then}, Plains.IsPart-byte}
 use Rattle.link_wire.proofs.{Shrinks.shrinks_message, Steady.{steady_contact, steady_message, cut_before}}
 use Rattle.link_wire.proofs.Within.{Steady, within_contact, within_message, part_size, needed_size}
 use Rattle.link_wire.proofs.Streams.{stream_at-head, stream_at-fault}
 use Rattle.link_wire.proofs.Contacts.{contact_taken, reading-contact, reading-refused, reading-none}
-use Rattle.link_wire.proofs.Rests.{appended, begun, begun_by, begun_left, data_by, data_left, clean_end, settled, goes_on_from}
-use Rattle.link_wire.specs.{Halt.stop_at, Whole.{AreMessages, PassedMessages, ReadWhole}}
+use Rattle.link_wire.proofs.Rests.{appended, begun, begun_by, begun_left, data_by, data_left, clean_end, reading_of-joined, goes_on_from}
+use Rattle.link_wire.specs.{Halt.stop_at, Whole.{AreMessages, PassedMessages, GivenWhole}}
 use Rattle.link_wire.proofs.Wholes.{one_message}
 use Rattle.link_wire.specs.declared.fault.Stop.{Stop}
 use Rattle.link_wire.specs.declared.fault.Stop.TheVariants as stop
@@ -64,7 +64,7 @@ none_left s reading may = eqb-true s.left 0 (ap (λ p. reads_next p s.left) (sym
 -- ---- the contact header
 
 -- a proper prefix of the bytes that a contact header needs has none, and shows no fault
-contact_shown : (given : List ℕ) → Needs contact_at given → ShownLast [] given
+contact_shown : (given : List ℕ) → Needs contact_at given → OnlyLastShows [] given
 contact_shown given needs = λ count fewer.
     let read = reading-refused (take count given) wire.Truncated (needs count fewer) in
     rw (read, reading-none) (record { contact = refl; entries = refl }, refl)
@@ -88,7 +88,7 @@ module _ {R : Type 0} {look : R → Input} where
       ≡ joined reading (appended part (rest_after (length history) s.left part.end more)))
       → (reading_of history ≡ joined reading part) × IsSessionAt look s history
   stands s history reading part contact at live going has is few reads =
-      let read = settled reading history part s.offset s.left (length history) is reads in (
+      let read = reading_of-joined reading history part s.offset s.left (length history) is reads in (
         read,
         record {
           at = at;
@@ -124,8 +124,8 @@ module _ {R : Type 0} {look : R → Input} where
 
   -- the contact header was read
   pub contact_came : (old new : Session R) (contact : Contact) → may_open old ≡ true
-      → Gets look contact_at old.source new.source (Ok contact) → new.left ≡ old.left
-      → new.phase ≡ phase.Reading → ReadContact look old new contact
+      → ReadsPart look contact_at old.source new.source (Ok contact) → new.left ≡ old.left
+      → new.phase ≡ phase.Reading → GivenContact look old new contact
   contact_came old new contact fresh got left going =
       let given = got.by.given in
       let begins : Reading = record { contact = Some contact; entries = []; end = Clean } in
@@ -146,7 +146,7 @@ module _ {R : Type 0} {look : R → Input} where
       }
 
   pub contact_refused : (old new : Session R) (source : Source R) (why : Halt) (result : Stop)
-      → Gets look contact_at old.source source (Err why) → new.source ≡ source
+      → ReadsPart look contact_at old.source source (Err why) → new.source ≡ source
       → HasStopped new result → result ≡ stop_at 0 why → AfterOpen look old new (Err result)
   contact_refused old new source (halt.Wire fault) result met same stopped is = rw is (record {
     given = met.by.given;
@@ -200,14 +200,14 @@ module _ {R : Type 0} {look : R → Input} where
         (record { contact = refl; entries = append-nil (reading_of history).entries }, refl)
 
     -- a proper prefix of the bytes that a head needs makes no message, and shows no fault
-    head_shown : (given : List ℕ) → Needs message_at given → ShownLast history given
+    head_shown : (given : List ℕ) → Needs message_at given → OnlyLastShows history given
     head_shown given needs = λ count fewer. cut_here (take count given) (needs count fewer)
 
     -- the head of a message was read
     pub came : (new : Session R) (message : Message)
         → WholePart look message_at old.source new.source message → new.offset ≡ length history
         → new.left ≡ data_length message → new.phase ≡ phase.Reading
-        → ReadMessage look old new history (length history) message
+        → GivenMessage look old new history (length history) message
     came new message got offset left going =
         let given = got.given in
         let here = length history in
@@ -244,7 +244,7 @@ module _ {R : Type 0} {look : R → Input} where
       -- one message, its head and its data
       pub came_whole : (head content : List ℕ) (message : Message) → given ≡ head ++ content
           → length given ≤ window_size → IsPart message_at head message → data_length message ≡ length content
-          → ReadWhole look old new history (length history) message
+          → GivenWhole look old new history (length history) message
       came_whole head content message parts room is size =
           let one : List Entry = record { offset = length history; message = message; content = content } ∷ [] in
           record {
@@ -259,20 +259,20 @@ module _ {R : Type 0} {look : R → Input} where
 
     -- the next message, by its type byte and the fields after it
     module _ {mid : Source R} {kind : ℕ} (first : OneKind look old.source mid kind) where
-      typed : Gets look (number_at 1) old.source mid (Ok kind)
+      typed : ReadsPart look (number_at 1) old.source mid (Ok kind)
       typed = record { by = record { given = kind ∷ []; takes = first.takes; live = first.live; is = IsPart-byte kind } }
 
       pub message_came : (new : Session R) (message : Message)
-          → Gets look (fields_at kind) mid new.source (Ok message) → new.offset ≡ length history
+          → ReadsPart look (fields_at kind) mid new.source (Ok message) → new.offset ≡ length history
           → new.left ≡ data_length message → new.phase ≡ phase.Reading
-          → ReadMessage look old new history (length history) message
+          → GivenMessage look old new history (length history) message
       unfolding message_at
       message_came new message fields offset left going =
-          let whole : Gets look message_at old.source new.source (Ok message) = after _ typed fields in
+          let whole : ReadsPart look message_at old.source new.source (Ok message) = after _ typed fields in
           came new message whole.by offset left going
 
       next_refused : (new : Session R) (why : Halt)
-          → Gets look (fields_at kind) mid new.source (Err why)
+          → ReadsPart look (fields_at kind) mid new.source (Err why)
           → HasStopped new (stop_at (length history) why)
           → AfterNext look old new history (Err (stop_at (length history) why))
       unfolding message_at
@@ -298,7 +298,7 @@ module _ {R : Type 0} {look : R → Input} where
           let here = cut_here (kind ∷ given) is_cut in
           record {
             given = kind ∷ given;
-            stops = StopsAfter-then look old.source mid new.source (kind ∷ []) given fault first.takes met.by.stops;
+            stops = TakesThenStops-then look old.source mid new.source (kind ∷ []) given fault first.takes met.by.stops;
             size = within_message.cut (kind ∷ given) is_cut;
             shown_last = head_shown (kind ∷ given) (needs_by message_at (kind ∷ given) steady_message is_cut);
             same = here.0;
@@ -307,7 +307,7 @@ module _ {R : Type 0} {look : R → Input} where
           }
 
       pub message_refused : (new : Session R) (source : Source R) (why : Halt) (offset : ℕ)
-          (result : Stop) → Gets look (fields_at kind) mid source (Err why) → new.source ≡ source
+          (result : Stop) → ReadsPart look (fields_at kind) mid source (Err why) → new.source ≡ source
           → HasStopped new result → result ≡ stop_at offset why → offset ≡ length history
           → AfterNext look old new history (Err result)
       message_refused new source why offset result met same stopped is here =

@@ -2,7 +2,7 @@
 use Rattle.std.proofs.Common.{◌≡◌, ◌⊎◌, inl, inr, ⊎_elim, ℕ, List, ◌++◌, Some, Ok, Err, refl, ap, sym, ◌∙◌}
 use Rattle.link_io.specs.{Device.{Input, BeginsWith}, Source.at_hand}
 use Rattle.link_wire.specs.{Message.{contact_at, message_at}, Part.Part}
-use Rattle.link_wire.specs.Session.{IsEnoughFor, HasContact, HasNext}
+use Rattle.link_wire.specs.Session.{IsEnoughFor, HasEnoughForContact, HasEnoughForNext}
 use Rattle.link_wire.specs.declared.fault.{WireFault.WireFault, WireFault.TheVariants.Truncated}
 use Rattle.link_wire.specs.declared.session.Session.{Session}
 use Rattle.link_wire.proofs.Within.{Steady, within_contact, within_message}
@@ -41,13 +41,13 @@ module _ {A : Type 0} (part : List ℕ → Part A) (steady : Steady part) where
 -- if the head of a message is at hand, that is enough
 pub head_next : {R : Type 0} (look : R → Input) (s : Session R) → s.left ≡ 0 → (bytes : List ℕ)
     → BeginsWith (Some (at_hand look s.source)) bytes → IsEnoughFor message_at bytes
-    → HasNext look s
+    → HasEnoughForNext look s
 head_next look s between bytes next enough =
     rw between (enough_here message_at steady_message (at_hand look s.source) bytes next enough)
 
 -- if a contact header is at hand, that is enough
 pub contact_next : {R : Type 0} (look : R → Input) (s : Session R) (bytes : List ℕ)
     → BeginsWith (Some (at_hand look s.source)) bytes → IsEnoughFor contact_at bytes
-    → HasContact look s
+    → HasEnoughForContact look s
 contact_next look s bytes next enough =
     enough_here contact_at steady_contact (at_hand look s.source) bytes next enough

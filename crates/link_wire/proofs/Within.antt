@@ -21,7 +21,7 @@ pub record Steady {A : Type 0} (part : List ℕ → Part A) : Type 0 where
   pub faulty : (bytes more : List ℕ) (fault : WireFault) → (fault ≡ Truncated → ⊥)
       → part bytes ≡ Err fault → part (bytes ++ more) ≡ Err fault
 
-pub record Within {A : Type 0} (most : ℕ) (part : List ℕ → Part A) : Type 0 where
+pub record IsBounded {A : Type 0} (most : ℕ) (part : List ℕ → Part A) : Type 0 where
   pub read : (bytes : List ℕ) (value : A) (rest : List ℕ) → part bytes ≡ Ok (value, rest)
       → (length bytes ≤ length rest + most) × (length rest ≤ length bytes)
   pub cut : (bytes : List ℕ) → part bytes ≡ Err Truncated → length bytes < most
@@ -36,7 +36,7 @@ both_cut {A} (Err other) next fault is =
     inl (let same : other ≡ fault = cc in ap (λ f. let r : Result A WireFault = Err f in r) same)
 
 module _ {A : Type 0} {most : ℕ} where
-  within_pure : (value : A) → Within most (λ bytes. Ok (value, bytes))
+  within_pure : (value : A) → IsBounded most (λ bytes. Ok (value, bytes))
   within_pure value = record {
     read = λ bytes other rest is.
         let same : bytes ≡ rest = (same_part is).1 in
@@ -52,7 +52,7 @@ module _ {A : Type 0} {most : ℕ} where
   }
 
   within_err : (fault : WireFault) → (fault ≡ Truncated → ⊥)
-      → Within most (λ bytes. let part : Part A = Err fault in part)
+      → IsBounded most (λ bytes. let part : Part A = Err fault in part)
   within_err fault other = record {
     read = λ bytes value rest is. absurd (cc);
     cut = λ bytes is. absurd (other (cc));
@@ -63,16 +63,16 @@ module _ {A : Type 0} {most : ℕ} where
   }
 
   within_if : (test : Bool) (part other : List ℕ → Part A)
-      → (test ≡ true → Within most part) → (test ≡ false → Within most other)
-      → Within most (λ bytes. if test then part bytes else other bytes)
+      → (test ≡ true → IsBounded most part) → (test ≡ false → IsBounded most other)
+      → IsBounded most (λ bytes. if test then part bytes else other bytes)
   within_if true part other p q = p refl
   within_if false part other p q = q refl
 
 module _ {A B : Type 0} {most : ℕ} (first : ℕ) (part : List ℕ → Part A)
-    (next : A × List ℕ → Part B) (fits : first ≤ most) (one : Within first part) where
+    (next : A × List ℕ → Part B) (fits : first ≤ most) (one : IsBounded first part) where
   within_such : ((value : A) (bytes rest : List ℕ) → part bytes ≡ Ok (value, rest)
-      → Within (most - first) (λ bytes. next (value, bytes)))
-      → Within most (λ bytes. part bytes >>= next)
+      → IsBounded (most - first) (λ bytes. next (value, bytes)))
+      → IsBounded most (λ bytes. part bytes >>= next)
   within_such two = record {
     read = λ bytes value rest is.
         let both = both_read (part bytes) next (value, rest) is in
@@ -101,11 +101,11 @@ module _ {A B : Type 0} {most : ℕ} (first : ℕ) (part : List ℕ → Part A)
     };
   }
 
-  within_then : ((value : A) → Within (most - first) (λ bytes. next (value, bytes)))
-      → Within most (λ bytes. part bytes >>= next)
+  within_then : ((value : A) → IsBounded (most - first) (λ bytes. next (value, bytes)))
+      → IsBounded most (λ bytes. part bytes >>= next)
   within_then two = within_such (λ value bytes rest is. two value)
 
-within_bytes : (n : ℕ) → Within n (bytes_at n)
+within_bytes : (n : ℕ) → IsBounded n (bytes_at n)
 within_bytes n = record {
   read = λ bytes value rest is.
       let gone = (bytes_gone n bytes value rest is).0 in (omega (arith, gone), omega (arith, gone));
@@ -131,7 +131,7 @@ within_bytes n = record {
   };
 }
 
-within_number : (n : ℕ) → Within n (number_at n)
+within_number : (n : ℕ) → IsBounded n (number_at n)
 unfolding number_at
 within_number n = within_then n _ _ (omega arith) (within_bytes n) (λ field. within_pure _)
 
@@ -145,15 +145,15 @@ number_gone n bytes value rest is =
 
 -- a number of `k` bytes, and then what depends on it
 module _ {B : Type 0} {most : ℕ} (k : ℕ) (next : ℕ × List ℕ → Part B) (fits : k ≤ most) where
-  within_field : ((n : ℕ) → Within (most - k) (λ bytes. next (n, bytes)))
-      → Within most (λ bytes. number_at k bytes >>= next)
+  within_field : ((n : ℕ) → IsBounded (most - k) (λ bytes. next (n, bytes)))
+      → IsBounded most (λ bytes. number_at k bytes >>= next)
   within_field two = within_then k _ next fits (within_number k) two
 
-within_skipped : (n : ℕ) → Within n (skipped_at n)
+within_skipped : (n : ℕ) → IsBounded n (skipped_at n)
 unfolding skipped_at
 within_skipped n = within_then n _ _ (omega arith) (within_bytes n) (λ skipped. within_pure _)
 
-pub within_contact : Within 6 contact_at
+pub within_contact : IsBounded 6 contact_at
 unfolding contact_at
 within_contact =
     within_then 6 _ _ (omega arith) (within_bytes 6) (λ header.
@@ -162,7 +162,7 @@ within_contact =
     (λ is. within_err _ (λ e. cc)))
     (λ is. within_err _ (λ e. cc)))
 
-within_total : (owner : ListOf) (kind size : ℕ) → Within size (total_at owner kind size)
+within_total : (owner : ListOf) (kind size : ℕ) → IsBounded size (total_at owner kind size)
 unfolding total_at
 within_total owner kind size =
     within_if (is_total_length owner kind size) _ _
@@ -170,7 +170,7 @@ within_total owner kind size =
     within_field 8 _ (omega arith) (λ total. within_pure _))
     (λ is. within_then size _ _ (omega arith) (within_skipped size) (λ value. within_pure _))
 
-within_item_head : (left : ℕ) → 5 ≤ left → Within 5 (item_head_at left)
+within_item_head : (left : ℕ) → 5 ≤ left → IsBounded 5 (item_head_at left)
 unfolding item_head_at
 within_item_head left enough =
     within_if (nat_lt left 5) _ _ (λ is. within_err _ (λ e. cc)) (λ is.
@@ -200,7 +200,7 @@ item_fits left bytes head rest is =
     omega (arith, ltb-false left 5 some.0, ltb-false (left - 5) size.0.0 fits.0, length_is)
 
 -- the head of an item, if the list has no room for one
-within_no_head : (left : ℕ) → left < 5 → Within 0 (item_head_at left)
+within_no_head : (left : ℕ) → left < 5 → IsBounded 0 (item_head_at left)
 unfolding item_head_at
 within_no_head left short =
     within_if (nat_lt left 5) _ _ (λ is. within_err _ (λ e. cc))
@@ -209,8 +209,8 @@ within_no_head left short =
 -- the head of an item, and then what depends on it within the list
 module _ {B : Type 0} (left : ℕ) (next : ItemHead × List ℕ → Part B) where
   within_headed : ((head : ItemHead) → 5 + head.length ≤ left
-      → Within (left - 5) (λ bytes. next (head, bytes)))
-      → Within left (λ bytes. item_head_at left bytes >>= next)
+      → IsBounded (left - 5) (λ bytes. next (head, bytes)))
+      → IsBounded left (λ bytes. item_head_at left bytes >>= next)
   within_headed two =
       ⊎_elim
       (λ short. within_such 0 _ next (omega arith) (within_no_head left short)
@@ -219,7 +219,7 @@ module _ {B : Type 0} (left : ℕ) (next : ItemHead × List ℕ → Part B) wher
       (λ head bytes rest is. two head (item_fits left bytes head rest is)))
       (cases_lt left 5)
 
-within_items : (owner : ListOf) (room left : ℕ) → Within left (items_at owner room left)
+within_items : (owner : ListOf) (room left : ℕ) → IsBounded left (items_at owner room left)
 unfolding items_at
 within_items owner zero left =
     within_if (eqb left 0) _ _ (λ is. within_pure _)
@@ -231,19 +231,19 @@ within_items owner (suc room) left =
     within_then (left - (5 + head.length)) _ _ (omega arith) (within_items owner room _) (λ others.
     within_pure _))))
 
-within_items_of : (owner : ListOf) (size most : ℕ) → size ≤ most → Within most (items_of owner size)
+within_items_of : (owner : ListOf) (size most : ℕ) → size ≤ most → IsBounded most (items_of owner size)
 unfolding items_of
 within_items_of owner size most fits =
     within_then size _ _ fits (within_items owner most_items size) (λ items. within_pure _)
 
-within_list : (owner : ListOf) → Within 65540 (list_at owner)
+within_list : (owner : ListOf) → IsBounded 65540 (list_at owner)
 unfolding list_at
 within_list owner =
     within_field 4 _ (omega arith) (λ size.
     within_if (nat_lt longest_list size) _ _ (λ long. within_err _ (λ e. cc))
     (λ short. within_items_of owner size longest_list (ltb-false longest_list size short)))
 
-within_node : Within 1026 node_at
+within_node : IsBounded 1026 node_at
 unfolding node_at node_bytes_at
 within_node =
     within_field 2 _ (omega arith) (λ size.
@@ -251,12 +251,12 @@ within_node =
     (λ short. within_then size _ _ (ltb-false longest_node size short) (within_bytes size)
     (λ node. within_pure _)))
 
-within_segment_items : (flags : ℕ) → Within 65540 (segment_items_at flags)
+within_segment_items : (flags : ℕ) → IsBounded 65540 (segment_items_at flags)
 unfolding segment_items_at
 within_segment_items flags =
     within_if (is_start flags) _ _ (λ is. within_list Transfer) (λ is. within_pure _)
 
-pub within_fields : (kind : ℕ) → Within 66584 (fields_at kind)
+pub within_fields : (kind : ℕ) → IsBounded 66584 (fields_at kind)
 unfolding fields_at segment_at ack_at refuse_at sess_term_at msg_reject_at sess_init_at
 within_fields kind =
     within_if (eqb kind 1) _ _ (λ is.
@@ -286,13 +286,13 @@ within_fields kind =
     within_then 65540 _ _ (omega arith) (within_list Session) (λ items. within_pure _))))))
     (λ is. within_err _ (λ e. cc))))))))
 
-pub within_message : Within longest_head message_at
+pub within_message : IsBounded longest_head message_at
 unfolding message_at
 within_message = within_field 1 _ (omega arith) (λ kind. within_fields kind)
 
 -- the bytes of a part, and those that show a fault, are at most `most`; cut bytes are fewer
 module _ {A : Type 0} {most : ℕ} {part : List ℕ → Part A}
-    (within : Within most part) (bytes : List ℕ) where
+    (within : IsBounded most part) (bytes : List ℕ) where
   pub part_size : (value : A) → IsPart part bytes value → length bytes ≤ most
   part_size value is =
       let few = (within.read (bytes ++ []) value [] (is.is_part [])).0 in

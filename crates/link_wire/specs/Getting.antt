@@ -3,7 +3,7 @@
 use Rattle.std.specs.Prelude.{◌≡◌, ℕ, ◌<◌, List, [], ◌∷◌, ◌++◌, length, take, Option, Some, None, Result, Ok, Err}
 use Rattle.link_io.specs.Device.{Input}
 use Rattle.link_wire.specs.Part.{Part}
-use Rattle.link_io.specs.Source.{IsLive, IsOver, Takes, StopsAfter}
+use Rattle.link_io.specs.Source.{IsLive, IsOver, Takes, TakesThenStops}
 use Rattle.link_io.specs.declared.fault.IoFault.{IoFault}
 use Rattle.link_wire.specs.declared.fault.{WireFault.WireFault, WireFault.TheVariants.Truncated}
 use Rattle.link_wire.specs.declared.halt.Halt.{Halt}
@@ -51,19 +51,19 @@ module _ {R A : Type 0} where
   pub record MetStop (look : R → Input) (part : List ℕ → Part A) (old new : Source R)
       (fault : IoFault) : Type 0 where
     pub given : List ℕ
-    pub stops : StopsAfter look old new given fault
+    pub stops : TakesThenStops look old new given fault
     pub is_cut : part given ≡ Err Truncated
 
-  abbrev pub GetsPart : (R → Input) → (List ℕ → Part A) → Source R
+  abbrev pub AfterPart : (R → Input) → (List ℕ → Part A) → Source R
       → Source R → Result A Halt → Type 0
-  GetsPart look part old new (Ok value) = WholePart look part old new value
-  GetsPart look part old new (Err (halt.Wire fault)) = MetFault look part old new fault
-  GetsPart look part old new (Err (halt.Io fault)) = MetStop look part old new fault
+  AfterPart look part old new (Ok value) = WholePart look part old new value
+  AfterPart look part old new (Err (halt.Wire fault)) = MetFault look part old new fault
+  AfterPart look part old new (Err (halt.Io fault)) = MetStop look part old new fault
 
   -- the outcome of a function that reads the part
-  pub record Gets (look : R → Input) (part : List ℕ → Part A) (old new : Source R)
+  pub record ReadsPart (look : R → Input) (part : List ℕ → Part A) (old new : Source R)
       (outcome : Result A Halt) : Type 0 where
-    pub by : GetsPart look part old new outcome
+    pub by : AfterPart look part old new outcome
 
 -- the outcome of a function that writes a value into its caller's variable, together with that
 -- value
@@ -82,7 +82,7 @@ module _ {R : Type 0} where
     pub takes : Takes look old new (kind ∷ [])
     pub live : IsLive look new
 
-  abbrev pub GetsKind : (R → Input) → Source R → Source R → Result (Option ℕ) IoFault → Type 0
-  GetsKind look old new (Ok None) = NoKind look old new
-  GetsKind look old new (Ok (Some kind)) = OneKind look old new kind
-  GetsKind look old new (Err fault) = StopsAfter look old new [] fault
+  abbrev pub AfterKind : (R → Input) → Source R → Source R → Result (Option ℕ) IoFault → Type 0
+  AfterKind look old new (Ok None) = NoKind look old new
+  AfterKind look old new (Ok (Some kind)) = OneKind look old new kind
+  AfterKind look old new (Err fault) = TakesThenStops look old new [] fault

@@ -65,7 +65,7 @@ LocatesEnd bytes end part (Ok next) = EndsBefore bytes end part next
 LocatesEnd bytes end part (Err fault) = part ≡ Err fault
 
 -- the items of a list whose bytes after its length begin at the span
-pub record ListAt (owner : ListOf) (bytes : List ℕ) (span : Span) (items : ArrayVec Item)
+pub record ItemsLieAt (owner : ListOf) (bytes : List ℕ) (span : Span) (items : ArrayVec Item)
     (next : ℕ) : Type 0 where
   pub reads : items_of owner span.length (drop span.offset bytes) ≡ Ok (items, drop next bytes)
 
@@ -74,7 +74,7 @@ pub record ListLies (owner : ListOf) (bytes : List ℕ) (part : Part (ArrayVec I
     (next : ℕ) : Type 0 where
   pub items : ArrayVec Item
   pub is : part ≡ Ok (items, drop next bytes)
-  pub list : ListAt owner bytes span items next
+  pub list : ItemsLieAt owner bytes span items next
   pub within : next ≤ length bytes
   pub ends : span.offset + span.length ≡ next
 
@@ -86,13 +86,13 @@ LocatesList owner bytes part (Err fault) = part ≡ Err fault
 -- the items of a segment, which have a list only with START
 pub record SegmentList (flags : ℕ) (bytes : List ℕ) (span : Span)
     (items : ArrayVec Item) : Type 0 where
-  pub with_start : is_start flags ≡ true → (next : ℕ) × ListAt Transfer bytes span items next
+  pub with_start : is_start flags ≡ true → (next : ℕ) × ItemsLieAt Transfer bytes span items next
   pub without_start : is_start flags ≡ false → (items ≡ record { items = [] }) × (span.length ≡ 0)
 
 -- the items of a message lie at the span
 abbrev pub HasList : Fields → List ℕ → Span → ArrayVec Item → Type 0
 HasList (fields.SessInit interval segment_mru transfer_mru) bytes span items =
-    (next : ℕ) × ListAt Session bytes span items next
+    (next : ℕ) × ItemsLieAt Session bytes span items next
 HasList (fields.Segment flags id size) bytes span items = SegmentList flags bytes span items
 HasList _ bytes span items = Unit {0}
 

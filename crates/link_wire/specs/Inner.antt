@@ -3,7 +3,7 @@ use Rattle.std.specs.Prelude.{◌≡◌, ℕ, ◌+◌, ◌<◌, ◌≤◌, List,
 use Rattle.link_io.specs.Device.{Input}
 use Rattle.link_wire.specs.Getting.{IsPart}
 use Rattle.link_wire.specs.Message.{message_at}
-use Rattle.link_wire.specs.Session.{left_of, ReadMessage, PassedBytes}
+use Rattle.link_wire.specs.Session.{left_of, GivenMessage, PassedBytes}
 use Rattle.link_wire.specs.declared.message.{Message.Message, Message.TheVariants.Segment}
 use Rattle.link_wire.specs.declared.session.Session.{Session}
 
@@ -28,7 +28,7 @@ pub record PassedInner {R : Type 0} (look : R → Input) (old new : Session R) (
     (id : ℕ) (content : List ℕ) : Type 0 where
   pub mid : Session R
   pub offset : ℕ
-  pub read : ReadMessage look old mid history offset (inner_segment id (length content))
+  pub read : GivenMessage look old mid history offset (inner_segment id (length content))
   pub some : 0 < length content
   pub gave : PassedBytes look mid new (history ++ read.given) content
   pub none : left_of new ≡ 0

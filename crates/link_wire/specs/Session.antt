@@ -6,7 +6,7 @@ use Rattle.link_wire.specs.Limits.{longest_head, window_size}
 use Rattle.link_wire.specs.Message.{data_length, contact_at, message_at}
 use Rattle.link_wire.specs.MessageBuffer.{message_of, SegmentHasTotals}
 use Rattle.link_wire.specs.Part.{Part}
-use Rattle.link_io.specs.Source.{IsSourceAt, IsLive, IsOver, HasEnded, Takes, Readies, StopsAfter, is_fresh, window_of, at_hand, front_of}
+use Rattle.link_io.specs.Source.{IsSourceAt, IsLive, IsOver, HasEnded, Takes, Readies, TakesThenStops, is_fresh, window_of, at_hand, front_of}
 use Rattle.link_wire.specs.Stream.{End, Clean, Cut, Fault, Stream, ended, with_entry, stream_at, Reading, reading_of}
 use Rattle.link_io.specs.declared.fault.IoFault.{IoFault}
 use Rattle.link_wire.specs.declared.fault.Stop.{Stop}
@@ -93,8 +93,8 @@ pub record SameMessages (first second : Reading) : Type 0 where
   pub entries : second.entries ≡ first.entries
 
 -- After the history, a proper prefix of the bytes makes no message, and shows no fault.
-abbrev pub ShownLast : (history bytes : List ℕ) → Type 0
-ShownLast history bytes =
+abbrev pub OnlyLastShows : (history bytes : List ℕ) → Type 0
+OnlyLastShows history bytes =
     (count : ℕ) → count < length bytes
     → SameMessages (reading_of history) (reading_of (history ++ take count bytes))
     × IsUndecided (reading_of (history ++ take count bytes)).end
@@ -166,12 +166,12 @@ module _ {R : Type 0} where
         (rest_after (length history) session.left (reading_of history).end more)
 
   -- the bytes at hand are enough for the contact header
-  abbrev pub HasContact : (R → Input) → Session R → Type 0
-  HasContact look session = IsEnoughFor contact_at (at_hand look session.source)
+  abbrev pub HasEnoughForContact : (R → Input) → Session R → Type 0
+  HasEnoughForContact look session = IsEnoughFor contact_at (at_hand look session.source)
 
   -- the bytes at hand are enough for what comes next
-  abbrev pub HasNext : (R → Input) → Session R → Type 0
-  HasNext look session = IsEnough session.left (at_hand look session.source)
+  abbrev pub HasEnoughForNext : (R → Input) → Session R → Type 0
+  HasEnoughForNext look session = IsEnough session.left (at_hand look session.source)
 
   -- The whole input is read as `reading`: so are these bytes, with any bytes that may follow them
   -- (`MayFollow`). If the fault is a missing field, no byte of the input is left.
@@ -190,12 +190,13 @@ module _ {R : Type 0} where
   -- The results of the calls of a session that was given this history.
 
   -- the contact header was read
-  pub record ReadContact (look : R → Input) (old new : Session R) (contact : Contact) : Type 0 where
+  pub record GivenContact (look : R → Input) (old new : Session R)
+      (contact : Contact) : Type 0 where
     pub given : List ℕ
     pub takes : Takes look old.source new.source given
     pub reading : reading_of given ≡ record { contact = Some contact; entries = []; end = Clean }
     pub size : length given ≡ 6
-    pub shown_last : ShownLast [] given
+    pub shown_last : OnlyLastShows [] given
     pub at : IsSessionAt look new given
     pub between : left_of new ≡ 0
 
@@ -208,28 +209,28 @@ module _ {R : Type 0} where
     pub offset_is : offset ≡ 0
     pub is_read : IsRead look new.source given fault
         (record { contact = None; entries = []; end = Fault 0 fault })
-    pub shown_last : ShownLast [] given
+    pub shown_last : OnlyLastShows [] given
     pub stopped : HasStopped new (stop.Wire offset fault)
 
   -- a device failed inside the contact header, or the input passed its limit there
   pub record StoppedContact (look : R → Input) (old new : Session R)
       (fault : IoFault) : Type 0 where
     pub given : List ℕ
-    pub stops : StopsAfter look old.source new.source given fault
+    pub stops : TakesThenStops look old.source new.source given fault
     pub size : length given < 6
-    pub shown_last : ShownLast [] given
+    pub shown_last : OnlyLastShows [] given
     pub reading : reading_of given
         ≡ record { contact = None; entries = []; end = Fault 0 wire.Truncated }
     pub stopped : HasStopped new (stop.Io fault)
 
   abbrev pub AfterOpen : (R → Input) → Session R → Session R → Result Contact Stop → Type 0
-  AfterOpen look old new (Ok contact) = ReadContact look old new contact
+  AfterOpen look old new (Ok contact) = GivenContact look old new contact
   AfterOpen look old new (Err (stop.Wire offset fault)) =
       RefusedContact look old new offset fault
   AfterOpen look old new (Err (stop.Io fault)) = StoppedContact look old new fault
 
   -- the head of a message was read
-  pub record ReadMessage (look : R → Input) (old new : Session R) (history : List ℕ) (offset : ℕ)
+  pub record GivenMessage (look : R → Input) (old new : Session R) (history : List ℕ) (offset : ℕ)
       (message : Message) : Type 0 where
     pub given : List ℕ
     pub takes : Takes look old.source new.source given
@@ -237,7 +238,7 @@ module _ {R : Type 0} where
     pub size : length given ≤ longest_head
     pub offset_is : offset ≡ length history
     pub left : left_of new ≡ data_length message
-    pub shown_last : ShownLast history given
+    pub shown_last : OnlyLastShows history given
     pub reading : reading_of (history ++ given) ≡ with_message offset message (reading_of history)
     pub at : IsSessionAt look new (history ++ given)
 
@@ -257,7 +258,7 @@ module _ {R : Type 0} where
     pub offset_is : offset ≡ length history
     pub is_read : IsRead look new.source (history ++ given) fault
         (joined (reading_of history) (ended (Fault offset fault)))
-    pub shown_last : ShownLast history given
+    pub shown_last : OnlyLastShows history given
     pub stopped : HasStopped new (stop.Wire offset fault)
 
   -- A failure before or inside a message. The bytes given of that message make no message, and show
@@ -265,9 +266,9 @@ module _ {R : Type 0} where
   pub record StoppedMessage (look : R → Input) (old new : Session R) (history : List ℕ)
       (fault : IoFault) : Type 0 where
     pub given : List ℕ
-    pub stops : StopsAfter look old.source new.source given fault
+    pub stops : TakesThenStops look old.source new.source given fault
     pub size : length given < longest_head
-    pub shown_last : ShownLast history given
+    pub shown_last : OnlyLastShows history given
     pub same : SameMessages (reading_of history) (reading_of (history ++ given))
     pub undecided : IsUndecided (reading_of (history ++ given)).end
     pub stopped : HasStopped new (stop.Io fault)
@@ -276,7 +277,7 @@ module _ {R : Type 0} where
       → Result (Option (ℕ × Message)) Stop → Type 0
   AfterNext look old new history (Ok None) = CleanEnd look old new history
   AfterNext look old new history (Ok (Some (offset, message))) =
-      ReadMessage look old new history offset message
+      GivenMessage look old new history offset message
   AfterNext look old new history (Err (stop.Wire offset fault)) =
       RefusedMessage look old new history offset fault
   AfterNext look old new history (Err (stop.Io fault)) = StoppedMessage look old new history fault
@@ -290,7 +291,7 @@ module _ {R : Type 0} where
     pub at : IsSessionAt look new (history ++ bytes)
 
   -- `n` bytes of data were copied, at least one if some are to come and there is room
-  pub record ReadData (look : R → Input) (old new : Session R)
+  pub record CopiedData (look : R → Input) (old new : Session R)
       (history buffer : List ℕ) (n : ℕ) : Type 0 where
     pub room : n ≤ length buffer
     pub gave : PassedBytes look old new history (take n buffer)
@@ -319,12 +320,12 @@ module _ {R : Type 0} where
 
   -- a failure inside the data: nothing was given
   pub record StoppedData (look : R → Input) (old new : Session R) (fault : IoFault) : Type 0 where
-    pub stops : StopsAfter look old.source new.source [] fault
+    pub stops : TakesThenStops look old.source new.source [] fault
     pub stopped : HasStopped new (stop.Io fault)
 
   abbrev pub AfterData : (R → Input) → Session R → Session R → List ℕ
       → List ℕ → Result ℕ Stop → Type 0
-  AfterData look old new history buffer (Ok n) = ReadData look old new history buffer n
+  AfterData look old new history buffer (Ok n) = CopiedData look old new history buffer n
   AfterData look old new history buffer (Err (stop.Wire offset fault)) =
       CutData look old new history offset fault
   AfterData look old new history buffer (Err (stop.Io fault)) = StoppedData look old new fault

@@ -66,7 +66,7 @@ module _ {R : Type 0} (look : R → Input) (old new : Session R) (history : List
     pub at : IsSessionAt look new (history ++ given)
 
   -- a whole message was given, with its data
-  pub record ReadWhole (offset : ℕ) (message : Message) : Type 0 where
+  pub record GivenWhole (offset : ℕ) (message : Message) : Type 0 where
     pub given : List ℕ
     pub content : List ℕ
     pub some : 0 < length given

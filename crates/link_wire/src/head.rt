@@ -3,8 +3,8 @@
 ghost use Rattle.std.specs.Prelude.{◌≡◌, ◌≤◌, Ok, None, OnOk};
 ghost use Rattle.link_io.specs.Source.{HasEnded, IsLive};
 ghost use Rattle.link_wire.specs.Message.{contact_at, node_at, node_bytes_at, segment_items_at, segment_at, ack_at, refuse_at, sess_term_at, msg_reject_at, sess_init_at, fields_at, HasTotals};
-ghost use Rattle.link_wire.specs.Getting.{Gets, with_value};
-ghost use Rattle.link_wire.specs.Getting.{GetsKind};
+ghost use Rattle.link_wire.specs.Getting.{ReadsPart, with_value};
+ghost use Rattle.link_wire.specs.Getting.{AfterKind};
 ghost use Rattle.link_wire.specs.MessageBuffer.{message_of, segment_items, SegmentHasTotals};
 
 use crate::codes::{
@@ -22,7 +22,8 @@ use link_options::{MAX_NODE_ID, NodeId};
 
 /// Reads a contact header of six bytes: `dtn!`, the version and the flags (RFC 9174 section 4.2).
 pub fn contact<R: InDevice>(source: &mut Source<R>) -> Result<Contact, Halt>
-    ensures { IsLive R.state source.old → Gets R.state contact_at source.old source.new result }
+    ensures { IsLive R.state source.old
+        → ReadsPart R.state contact_at source.old source.new result }
 {
     let header = field::<6, R>(source)?;
     if BigEndian::read_u32(&header) != MAGIC {
@@ -37,7 +38,7 @@ pub fn contact<R: InDevice>(source: &mut Source<R>) -> Result<Contact, Halt>
 /// Reads a node ID into `node`: its length, and then its bytes (RFC 9174 section 4.6).
 fn node<R: InDevice>(source: &mut Source<R>, node: &mut NodeId) -> Result<(), Halt>
     ensures { IsLive R.state source.old
-        → Gets R.state node_at source.old source.new (with_value node.new result) }
+        → ReadsPart R.state node_at source.old source.new (with_value node.new result) }
 {
     let length = number16(source)?;
     if usize::from(length) > MAX_NODE_ID {
@@ -54,7 +55,8 @@ fn node_bytes<R: InDevice>(
 ) -> Result<(), Halt>
     requires { length ≤ MAX_NODE_ID }
     ensures { IsLive R.state source.old
-        → Gets R.state (node_bytes_at length) source.old source.new (with_value node.new result) }
+        → ReadsPart R.state (node_bytes_at length) source.old source.new
+        (with_value node.new result) }
 {
     *node = NodeId::from([0; MAX_NODE_ID]);
     node.truncate(usize::from(length));
@@ -71,7 +73,7 @@ fn segment_items<R: InDevice>(
     items: &mut Items,
 ) -> Result<(), Halt>
     ensures gets { IsLive R.state source.old
-        → Gets R.state (segment_items_at flags) source.old source.new
+        → ReadsPart R.state (segment_items_at flags) source.old source.new
         (with_value (segment_items flags items.new) result) }
     ensures totals { OnOk result (HasTotals items.new.items) }
 {
@@ -88,7 +90,7 @@ fn segment_items<R: InDevice>(
 #[inline]
 fn segment<R: InDevice>(source: &mut Source<R>, message: &mut MessageBuffer) -> Result<(), Halt>
     ensures gets { IsLive R.state source.old
-        → Gets R.state segment_at source.old source.new
+        → ReadsPart R.state segment_at source.old source.new
         (with_value (message_of message.new) result) }
     ensures totals { OnOk result (SegmentHasTotals message.new) }
 {
@@ -103,7 +105,8 @@ fn segment<R: InDevice>(source: &mut Source<R>, message: &mut MessageBuffer) -> 
 /// Reads an XFER_ACK after its type byte (RFC 9174 section 5.2.3).
 fn ack<R: InDevice>(source: &mut Source<R>, message: &mut MessageBuffer) -> Result<(), Halt>
     ensures gets { IsLive R.state source.old
-        → Gets R.state ack_at source.old source.new (with_value (message_of message.new) result) }
+        → ReadsPart R.state ack_at source.old source.new
+        (with_value (message_of message.new) result) }
     ensures totals { OnOk result (SegmentHasTotals message.new) }
 {
     let flags = number8(source)?;
@@ -116,7 +119,7 @@ fn ack<R: InDevice>(source: &mut Source<R>, message: &mut MessageBuffer) -> Resu
 /// Reads an XFER_REFUSE after its type byte (RFC 9174 section 5.2.4).
 fn refuse<R: InDevice>(source: &mut Source<R>, message: &mut MessageBuffer) -> Result<(), Halt>
     ensures gets { IsLive R.state source.old
-        → Gets R.state refuse_at source.old source.new
+        → ReadsPart R.state refuse_at source.old source.new
         (with_value (message_of message.new) result) }
     ensures totals { OnOk result (SegmentHasTotals message.new) }
 {
@@ -129,7 +132,7 @@ fn refuse<R: InDevice>(source: &mut Source<R>, message: &mut MessageBuffer) -> R
 /// Reads a SESS_TERM after its type byte (RFC 9174 section 6.1).
 fn sess_term<R: InDevice>(source: &mut Source<R>, message: &mut MessageBuffer) -> Result<(), Halt>
     ensures gets { IsLive R.state source.old
-        → Gets R.state sess_term_at source.old source.new
+        → ReadsPart R.state sess_term_at source.old source.new
         (with_value (message_of message.new) result) }
     ensures totals { OnOk result (SegmentHasTotals message.new) }
 {
@@ -142,7 +145,7 @@ fn sess_term<R: InDevice>(source: &mut Source<R>, message: &mut MessageBuffer) -
 /// Reads a MSG_REJECT after its type byte (RFC 9174 section 5.1.2).
 fn msg_reject<R: InDevice>(source: &mut Source<R>, message: &mut MessageBuffer) -> Result<(), Halt>
     ensures gets { IsLive R.state source.old
-        → Gets R.state msg_reject_at source.old source.new
+        → ReadsPart R.state msg_reject_at source.old source.new
         (with_value (message_of message.new) result) }
     ensures totals { OnOk result (SegmentHasTotals message.new) }
 {
@@ -155,7 +158,7 @@ fn msg_reject<R: InDevice>(source: &mut Source<R>, message: &mut MessageBuffer) 
 /// Reads a SESS_INIT after its type byte (RFC 9174 section 4.6).
 fn sess_init<R: InDevice>(source: &mut Source<R>, message: &mut MessageBuffer) -> Result<(), Halt>
     ensures gets { IsLive R.state source.old
-        → Gets R.state sess_init_at source.old source.new
+        → ReadsPart R.state sess_init_at source.old source.new
         (with_value (message_of message.new) result) }
     ensures totals { OnOk result (SegmentHasTotals message.new) }
 {
@@ -181,7 +184,7 @@ pub fn fields<R: InDevice>(
     message: &mut MessageBuffer,
 ) -> Result<(), Halt>
     ensures gets { IsLive R.state source.old
-        → Gets R.state (fields_at kind) source.old source.new
+        → ReadsPart R.state (fields_at kind) source.old source.new
         (with_value (message_of message.new) result) }
     ensures totals { OnOk result (SegmentHasTotals message.new) }
 {
@@ -204,7 +207,7 @@ pub fn fields<R: InDevice>(
 #[inline]
 pub fn kind<R: InDevice>(source: &mut Source<R>) -> Result<Option<u8>, IoFault>
     ensures ended { HasEnded source.old → (source.new ≡ source.old) × (result ≡ Ok None) }
-    ensures gives { IsLive R.state source.old → GetsKind R.state source.old source.new result }
+    ensures gives { IsLive R.state source.old → AfterKind R.state source.old source.new result }
 {
     let mut kind = [0; 1];
     match source.fill(&mut kind)? {

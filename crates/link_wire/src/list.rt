@@ -3,7 +3,7 @@
 ghost use Rattle.std.specs.Prelude.{◌≡◌, ◌≤◌, ◌<◌, ◌+◌, length, IsSome, IsTrue, IfOk, OnOk};
 ghost use Rattle.link_io.specs.Source.{IsLive};
 ghost use Rattle.link_wire.specs.Message.{is_total_length, HasTotals, skipped_at, total_at, item_head_at, items_of as items_by, list_at};
-ghost use Rattle.link_wire.specs.Getting.{Gets, with_value};
+ghost use Rattle.link_wire.specs.Getting.{ReadsPart, with_value};
 
 use crate::codes::{ITEM_HEAD, TOTAL_SIZE, TRANSFER_LENGTH};
 use crate::fault::WireFault;
@@ -38,7 +38,7 @@ impl ItemHead {
 /// Skips the next `count` bytes.
 fn skip<R: InDevice>(source: &mut Source<R>, count: u16) -> Result<(), Halt>
     ensures { IsLive R.state source.old
-        → Gets R.state (skipped_at count) source.old source.new result }
+        → ReadsPart R.state (skipped_at count) source.old source.new result }
 {
     let mut piece = [0; PIECE];
     let mut left = usize::from(count);
@@ -60,7 +60,8 @@ fn total<R: InDevice>(
     head: &ItemHead,
 ) -> Result<Option<u64>, Halt>
     ensures gets { IsLive R.state source.old
-        → Gets R.state (total_at owner head.now.kind head.now.length) source.old source.new result }
+        → ReadsPart R.state
+        (total_at owner head.now.kind head.now.length) source.old source.new result }
     ensures some { IsTrue (is_total_length owner head.now.kind head.now.length)
         → IfOk result IsSome }
 {
@@ -77,7 +78,7 @@ fn total<R: InDevice>(
 /// The item has to end within the list.
 fn item_head<R: InDevice>(source: &mut Source<R>, left: u32) -> Result<ItemHead, Halt>
     ensures gets { IsLive R.state source.old
-        → Gets R.state (item_head_at left) source.old source.new result }
+        → ReadsPart R.state (item_head_at left) source.old source.new result }
     ensures within { IfOk result (λ head. 5 + head.length ≤ left) }
 {
     if left < ITEM_HEAD {
@@ -104,7 +105,8 @@ fn items_of<R: InDevice>(
     items: &mut Items,
 ) -> Result<(), Halt>
     ensures gets { IsLive R.state source.old
-        → Gets R.state (items_by owner length) source.old source.new (with_value items.new result) }
+        → ReadsPart R.state (items_by owner length) source.old source.new
+        (with_value items.new result) }
     ensures totals { owner ≡ ListOf.Transfer → HasTotals items.new.items }
 {
     items.clear();
@@ -133,7 +135,7 @@ pub fn list<R: InDevice>(
     items: &mut Items,
 ) -> Result<(), Halt>
     ensures gets { IsLive R.state source.old
-        → Gets R.state (list_at owner) source.old source.new (with_value items.new result) }
+        → ReadsPart R.state (list_at owner) source.old source.new (with_value items.new result) }
     ensures totals { owner ≡ ListOf.Transfer → OnOk result (HasTotals items.new.items) }
 {
     let length = number32(source)?;

@@ -3,7 +3,7 @@
 ghost use Rattle.std.specs.Prelude.{length};
 ghost use Rattle.link_io.specs.Source.{IsLive};
 ghost use Rattle.link_wire.specs.Part.{bytes_at, number_at};
-ghost use Rattle.link_wire.specs.Getting.{Gets, with_value};
+ghost use Rattle.link_wire.specs.Getting.{ReadsPart, with_value};
 
 use crate::fault::WireFault;
 use crate::halt::Halt;
@@ -16,7 +16,7 @@ use link_io::{Filled, InDevice, Source};
 #[inline]
 pub fn bytes<R: InDevice>(source: &mut Source<R>, field: &mut [u8]) -> Result<(), Halt>
     ensures { IsLive R.state source.old
-        → Gets R.state (bytes_at (length field.new)) source.old source.new
+        → ReadsPart R.state (bytes_at (length field.new)) source.old source.new
         (with_value field.new result) }
 {
     match source.fill(field) {
@@ -29,7 +29,8 @@ pub fn bytes<R: InDevice>(source: &mut Source<R>, field: &mut [u8]) -> Result<()
 /// Reads the next `N` bytes.
 #[inline]
 pub fn field<const N: usize, R: InDevice>(source: &mut Source<R>) -> Result<[u8; N], Halt>
-    ensures { IsLive R.state source.old → Gets R.state (bytes_at N) source.old source.new result }
+    ensures { IsLive R.state source.old
+        → ReadsPart R.state (bytes_at N) source.old source.new result }
 {
     let mut field = [0; N];
     bytes(source, &mut field)?;
@@ -40,7 +41,8 @@ pub fn field<const N: usize, R: InDevice>(source: &mut Source<R>) -> Result<[u8;
 #[tactic(auto, using(crate::proofs::Gettings::byte_read, crate::proofs::Gettings::number_exit))]
 #[inline]
 pub fn number8<R: InDevice>(source: &mut Source<R>) -> Result<u8, Halt>
-    ensures { IsLive R.state source.old → Gets R.state (number_at 1) source.old source.new result }
+    ensures { IsLive R.state source.old
+        → ReadsPart R.state (number_at 1) source.old source.new result }
 {
     Ok(field::<1, R>(source)?[0])
 }
@@ -49,7 +51,8 @@ pub fn number8<R: InDevice>(source: &mut Source<R>) -> Result<u8, Halt>
 #[tactic(auto, using(crate::proofs::Gettings::number_exit))]
 #[inline]
 pub fn number16<R: InDevice>(source: &mut Source<R>) -> Result<u16, Halt>
-    ensures { IsLive R.state source.old → Gets R.state (number_at 2) source.old source.new result }
+    ensures { IsLive R.state source.old
+        → ReadsPart R.state (number_at 2) source.old source.new result }
 {
     Ok(BigEndian::read_u16(&field::<2, R>(source)?))
 }
@@ -58,7 +61,8 @@ pub fn number16<R: InDevice>(source: &mut Source<R>) -> Result<u16, Halt>
 #[tactic(auto, using(crate::proofs::Gettings::number_exit))]
 #[inline]
 pub fn number32<R: InDevice>(source: &mut Source<R>) -> Result<u32, Halt>
-    ensures { IsLive R.state source.old → Gets R.state (number_at 4) source.old source.new result }
+    ensures { IsLive R.state source.old
+        → ReadsPart R.state (number_at 4) source.old source.new result }
 {
     Ok(BigEndian::read_u32(&field::<4, R>(source)?))
 }
@@ -67,7 +71,8 @@ pub fn number32<R: InDevice>(source: &mut Source<R>) -> Result<u32, Halt>
 #[tactic(auto, using(crate::proofs::Gettings::number_exit))]
 #[inline]
 pub fn number64<R: InDevice>(source: &mut Source<R>) -> Result<u64, Halt>
-    ensures { IsLive R.state source.old → Gets R.state (number_at 8) source.old source.new result }
+    ensures { IsLive R.state source.old
+        → ReadsPart R.state (number_at 8) source.old source.new result }
 {
     Ok(BigEndian::read_u64(&field::<8, R>(source)?))
 }

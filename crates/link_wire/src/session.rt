@@ -38,7 +38,7 @@ impl<R: InDevice> Session<R> {
     ghost use Rattle.link_io.specs.Source.{is_fresh, reader_of, given_by, window_of, front_of, reach};
     ghost use Rattle.link_wire.specs.Plain.{IsHead};
     ghost use Rattle.link_wire.specs.MessageBuffer.{message_of, SegmentHasTotals};
-    ghost use Rattle.link_wire.specs.Session.{source_of, may_open, may_read, is_opened, IsSessionAt, HasContact, HasEndedBetween, HasNext, HasStopped, left_of, data_in, AfterOpen, ReadMessage, ReadsNext};
+    ghost use Rattle.link_wire.specs.Session.{source_of, may_open, may_read, is_opened, IsSessionAt, HasEnoughForContact, HasEndedBetween, HasEnoughForNext, HasStopped, left_of, data_in, AfterOpen, GivenMessage, ReadsNext};
     ghost use Rattle.link_wire.specs.declared.session.Phase.TheVariants as phase;
 
     /// Makes a session over a source that has taken nothing.
@@ -106,9 +106,9 @@ impl<R: InDevice> Session<R> {
         ensures stopped { (stop : _) → HasStopped self.now stop → result ≡ false }
         // If it need not wait, the bytes at hand are enough for what comes next.
         ensures contact { IsTrue (may_open self.now) → result ≡ false
-            → HasContact R.state self.now }
+            → HasEnoughForContact R.state self.now }
         ensures here { (history : List ℕ) → IsSessionAt R.state self.now history → result ≡ false
-            → HasNext R.state self.now }
+            → HasEnoughForNext R.state self.now }
     {
         if let Phase::Stopped(_) = self.phase {
             return false;
@@ -192,7 +192,7 @@ impl<R: InDevice> Session<R> {
         ensures reader { reader_of (source_of self.new) ≡ reader_of (source_of self.old) }
         ensures gives { (history : List ℕ) → IsSessionAt R.state self.old history
             → IfSome result (λ offset.
-            ReadMessage R.state self.old self.new history offset (message_of message.new)) }
+            GivenMessage R.state self.old self.new history offset (message_of message.new)) }
         ensures totals { IfSome result (λ offset. SegmentHasTotals message.new) }
         ensures opened { IsTrue (is_opened self.new) }
         ensures again { HasEndedBetween self.old → result ≡ None }
@@ -225,7 +225,7 @@ impl<R: InDevice> Session<R> {
         ensures none { result ≡ None → (self.new ≡ self.old) × (message.new ≡ message.old) }
         ensures gives { (history : List ℕ) → IsSessionAt R.state self.old history
             → IfSome result (λ offset.
-            ReadMessage R.state self.old self.new history offset (message_of message.new)) }
+            GivenMessage R.state self.old self.new history offset (message_of message.new)) }
         ensures totals { IfSome result (λ offset. SegmentHasTotals message.new) }
         ensures opened { IsTrue (is_opened self.new) }
         ensures again { HasEndedBetween self.old → result ≡ None }
@@ -298,7 +298,7 @@ impl<R: InDevice> Session<R> {
     ghost use Rattle.link_wire.specs.MessageBuffer.{message_of, message_with, SegmentHasTotals};
     ghost use Rattle.link_wire.specs.Plain.{IsHead};
     ghost use Rattle.link_wire.specs.Session.{source_of, may_read, is_opened, HasEndedBetween, HasStopped, IsSessionAt};
-    ghost use Rattle.link_wire.specs.Whole.{ReadWhole, PassedQuiet};
+    ghost use Rattle.link_wire.specs.Whole.{GivenWhole, PassedQuiet};
 
     /// Gives the next message with its data, if all of it is in the window and its head is
     /// frequent.
@@ -313,7 +313,7 @@ impl<R: InDevice> Session<R> {
         ensures may_read { IsTrue (may_read self.new) }
         ensures gives { (history : List ℕ) → IsSessionAt R.state self.old history
             → IfSome result (λ offset.
-            ReadWhole R.state self.old self.new history offset (message_of message.new)) }
+            GivenWhole R.state self.old self.new history offset (message_of message.new)) }
         ensures totals { IfSome result (λ offset. SegmentHasTotals message.new) }
         ensures opened { IsTrue (is_opened self.new) }
         ensures again { HasEndedBetween self.old → result ≡ None }

@@ -4,7 +4,7 @@ use Rattle.std.proofs.Math.Seq.{take-append-add}
 use Rattle.std.specs.Io.KnownBytes.{Appends, Keeps, append_known, prepend_known}
 use Rattle.link_wire.specs.{Device.{Input, Output}, TextWriter.AppendsPart}
 use Rattle.link_wire.specs.declared.DeviceFault.{DeviceFault}
-use Rattle.tcpclkit.specs.BufferedEnd.{AreFirst, HandsOver}
+use Rattle.tcpclkit.specs.BufferedEnd.{AreFirst, HandsOn}
 
 nothing_before : (rest : Option (List ℕ)) → prepend_known [] rest ≡ rest
 nothing_before None = refl
@@ -26,12 +26,12 @@ first_handed None new waiting count written = (0, tt)
 first_handed (Some xs) None waiting count written = absurd written
 first_handed (Some xs) (Some ys) waiting count written = (length xs + count, rw (take-append-add xs waiting count) written)
 
--- `HandsOver` for a stream that failed before all that waited was handed on
+-- `HandsOn` for a stream that failed before all that waited was handed on
 pub handed_part : (answer : Result (Unit {0}) DeviceFault) (old new : Output) (waiting : List ℕ)
     → is_ok answer ≡ false
     → OnErr answer (AppendsPart old.written new.written waiting)
     → MatchResult answer (λ _. new.failed ≡ old.failed) (λ _. new.failed ≡ true)
-    → HandsOver
+    → HandsOn
     (record { written = append_known old.written waiting; failed = old.failed; handed = old.handed })
     new
 handed_part (Ok done) old new waiting is part failed = absurd (cc)

@@ -15,7 +15,7 @@ abbrev pub AreFirst : (all first : Option (List ℕ)) → Type 0
 AreFirst all first = (count : ℕ) × Keeps (option_map (take count) all) first
 
 -- What was written was handed on to the stream: all of it, or a prefix of it if the stream failed.
-pub record HandsOver (written handed : Output) : Type 0 where
+pub record HandsOn (written handed : Output) : Type 0 where
   pub failed : written.failed ≡ true → handed.failed ≡ true
   pub bytes : Keeps written.written handed.written
       ⊎ ((handed.failed ≡ true) × AreFirst written.written handed.written)
@@ -31,6 +31,6 @@ module _ {R W E : Type 0} (look : Looks R W E) where
     pub run : AfterJob look job start end
     pub log : ran ≡ ran_of end
     pub reads : input ≡ end.reader
-    pub writes : HandsOver (look.output end.output) output
-    pub reports : HandsOver (look.report end.report) report
+    pub writes : HandsOn (look.output end.output) output
+    pub reports : HandsOn (look.report end.report) report
     pub answers : answer ≡ answer_after_flush end.answer (not output.failed && not report.failed)

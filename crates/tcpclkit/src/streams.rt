@@ -4,7 +4,7 @@ ghost use Rattle.std.specs.Prelude.{◌≡◌, [], false, Err, IfOk, IfErr, IsOk
 ghost use Rattle.std.specs.IoError.{error_kind};
 ghost use Rattle.link_run.specs.Run.{devices, looks, NoneFailed};
 ghost use Rattle.link_tools.specs.Options.{IsReady};
-ghost use Rattle.tcpclkit.specs.BufferedEnd.{AfterBufferedRun, HandsOver};
+ghost use Rattle.tcpclkit.specs.BufferedEnd.{AfterBufferedRun, HandsOn};
 
 use crate::ending::after_flush;
 use link_tools::{Job, Ran, Status, run_tool};
@@ -160,7 +160,7 @@ fn handed_on_after<W: OutDevice, E: Write + Drop>(
     report: TextWriter<Writer<E>>,
 ) -> Writer<E>
     requires { (W.state _output.now).handed ≡ (W.state _output.now).written }
-    ensures { HandsOver (⟦<TextWriter<Writer<E>> as OutDevice>⟧.state report)
+    ensures { HandsOn (⟦<TextWriter<Writer<E>> as OutDevice>⟧.state report)
         (⟦<Writer<E> as OutDevice>⟧.state result) }
 {
     handed_on(report)
@@ -170,7 +170,7 @@ fn handed_on_after<W: OutDevice, E: Write + Drop>(
 ///
 /// If not all of it was handed on, the device has failed.
 fn handed_on<W: Write + Drop>(writer: TextWriter<Writer<W>>) -> Writer<W>
-    ensures { HandsOver (⟦<TextWriter<Writer<W>> as OutDevice>⟧.state writer)
+    ensures { HandsOn (⟦<TextWriter<Writer<W>> as OutDevice>⟧.state writer)
         (⟦<Writer<W> as OutDevice>⟧.state result) }
 {
     let (mut device, passed) = writer.into_device();

@@ -56,9 +56,9 @@ module _ (old new : BundleScan) (piece : List ℕ) (count : ℕ)
   front_size : length (take count piece) ≡ count
   front_size = length-take-le count piece advances.within
 
-  wanted : (seen : List ℕ) → HasScanned old seen → (fewer : ℕ) → fewer < length (take count piece)
+  goes_in_block-take : (seen : List ℕ) → HasScanned old seen → (fewer : ℕ) → fewer < length (take count piece)
       → goes_in_block seen (seen ++ take fewer (take count piece)) ≡ true
-  wanted seen come fewer below =
+  goes_in_block-take seen come fewer below =
       let less : fewer < count = omega (arith, below, front_size) in
       rw (
         take-take fewer count piece (omega (arith, less)),
@@ -72,7 +72,7 @@ module _ (old new : BundleScan) (piece : List ℕ) (count : ℕ)
   block_taken seen come =
       (takes_shortest (goes_in_block seen) seen piece (take count piece)).0 (record {
         is_front = rw front_size;
-        wanted = wanted seen come;
+        wanted = goes_in_block-take seen come;
         stops = ⊎_elim
             (λ below. inl (stops_of seen _ _ (adds seen come) (λ none. stops seen come none below)))
             (λ all. inr (take_all count piece all))

@@ -17,11 +17,11 @@ use Rattle.link_numbers.specs.Fault.{bundle_fault}
 -- ---- bytes after a fault
 
 -- no byte is taken after a fault that lasts
-stuck : (test : Bool) (fault : BundleFault) (offset : ℕ)
+takes_bytes-failed : (test : Bool) (fault : BundleFault) (offset : ℕ)
     → is_going (if test then state.Failed fault offset else state.Going) ≡ false
     → takes_bytes (if test then state.Failed fault offset else state.Going) ≡ false
-stuck true fault offset stops = refl
-stuck false fault offset stops = absurd (false≢true (sym stops))
+takes_bytes-failed true fault offset stops = refl
+takes_bytes-failed false fault offset stops = absurd (false≢true (sym stops))
 
 -- the bytes after those seen cannot change the verdict
 pub judged_late : (scan : BundleScan) (seen rest : List ℕ) (fault : BundleFault) (offset : ℕ)
@@ -33,7 +33,7 @@ judged_late scan seen rest fault offset come is stops = record {
   parts = refl;
   scanned = come;
   enough = inr (ap takes_bytes (state_of-seen come)
-      ∙ rw is (stuck (lasts fault) fault offset (rw is at stops)));
+      ∙ rw is (takes_bytes-failed (lasts fault) fault offset (rw is at stops)));
 }
 
 -- ---- bytes after a whole bundle

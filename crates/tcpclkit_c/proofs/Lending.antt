@@ -5,7 +5,7 @@ use base.Fml.{Lft, Share}
 use base.Logic.{ent, sep}
 use types.Kit.{Item, mean}
 use types.Logic.{Logic}
-use Rattle.tcpclkit_c.specs.{declared.scan.MarkedScan.MarkedScan, Scan.{IsScan, ReadsScan}}
+use Rattle.tcpclkit_c.specs.{declared.scan.MarkedScan.MarkedScan, Scan.{IsMarkedScanAt, ReadsScan}}
 use Rattle.tcpclkit_c.specs.contracts.scan.MarkedScan.{the_row as R}
 use Rattle.tcpclkit_c.proofs.scan.MarkedScan.TheLaws.{the_within}
 use Rattle.tcpclkit_c.proofs.AnyShare.{scan_any}
@@ -25,11 +25,11 @@ module _ {M : Type 1} {𝓤 : Ura M} (𝓛 : Logic 𝓤) (share : Share) (scan :
       ((κ, full_share) ∷ []) (the_within κ) (Incl-refl κ)
 
   -- the memory holds a scan that has seen these bytes
-  pub held_scan : (seen : List ℕ) → IsScan scan seen
+  pub held_scan : (seen : List ℕ) → IsMarkedScanAt scan seen
       → ent 𝓤 (mean 𝓛 (‵ (part_at R share scan b o)))
       (mean 𝓛 (‵ (ReadsScan share (block_ptr b o) seen)))
   held_scan seen has =
       qed 𝓛 (‵ (part_at R share scan b o) ∷ []) ∵
-      nothing ! $ fpack ! (IsScan scan seen) (λ _. ftrue) has $ move ! (1 ∷ 0 ∷ []) $ fjoin ! $
+      nothing ! $ fpack ! (IsMarkedScanAt scan seen) (λ _. ftrue) has $ move ! (1 ∷ 0 ∷ []) $ fjoin ! $
       fpack ! MarkedScan (λ x. fsep (lies_at R share (block_ptr b o) x)
-      (fex (IsScan x seen) (λ _. ftrue))) scan $ done !
+      (fex (IsMarkedScanAt x seen) (λ _. ftrue))) scan $ done !

@@ -12,10 +12,10 @@ use Rattle.link_bundle.specs.declared.scan.BundleScan.{BundleScan}
 use Rattle.link_bundle.proofs.Verdicts.{state_of-seen}
 
 -- no more bytes are needed after a fault
-idle : (now : State) → takes_bytes now ≡ false → is_going now ≡ false
-idle state.Going stuck = absurd (false≢true (sym stuck))
-idle state.Ended stuck = refl
-idle (state.Failed fault offset) stuck = refl
+is_going-false : (now : State) → takes_bytes now ≡ false → is_going now ≡ false
+is_going-false state.Going stuck = absurd (false≢true (sym stuck))
+is_going-false state.Ended stuck = refl
+is_going-false (state.Failed fault offset) stuck = refl
 
 cut_is : {A : Type 0} (bytes : List ℕ) (reading : Result A Stop) → IsCut bytes reading
     → reading ≡ Err (stopped Cut (length bytes))
@@ -31,10 +31,10 @@ cut_goes bytes cut =
     rw stops refl
 
 -- more bytes change no field, if no byte is needed
-lasting : (seen more : List ℕ) → bundle_goes seen ≡ false
+primary_fields-append : (seen more : List ℕ) → bundle_goes seen ≡ false
     → primary_fields (seen ++ more) ≡ primary_fields seen
 unfolding primary_fields
-lasting seen more stops = ⊎_elim
+primary_fields-append seen more stops = ⊎_elim
     (λ cut. absurd (false≢true (sym stops
     ∙ cut_goes seen (rw (whole_primary-elements seen) cut))))
     (λ same. ap fields_of same)
@@ -46,6 +46,6 @@ primary_judged scan content now = ⊎_elim
     (λ (all : now.rest ≡ []). ap primary_fields (rw (all, append-nil) at now.parts))
     (λ stuck.
     let stops : bundle_goes now.seen ≡ false =
-    idle (state_of (verdict now.seen)) (sym (ap takes_bytes (state_of-seen now.scanned)) ∙ stuck) in
-    sym (lasting now.seen now.rest stops) ∙ ap primary_fields now.parts)
+    is_going-false (state_of (verdict now.seen)) (sym (ap takes_bytes (state_of-seen now.scanned)) ∙ stuck) in
+    sym (primary_fields-append now.seen now.rest stops) ∙ ap primary_fields now.parts)
     now.enough

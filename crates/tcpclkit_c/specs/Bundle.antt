@@ -10,7 +10,7 @@ use Rattle.link_numbers.specs.Bundle.{state_status, verdict_shown, eid_or_none, 
 use Rattle.link_numbers.specs.declared.bundle.Bundle.{Bundle}
 use Rattle.link_numbers.specs.declared.bundle.EidNumbers.{EidNumbers}
 use Rattle.link_numbers.specs.declared.bundle.Verdict.{Verdict}
-use Rattle.link_slices.specs.Slice.{HoldsFront, KeepsRest}
+use Rattle.link_slices.specs.Slice.{HoldsPrefix, LeavesRest}
 
 -- the three names, or the slices for them before or after a call
 pub record Names : Type 0 where
@@ -32,13 +32,13 @@ primary_names primary =
     (name_or_none primary.report_to)
 
 -- the slices have these names, as far as there is room, and their other bytes are as they were
-pub record GivesNames (names old new : Names) : Type 0 where
-  pub destination_name : HoldsFront new.destination names.destination
-  pub destination_rest : KeepsRest old.destination new.destination names.destination
-  pub source_name : HoldsFront new.source names.source
-  pub source_rest : KeepsRest old.source new.source names.source
-  pub report_to_name : HoldsFront new.report_to names.report_to
-  pub report_to_rest : KeepsRest old.report_to new.report_to names.report_to
+pub record ReturnsNames (names old new : Names) : Type 0 where
+  pub destination_name : HoldsPrefix new.destination names.destination
+  pub destination_rest : LeavesRest old.destination new.destination names.destination
+  pub source_name : HoldsPrefix new.source names.source
+  pub source_rest : LeavesRest old.source new.source names.source
+  pub report_to_name : HoldsPrefix new.report_to names.report_to
+  pub report_to_rest : LeavesRest old.report_to new.report_to names.report_to
 
 -- TCPCLKIT_OK, or TCPCLKIT_TOO_SMALL if a name is longer than the slice for it
 abbrev pub names_status : (names slices : Names) → ℕ
@@ -51,7 +51,7 @@ names_status names slices =
 pub record ReturnsBundle (info : BundleInfo) (verdict : Verdict) (primary : PrimaryFields)
     (old new : Names) (bundle : Bundle) (status : ℕ) : Type 0 where
   pub numbers : bundle ≡ bundle_shown verdict primary info
-  pub names : GivesNames (names_of info) old new
+  pub names : ReturnsNames (names_of info) old new
   pub fits : status ≡ names_status (names_of info) new
 
 -- an endpoint ID whose name is cut to the slice for it
@@ -72,7 +72,7 @@ cut_primary verdict primary slices =
 pub record ReturnsStop (verdict : Verdict) (state : State) (primary : PrimaryFields)
     (old new : Names) (bundle : Bundle) (status : ℕ) : Type 0 where
   pub numbers : bundle ≡ cut_primary verdict primary new
-  pub names : GivesNames (primary_names primary) old new
+  pub names : ReturnsNames (primary_names primary) old new
   pub stops : status ≡ state_status state
 
 -- the answer, by the verdict, by where the payload's bytes are, and by the primary block

@@ -7,7 +7,7 @@ use Rattle.link_bundle.specs.Scan.{HasScanned, ending}
 use Rattle.link_bundle.specs.declared.scan.BundleScan.{BundleScan}
 use Rattle.link_numbers.specs.Block.{no_block, first_shown}
 use Rattle.link_numbers.specs.declared.block.BlockNumbers.{BlockNumbers}
-use Rattle.tcpclkit_c.specs.Scan.{IsScan, mark, has_room, status_after}
+use Rattle.tcpclkit_c.specs.Scan.{IsMarkedScanAt, mark, has_room, status_after}
 use Rattle.tcpclkit_c.specs.declared.scan.MarkedScan.{MarkedScan}
 
 -- whether more bytes are needed, and no block has ended after the bytes seen
@@ -35,7 +35,7 @@ fed_block_status seen piece = status_after seen piece (fed_block seen piece)
 -- a scan that had seen some bytes has taken its bytes of the next piece, up to the end of a block
 pub record FeedsBlock (seen piece : List ℕ) (scan : MarkedScan) (taken : ℕ) (block : BlockNumbers)
     (status : ℕ) : Type 0 where
-  pub scanned : IsScan scan (seen ++ fed_block seen piece)
+  pub scanned : IsMarkedScanAt scan (seen ++ fed_block seen piece)
   pub counts : taken ≡ length (fed_block seen piece)
   pub gives : block ≡ added_block seen piece
   pub answers : status ≡ fed_block_status seen piece
@@ -43,7 +43,8 @@ pub record FeedsBlock (seen piece : List ℕ) (scan : MarkedScan) (taken : ℕ) 
 -- the same for memory that may have no scan
 pub record FeedsMarkedBlock (old : MarkedScan) (piece : List ℕ) (new : MarkedScan) (taken : ℕ)
     (block : BlockNumbers) (status : ℕ) : Type 0 where
-  pub scan : (seen : List ℕ) → IsScan old seen → FeedsBlock seen piece new taken block status
+  pub scan : (seen : List ℕ) → IsMarkedScanAt old seen
+      → FeedsBlock seen piece new taken block status
   pub other : (old.mark ≡ mark → ⊥)
       → (status ≡ 6) × (taken ≡ 0) × (new ≡ old) × (block ≡ no_block)
 

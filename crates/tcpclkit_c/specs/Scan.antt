@@ -21,14 +21,15 @@ abbrev pub mark : ℕ
 mark = 11674977472243525447
 
 -- the scan has its mark, and has seen exactly these bytes
-pub record IsScan (held : MarkedScan) (seen : List ℕ) : Type 0 where
+pub record IsMarkedScanAt (held : MarkedScan) (seen : List ℕ) : Type 0 where
   pub marked : held.mark ≡ mark
   pub scanned : HasScanned held.scan seen
 
 -- a scan that has seen exactly these bytes lies at the pointer, and this share of it may be read
 abbrev pub ReadsScan : Share → Ptr → List ℕ → Fml
 ReadsScan share at seen =
-    fex MarkedScan (λ held. fsep (lies_at the_row share at held) (fex (IsScan held seen) (λ _. ftrue)))
+    fex MarkedScan
+    (λ held. fsep (lies_at the_row share at held) (fex (IsMarkedScanAt held seen) (λ _. ftrue)))
 
 -- a scan that has seen exactly these bytes lies at the pointer, and may be written
 abbrev pub HoldsScan : Ptr → List ℕ → Fml
@@ -62,7 +63,7 @@ fed_status seen piece = status_after seen piece (fed seen piece)
 
 -- a scan that had seen some bytes has taken its bytes of the next piece
 pub record Feeds (seen piece : List ℕ) (scan : MarkedScan) (taken status : ℕ) : Type 0 where
-  pub scanned : IsScan scan (seen ++ fed seen piece)
+  pub scanned : IsMarkedScanAt scan (seen ++ fed seen piece)
   pub counts : taken ≡ length (fed seen piece)
   pub answers : status ≡ fed_status seen piece
 
@@ -88,24 +89,24 @@ pub record ReturnsCut (seen : List ℕ) (block : BlockNumbers) (status : ℕ) : 
 -- Memory that has a scan is handled as that scan. Without the mark the answer is TCPCLKIT_RANGE.
 pub record FeedsMarked (old : MarkedScan) (piece : List ℕ) (new : MarkedScan)
     (taken status : ℕ) : Type 0 where
-  pub scan : (seen : List ℕ) → IsScan old seen → Feeds seen piece new taken status
+  pub scan : (seen : List ℕ) → IsMarkedScanAt old seen → Feeds seen piece new taken status
   pub other : (old.mark ≡ mark → ⊥) → (status ≡ 6) × (taken ≡ 0) × (new ≡ old)
 
 pub record JudgesMarked (held : MarkedScan) (old new : Verdict) (status : ℕ) : Type 0 where
-  pub scan : (seen : List ℕ) → IsScan held seen → ReturnsVerdict seen new status
+  pub scan : (seen : List ℕ) → IsMarkedScanAt held seen → ReturnsVerdict seen new status
   pub other : (held.mark ≡ mark → ⊥) → (status ≡ 6) × (new ≡ old)
 
 pub record EndsMarked (held : MarkedScan) (count : ℕ) (old new : Verdict) (status : ℕ) : Type 0 where
-  pub scan : (seen : List ℕ) → IsScan held seen → EndsScan seen count old new status
+  pub scan : (seen : List ℕ) → IsMarkedScanAt held seen → EndsScan seen count old new status
   pub other : (held.mark ≡ mark → ⊥) → (status ≡ 6) × (new ≡ old)
 
 pub record CutsMarked (held : MarkedScan) (block : BlockNumbers) (status : ℕ) : Type 0 where
-  pub scan : (seen : List ℕ) → IsScan held seen → ReturnsCut seen block status
+  pub scan : (seen : List ℕ) → IsMarkedScanAt held seen → ReturnsCut seen block status
   pub other : (held.mark ≡ mark → ⊥) → (status ≡ 6) × (block ≡ no_block)
 
 pub record DescribesMarked (held : MarkedScan) (old_names names : Names) (old new : Bundle)
     (status : ℕ) : Type 0 where
-  pub scan : (seen : List ℕ) → IsScan held seen
+  pub scan : (seen : List ℕ) → IsMarkedScanAt held seen
       → ReturnsInfo (verdict seen) (payload_seen seen) (primary_fields seen) old_names names new
       status
   pub other : (held.mark ≡ mark → ⊥) → (status ≡ 6) × (new ≡ old) × (names ≡ old_names)

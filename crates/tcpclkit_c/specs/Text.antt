@@ -10,7 +10,7 @@ use Rattle.link_report.specs.Fault.{wire_text, order_text}
 use Rattle.link_numbers.specs.declared.block.BlockNumbers.{BlockNumbers}
 use Rattle.link_numbers.specs.declared.named.Named.{Named}
 use Rattle.link_numbers.specs.declared.named.Named.TheVariants as named
-use Rattle.link_slices.specs.Slice.{HoldsFront, KeepsRest}
+use Rattle.link_slices.specs.Slice.{HoldsPrefix, LeavesRest}
 
 -- the words of a fault; those of a bundle begin with its code
 abbrev pub named_text : Named → List ℕ
@@ -42,8 +42,8 @@ data_words primary block content =
 -- The slice begins with the text, or has the text's first bytes. As many bytes as that were
 -- written, and the bytes after them are as they were.
 pub record HoldsText (text old slice : List ℕ) (written status : ℕ) : Type 0 where
-  pub front : HoldsFront slice text
-  pub rest : KeepsRest old slice text
+  pub front : HoldsPrefix slice text
+  pub rest : LeavesRest old slice text
   pub count : written ≡ min (length text) (length slice)
   pub fits : status ≡ (if nat_le (length text) (length slice) then 0 else 5)
 

@@ -7,7 +7,7 @@ ghost use Rattle.link_bundle.specs.Scan.{HasJudged};
 ghost use Rattle.link_bundle_blocks.specs.PrimaryFields.{primary_fields};
 ghost use Rattle.link_bundle_blocks.specs.PrimaryView.{viewed_fields};
 ghost use Rattle.link_numbers.specs.Bundle.{state_status, verdict_shown, ReturnsVerdict};
-ghost use Rattle.tcpclkit_c.specs.Bundle.{three_names, GivesNames, names_status, ReturnsBundle, ReturnsStop, ReturnsInfo};
+ghost use Rattle.tcpclkit_c.specs.Bundle.{three_names, ReturnsNames, names_status, ReturnsBundle, ReturnsStop, ReturnsInfo};
 
 use link_bundle::{BundleScan, BundleView, State};
 use link_bundle_blocks::PrimaryView;
@@ -54,7 +54,7 @@ fn give_names(
     source_name: &mut [u8],
     report_to_name: &mut [u8],
 ) -> u32
-    ensures names { GivesNames
+    ensures names { ReturnsNames
         (three_names destination.now source.now report_to.now)
         (three_names destination_name.old source_name.old report_to_name.old)
         (three_names destination_name.new source_name.new report_to_name.new) }

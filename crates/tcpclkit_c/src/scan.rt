@@ -11,7 +11,7 @@ ghost use Rattle.link_bundle.specs.Scan.{HasScanned, scan_size};
 ghost use Rattle.link_bundle_blocks.specs.PrimaryFields.{primary_fields};
 ghost use Rattle.link_numbers.specs.Bundle.{verdict_shown, state_status, ReturnsVerdict};
 ghost use Rattle.tcpclkit_c.specs.Bundle.{three_names, ReturnsInfo};
-ghost use Rattle.tcpclkit_c.specs.Scan.{IsScan, Reading, ReadsScan, HoldsScan, mark, has_room, is_late, fed, fed_status, may_end, EndsScan, ReturnsCut, FeedsMarked, JudgesMarked, EndsMarked, CutsMarked, DescribesMarked};
+ghost use Rattle.tcpclkit_c.specs.Scan.{IsMarkedScanAt, Reading, ReadsScan, HoldsScan, mark, has_room, is_late, fed, fed_status, may_end, EndsScan, ReturnsCut, FeedsMarked, JudgesMarked, EndsMarked, CutsMarked, DescribesMarked};
 ghost use Rattle.tcpclkit_c.specs.NextBlock.{TakesBlock, fed_block, fed_block_status, added_block, FeedsMarkedBlock};
 ghost use Rattle.tcpclkit_c.specs.contracts.scan.MarkedScan.{the_row};
 
@@ -54,7 +54,7 @@ pub extern "C" fn tcpclkit_raw_scan_alignment() -> usize
 
 /// A scan that has seen no byte.
 fn new_scan() -> MarkedScan
-    ensures { IsScan result [] }
+    ensures { IsMarkedScanAt result [] }
 {
     MarkedScan {
         mark: MARK,
@@ -75,7 +75,8 @@ pub unsafe extern "C" fn tcpclkit_raw_start_scan(memory: *mut u64) -> u32
 
 /// Whether the memory has a scan, and this may see the piece too.
 fn may_feed(scan: &MarkedScan, piece: &[u8]) -> bool
-    ensures scan { (seen : List ℕ) → IsScan scan.now seen → result ≡ has_room seen piece.now }
+    ensures scan { (seen : List ℕ) → IsMarkedScanAt scan.now seen
+        → result ≡ has_room seen piece.now }
     ensures other { (scan.now.mark ≡ mark → ⊥) → result ≡ false }
     ensures room { OnTrue result (scan_size scan.now.scan + length piece.now ≤ 2 ^ 63 - 1) }
 {

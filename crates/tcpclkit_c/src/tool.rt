@@ -7,7 +7,7 @@
 ghost use Rattle.std.specs.Prelude.{◌≡◌, true, false, Some, length};
 ghost use Rattle.link_list.specs.Listing.{list_tool};
 ghost use Rattle.link_slices.specs.Options.{unpack_in_range, blocks_in_range, check_in_range, pack_in_range};
-ghost use Rattle.link_slices.specs.Tool.{ReturnsTexts, Unpacks, ShowsBlocks, JudgesRules};
+ghost use Rattle.link_slices.specs.Tool.{ReturnsTexts, ReturnsUnpacked, ReturnsBlocks, ReturnsRules};
 ghost use Rattle.link_tools.specs.Options.{IsReady, job_tool};
 ghost use Rattle.link_tools.specs.declared.options.Job.TheVariants as job;
 ghost use Rattle.tcpclkit_c.specs.Packed.{ReturnsPacked};
@@ -56,7 +56,7 @@ pub extern "C" fn tcpclkit_raw_unpack(
     answer: &mut Run,
 ) -> u32
     ensures range { unpack_in_range options.now ≡ false → (result ≡ 6) × (answer.new ≡ answer.old) }
-    ensures run { unpack_in_range options.now ≡ true → Unpacks options.now bytes.now
+    ensures run { unpack_in_range options.now ≡ true → ReturnsUnpacked options.now bytes.now
         (record { output = wants_output; report = wants_report })
         (record { output = output.old; report = report.old })
         (record { output = output.new; report = report.new })
@@ -82,7 +82,7 @@ pub extern "C" fn tcpclkit_raw_blocks(
     answer: &mut Run,
 ) -> u32
     ensures range { blocks_in_range options.now ≡ false → (result ≡ 6) × (answer.new ≡ answer.old) }
-    ensures run { blocks_in_range options.now ≡ true → ShowsBlocks options.now bytes.now
+    ensures run { blocks_in_range options.now ≡ true → ReturnsBlocks options.now bytes.now
         (record { output = wants_output; report = wants_report })
         (record { output = output.old; report = report.old })
         (record { output = output.new; report = report.new })
@@ -108,7 +108,7 @@ pub extern "C" fn tcpclkit_raw_check(
     answer: &mut Run,
 ) -> u32
     ensures range { check_in_range options.now ≡ false → (result ≡ 6) × (answer.new ≡ answer.old) }
-    ensures run { check_in_range options.now ≡ true → JudgesRules options.now bytes.now
+    ensures run { check_in_range options.now ≡ true → ReturnsRules options.now bytes.now
         (record { output = wants_output; report = wants_report })
         (record { output = output.old; report = report.old })
         (record { output = output.new; report = report.new })

@@ -8,7 +8,7 @@
 ghost use Rattle.std.specs.Prelude.{◌≡◌, true, false};
 ghost use Rattle.link_list.specs.Listing.{list_tool};
 ghost use Rattle.link_slices.specs.Options.{unpack_in_range, blocks_in_range, check_in_range};
-ghost use Rattle.link_slices.specs.Tool.{ReturnsTexts, Unpacks, ShowsBlocks, JudgesRules};
+ghost use Rattle.link_slices.specs.Tool.{ReturnsTexts, ReturnsUnpacked, ReturnsBlocks, ReturnsRules};
 
 use link_slices::{Run, Wants, blocks_into, check_into, list_into, unpack_into};
 
@@ -47,7 +47,7 @@ pub extern "C" fn unpack(
     answer: &mut Run,
 ) -> u32
     ensures range { unpack_in_range options.now ≡ false → (result ≡ 6) × (answer.new ≡ answer.old) }
-    ensures run { unpack_in_range options.now ≡ true → Unpacks options.now bytes.now
+    ensures run { unpack_in_range options.now ≡ true → ReturnsUnpacked options.now bytes.now
         (record { output = wants_output; report = wants_report })
         (record { output = output.old; report = report.old })
         (record { output = output.new; report = report.new })
@@ -73,7 +73,7 @@ pub extern "C" fn blocks(
     answer: &mut Run,
 ) -> u32
     ensures range { blocks_in_range options.now ≡ false → (result ≡ 6) × (answer.new ≡ answer.old) }
-    ensures run { blocks_in_range options.now ≡ true → ShowsBlocks options.now bytes.now
+    ensures run { blocks_in_range options.now ≡ true → ReturnsBlocks options.now bytes.now
         (record { output = wants_output; report = wants_report })
         (record { output = output.old; report = report.old })
         (record { output = output.new; report = report.new })
@@ -99,7 +99,7 @@ pub extern "C" fn check(
     answer: &mut Run,
 ) -> u32
     ensures range { check_in_range options.now ≡ false → (result ≡ 6) × (answer.new ≡ answer.old) }
-    ensures run { check_in_range options.now ≡ true → JudgesRules options.now bytes.now
+    ensures run { check_in_range options.now ≡ true → ReturnsRules options.now bytes.now
         (record { output = wants_output; report = wants_report })
         (record { output = output.old; report = report.old })
         (record { output = output.new; report = report.new })

@@ -8,7 +8,7 @@ impl<R: InDevice, W: OutDevice, E: OutDevice> Input<Session<R>, W, E> {
     ghost use Rattle.link_wire.specs.Inner.{IsInner, inner_bytes, PassedInner};
     ghost use Rattle.link_wire.specs.Session.{source_of, may_read, is_opened, HasStopped, IsSessionAt};
     ghost use Rattle.link_wire.specs.Source.{given_by, window_of};
-    ghost use Rattle.link_run.specs.Reading.{feed_of, Unread};
+    ghost use Rattle.link_run.specs.Reading.{feed_of, ReadsNothing};
 
     /// The number of bytes given, which is the offset of the next byte.
     #[inline(always)]
@@ -46,7 +46,7 @@ impl<R: InDevice, W: OutDevice, E: OutDevice> Input<Session<R>, W, E> {
             (inner_bytes (window_of (source_of (feed_of self.old))) size) }
         ensures shrinks { length (window_of (source_of (feed_of self.new)))
             < length (window_of (source_of (feed_of self.old))) }
-        ensures unread { Unread R.state source_of self.old self.new }
+        ensures unread { ReadsNothing R.state source_of self.old self.new }
     {
         self.feed.pass_inner(size);
     }

@@ -5,10 +5,10 @@ use Rattle.link_bundle_blocks.specs.Bundle.{bundle_goes, blocks_in}
 use Rattle.link_bundle_blocks.proofs.Showing.{BlocksEnd-holds}
 use Rattle.link_bundle.specs.Scan.{HasScanned, HasJudged, ending}
 use Rattle.link_bundle.proofs.Pieces.{all_judged}
-use Rattle.link_block_reader.specs.DataReader.{IsReading}
+use Rattle.link_block_reader.specs.DataReader.{IsDataReaderAt}
 use Rattle.link_block_reader.proofs.Judged.{seen_all, goes_judged, joined_rest, rest_read}
 use Rattle.link_run.specs.Writers.{on_output}
-use Rattle.link_bundle_walk.specs.Telling.{Tells}
+use Rattle.link_bundle_walk.specs.Telling.{WritesRest}
 use Rattle.link_bundle_walk.proofs.Told.{told_none, told_known, told_then, told_part}
 use Rattle.link_bundle_walk.proofs.blocks.tell_piece.Given.{Over}
 use Rattle.link_bundle_walk.proofs.blocks.tell_piece.Goals as goal
@@ -27,18 +27,18 @@ loop-taken-init g c = record {
 -- ---- the consumer is told of a run
 
 -- what holds after one more run of the bundle
-record Told (g : Over) (c : After-tell_run g) (seen : List ℕ) (all : List ℕ) : Type 0 where
+record ToldRun (g : Over) (c : After-tell_run g) (seen : List ℕ) (all : List ℕ) : Type 0 where
   come : HasScanned c.feed_block-count.new.self all
-  tells : Tells g.W.OutDevice.state g.E.OutDevice.state
+  tells : WritesRest g.W.OutDevice.state g.E.OutDevice.state
       (on_output (g.C.BlockConsumer.says c.args.number seen))
       (on_output (g.C.BlockConsumer.says c.args.number all))
-      (IsReading c.tell_run.new.reader all × g.C.BlockConsumer.knows c.tell_run.new.consumer all)
+      (IsDataReaderAt c.tell_run.new.reader all × g.C.BlockConsumer.knows c.tell_run.new.consumer all)
       c.args.writers.now c.tell_run.new.writers c.tell_run.result
 
 told : (g : Over) (c : After-tell_run g) (seen : List ℕ) → length seen ≡ c.args.before
-    → HasJudged c.args.scan.now seen → IsReading c.args.reader.now seen
+    → HasJudged c.args.scan.now seen → IsDataReaderAt c.args.reader.now seen
     → g.C.BlockConsumer.knows c.args.consumer.now seen
-    → Told g c seen
+    → ToldRun g c seen
     (seen ++ take (c.loop-taken.taken + c.feed_block-count.result) c.args.piece.now)
 told g c seen same judged reading knows =
     let piece = c.args.piece.now in
@@ -56,7 +56,7 @@ told g c seen same judged reading knows =
     rw (take_rest piece taken) at (c.feed_block-count.ensures.taken.seen bytes come) in
     let grown : blocks_in (bytes ++ run) ≡ blocks_in bytes ++ ending c.feed_block-count.new.self =
     rw (take_rest piece taken) at (c.feed_block-count.ensures.blocks bytes come) in
-    subst (Told g c seen) (joined_run seen piece taken c.feed_block-count.result) (record {
+    subst (ToldRun g c seen) (joined_run seen piece taken c.feed_block-count.result) (record {
       come = later;
       tells = told_then tells
           (rw (take_rest piece taken) at

@@ -4,7 +4,7 @@ use Rattle.link_wire.specs.Source.{front_of}
 use Rattle.link_io.proofs.Sources.{Readies-takes, Readies-over, front_room}
 use Rattle.link_run.specs.Reading.{feed_of}
 use Rattle.link_run.proofs.{Stands.{settled, not_handed_on, read_fails}, Waiting.waits_then}
-use Rattle.link_bundle_walk.specs.BundleRun.{IsReading}
+use Rattle.link_bundle_walk.specs.BundleRun.{IsCurrentAt}
 use Rattle.link_bundle_walk.proofs.Founds.{came, finished}
 use Rattle.link_bundle_walk.proofs.walk.take_bytes.Goals as goal
 
@@ -65,7 +65,7 @@ returns-clause-gives g c = λ start history stood at.
       at.source_at.given,
     ) in
     let short : length at.so_far.begun + length (take ready shown) < 9223372036854775808 = omega (arith, bound) in
-    let reading : IsReading c.limit.result current at.so_far.begun = rw c.limit.ensures at.holds.reading in
+    let reading : IsCurrentAt c.limit.result current at.so_far.begun = rw c.limit.ensures at.holds.reading in
     let counted = c.judge-count.ensures.some at.so_far.begun reading short in
     let some : 0 < length run = omega (arith, counted, sizes, run_size) in
     let size : length run ≤ c.args.most = omega (arith, c.min-ready.ensures, sizes, run_size) in

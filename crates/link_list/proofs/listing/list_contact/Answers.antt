@@ -1,6 +1,6 @@
 use Rattle.std.proofs.Common.{[], true, inl}
 use Rattle.link_wire.specs.Session.{source_of}
-use Rattle.link_run.specs.{Reading.feed_of, Run.looks, Stages.Stands, Writers.place_of}
+use Rattle.link_run.specs.{Reading.feed_of, Run.looks, Stages.IsRunAt, Writers.place_of}
 use Rattle.link_run.proofs.{Sessions.contact_ended, Stands.last_step}
 use Rattle.link_list.specs.Listing.{listing_by, listing_of}
 use Rattle.link_list.proofs.Lists.{by_reading, same_texts, contact_listed}
@@ -9,7 +9,7 @@ use Rattle.link_list.proofs.listing.list_contact.Goals as goal
 pub returns-in-Ok-clause-gives : goal.returns-in-Ok-clause-gives
 returns-in-Ok-clause-gives g c = λ start line history at begins.
     let look = looks g.R.InDevice.state g.W.OutDevice.state g.E.OutDevice.state in
-    let at_mid : Stands look listing_of start true (place_of (source_of (feed_of c.args.input.now)) c.clear_line.new.self) [] = rw (c.clear_line.ensures.output, c.clear_line.ensures.report, ← begins.nothing) at in
+    let at_mid : IsRunAt look listing_of start true (place_of (source_of (feed_of c.args.input.now)) c.clear_line.new.self) [] = rw (c.clear_line.ensures.output, c.clear_line.ensures.report, ← begins.nothing) at in
     rw (begins.nothing, c.after.ensures) (contact_listed (feed_of c.args.input.now) (feed_of c.open.new.self) (record c.clear_line.new.self { line = c.contact_line.new.line }) c.write_line.new.self at_mid c.in-Ok.contact c.in-Ok.ensures.gives line _ (rw (← c.contact_line.ensures) c.write_line.ensures.gives))
 
 pub returns-in-Err-clause-gives : goal.returns-in-Err-clause-gives

@@ -1,8 +1,8 @@
 use Rattle.std.proofs.Common.{◌≡◌, List, ℕ, length, ◌++◌}
 use Rattle.std.specs.Prelude.{IsTrue, false}
 use Rattle.link_wire.specs.{Session.{source_of, may_read}, Source.window_of}
-use Rattle.link_run.specs.{Reading.{feed_of, Unread}, Run.Texts, Writers.{on_output, Writes}}
-use Rattle.link_list.specs.ListRun.{latest_line, IsListedTo, ListedOn}
+use Rattle.link_run.specs.{Reading.{feed_of, ReadsNothing}, Run.Texts, Writers.{on_output, Writes}}
+use Rattle.link_list.specs.ListRun.{latest_line, AreLinesTo, ListsOn}
 use Rattle.link_list.proofs.listing.write_lines.Given as goal
 
 -- the lines of some whole messages were written; that of the latest is due
@@ -12,12 +12,12 @@ invariant-lines g l =
     record {
       fits : IsTrue (may_read (feed_of l.input));
       near : l.far ≡ false → l.input ≡ l.fn.input;
-      unread : Unread look source_of l.fn.input l.input;
+      unread : ReadsNothing look source_of l.fn.input l.input;
       lines : List ℕ;
       writes : Writes g.W.OutDevice.state g.E.OutDevice.state l.fn.writers l.writers (on_output lines);
       listed : (first : Texts) (history : List ℕ)
-          → IsListedTo look first (feed_of l.fn.input) (latest_line l.fn.latest) history
-          → ListedOn look first (feed_of l.fn.input) (feed_of l.input) (lines ++ latest_line l.latest) history;
+          → AreLinesTo look first (feed_of l.fn.input) (latest_line l.fn.latest) history
+          → ListsOn look first (feed_of l.fn.input) (feed_of l.input) (lines ++ latest_line l.latest) history;
     }
 
 abbrev pub decreases-lines : goal.decreases-lines

@@ -3,7 +3,7 @@ use Rattle.link_run.specs.Run.{looks, Devices}
 use Rattle.link_wire.specs.Device.{Input, Output}
 use Rattle.link_slices.specs.{Slice.labelled, declared.device.SliceReader.SliceReader}
 use Rattle.link_slices.specs.declared.device.SliceWriter.{SliceWriter}
-use Rattle.link_slices.proofs.{Overlays.labels_are, Runs.{Ran, tool_ran}}
+use Rattle.link_slices.proofs.{Overlays.labels_are, Runs.{RanTool, tool_ran}}
 use Rattle.link_slices.proofs.running.run_between.Given.{Over}
 use Rattle.link_slices.proofs.running.run_between.Goals as goal
 
@@ -17,7 +17,7 @@ abbrev writer_look : SliceWriter → Output
 writer_look writer =
     record { written = Some (text_of writer); failed = false; handed = Some (text_of writer) }
 
-ran : (g : Over) (c : goal.After-run g) → Ran (g.T.SliceTool.tool c.args.tool) c.args.bytes.now
+ran : (g : Over) (c : goal.After-run g) → RanTool (g.T.SliceTool.tool c.args.tool) c.args.bytes.now
     (text_of c.args.output) (text_of c.run.result.output)
     (text_of c.args.report) (text_of c.run.result.report) c.run.result.answer
 ran g c =

@@ -1,7 +1,7 @@
 -- The new scan is written into the room.
 use Rattle.tcpclkit_c.proofs.Walks.{◌≡◌, [], ◌∷◌, ◌++◌, refl, lit<, w32, proved, full_share, id⊢, ftrue, fsep, fex, vint, fact, tables, ‵, raw, ◌⊛◌, some, later, prop, ◌$◌, ◌∵◌, !, qed, done, move, drop, use1, use2, split, join, fjoin, fpack, pick, await, regoal, suffices, group, enter, of_opd, lit, stop, init, no_more, assigns, returns, alloc_all, pass_all, free_all, look_at, get, through, sets, lands_as, u32, uint_Makes, shows, Is, part_at, part_in, Ptr, RawPtr, block_ptr, lies_at, room_at, in_a_block, rawptr_vals, rawptr_Tells, nothing, owned, heard, peeks, calls_at, Lasts, lasts, triple_of, walk_of, ends_at, framed, states, passed, passed-go}
 use prog.Wp.{WpFn}
-use Rattle.tcpclkit_c.specs.{Scan.IsScan, declared.scan.MarkedScan.MarkedScan}
+use Rattle.tcpclkit_c.specs.{Scan.IsMarkedScanAt, declared.scan.MarkedScan.MarkedScan}
 use Rattle.tcpclkit_c.specs.contracts.scan.MarkedScan.{the_row as R}
 use Rattle.tcpclkit_c.proofs.scan.{new_scan.Met.met, MarkedScan.TheLaws.the_row_laws}
 use Rattle.tcpclkit_c.specs.contracts.scan.tcpclkit_raw_start_scan as f
@@ -28,7 +28,7 @@ tcpclkit_raw_start_scan_spec 𝓤 𝓛 𝓜 𝓡 wired =
     nothing ! $ nothing ! $ join ! $ nothing ! $ move ! (1 ∷ 0 ∷ []) $ use2 𝓛 (raw (G.pre z)) (id⊢ 𝓤 _) $
     calls_at ! (framed 𝓤 𝓛.H 𝓜 (tables 𝓤 𝓛.H 𝓜 𝓡 𝓡.env)) G (met 𝓤 𝓛 𝓜 𝓡 (code.calls-tcpclkit_c::scan::new_scan 𝓡.env wired)) z (no_more !) (λ v.
     use1 𝓛 (later (some (λ (scan : MarkedScan). (‵ ftrue ⊛ ‵ (R.own_val scan (v ∷ []))) ⊛
-    some (λ (ws : Lasts g.ended z.0.0 z.0.3). ‵ (lasts g.ended z.0.0 z.0.3 ws) ⊛ raw (fact 𝓤 (IsScan scan [])))))) (id⊢ 𝓤 _) $
+    some (λ (ws : Lasts g.ended z.0.0 z.0.3). ‵ (lasts g.ended z.0.0 z.0.3 ws) ⊛ raw (fact 𝓤 (IsMarkedScanAt scan [])))))) (id⊢ 𝓤 _) $
     await ! tt $ pick ! (λ scan. split ! $ split ! $ drop ! $
     peeks ! R (Is R) (shows 𝓛 R) scan (v ∷ []) (λ is. let typed = ((the_row_laws.lawful 𝓛).typed scan (v ∷ []) is).0 in
     lands_as ! refl refl typed $
@@ -38,8 +38,8 @@ tcpclkit_raw_start_scan_spec 𝓤 𝓛 𝓜 𝓡 wired =
     sets ! (of_opd ! (lit ! tt)) refl (tt, record { fits = lit< tt }) $
     returns ! (look_at ! 0 refl) $ free_all ! refl $
     move ! (1 ∷ 0 ∷ []) $ use2 𝓛 (‵ (part_at R full_share scan b o)) (part_in 𝓛 R refl full_share scan b o v) $
-    nothing ! $ fpack ! (IsScan scan []) (λ _. ftrue) has $ move ! (1 ∷ 0 ∷ []) $ fjoin ! $
-    fpack ! MarkedScan (λ x. fsep (lies_at R full_share (block_ptr b o) x) (fex (IsScan x []) (λ _. ftrue))) scan $
+    nothing ! $ fpack ! (IsMarkedScanAt scan []) (λ _. ftrue) has $ move ! (1 ∷ 0 ∷ []) $ fjoin ! $
+    fpack ! MarkedScan (λ x. fsep (lies_at R full_share (block_ptr b o) x) (fex (IsMarkedScanAt x []) (λ _. ftrue))) scan $
     states ! {φ = 0 ≡ 0} refl $ move ! (1 ∷ []) $
     owned ! u32 _ (uint_Makes 𝓛 w32) 0 _ (refl, lit< tt) $ nothing ! $ nothing ! $ join ! $ nothing ! $
     -- [no token; nothing of the pointer; the result; the scan; the status]

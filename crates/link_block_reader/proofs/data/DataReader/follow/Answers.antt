@@ -3,7 +3,7 @@ use Rattle.link_bundle_blocks.specs.Blocks.{Block, CanonicalOf, PrimaryOf, viewe
 use Rattle.link_bundle_blocks.specs.Bundle.{bundle_goes, blocks_in}
 use Rattle.link_bundle.specs.Scan.{ending}
 use Rattle.link_bundle_blocks.specs.declared.block.CanonicalBlock.{CanonicalBlock}
-use Rattle.link_block_reader.specs.DataReader.{IsReading, IsReadingBlock}
+use Rattle.link_block_reader.specs.DataReader.{IsDataReaderAt, IsDataReaderIn}
 use Rattle.link_block_reader.proofs.Reading.{placed, read_whole}
 use Rattle.link_block_reader.proofs.data.DataReader.follow.Goals as goal
 
@@ -20,9 +20,9 @@ ended_is c = rw c.in-Canonical.is at c.requires.ended
 
 -- the data of the block that has ended is read
 ended_read : (c : goal.After-take) (seen : List ℕ) → length seen ≡ c.args.before
-    → IsReading c.args.self.now seen → bundle_goes seen ≡ true
+    → IsDataReaderAt c.args.self.now seen → bundle_goes seen ≡ true
     → blocks_in (seen ++ c.args.run.now) ≡ blocks_in seen ++ ending c.args.scan.now
-    → IsReadingBlock c.take.new.self (seen ++ c.args.run.now) c.in-Canonical.block
+    → IsDataReaderIn c.take.new.self (seen ++ c.args.run.now) c.in-Canonical.block
 ended_read c seen before reading goes grown =
     let block = c.in-Canonical.block in
     c.take.ensures.reads seen before (λ less.

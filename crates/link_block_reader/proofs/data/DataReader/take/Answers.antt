@@ -1,6 +1,6 @@
 use Rattle.std.proofs.Common.{◌≡◌, ◌+◌, ◌-◌, min, ◌<◌, ℕ, List, length, arith}
 use Rattle.link_bundle.specs.Part.{part_in}
-use Rattle.link_block_reader.specs.{Found.data_in, DataReader.IsReadingBlock}
+use Rattle.link_block_reader.specs.{Found.data_in, DataReader.IsDataReaderIn}
 use Rattle.link_block_reader.proofs.Runs.{data_later, data_more}
 use Rattle.link_block_reader.proofs.data.DataReader.take.Goals as goal
 use Rattle.link_block_reader.proofs.data.DataReader.take.Goals.{then-block-before, else-block-before}
@@ -8,8 +8,8 @@ use Rattle.link_block_reader.proofs.data.DataReader.take.Goals.{then-block-befor
 -- what the reader has read before the run
 pub before_run : (c : goal.After-take) (seen : List ℕ) → length seen ≡ c.args.before
     → (c.args.block.now.data_start < c.args.before
-    → IsReadingBlock c.args.self.now seen c.args.block.now)
-    → IsReadingBlock c.if-block-before.self seen c.args.block.now
+    → IsDataReaderIn c.args.self.now seen c.args.block.now)
+    → IsDataReaderIn c.if-block-before.self seen c.args.block.now
 before_run c seen before known =
     let block = c.args.block.now in
     elim c.if-block-before.branch [

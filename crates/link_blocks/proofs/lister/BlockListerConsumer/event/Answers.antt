@@ -3,13 +3,13 @@ use Rattle.std.proofs.lemmas.Bool.{false≢true}
 use Rattle.link_run.specs.{Run.{no_texts, ◌then◌}, Writers.{on_output, on_report}}
 use Rattle.link_run.proofs.Runs.{writes_none, part_of_more, output_then}
 use Rattle.link_walk.specs.Walk.{WalkEvent, ContactHeader, LeftOpen, abandons, closes, has_open}
-use Rattle.link_walk.specs.Telling.{ComesAfter, viewed_head}
+use Rattle.link_walk.specs.Telling.{HeadComes, viewed_head}
 use Rattle.link_transfer.specs.declared.joiner.Turn.{Turn}
 use Rattle.link_judge.specs.Transfers.{Transfer}
 use Rattle.link_judge.specs.Unpacking.{order_line, good_due, transfers_at, told_after}
 use Rattle.link_judge.proofs.{Counts.on_ok, Effects.comes_does}
 use Rattle.link_bundle_walk.proofs.Told.{told_then, told_part}
-use Rattle.link_blocks.specs.{Lister.{KnowsShown, end_due}, Showing.unpacking_by}
+use Rattle.link_blocks.specs.{Lister.{IsBlockListerAt, end_due}, Showing.unpacking_by}
 use Rattle.link_blocks.specs.declared.lister.BlockLister.{BlockLister}
 use Rattle.link_blocks.specs.declared.transfer.TransferBlocks.{TransferBlocks}
 use Rattle.link_blocks.proofs.Ended.{ended_lines}
@@ -43,16 +43,16 @@ returns-in-Err g c = rw c.in-Head.is (λ before knows comes.
     (rw (← c.abandons.ensures) (c.in-Err.ensures.gives transfers abandoned))) tt)
 
 -- the latest transfer after the head, which may have begun it
-record Begun (only : Option ℕ) (now : BlockLister) (transfers : List Transfer)
+record IsLatestBegun (only : Option ℕ) (now : BlockLister) (transfers : List Transfer)
     (effect : Option Turn) (closing opened : Bool) (most : ℕ) (was : Bool) : Type 0 where
   at : AtHead only now.latest transfers effect closing opened
   size : now.latest.judge.size ≤ most
   good : now.good ≡ was
 
 begun : (g : Over) (c : After-show_end-in-Head g) (before : List WalkEvent)
-    → KnowsShown c.args.options.now c.args.self.now before
-    → ComesAfter before (viewed_head c.in-Head.head)
-    → Begun c.args.options.now.only c.if-begins.self
+    → IsBlockListerAt c.args.options.now c.args.self.now before
+    → HeadComes before (viewed_head c.in-Head.head)
+    → IsLatestBegun c.args.options.now.only c.if-begins.self
     (transfers_at c.in-Head.head.turn
     (told_after (unpacking_by c.args.options.now) before).transfers
     (viewed_head c.in-Head.head).message)

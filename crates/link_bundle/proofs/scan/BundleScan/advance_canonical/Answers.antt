@@ -1,7 +1,7 @@
 use Rattle.std.proofs.Common.{◌≡◌, ◌+◌, None, refl, ap, ◌∙◌, take, arith}
 use Rattle.std.proofs.lemmas.List.{length-take-le}
 use Rattle.link_bundle_blocks.specs.Whole.{whole_canonical, moved}
-use Rattle.link_bundle_blocks.proofs.Beginnings.{Begins, begins_block, data_begins, read_exactly}
+use Rattle.link_bundle_blocks.proofs.Beginnings.{BeginsWithPart, begins_block, data_begins, read_exactly}
 use Rattle.link_bundle.specs.Left.{with_block}
 use Rattle.link_bundle.proofs.{Steps.front_bytes, Taking.ends_part}
 use Rattle.link_bundle.proofs.BlockStages.{after_block-fits, goes_after}
@@ -11,7 +11,7 @@ use Rattle.link_bundle.proofs.scan.BundleScan.advance_canonical.Goals.{In-Ok}
 
 -- the block that the piece begins with
 begins : (c : In-Ok)
-    → Begins (λ read. read.1) (λ bytes. whole_canonical c.args.self.now.draft.numbers bytes 0)
+    → BeginsWithPart (λ read. read.1) (λ bytes. whole_canonical c.args.self.now.draft.numbers bytes 0)
     (c.in-Ok.block, c.in-Ok.size) c.args.piece.now
 begins c =
     begins_block c.args.self.now.draft.numbers c.args.piece.now c.in-Ok.block c.in-Ok.size

@@ -1,7 +1,7 @@
 use Rattle.std.proofs.{Common.{refl, sym, ◌∙◌, ◌+◌, append-nil, take, true, arith}, lemmas.List.length-take-le}
 use Rattle.link_bundle.specs.Left.{primary_of}
 use Rattle.link_bundle_blocks.specs.Whole.{whole_primary}
-use Rattle.link_bundle_blocks.proofs.Beginnings.{Begins, begins_primary, read_exactly}
+use Rattle.link_bundle_blocks.proofs.Beginnings.{BeginsWithPart, begins_primary, read_exactly}
 use Rattle.link_bundle.proofs.{Taking.ends_part, Steps.{all_held, front_bytes}}
 use Rattle.link_bundle.proofs.Wholes.{blank_at, heads_fit, primary_come, anew, advances_anew}
 use Rattle.link_bundle.proofs.Verdicts.{may_at}
@@ -10,7 +10,7 @@ use Rattle.link_bundle.proofs.scan.BundleScan.advance_primary.Goals.{In-Ok}
 
 -- the primary block that the piece begins with
 begins : (c : In-Ok)
-    → Begins (λ read. read.1) whole_primary
+    → BeginsWithPart (λ read. read.1) whole_primary
     ((primary_of c.whole_primary.new.self, c.in-Ok.check), c.in-Ok.size) c.args.piece.now
 begins c =
     begins_primary c.args.piece.now (primary_of c.whole_primary.new.self, c.in-Ok.check)

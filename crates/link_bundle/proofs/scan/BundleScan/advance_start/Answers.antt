@@ -1,7 +1,7 @@
 use Rattle.std.proofs.Common.{refl, arith}
 use Rattle.link_bundle.specs.Left.{bundle_of}
 use Rattle.link_bundle_blocks.specs.Bundle.{Bundle, bundle_at}
-use Rattle.link_bundle_blocks.proofs.Beginnings.{Begins, begins_bundle}
+use Rattle.link_bundle_blocks.proofs.Beginnings.{BeginsWithPart, begins_bundle}
 use Rattle.link_bundle.proofs.Wholes.{whole_taken, advances_anew}
 use Rattle.link_bundle.proofs.Steps.{slice_bytes}
 use Rattle.link_bundle.proofs.Verdicts.{may_at}
@@ -12,7 +12,7 @@ use Rattle.link_bundle.proofs.scan.BundleScan.advance_start.Goals.{In-Ok}
 bundle : In-Ok → Bundle
 bundle c = record (bundle_of c.whole.new.self c.in-Ok.size) { blocks = c.in-Ok.ensures.read.0 }
 
-begins : (c : In-Ok) → Begins (λ bundle. bundle.length) bundle_at (bundle c) c.args.piece.now
+begins : (c : In-Ok) → BeginsWithPart (λ bundle. bundle.length) bundle_at (bundle c) c.args.piece.now
 unfolding bundle
 begins c = begins_bundle (bundle c) c.args.piece.now c.in-Ok.ensures.read.1
 

@@ -1,13 +1,13 @@
 use Rattle.std.proofs.Common.{◌≡◌, List, ℕ, Err, length, refl, sym, ap, ◌∙◌, arith}
 use Rattle.link_bundle_blocks.specs.Reading.{stopped}
 use Rattle.link_bundle.specs.Stages.{Covers, part_reading}
-use Rattle.link_bundle.proofs.TakenPart.{Holds, Takes, takes_whole, cut_fits, cut_part, lasts_but, fault_part}
+use Rattle.link_bundle.proofs.TakenPart.{HoldsMore, TakesPart, takes_whole, cut_fits, cut_part, lasts_but, fault_part}
 use Rattle.link_bundle.proofs.{ReadParts.{read_fits, whole_part}, Steps.{slice_bytes}}
 use Rattle.link_bundle.proofs.scan.BundleScan.take_part.Goals as goal
 use Rattle.link_bundle.proofs.scan.BundleScan.take_part.Goals.{After-take_in-held, In-Ok, In-Err}
 
 holds : (c : After-take_in-held)
-    → Holds c.args.self.now.stage c.args.self.now c.args.piece.now c.take_in-held.new.self
+    → HoldsMore c.args.self.now.stage c.args.self.now c.args.piece.now c.take_in-held.new.self
 holds c = record {
   at = refl;
   part = c.requires.part;
@@ -16,8 +16,8 @@ holds c = record {
   check = c.take_in-held.ensures.check;
 }
 
-takes : (c : In-Ok) → Holds c.args.self.now.stage c.args.self.now c.args.piece.now c.take_in-held.new.self
-    → Takes c.args.self.now.stage c.args.self.now c.args.piece.now c.take_in-held.new.self c.in-Ok.size
+takes : (c : In-Ok) → HoldsMore c.args.self.now.stage c.args.self.now c.args.piece.now c.take_in-held.new.self
+    → TakesPart c.args.self.now.stage c.args.self.now c.args.piece.now c.take_in-held.new.self c.in-Ok.size
 takes c held = takes_whole held c.in-Ok.ensures.any
 
 pub pass-requires-clause-within : goal.pass-requires-clause-within
@@ -59,8 +59,8 @@ invariant_of-self-in-Cut c =
     }
 
 -- the hold does not begin with the part
-held : (c : In-Err) → Holds c.args.self.now.stage c.args.self.now c.args.piece.now c.take_in-held.new.self
-    → Holds c.args.self.now.stage c.args.self.now c.args.piece.now c.read_part.new.cursor
+held : (c : In-Err) → HoldsMore c.args.self.now.stage c.args.self.now c.args.piece.now c.take_in-held.new.self
+    → HoldsMore c.args.self.now.stage c.args.self.now c.args.piece.now c.read_part.new.cursor
 held c holds = rw (c.in-Err.ensures.kept.1) holds
 
 fails : (c : In-Err) (covered : List ℕ) → Covers c.args.self.now.stage c.read_part.new.cursor.check covered
@@ -84,7 +84,7 @@ pub returns-in_default : goal.returns-in_default
 returns-in_default c =
     let at = goal.at.returns-in_default c in
     let kept = c.in-Err.ensures.kept in
-    let is : Takes c.args.self.now.stage c.args.self.now c.args.piece.now c.read_part.new.cursor
+    let is : TakesPart c.args.self.now.stage c.args.self.now c.args.piece.now c.read_part.new.cursor
     c.shown-size.result = record {
       holds = held at.In-Err (holds at.After-take_in-held);
       more = rw (c.take_in-held.ensures.held) at c.shown-size.ensures.more;

@@ -2,7 +2,7 @@ use Rattle.std.proofs.Common.{◌≡◌, ℕ, List, [], ◌++◌, length, refl, 
 use Rattle.std.proofs.lemmas.Bool.{false≢true}
 use Rattle.link_io.proofs.Sources.{Takes-none}
 use Rattle.link_run.specs.Reading.{feed_of}
-use Rattle.link_bundle_walk.specs.{BundleRun.Walks, Telling.none_yet}
+use Rattle.link_bundle_walk.specs.{BundleRun.IsBundleWalkAt, Telling.none_yet}
 use Rattle.link_bundle_walk.proofs.{Founds.{stepped, no_size}, Outcomes.told_none}
 use Rattle.link_bundle_walk.proofs.walk.BundleWalkStagesSource.stage.Goals as goal
 
@@ -12,7 +12,7 @@ returns-in-Begin-clause-gives g c = λ start history. rw c.in-Begin.is (λ stood
     let source = feed_of c.args.input.now in
     let none : history ++ [] ≡ [] = append-nil history ∙ at.nothing in
     let unread = ap length at.unread in
-    let Stays : List ℕ → Type 0 = Walks g.R.InDevice.state telling
+    let Stays : List ℕ → Type 0 = IsBundleWalkAt g.R.InDevice.state telling
     (g.C.BundleConsumer.knows c.args.self.now.options c.begin.new.self)
     c.args.self.now.walker.current source in
     rw c.after.ensures (stepped 0 source source c.args.writers.now c.begin.new.writers stood

@@ -2,15 +2,15 @@ use Rattle.std.proofs.Common.{◌≡◌, Bool, Option, Some, ◌+◌, ◌<◌, �
 use Rattle.std.proofs.lemmas.Bool.{false≢true}
 use Rattle.link_message_rules.specs.Remembered.{Remembers}
 use Rattle.link_rule_report.specs.declared.line.RuleText.{RuleText}
-use Rattle.link_walk.specs.Telling.{ComesAfter, data_ends, viewed_head}
+use Rattle.link_walk.specs.Telling.{HeadComes, data_ends, viewed_head}
 use Rattle.link_walk.specs.Walk.{Head, WalkEvent, ContactHeader, LeftOpen, MessageHead, closes, has_open, is_beginning}
-use Rattle.link_check.specs.Checker.{IsAtLatest, KnowsChecked, closed_due, kept_of}
+use Rattle.link_check.specs.Checker.{IsCheckedTransferAtLatest, IsCheckerAt, closed_due, kept_of}
 use Rattle.link_check.specs.Checking.{Begun, begun_by, broken_by, head_rules, judged, with_bytes}
 use Rattle.link_check.specs.declared.checker.Checker.{Checker}
 use Rattle.link_options.specs.declared.check.CheckOptions.{CheckOptions}
 use Rattle.link_bundle_walk.proofs.Told.{on_ok_by}
 use Rattle.link_check.proofs.Writing.{part_written, quiet_written, then_written}
-use Rattle.link_check.proofs.Kept.{IsRead, closes_read, data_said, inner_said, known_data, known_inner, known_one, opens_read, read_after, said_one, tells}
+use Rattle.link_check.proofs.Kept.{IsLatestRead, closes_read, data_said, inner_said, known_data, known_inner, known_one, opens_read, read_after, said_one, tells}
 use Rattle.link_check.proofs.checker.CheckerConsumer.event.Given.{Over}
 use Rattle.link_check.proofs.checker.CheckerConsumer.event.Goals as goal
 use Rattle.link_check.proofs.checker.CheckerConsumer.event.Goals.{After-close, then-begins, else-begins}
@@ -45,14 +45,14 @@ module _ (options : CheckOptions) (before : List WalkEvent) (head : Head) where
 -- the state after the head, which may have begun a transfer
 record AtHead (now old : Checker) (written : Bool) (options : CheckOptions) (before : List WalkEvent) (head : Head)
     : Type 0 where
-  read : IsRead now.latest (latest options before head) (is_beginning head.turn) (has_open before)
+  read : IsLatestRead now.latest (latest options before head) (is_beginning head.turn) (has_open before)
   size : now.latest.judge.size ≤ old.latest.judge.size
   history : Remembers now.history ((kept_of options before).heads ++ judged head ∷ [])
   good : now.good ≡ written
 
 at_head : (g : Over) (c : After-close g) (before : List WalkEvent)
-    → KnowsChecked c.args.options.now c.args.self.now before
-    → ComesAfter before (viewed_head c.in-Head.head)
+    → IsCheckerAt c.args.options.now c.args.self.now before
+    → HeadComes before (viewed_head c.in-Head.head)
     → AtHead c.if-begins.self c.args.self.now c.judge-written.new.good c.args.options.now before (viewed_head c.in-Head.head)
 at_head g c before knows comes =
     let options = c.args.options.now in
@@ -186,7 +186,7 @@ returns-in_default-take-2 g c = rw c.in-Data.is (λ before knows may.
     let at = knows.at_open may.0 in
     let begun = with_bytes bytes at.begun in
     let told = c.in_default-take-2.ensures.gives at.begun fits at.checks in
-    let read : IsAtLatest c.take-in-Data.new.self (Some begun) =
+    let read : IsCheckedTransferAtLatest c.take-in-Data.new.self (Some begun) =
     record { begun = begun; is = refl; checks = told.known } in
     let now : Checker = record {
       history = old.history;

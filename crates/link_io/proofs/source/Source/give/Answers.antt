@@ -1,7 +1,7 @@
 use Rattle.std.proofs.Common.{◌-◌, ◌≤◌, length, drop, refl, arith, length-take}
 use Rattle.std.proofs.lemmas.List.Elements.{All-take}
 use Rattle.link_io.specs.{Bytes.IsByte, Limits.window_size, Source.window_of}
-use Rattle.link_io.proofs.{Sources.{Consumes-window, WindowAfter-drop}, Windows.range_rest}
+use Rattle.link_io.proofs.{Sources.{Consumes-window, ShiftsWindow-drop}, Windows.range_rest}
 use Rattle.link_io.proofs.source.Source.give.Goals as goal
 
 pub returns-clause-takes : goal.returns-clause-takes
@@ -15,7 +15,7 @@ returns-clause-takes g c =
       next = rw (range_rest s.window s.start s.end c.args.count within) (Consumes-window (window_of s) (look s.reader).left c.args.count);
       count = omega (arith, c.requires, length-take c.args.count (window_of s));
       device = refl;
-      window = WindowAfter-drop s _ c.args.count (range_rest s.window s.start s.end c.args.count within) room;
+      window = ShiftsWindow-drop s _ c.args.count (range_rest s.window s.start s.end c.args.count within) room;
     }
 
 pub returns-clause-rest : goal.returns-clause-rest

@@ -7,7 +7,7 @@ use Rattle.link_judge.specs.Unpacking.{order_line, line_due, good_due, transfers
 use Rattle.link_judge.proofs.{Counts.on_ok, Effects.abandons_open}
 use Rattle.link_unpack.specs.declared.transfer.TransferScan.{TransferScan}
 use Rattle.link_unpack.proofs.Reports.{output_part, reports_part, reports_then}
-use Rattle.link_unpack.proofs.Told.{AtHead, Follows, at_head, does, data_known, data_latest, data_tells, data_transfers, head_known, head_tells, known, tells}
+use Rattle.link_unpack.proofs.Told.{AtHead, ScansFurther, at_head, does, data_known, data_latest, data_tells, data_transfers, head_known, head_tells, known, tells}
 use Rattle.link_unpack.proofs.unpacker.UnpackerConsumer.event.Goals as goal
 use Rattle.link_unpack.proofs.unpacker.UnpackerConsumer.event.Goals.{then-begins, else-begins}
 
@@ -134,7 +134,7 @@ returns-in_default-write_output g c = rw c.in-Data.is (λ before knows may.
     let fits : old.latest.total + length bytes < 2 ^ 63 =
     let few = may.1 in omega (arith, knows.total) in
     let later = data_transfers wanted before bytes whole old knows may.0 in
-    let follows : Follows wanted old.latest c.take-part.new.self bytes = λ transfer closed earlier at.
+    let follows : ScansFurther wanted old.latest c.take-part.new.self bytes = λ transfer closed earlier at.
     c.take-part.ensures.follows transfer closed earlier fits at in
     let latest = c.report-in-Data.ensures.latest in
     let closed = λ (due : whole ≡ true).

@@ -2,7 +2,7 @@ use Rattle.std.proofs.Common.{◌≡◌, Bool, if◌then◌else◌, true, false,
 use Rattle.link_wire.specs.declared.message.Message.{Message}
 use Rattle.link_transfer.specs.{Joiner.IsJoinerAt, Order.open_of}
 use Rattle.link_run.specs.declared.run.Status.{Status}
-use Rattle.link_walk.specs.{Walk.{WalkEvent, has_open, end_events}, Telling.Tells, WalkRun.Finishes}
+use Rattle.link_walk.specs.{Walk.{WalkEvent, has_open, end_events}, Telling.Tells, WalkRun.TellsEnd}
 use Rattle.link_walk.proofs.{Tellings.tells_none, walk.Walker.finish.Given.Over}
 use Rattle.link_walk.proofs.walk.Walker.finish.Goals as goal
 use Rattle.link_walk.proofs.walk.Walker.finish.Goals.{After-is_good, then-is_some+in_ok-event, else-is_some}
@@ -14,7 +14,7 @@ ended : (g : Over) (c : After-is_good g) (good : Bool) (status : Status)
     → IsJoinerAt c.args.self.now.joiner taken
     → g.C.Consumer.knows c.args.options.now c.args.self.now.consumer events
     → has_open events ≡ is_some (open_of taken)
-    → Finishes g.W.OutDevice.state g.E.OutDevice.state (g.C.Consumer.telling c.args.options.now)
+    → TellsEnd g.W.OutDevice.state g.E.OutDevice.state (g.C.Consumer.telling c.args.options.now)
     taken events c.args.writers.now c.if-is_some.writers (Ok status)
 ended g c good status good_is ends taken events at known opened =
     let out_look = g.W.OutDevice.state in

@@ -3,7 +3,7 @@ use Rattle.link_run.specs.Reading.{feed_of}
 use Rattle.link_run.proofs.Sessions.{contact_ended}
 use Rattle.link_walk.specs.declared.walk.Stage.TheVariants as stage
 use Rattle.link_walk.proofs.Steps.{events_at, nothing_yet, contact_come, told_step}
-use Rattle.link_walk.proofs.Texts.{by_reading, made_is, before_all}
+use Rattle.link_walk.proofs.Texts.{by_reading, told_of-reading, before_all}
 use Rattle.link_walk.proofs.walk.Walker.open.Goals as goal
 
 pub returns-in-Ok-clause-gives : goal.returns-in-Ok-clause-gives
@@ -27,7 +27,7 @@ returns-in-Err-clause-gives g c = record {
   holds = λ start history at begins.
       let telling = g.C.Consumer.telling c.args.options.now in
       rw begins.nothing
-      (contact_ended (by_reading telling) (made_is telling) (feed_of c.args.input.now)
+      (contact_ended (by_reading telling) (told_of-reading telling) (feed_of c.args.input.now)
       (feed_of c.open.new.self) c.args.writers.now c.end.new.self (rw (← begins.nothing) at)
       (before_all telling) c.in-Err.stop _ c.in-Err.ensures.gives c.end.ensures);
   waits = λ history begins. inl (c.open.ensures.waits, inl (inl begins.opens));

@@ -6,14 +6,14 @@ use Rattle.link_run.specs.declared.next.Next.TheVariants as next
 use Rattle.link_walk.specs.declared.walk.Stage.TheVariants as stage
 use Rattle.link_walk.proofs.Steps.{events_at, come_at, data_come, told_step, ready_step}
 use Rattle.link_walk.proofs.Tellings.{tells_none}
-use Rattle.link_walk.proofs.Texts.{by_reading, made_is, stop_is, some_to_come}
+use Rattle.link_walk.proofs.Texts.{by_reading, told_of-reading, stop_is, some_to_come}
 use Rattle.link_walk.proofs.walk.Walker.pass_stray.Goals as goal
 
 pub returns-in-Err-clause-gives : goal.returns-in-Err-clause-gives
 returns-in-Err-clause-gives g c = λ options walker. record {
   holds = λ start history at walks.
       let telling = g.C.Consumer.telling options in
-      data_ended (by_reading telling) (made_is telling) (feed_of c.args.input.now)
+      data_ended (by_reading telling) (told_of-reading telling) (feed_of c.args.input.now)
       (feed_of c.load_data.new.self) c.args.writers.now c.load_data.new.writers c.end.new.self at
       walks.session_at c.args.piece (stop_is telling (reading_of history) walks.at.unrefused)
       c.in-Err.stop _ (c.in-Err.ensures.gives history walks.session_at) c.end.ensures;

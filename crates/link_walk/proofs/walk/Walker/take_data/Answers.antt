@@ -2,14 +2,14 @@ use Rattle.std.proofs.Common.{◌<◌, arith}
 use Rattle.link_wire.specs.{Session.source_of, Stream.reading_of}
 use Rattle.link_run.specs.Reading.{feed_of}
 use Rattle.link_run.proofs.{Sessions.data_ended, Stands.settled, Waiting.waits_then}
-use Rattle.link_walk.proofs.{Steps.ready_step, Texts.{by_reading, made_is, stop_is, some_to_come}}
+use Rattle.link_walk.proofs.{Steps.ready_step, Texts.{by_reading, told_of-reading, stop_is, some_to_come}}
 use Rattle.link_walk.proofs.walk.Walker.take_data.Goals as goal
 
 pub returns-in-Err-clause-gives : goal.returns-in-Err-clause-gives
 returns-in-Err-clause-gives g c = record {
   holds = λ start history at walks.
       let telling = g.C.Consumer.telling c.args.options.now in
-      data_ended (by_reading telling) (made_is telling) (feed_of c.args.input.now)
+      data_ended (by_reading telling) (told_of-reading telling) (feed_of c.args.input.now)
       (feed_of c.load_data.new.self) c.args.writers.now c.load_data.new.writers c.end.new.self at
       walks.session_at c.args.piece (stop_is telling (reading_of history) walks.at.unrefused)
       c.in-Err.stop _ (c.in-Err.ensures.gives history walks.session_at) c.end.ensures;

@@ -1,10 +1,10 @@
 use Rattle.std.proofs.Common.{◌≡◌, [], length}
 use Rattle.std.specs.Prelude.{IsTrue}
 use Rattle.link_wire.specs.{Session.{source_of, may_read}, Source.window_of}
-use Rattle.link_run.specs.{Reading.{feed_of, Unread}, Run.looks}
+use Rattle.link_run.specs.{Reading.{feed_of, ReadsNothing}, Run.looks}
 use Rattle.link_run.specs.declared.next.Next.TheVariants as next
 use Rattle.link_walk.specs.declared.walk.Stage.TheVariants as stage
-use Rattle.link_walk.specs.WalkRun.{TakesAll, at}
+use Rattle.link_walk.specs.WalkRun.{TakesMessages, at}
 use Rattle.link_walk.proofs.walk.Walker.take_inner.Given as goal
 
 -- some inner segments were taken, and their data was told; nothing was read
@@ -15,8 +15,8 @@ invariant-segments g l =
       fits : IsTrue (may_read (feed_of l.input));
       items : l.self.message.items.items ≡ [];
       joiner : l.self.joiner ≡ l.fn.self.joiner;
-      unread : Unread look.input source_of l.fn.input l.input;
-      taken : TakesAll look (g.C.Consumer.telling l.fn.options) (g.C.Consumer.knows l.fn.options)
+      unread : ReadsNothing look.input source_of l.fn.input l.input;
+      taken : TakesMessages look (g.C.Consumer.telling l.fn.options) (g.C.Consumer.knows l.fn.options)
           (at l.fn.input l.fn.writers l.fn.self) (at l.input l.writers l.self)
           (next.Stage stage.Message);
     }

@@ -2,7 +2,7 @@ use Rattle.std.proofs.Common.{◌≡◌, ◌+◌, ◌<◌, ◌&&◌, ◌==◌, i
 use Rattle.link_wire.specs.Session.{source_of, left_of, data_in, IsSessionAt, PassedBytes}
 use Rattle.link_wire.specs.declared.session.Session.{Session}
 use Rattle.link_transfer.specs.declared.joiner.Turn.TheVariants as turn
-use Rattle.link_run.specs.{Next.next_of, Reading.{feed_of, Unread}, declared.input.Input.Input, Run.looks}
+use Rattle.link_run.specs.{Next.next_of, Reading.{feed_of, ReadsNothing}, declared.input.Input.Input, Run.looks}
 use Rattle.link_walk.specs.WalkRun.{Steps, at, stage_by}
 use Rattle.link_walk.specs.declared.walk.Stage.TheVariants as stage
 use Rattle.link_walk.proofs.{Heads.is_whole, Steps.{events_at, come_at, data_come, told_step}}
@@ -15,7 +15,7 @@ gave_data : (g : Over) (c : After-event g) (given : Input (Session g.row.R.Denot
     → ((history : List ℕ) → IsSessionAt g.R.InDevice.state (feed_of c.args.input.now) history
     → PassedBytes g.R.InDevice.state (feed_of c.args.input.now) (feed_of given) history
     (take c.args.size (data_in g.R.InDevice.state (feed_of c.args.input.now))))
-    → Unread g.R.InDevice.state source_of c.args.input.now given → 0 < c.args.size
+    → ReadsNothing g.R.InDevice.state source_of c.args.input.now given → 0 < c.args.size
     → Steps (looks g.R.InDevice.state g.W.OutDevice.state g.E.OutDevice.state)
     (g.C.Consumer.telling c.args.options.now) (g.C.Consumer.knows c.args.options.now) c.args.size
     (stage.Data c.args.last)

@@ -10,7 +10,7 @@ use Rattle.link_walk.specs.declared.walk.Stage.TheVariants as stage
 use Rattle.link_walk.proofs.Comes.{at_clean, told_at, head_refused}
 use Rattle.link_walk.proofs.Judgements.{accepted, refused_for}
 use Rattle.link_walk.proofs.Steps.{finished, refused, come_at, head_come, told_step, waits_after}
-use Rattle.link_walk.proofs.Texts.{by_reading, made_is, same_texts, told_stays}
+use Rattle.link_walk.proofs.Texts.{by_reading, told_of-reading, same_texts, told_stays}
 use Rattle.link_walk.proofs.walk.Walker.take_message.Goals as goal
 
 pub returns-in-Ok-None-clause-gives : goal.returns-in-Ok-None-clause-gives
@@ -33,7 +33,7 @@ pub returns-in-Err-clause-gives : goal.returns-in-Err-clause-gives
 returns-in-Err-clause-gives g c = record {
   holds = λ start history at walks.
       let telling = g.C.Consumer.telling c.args.options.now in
-      message_ended (by_reading telling) (made_is telling) (feed_of c.args.input.now)
+      message_ended (by_reading telling) (told_of-reading telling) (feed_of c.args.input.now)
       (feed_of c.next_message.new.self) c.args.writers.now c.next_message.new.writers c.end.new.self
       at walks.session_at
       (same_texts telling (reading_of history) walks.at.unrefused
