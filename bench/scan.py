@@ -2,7 +2,7 @@
 """Measures bundle scans and checks: `bench/scan.py [PROGRAM [ROUNDS]]`.
 
 Each line is a ratio of user and system times, over 64 MiB each. They are taken in turn in the same
-run. PROGRAM is by default the one that `rt run` leaves in crates/scan_bench/out.
+run. PROGRAM is by default the one that `rt run` leaves in crates/bench_scan/out.
 """
 
 import os
@@ -23,11 +23,11 @@ MEASURED = (
 
 
 def main():
-    built = Path(__file__).resolve().parent.parent / "crates/scan_bench/out/scan_bench"
+    built = Path(__file__).resolve().parent.parent / "crates/bench_scan/out/bench_scan"
     program = sys.argv[1] if len(sys.argv) > 1 else str(built)
     rounds = int(sys.argv[2]) if len(sys.argv) > 2 else 3
     if not os.access(program, os.X_OK):
-        sys.exit(f"{program} is no program: build it first, by 'rt run' in crates/scan_bench")
+        sys.exit(f"{program} is no program: build it first, by 'rt run' in crates/bench_scan")
     words = {word for _, one, other, _ in MEASURED for word in (one, other)}
     times = dict.fromkeys(words, 0.0)
     for _ in range(rounds):

@@ -1,8 +1,9 @@
 #!/usr/bin/env python3
 """Makes the pairs of recordings of faults/sessions and a table of them: `python3 sessions.py [FOLDER]`.
 
-For each rule of two sides of docs/FORMATS.md, a pair breaks it, and another one just keeps it. The pairs and their
-lines are those of tests/rows, where they were worked out by hand. Only python's standard library is used.
+For each rule of two sides of docs/FORMATS.md, a pair breaks it, and another one just keeps it. The
+pairs and their lines are those of tests/python/rows, where they were worked out by hand. Only
+python's standard library is used.
 """
 
 import sys
@@ -10,7 +11,7 @@ from pathlib import Path
 
 TOP = Path(__file__).resolve().parent.parent
 
-sys.path.insert(0, str(TOP / "tests"))
+sys.path.insert(0, str(TOP / "tests/python"))
 
 from rows.sessions import RULES
 

@@ -1,4 +1,4 @@
-// The code of docs/LIBRARIES.md for a page or a program in JavaScript. tests/browser runs it.
+// The code of docs/LIBRARIES.md for a page or a program in JavaScript. tests/gate/browser runs it.
 
 /** Returns the exit status and the text of `list`. `module` and `recording` are bytes. */
 async function listed(module, recording) {

@@ -1,9 +1,10 @@
 #!/usr/bin/python3
-"""Bundles made by an encoder that shares nothing with the crate: CBOR by cbor2, checks by crcmod (both from Debian).
+"""Bundles made by an encoder that shares nothing with the crate: CBOR by cbor2, checks by crcmod (both
+from Debian).
 
     apt-get install python3-cbor2 python3-crcmod
     ./make_bundles.py            writes bundles.txt: a name, what the bundle says, and its bytes in hexadecimal
-    ./make_bundles.py --rust     prints the table of crates/bundle_tests/src/verdicts/outside.rt
+    ./make_bundles.py --rust     prints the table of crates/tests_bundle/src/verdicts/outside.rt
 
 Each bundle is read again by cbor2 before it is written.
 """

@@ -1,6 +1,6 @@
 -- The rules that a good bundle breaks (RFC 9171 and RFC 9172), and how strictly each rule is meant.
 use Rattle.std.specs.Prelude.{ℕ, List, [], ◌∷◌, codes, filter_map, Option}
-use Rattle.link_rules.specs.declared.level.{Level.Level, Level.TheVariants.{Must, Should}}
+use Rattle.link_rules_shared.specs.declared.level.{Level.Level, Level.TheVariants.{Must, Should}}
 use Rattle.link_bundle_rules.specs.Extensions.{age, previous_node, previous_node_id, expired, hop_count, hops, block_type, block_data, data_not_read}
 use Rattle.link_bundle_rules.specs.Flags.{bundle_flags, anonymous, record_reports, block_reports, block_flags}
 use Rattle.link_bundle_rules.specs.Fragments.{fragment, whole_fragment}

@@ -1,7 +1,7 @@
 -- Rules of extension blocks (RFC 9171 sections 4.3.2 and 4.4), and of data that is not read.
 use Rattle.std.specs.Prelude.{ℕ, Bool, false, not, ◌&&◌, ◌||◌, ◌==◌, nat_le, nat_lt, Option, Some, None, option_map, if◌then◌else◌}
 use Rattle.std.specs.Option.{option_and_then}
-use Rattle.link_rules.specs.declared.level.Level.TheVariants.{Must}
+use Rattle.link_rules_shared.specs.declared.level.Level.TheVariants.{Must}
 use Rattle.link_bundle_rules.specs.Fragments.{level_in}
 use Rattle.link_bundle_rules.specs.Hidden.{is_hidden_block, first_readable}
 use Rattle.link_bundle_rules.specs.ReadBundle as block

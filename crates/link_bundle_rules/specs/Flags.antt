@@ -1,6 +1,6 @@
 -- Rules of flags (RFC 9171).
 use Rattle.std.specs.Prelude.{ℕ, Bool, not, ◌&&◌, ◌||◌, ◌==◌, bit_and, Option, Some, None, if◌then◌else◌}
-use Rattle.link_rules.specs.Flags.{has_other_flags}
+use Rattle.link_rules_shared.specs.Flags.{has_other_flags}
 use Rattle.link_bundle_rules.specs.ReadBundle.{ReadBundle, find_map}
 use Rattle.link_bundle_rules.specs.declared.block.BlockFacts.{BlockFacts}
 use Rattle.link_bundle_rules.specs.declared.primary.PrimaryFacts.{PrimaryFacts}

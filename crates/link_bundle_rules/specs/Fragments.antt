@@ -1,7 +1,7 @@
 -- Rules of fragments (RFC 9171 sections 3.1, 4.3.1, 5.8 and 5.9).
 use Rattle.std.specs.Prelude.{ℕ, ◌+◌, Bool, not, ◌&&◌, ◌||◌, ◌==◌, nat_lt, Option, Some, None, if◌then◌else◌}
 use Rattle.std.specs.Option.{option_and_then}
-use Rattle.link_rules.specs.declared.level.{Level.Level, Level.TheVariants.{Must, Should}}
+use Rattle.link_rules_shared.specs.declared.level.{Level.Level, Level.TheVariants.{Must, Should}}
 use Rattle.link_bundle_rules.specs.Flags.{no_fragments, is_set}
 use Rattle.link_bundle_rules.specs.Hidden.{is_hidden}
 use Rattle.link_bundle_rules.specs.ReadBundle.{ReadBundle, is_later}

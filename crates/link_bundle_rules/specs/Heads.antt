@@ -1,7 +1,7 @@
 -- The rule of long heads (RFC 9171 section 4.1).
 use Rattle.std.specs.Prelude.{ℕ, Bool, min, Option, Some, None, option_map, if◌then◌else◌}
 use Rattle.std.specs.Option.{option_and_then, option_or}
-use Rattle.link_rules.specs.declared.level.{Level.Level, Level.TheVariants.{Must, Should}}
+use Rattle.link_rules_shared.specs.declared.level.{Level.Level, Level.TheVariants.{Must, Should}}
 use Rattle.link_bundle_rules.specs.Hidden.{unless_hidden}
 use Rattle.link_bundle_rules.specs.ReadBundle.{ReadBundle, is_extension, is_security_block, find_map}
 use Rattle.link_bundle_rules.specs.declared.block.BlockFacts.{BlockFacts}

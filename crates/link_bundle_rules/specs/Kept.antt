@@ -2,7 +2,7 @@
 -- such a bundle breaks no rule.
 use Rattle.std.specs.Prelude.{ℕ, Bool, true, false, not, ◌&&◌, ◌||◌, ◌==◌, nat_lt, nat_le, is_none, List, length}
 use Rattle.std.specs.List.{list_all}
-use Rattle.link_rules.specs.Flags.{has_other_flags}
+use Rattle.link_rules_shared.specs.Flags.{has_other_flags}
 use Rattle.link_bundle_rules.specs.Extensions.{if_reserved}
 use Rattle.link_bundle_rules.specs.Flags.{bundle_flags_defined, record_flag, is_set, requests_reports, if_reporting, if_other_block_flags}
 use Rattle.link_bundle_rules.specs.ReadBundle as block

@@ -1,8 +1,8 @@
 -- Names of endpoints and of nodes (RFC 9171 sections 4.2.5.1.1, 4.2.5.1.2 and 4.2.5.2).
 use Rattle.std.specs.Prelude.{ℕ, Bool, false, not, ◌&&◌, ◌==◌, nat_eq, List, codes, Option, Some, None, if◌then◌else◌}
 use Rattle.std.specs.List.{starts_with}
-use Rattle.link_rules.specs.DtnNames.{is_dtn_name, demux_level, demux_of}
-use Rattle.link_rules.specs.declared.level.{Level.Level, Level.TheVariants.{Must, Should}}
+use Rattle.link_rules_shared.specs.DtnNames.{is_dtn_name, demux_level, demux_of}
+use Rattle.link_rules_shared.specs.declared.level.{Level.Level, Level.TheVariants.{Must, Should}}
 use Rattle.link_bundle_types.specs.declared.eid.Eid.{Eid}
 use Rattle.link_bundle_types.specs.declared.eid.Eid.TheVariants as eid
 use Rattle.link_bundle_blocks.specs.Blocks.{Primary}

@@ -6,9 +6,9 @@ use Rattle.link_bundle_types.specs.declared.eid.Eid.{Eid}
 use Rattle.link_bundle_types.specs.declared.eid.Eid.TheVariants as eid
 use Rattle.link_bundle_blocks.specs.Blocks.{Primary}
 use Rattle.link_bundle_blocks.specs.declared.block.CanonicalBlock.{CanonicalBlock}
-use Rattle.link_block_data.specs.BlockData.{BlockData, PreviousNode, BundleAge, HopCount, Security, StatusReport, OtherRecord}
-use Rattle.link_block_data.specs.declared.values.Report.{Report}
-use Rattle.link_block_data.specs.declared.values.DataFault.{DataFault}
+use Rattle.link_bundle_data.specs.BlockData.{BlockData, PreviousNode, BundleAge, HopCount, Security, StatusReport, OtherRecord}
+use Rattle.link_bundle_data.specs.declared.values.Report.{Report}
+use Rattle.link_bundle_data.specs.declared.values.DataFault.{DataFault}
 use Rattle.link_bundle_rules.specs.Names.{has_bad_name, bad_name, is_group, node_level}
 use Rattle.link_bundle_rules.specs.declared.block.BlockFacts.{BlockFacts}
 use Rattle.link_bundle_rules.specs.declared.block.DataFacts.{DataFacts}

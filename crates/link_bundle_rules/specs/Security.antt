@@ -1,7 +1,7 @@
 -- Rules of single security blocks (RFC 9171 section 4.3.1, RFC 9172).
 use Rattle.std.specs.Prelude.{ℕ, Bool, not, ◌&&◌, ◌||◌, ◌==◌, Option, Some, None, if◌then◌else◌}
 use Rattle.std.specs.List.{list_any}
-use Rattle.link_rules.specs.Flags.{has_other_flags}
+use Rattle.link_rules_shared.specs.Flags.{has_other_flags}
 use Rattle.link_bundle_rules.specs.Flags.{is_set}
 use Rattle.link_bundle_rules.specs.Fragments.{level_in}
 use Rattle.link_bundle_rules.specs.Hidden.{is_hidden}

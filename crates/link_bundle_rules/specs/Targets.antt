@@ -1,7 +1,7 @@
 -- Rules of security blocks (RFC 9172), and of their targets. They look at the first 64 targets.
 use Rattle.std.specs.Prelude.{ℕ, Bool, false, not, ◌&&◌, ◌==◌, List, [], ◌∷◌, ◌++◌, is_none, Option, Some, None, option_map, if◌then◌else◌}
 use Rattle.std.specs.{Bool.then_some, List.list_any, Option.option_or}
-use Rattle.link_rules.specs.declared.level.Level.TheVariants.{Must, Should}
+use Rattle.link_rules_shared.specs.declared.level.Level.TheVariants.{Must, Should}
 use Rattle.link_bundle_rules.specs.Hidden.{is_hidden_block}
 use Rattle.link_bundle_rules.specs.ReadBundle.{ReadBundle, block_integrity, block_confidentiality, find_map}
 use Rattle.link_bundle_rules.specs.declared.rule.BundleRule.{BundleRule}

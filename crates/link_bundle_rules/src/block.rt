@@ -2,16 +2,16 @@
 
 ghost use Rattle.std.specs.Prelude.{◌≡◌, ◌+◌, ◌^◌, ◌<◌, IfSome, option_map};
 ghost use Rattle.std.specs.List.{find};
-ghost use Rattle.link_block_data.specs.DataView.{viewed_data, viewed_result};
+ghost use Rattle.link_bundle_data.specs.DataView.{viewed_data, viewed_result};
 ghost use Rattle.link_bundle_rules.specs.ReadBundle.{block_facts, data_facts, said_facts, fault_facts, node_facts, report_facts, long_head_at, malformed_at, is_of_type, is_extension, is_security, is_security_block};
 ghost use Rattle.link_bundle_types.specs.EidView.{viewed_eid};
 
 use crate::names::{has_bad_name, node_level};
 use crate::primary::is_none_eid;
-use link_block_data::{DataFault, DataView, Report};
 use link_bundle_blocks::CanonicalBlock;
+use link_bundle_data::{DataFault, DataView, Report};
 use link_bundle_types::EidView;
-use link_rules::Level;
+use link_rules_shared::Level;
 
 /// The block type codes of the rules (RFC 9171 sections 4.3.2 and 4.4, RFC 9172 section 3).
 pub(crate) const PAYLOAD: u64 = 1;

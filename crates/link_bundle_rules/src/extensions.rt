@@ -12,7 +12,7 @@ use crate::block::{
 use crate::history::BundleHistory;
 use crate::rule::BundleRule;
 use crate::rules::first_found;
-use link_rules::Level;
+use link_rules_shared::Level;
 
 /// A hop limit and a hop count (RFC 9171 section 4.4.3).
 #[derive(Clone, Copy, Debug, PartialEq, Eq)]

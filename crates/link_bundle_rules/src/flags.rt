@@ -5,7 +5,7 @@ ghost use Rattle.link_bundle_rules.specs.Flags.{is_set, requests_reports, if_rep
 
 use crate::block::BlockFacts;
 use crate::rule::BundleRule;
-use link_rules::has_other_flags;
+use link_rules_shared::has_other_flags;
 
 /// The payload is an administrative record.
 pub(crate) const RECORD: u64 = 0x00_0002;

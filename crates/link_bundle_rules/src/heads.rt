@@ -7,7 +7,7 @@ use crate::block::{BlockFacts, is_extension, is_security_block};
 use crate::history::BundleHistory;
 use crate::rule::BundleRule;
 use crate::rules::first_found;
-use link_rules::Level;
+use link_rules_shared::Level;
 
 /// The least of two offsets, as far as they are there.
 fn least(one: Option<u64>, other: Option<u64>) -> Option<u64>

@@ -22,7 +22,7 @@ pub struct BundleHistory {
 impl BundleHistory {
     ghost use Rattle.std.specs.Prelude.{◌≡◌, ◌^◌, ◌<◌, [], ◌∷◌, ◌++◌, IfSome, None, option_map};
     ghost use Rattle.arrayvec.specs.ArrayVec.{array_vec_len};
-    ghost use Rattle.link_block_data.specs.DataView.{viewed_result};
+    ghost use Rattle.link_bundle_data.specs.DataView.{viewed_result};
     ghost use Rattle.link_bundle_blocks.specs.Blocks.{viewed_primary};
     ghost use Rattle.link_bundle_rules.specs.History.{bundle_of};
     ghost use Rattle.link_bundle_rules.specs.ReadBundle.{begun, security_facts, with_block, malformed_at, long_head_at};

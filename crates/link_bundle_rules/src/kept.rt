@@ -10,7 +10,7 @@ use crate::flags::{
 };
 use crate::history::BundleHistory;
 use crate::primary::PrimaryFacts;
-use link_rules::has_other_flags;
+use link_rules_shared::has_other_flags;
 
 /// Whether no rule of the data of blocks can be broken by this data.
 #[inline(always)]

@@ -34,6 +34,6 @@ mod targets;
 
 pub use block::ReadBlockView;
 pub use history::BundleHistory;
-pub use link_rules::Level;
+pub use link_rules_shared::Level;
 pub use rule::{BundleRule, Endpoint};
 pub use rules::BrokenBundleRules;

@@ -8,7 +8,7 @@ ghost use Rattle.link_bundle_rules.specs.Names.{has_bad_name, bad_name, dtn_leve
 use crate::rule::Endpoint;
 use link_bundle_blocks::PrimaryBlock;
 use link_bundle_types::EidView;
-use link_rules::{Level, demux_level, demux_of, is_dtn_name};
+use link_rules_shared::{Level, demux_level, demux_of, is_dtn_name};
 
 /// Whether an endpoint ID is a text of scheme dtn, and no dtn name.
 pub(crate) fn has_bad_name(eid: &EidView<'_>) -> bool

@@ -9,7 +9,7 @@ use crate::names::{bad_name, is_group};
 use crate::rule::Endpoint;
 use link_bundle_blocks::PrimaryBlock;
 use link_bundle_types::EidView;
-use link_rules::Level;
+use link_rules_shared::Level;
 
 /// What the rules need of the primary block.
 #[derive(Clone, Copy, Debug)]
@@ -55,7 +55,7 @@ impl PrimaryFacts {
     ghost use Rattle.link_bundle_blocks.specs.Blocks.{viewed_primary};
     ghost use Rattle.link_bundle_rules.specs.Flags.{forbids_reports};
     ghost use Rattle.link_bundle_rules.specs.ReadBundle.{is_later, primary_facts};
-    ghost use Rattle.link_rules.specs.declared.level.Level.TheVariants.{Must, Should};
+    ghost use Rattle.link_rules_shared.specs.declared.level.Level.TheVariants.{Must, Should};
 
     /// What the rules need of this primary block.
     pub(crate) fn of(primary: &PrimaryBlock<'_>) -> PrimaryFacts

@@ -1,7 +1,7 @@
 //! The rules that can be broken, with what a line says of each.
 
-use link_block_data::Integer;
-use link_rules::{Level, NAME_MAX};
+use link_bundle_data::Integer;
+use link_rules_shared::{Level, NAME_MAX};
 
 /// An endpoint ID of a bundle.
 #[derive(Clone, Copy, Debug, PartialEq, Eq)]

@@ -12,7 +12,7 @@ use crate::flags::{
 use crate::history::BundleHistory;
 use crate::rule::BundleRule;
 use arrayvec::ArrayVec;
-use link_rules::{broken_of, has_other_flags};
+use link_rules_shared::{broken_of, has_other_flags};
 
 /// The number of rules of a bundle.
 const RULES: usize = 36;

@@ -3,7 +3,7 @@
 
 ghost use Rattle.std.specs.Prelude.{◌≡◌, ◌==◌, option_map, take, None};
 ghost use Rattle.std.specs.List.{list_any};
-ghost use Rattle.link_block_data.specs.DataView.{viewed_result};
+ghost use Rattle.link_bundle_data.specs.DataView.{viewed_result};
 ghost use Rattle.link_bundle_rules.specs.Hidden.{has_known_targets, may_hide};
 ghost use Rattle.link_bundle_rules.specs.History.{bundle_of};
 ghost use Rattle.link_bundle_rules.specs.ReadBundle.{security_facts};
@@ -16,9 +16,9 @@ use crate::hidden::PAYLOAD_NUMBER;
 use crate::history::BundleHistory;
 use crate::rule::BundleRule;
 use arrayvec::ArrayVec;
-use link_block_data::{DataView, Integer, TARGETS_KEPT};
 use link_bundle_blocks::CanonicalBlock;
-use link_rules::has_other_flags;
+use link_bundle_data::{DataView, Integer, TARGETS_KEPT};
+use link_rules_shared::has_other_flags;
 
 /// The flags of a security context that are defined (RFC 9172 section 3.6).
 const CONTEXT_FLAGS: u64 = 0x01;

@@ -8,7 +8,7 @@ use crate::history::BundleHistory;
 use crate::rule::BundleRule;
 use crate::rules::first_found;
 use crate::security::{SecurityFacts, has_number};
-use link_rules::Level;
+use link_rules_shared::Level;
 
 /// The first number that is named before.
 fn first_repeated(targets: &[u64]) -> Option<u64>

@@ -1,19 +1,19 @@
 -- The tools by their options: when a tool is ready to run, and what a whole run does.
 use Rattle.std.specs.Prelude.{Option, Some, None, Ok, Err, IfOk, ⊤}
-use Rattle.link_options.specs.declared.options.Options.{Options}
-use Rattle.link_options.specs.declared.options.Options.TheVariants as chosen
+use Rattle.link_tool_options.specs.declared.options.Options.{Options}
+use Rattle.link_tool_options.specs.declared.options.Options.TheVariants as chosen
 use Rattle.link_run.specs.Run.{Tool, Looks, Devices}
 use Rattle.link_run.specs.WholeRun.{AfterRun}
 use Rattle.link_run.specs.declared.run.RunEnd.{RunEnd}
-use Rattle.link_list.specs.Listing.{list_tool}
-use Rattle.link_unpack.specs.Unpacking.{unpack_tool}
-use Rattle.link_blocks.specs.Showing.{blocks_tool}
-use Rattle.link_blocks.specs.Bundles.{bundle_blocks_tool}
-use Rattle.link_check.specs.Checking.{check_tool}
-use Rattle.link_check.specs.Bundles.{bundle_check_tool}
-use Rattle.link_pack.specs.Packing.{pack_tool}
-use Rattle.link_pack.specs.Packer.{IsCutterFor}
-use Rattle.link_pack.specs.PackRun.{LacksMemory}
+use Rattle.link_tool_list.specs.Listing.{list_tool}
+use Rattle.link_tool_unpack.specs.Unpacking.{unpack_tool}
+use Rattle.link_tool_blocks.specs.Showing.{blocks_tool}
+use Rattle.link_tool_blocks.specs.Bundles.{bundle_blocks_tool}
+use Rattle.link_tool_check.specs.Checking.{check_tool}
+use Rattle.link_tool_check.specs.Bundles.{bundle_check_tool}
+use Rattle.link_tool_pack.specs.Packing.{pack_tool}
+use Rattle.link_tool_pack.specs.Packer.{IsCutterFor}
+use Rattle.link_tool_pack.specs.PackRun.{LacksMemory}
 use Rattle.link_tools.specs.declared.options.Job.{Job}
 use Rattle.link_tools.specs.declared.options.Job.TheVariants as job
 

@@ -16,13 +16,15 @@ mod exit;
 mod options;
 
 pub use exit::run_exit;
-pub use link_blocks::{
+pub use link_run::{Progress, Ran, Run, RunEnd, Status};
+pub use link_tool_blocks::{
     BlocksRun, BundleBlocksRun, blocks, blocks_run, bundle_blocks, bundle_blocks_run,
 };
-pub use link_check::{BundleCheckRun, CheckRun, bundle_check, bundle_check_run, check, check_run};
-pub use link_list::{ListRun, list, list_run};
-pub use link_options::{BlockOptions, CheckOptions, Options, PackOptions, PeerLimits, Wanted};
-pub use link_pack::{PackRun, cutter_for, pack, pack_run};
-pub use link_run::{Progress, Ran, Run, RunEnd, Status};
-pub use link_unpack::{UnpackRun, unpack, unpack_run};
+pub use link_tool_check::{
+    BundleCheckRun, CheckRun, bundle_check, bundle_check_run, check, check_run,
+};
+pub use link_tool_list::{ListRun, list, list_run};
+pub use link_tool_options::{BlockOptions, CheckOptions, Options, PackOptions, PeerLimits, Wanted};
+pub use link_tool_pack::{PackRun, cutter_for, pack, pack_run};
+pub use link_tool_unpack::{UnpackRun, unpack, unpack_run};
 pub use options::{Job, run_tool};

@@ -4,14 +4,14 @@ ghost use Rattle.std.specs.Prelude.{◌≡◌};
 ghost use Rattle.link_run.specs.Run.{devices, looks, NoneFailed};
 ghost use Rattle.link_tools.specs.Options.{AfterJob, IsReady, options_of};
 
-use link_blocks::{blocks, bundle_blocks};
-use link_check::{bundle_check, check};
-use link_list::list;
-use link_options::{BlockOptions, CheckOptions, Options, PackOptions, Wanted};
-use link_pack::{cutter_for, pack};
 use link_run::RunEnd;
+use link_tool_blocks::{blocks, bundle_blocks};
+use link_tool_check::{bundle_check, check};
+use link_tool_list::list;
+use link_tool_options::{BlockOptions, CheckOptions, Options, PackOptions, Wanted};
+use link_tool_pack::{cutter_for, pack};
+use link_tool_unpack::unpack;
 use link_transfer::Cutter;
-use link_unpack::unpack;
 use link_wire::{InDevice, OutDevice};
 use std::alloc::{AllocError, Global};
 

@@ -3,9 +3,9 @@ use Rattle.std.specs.Prelude.{◌≡◌, ℕ, Bool, true, false, not, option_map
 use Rattle.std.specs.Str.{bytes_eq}
 use Rattle.link_wire.specs.declared.IoFault.{IoFault}
 use Rattle.link_wire.specs.declared.IoFault.TheVariants as io
-use Rattle.link_command.specs.Usage.{IsFaultOf, usage_status, usage_text}
-use Rattle.link_command.specs.Invoked.{IsInvoked}
-use Rattle.link_command.specs.declared.invocation.Invocation.{Invocation}
+use Rattle.link_tools_command.specs.Usage.{IsFaultOf, usage_status, usage_text}
+use Rattle.link_tools_command.specs.Invoked.{IsInvoked}
+use Rattle.link_tools_command.specs.declared.invocation.Invocation.{Invocation}
 use Rattle.link_tools.specs.Exit.{status_of, exit_text}
 use Rattle.link_tools.specs.Options.{options_of}
 use Rattle.link_tools.specs.declared.options.Job.{Job}

@@ -3,8 +3,8 @@
 ghost use Rattle.std.specs.Prelude.{◌≡◌};
 ghost use Rattle.tcpclkit.specs.Ending.{answer_after_flush, ending_status, ending_text, status_after};
 
-use link_command::{UsageFault, usage_exit};
 use link_tools::{Status, run_exit};
+use link_tools_command::{UsageFault, usage_exit};
 use link_wire::IoFault;
 
 /// A way in which the program ends.

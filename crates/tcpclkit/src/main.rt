@@ -20,8 +20,8 @@ ghost use Rattle.tcpclkit.specs.Ending.{AskFor, MayEnd, names_a_file};
 
 use either::{Either, Left, Right};
 use ending::{Ending, ending_exit, exit_status};
-use link_command::{Invocation, UsageFault, options};
 use link_tools::Job;
+use link_tools_command::{Invocation, UsageFault, options};
 use link_wire::IoFault;
 use std::fs::File;
 use std::io::{ErrorKind, Stdin};

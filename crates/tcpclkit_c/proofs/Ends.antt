@@ -11,8 +11,8 @@ use Rattle.link_bundle_blocks.proofs.{Lengths.TrailingLasts-holds, Payloads.{Pay
 use Rattle.link_bundle.specs.{Scan.{HasScanned, HasJudged}, Stages.takes_bytes}
 use Rattle.link_bundle.specs.declared.scan.BundleScan.{BundleScan}
 use Rattle.link_bundle.proofs.Verdicts.{state_of-seen}
-use Rattle.link_numbers.specs.Bundle.{with_span, ReturnsVerdict}
-use Rattle.link_numbers.specs.Fault.{bundle_fault}
+use Rattle.link_ffi_numbers.specs.Bundle.{with_span, ReturnsVerdict}
+use Rattle.link_ffi_numbers.specs.Fault.{bundle_fault}
 
 -- ---- bytes after a fault
 

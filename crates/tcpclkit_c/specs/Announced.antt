@@ -6,8 +6,8 @@ use Rattle.link_wire.specs.declared.message.Item.{Item}
 use Rattle.link_transfer.specs.Announced.{announced_of}
 use Rattle.link_transfer.specs.declared.announcement.Announced.{Announced}
 use Rattle.link_transfer.specs.declared.announcement.Announced.TheVariants.{Absent, Total, Malformed}
-use Rattle.link_numbers.specs.Recording.{has_list_at}
-use Rattle.link_numbers.specs.declared.recording.Message.{Message}
+use Rattle.link_ffi_numbers.specs.Recording.{has_list_at}
+use Rattle.link_ffi_numbers.specs.declared.recording.Message.{Message}
 use Rattle.tcpclkit_c.specs.declared.announced.AnnouncedNumbers.{AnnouncedNumbers}
 
 -- whether the message is a segment that has its list of items among `size` bytes

@@ -6,11 +6,11 @@ use Rattle.link_bundle_types.specs.declared.fault.State.{State}
 use Rattle.link_bundle_types.specs.declared.info.BundleInfo.{BundleInfo}
 use Rattle.link_bundle_blocks.specs.Bundle.{state_of}
 use Rattle.link_bundle_blocks.specs.Primary.{PrimaryFields}
-use Rattle.link_numbers.specs.Bundle.{state_status, verdict_shown, eid_or_none, name_of, name_or_none, primary_shown, bundle_shown}
-use Rattle.link_numbers.specs.declared.bundle.Bundle.{Bundle}
-use Rattle.link_numbers.specs.declared.bundle.EidNumbers.{EidNumbers}
-use Rattle.link_numbers.specs.declared.bundle.Verdict.{Verdict}
-use Rattle.link_slices.specs.Slice.{HoldsPrefix, LeavesRest}
+use Rattle.link_ffi_numbers.specs.Bundle.{state_status, verdict_shown, eid_or_none, name_of, name_or_none, primary_shown, bundle_shown}
+use Rattle.link_ffi_numbers.specs.declared.bundle.Bundle.{Bundle}
+use Rattle.link_ffi_numbers.specs.declared.bundle.EidNumbers.{EidNumbers}
+use Rattle.link_ffi_numbers.specs.declared.bundle.Verdict.{Verdict}
+use Rattle.link_ffi_slices.specs.Slice.{HoldsPrefix, LeavesRest}
 
 -- the three names, or the slices for them before or after a call
 pub record Names : Type 0 where

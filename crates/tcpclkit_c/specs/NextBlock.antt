@@ -5,8 +5,8 @@ use Rattle.link_bundle_blocks.specs.Blocks.{Block}
 use Rattle.link_bundle_blocks.specs.Bundle.{bundle_goes, blocks_in}
 use Rattle.link_bundle.specs.Scan.{HasScanned, ending}
 use Rattle.link_bundle.specs.declared.scan.BundleScan.{BundleScan}
-use Rattle.link_numbers.specs.Block.{no_block, first_shown}
-use Rattle.link_numbers.specs.declared.block.BlockNumbers.{BlockNumbers}
+use Rattle.link_ffi_numbers.specs.Block.{no_block, first_shown}
+use Rattle.link_ffi_numbers.specs.declared.block.BlockNumbers.{BlockNumbers}
 use Rattle.tcpclkit_c.specs.Scan.{IsMarkedScanAt, mark, has_room, status_after}
 use Rattle.tcpclkit_c.specs.declared.scan.MarkedScan.{MarkedScan}
 

@@ -7,13 +7,13 @@ use Rattle.link_cbor.specs.Pieces.{taken}
 use Rattle.link_bundle_blocks.specs.Bundle.{verdict, payload_seen, state_of, bundle_goes, cut_block_in}
 use Rattle.link_bundle.specs.Scan.{HasScanned}
 use Rattle.link_bundle_blocks.specs.PrimaryFields.{primary_fields}
-use Rattle.link_numbers.specs.Block.{no_block, cut_shown}
-use Rattle.link_numbers.specs.Bundle.{state_status, ReturnsVerdict}
-use Rattle.link_numbers.specs.declared.block.BlockNumbers.{BlockNumbers}
+use Rattle.link_ffi_numbers.specs.Block.{no_block, cut_shown}
+use Rattle.link_ffi_numbers.specs.Bundle.{state_status, ReturnsVerdict}
+use Rattle.link_ffi_numbers.specs.declared.block.BlockNumbers.{BlockNumbers}
 use Rattle.tcpclkit_c.specs.Bundle.{Names, ReturnsInfo}
 use Rattle.tcpclkit_c.specs.contracts.scan.MarkedScan.{the_row}
-use Rattle.link_numbers.specs.declared.bundle.Bundle.{Bundle}
-use Rattle.link_numbers.specs.declared.bundle.Verdict.{Verdict}
+use Rattle.link_ffi_numbers.specs.declared.bundle.Bundle.{Bundle}
+use Rattle.link_ffi_numbers.specs.declared.bundle.Verdict.{Verdict}
 use Rattle.tcpclkit_c.specs.declared.scan.MarkedScan.{MarkedScan}
 
 -- the first word of each scan

@@ -1,16 +1,16 @@
 -- The texts of faults, of endpoint IDs, and of the data of blocks.
 use Rattle.std.specs.Prelude.{◌≡◌, ℕ, ◌-◌, ◌^◌, ◌==◌, ◌&&◌, Bool, nat_le, min, List, ◌++◌, length, drop, codes, Option, Some, None, option_map, if◌then◌else◌}
-use Rattle.link_block_data.specs.BlockData.{data_of}
-use Rattle.link_block_report.specs.Kinds.{kind_of}
-use Rattle.link_block_report.specs.Words.{words_text}
+use Rattle.link_bundle_data.specs.BlockData.{data_of}
+use Rattle.link_report_blocks.specs.Kinds.{kind_of}
+use Rattle.link_report_blocks.specs.Words.{words_text}
 use Rattle.link_bundle_types.specs.declared.eid.Eid.{Eid}
 use Rattle.link_report.specs.BundleFault.{code_text, bundle_fault_text}
 use Rattle.link_report.specs.Eid.{eid_text}
 use Rattle.link_report.specs.Fault.{wire_text, order_text}
-use Rattle.link_numbers.specs.declared.block.BlockNumbers.{BlockNumbers}
-use Rattle.link_numbers.specs.declared.named.Named.{Named}
-use Rattle.link_numbers.specs.declared.named.Named.TheVariants as named
-use Rattle.link_slices.specs.Slice.{HoldsPrefix, LeavesRest}
+use Rattle.link_ffi_numbers.specs.declared.block.BlockNumbers.{BlockNumbers}
+use Rattle.link_ffi_numbers.specs.declared.named.Named.{Named}
+use Rattle.link_ffi_numbers.specs.declared.named.Named.TheVariants as named
+use Rattle.link_ffi_slices.specs.Slice.{HoldsPrefix, LeavesRest}
 
 -- the words of a fault; those of a bundle begin with its code
 abbrev pub named_text : Named → List ℕ

@@ -5,8 +5,8 @@ ghost use Rattle.link_wire.specs.Message.{items_of};
 ghost use Rattle.link_wire.specs.declared.message.ListOf.TheVariants.{Transfer};
 ghost use Rattle.tcpclkit_c.specs.Announced.{may_announce, announced_shown, announced_part, ReturnsAnnounced};
 
-use link_numbers::recording::{Message, has_list_at};
-use link_numbers::status::{OK, RANGE};
+use link_ffi_numbers::recording::{Message, has_list_at};
+use link_ffi_numbers::status::{OK, RANGE};
 use link_transfer::{Announced, announced};
 use link_wire::{Items, ListOf, item_in};
 

@@ -6,17 +6,17 @@ ghost use Rattle.link_bundle_blocks.specs.Bundle.{verdict, payload_seen, state_o
 ghost use Rattle.link_bundle.specs.Scan.{HasJudged};
 ghost use Rattle.link_bundle_blocks.specs.PrimaryFields.{primary_fields};
 ghost use Rattle.link_bundle_blocks.specs.PrimaryView.{viewed_fields};
-ghost use Rattle.link_numbers.specs.Bundle.{state_status, verdict_shown, ReturnsVerdict};
+ghost use Rattle.link_ffi_numbers.specs.Bundle.{state_status, verdict_shown, ReturnsVerdict};
 ghost use Rattle.tcpclkit_c.specs.Bundle.{three_names, ReturnsNames, names_status, ReturnsBundle, ReturnsStop, ReturnsInfo};
 
 use link_bundle::{BundleScan, BundleView, State};
 use link_bundle_blocks::PrimaryView;
-use link_numbers::bundle::{
+use link_ffi_numbers::bundle::{
     Bundle, Verdict, bundle_shown, fault_of, name_of, name_or_none, primary_shown, state_status,
     with_span,
 };
-use link_numbers::status::{OK, TOO_SMALL};
-use link_slices::copy_front;
+use link_ffi_numbers::status::{OK, TOO_SMALL};
+use link_ffi_slices::copy_front;
 
 /// What a scan has found of the bytes that it has judged.
 fn found(scan: &BundleScan) -> Verdict

@@ -1,7 +1,7 @@
 //! The C library: what a program in C calls, over the libraries of this repository.
 //!
 //! `include/tcpclkit.h` declares every export and says what its caller owes. An export takes
-//! slices, numbers and the structs of numbers of `link_numbers`. It tests what a caller may get
+//! slices, numbers and the structs of numbers of `link_ffi_numbers`. It tests what a caller may get
 //! wrong, calls one proved function, and writes the answer as numbers. Its contract has the words
 //! of that function's contract.
 //!

@@ -4,11 +4,11 @@ ghost use Rattle.std.specs.Prelude.{◌≡◌, ◌<◌, false, List, ◌++◌, �
 ghost use Rattle.link_wire.specs.declared.message.Message.{Message};
 ghost use Rattle.link_transfer.specs.Event.{event_of};
 ghost use Rattle.link_transfer.specs.Order.{judged_message, refusal, effect_of, with_taken};
-ghost use Rattle.link_numbers.specs.Order.{HasNumbers, IsOrderAt, is_in_range, ReturnsTurn, ReturnsTaken};
+ghost use Rattle.link_ffi_numbers.specs.Order.{HasNumbers, IsOrderAt, is_in_range, ReturnsTurn, ReturnsTaken};
 
-use link_numbers::order::{Order, Turn, event_by, is_in_range, judge, new_order, take};
-use link_numbers::recording;
-use link_numbers::status::{OK, RANGE};
+use link_ffi_numbers::order::{Order, Turn, event_by, is_in_range, judge, new_order, take};
+use link_ffi_numbers::recording;
+use link_ffi_numbers::status::{OK, RANGE};
 
 /// Makes the order of a session before its first message.
 #[unsafe(no_mangle)]

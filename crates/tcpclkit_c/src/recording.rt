@@ -2,13 +2,13 @@
 
 ghost use Rattle.std.specs.Prelude.{◌≡◌, ◌-◌, ◌<◌, true, false, length, drop};
 ghost use Rattle.link_wire.specs.Message.{contact_at, message_at};
-ghost use Rattle.link_numbers.specs.Recording.{ReturnsContact, ReturnsMessage, list_of, items_end, has_list_at, item_part, ReturnsItem};
+ghost use Rattle.link_ffi_numbers.specs.Recording.{ReturnsContact, ReturnsMessage, list_of, items_end, has_list_at, item_part, ReturnsItem};
 
-use link_numbers::fault::{Fault, wire_status};
-use link_numbers::recording::{
+use link_ffi_numbers::fault::{Fault, wire_status};
+use link_ffi_numbers::recording::{
     Contact, Item, Message, has_list_at, item_shown, list_left, no_item, nothing, shown,
 };
-use link_numbers::status::{END, OK, RANGE};
+use link_ffi_numbers::status::{END, OK, RANGE};
 use link_wire::{contact_in, item_in, message_in};
 
 /// Reads the contact header that the bytes begin with.

@@ -9,7 +9,7 @@ ghost use denote.RawPtr.{room_at};
 ghost use Rattle.link_bundle_blocks.specs.Bundle.{verdict, payload_seen, state_of, bundle_goes};
 ghost use Rattle.link_bundle.specs.Scan.{HasScanned, scan_size};
 ghost use Rattle.link_bundle_blocks.specs.PrimaryFields.{primary_fields};
-ghost use Rattle.link_numbers.specs.Bundle.{verdict_shown, state_status, ReturnsVerdict};
+ghost use Rattle.link_ffi_numbers.specs.Bundle.{verdict_shown, state_status, ReturnsVerdict};
 ghost use Rattle.tcpclkit_c.specs.Bundle.{three_names, ReturnsInfo};
 ghost use Rattle.tcpclkit_c.specs.Scan.{IsMarkedScanAt, Reading, ReadsScan, HoldsScan, mark, has_room, is_late, fed, fed_status, may_end, EndsScan, ReturnsCut, FeedsMarked, JudgesMarked, EndsMarked, CutsMarked, DescribesMarked};
 ghost use Rattle.tcpclkit_c.specs.NextBlock.{TakesBlock, fed_block, fed_block_status, added_block, FeedsMarkedBlock};
@@ -18,10 +18,10 @@ ghost use Rattle.tcpclkit_c.specs.contracts.scan.MarkedScan.{the_row};
 use crate::bundle::{give_info, give_verdict};
 use link_bundle::{BundleFault, BundleScan};
 use link_cbor::Piecewise;
-use link_numbers::block::{BlockNumbers, block_numbers, cut_numbers};
-use link_numbers::bundle::{Bundle, Verdict, state_status, with_span};
-use link_numbers::fault::Fault;
-use link_numbers::status::{END, FAULT, OK, RANGE, SCAN_ENDED};
+use link_ffi_numbers::block::{BlockNumbers, block_numbers, cut_numbers};
+use link_ffi_numbers::bundle::{Bundle, Verdict, state_status, with_span};
+use link_ffi_numbers::fault::Fault;
+use link_ffi_numbers::status::{END, FAULT, OK, RANGE, SCAN_ENDED};
 use link_wire::INPUT_LIMIT;
 
 /// The first word of each scan. It was drawn at random, so other memory hardly begins with it.

@@ -1,20 +1,20 @@
 //! Exports that write the texts of faults, of endpoint IDs, and of the data of blocks.
 
 ghost use Rattle.std.specs.Prelude.{◌≡◌, ◌≤◌, ◌-◌, ◌^◌, ◌++◌, true, false, [], length, take, drop, codes, option_map};
-ghost use Rattle.link_block_data.specs.BlockData.{data_of};
-ghost use Rattle.link_block_report.specs.Words.{words_text};
-ghost use Rattle.link_numbers.specs.Bundle.{eid_by};
-ghost use Rattle.link_numbers.specs.Named.{named_by};
+ghost use Rattle.link_bundle_data.specs.BlockData.{data_of};
+ghost use Rattle.link_report_blocks.specs.Words.{words_text};
+ghost use Rattle.link_ffi_numbers.specs.Bundle.{eid_by};
+ghost use Rattle.link_ffi_numbers.specs.Named.{named_by};
 ghost use Rattle.tcpclkit_c.specs.Text.{named_text, option_text, option_eid_text, is_data_of, data_words, HoldsText, ReturnsText};
 
-use link_block_data::{DataKind, DataScan};
-use link_block_report::{WORDS_MAX, data_kind, write_words};
-use link_numbers::block::BlockNumbers;
-use link_numbers::bundle::{EidNumbers, eid_by};
-use link_numbers::named::{Named, named_by};
-use link_numbers::status::{OK, RANGE, TOO_SMALL};
+use link_bundle_data::{DataKind, DataScan};
+use link_ffi_numbers::block::BlockNumbers;
+use link_ffi_numbers::bundle::{EidNumbers, eid_by};
+use link_ffi_numbers::named::{Named, named_by};
+use link_ffi_numbers::status::{OK, RANGE, TOO_SMALL};
+use link_ffi_slices::copy_front;
 use link_report::{Line, code_of, order_words, put_eid, put_text, put_wire, words_of};
-use link_slices::copy_front;
+use link_report_blocks::{WORDS_MAX, data_kind, write_words};
 
 /// Writes the words of a fault into an empty line.
 fn put_named(line: &mut Line, named: Named)

@@ -1,4 +1,4 @@
-use Rattle.link_numbers.proofs.Orders.{same_event}
+use Rattle.link_ffi_numbers.proofs.Orders.{same_event}
 use Rattle.tcpclkit_c.proofs.order.tcpclkit_raw_take_message.Goals as goal
 
 pub returns-clause-after : goal.returns-clause-after

@@ -5,7 +5,7 @@ use Rattle.tcpclkit_c.specs.declared.scan.MarkedScan.{MarkedScan}
 use Rattle.tcpclkit_c.specs.contracts.scan.MarkedScan.{the_row as R}
 use Rattle.tcpclkit_c.specs.{Bundle.{Names, three_names}, Scan.{ReadsScan, DescribesMarked}}
 use Rattle.tcpclkit_c.proofs.Lending.{lent_scan, lends_scan, held_scan}
-use Rattle.link_numbers.specs.contracts.bundle.Bundle.{the_row as B}
+use Rattle.link_ffi_numbers.specs.contracts.bundle.Bundle.{the_row as B}
 use Rattle.tcpclkit_c.specs.contracts.scan.tcpclkit_raw_describe_scan as f
 use Rattle.tcpclkit_c.specs.contracts.scan.describe as g
 use Rattle.tcpclkit_c.proofs.scan.{tcpclkit_raw_describe_scan.Statement.statement, describe.Met.met}

@@ -4,7 +4,7 @@ use prog.Wp.{WpFn}
 use Rattle.tcpclkit_c.specs.{declared.scan.MarkedScan.MarkedScan, Scan.{ReadsScan, EndsMarked}}
 use Rattle.tcpclkit_c.specs.contracts.scan.MarkedScan.{the_row as R}
 use Rattle.tcpclkit_c.proofs.Lending.{lent_scan, lends_scan, held_scan}
-use Rattle.link_numbers.specs.contracts.bundle.Verdict.{the_row as V}
+use Rattle.link_ffi_numbers.specs.contracts.bundle.Verdict.{the_row as V}
 use Rattle.tcpclkit_c.specs.contracts.scan.tcpclkit_raw_end_scan as f
 use Rattle.tcpclkit_c.specs.contracts.scan.end as g
 use Rattle.tcpclkit_c.proofs.scan.{tcpclkit_raw_end_scan.Statement.statement, end.Met.met}

@@ -4,7 +4,7 @@ use prog.Wp.{WpFn}
 use Rattle.tcpclkit_c.specs.{declared.scan.MarkedScan.MarkedScan, Scan.{ReadsScan, CutsMarked}}
 use Rattle.tcpclkit_c.specs.contracts.scan.MarkedScan.{the_row as R}
 use Rattle.tcpclkit_c.proofs.Lending.{lent_scan, lends_scan, held_scan}
-use Rattle.link_numbers.specs.contracts.block.BlockNumbers.{the_row as B}
+use Rattle.link_ffi_numbers.specs.contracts.block.BlockNumbers.{the_row as B}
 use Rattle.tcpclkit_c.specs.contracts.scan.tcpclkit_raw_judge_block as f
 use Rattle.tcpclkit_c.specs.contracts.scan.judge_block as g
 use Rattle.tcpclkit_c.proofs.scan.{tcpclkit_raw_judge_block.Statement.statement, judge_block.Met.met}

@@ -4,7 +4,7 @@ use prog.Wp.{WpFn}
 use Rattle.tcpclkit_c.specs.declared.scan.MarkedScan.{MarkedScan}
 use Rattle.tcpclkit_c.specs.{contracts.scan.MarkedScan.the_row as R, Scan.HoldsScan}
 use Rattle.tcpclkit_c.specs.NextBlock.{FeedsMarkedBlock, fed_block}
-use Rattle.link_numbers.specs.contracts.block.BlockNumbers.{the_row as B}
+use Rattle.link_ffi_numbers.specs.contracts.block.BlockNumbers.{the_row as B}
 use Rattle.tcpclkit_c.specs.contracts.scan.tcpclkit_raw_next_block as f
 use Rattle.tcpclkit_c.specs.contracts.scan.next_block as g
 use Rattle.tcpclkit_c.proofs.scan.{tcpclkit_raw_next_block.Statement.statement, next_block.Met.met}

@@ -1,5 +1,5 @@
 use Rattle.std.proofs.Common.{[], Some, refl, ap, ◌∙◌}
-use Rattle.link_block_report.specs.Words.{words_text}
+use Rattle.link_report_blocks.specs.Words.{words_text}
 use Rattle.tcpclkit_c.proofs.text.write_data.Goals as goal
 
 pub returns-in-None-clause-text : goal.returns-in-None-clause-text

@@ -1,5 +1,0 @@
-use Rattle.link_wire.specs.Message.{HasTotals}
-use Rattle.check_tests.proofs.message_rules.judging.items_of.Given as goal
-
-abbrev pub invariant-loop-of : goal.invariant-loop-of
-invariant-loop-of l = HasTotals l.items.items

@@ -1,5 +1,0 @@
-use Rattle.link_transfer.specs.Cutter.{held_size}
-use Rattle.cut_bench.proofs.take_chunks.Given as goal
-
-abbrev pub decreases-loop-cut : goal.decreases-loop-cut
-decreases-loop-cut l = held_size l.cutter

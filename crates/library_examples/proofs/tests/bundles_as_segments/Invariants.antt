@@ -1,6 +1,0 @@
-use Rattle.std.proofs.Common.{◌≡◌, false}
-use Rattle.link_transfer.specs.Cutter.{cut_waits}
-use Rattle.library_examples.proofs.tests.bundles_as_segments.Given as goal
-
-abbrev pub invariant-loop-id : goal.invariant-loop-id
-invariant-loop-id g l = cut_waits l.cutter ≡ false

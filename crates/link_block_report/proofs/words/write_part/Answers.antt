@@ -1,8 +1,0 @@
-use Rattle.std.proofs.Common.{append_assoc}
-use Rattle.link_block_report.specs.Words.{subject_fragment}
-use Rattle.link_block_report.proofs.words.write_part.Goals as goal
-
-pub returns-in-Some-clause-text : goal.returns-in-Some-clause-text
-unfolding subject_fragment
-returns-in-Some-clause-text c =
-    rw (c.in-Some.is, c.write_number.ensures.text, c.write_number-at.ensures.text, append_assoc)

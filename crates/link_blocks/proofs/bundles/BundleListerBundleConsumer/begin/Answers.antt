@@ -1,6 +1,0 @@
-use Rattle.link_bundle_walk.proofs.Told.{told_none}
-use Rattle.link_blocks.proofs.BundleTexts.{says_none}
-use Rattle.link_blocks.proofs.bundles.BundleListerBundleConsumer.begin.Goals as goal
-
-pub returns-clause-gives : goal.returns-clause-gives
-returns-clause-gives g c = λ reading. told_none says_none reading

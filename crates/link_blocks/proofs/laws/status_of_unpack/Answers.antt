@@ -1,5 +1,0 @@
-use Rattle.link_blocks.proofs.Statuses.{HasStatusOfUnpack-holds}
-use Rattle.link_blocks.proofs.laws.status_of_unpack.Goals as goal
-
-pub returns : goal.returns
-returns c = HasStatusOfUnpack-holds

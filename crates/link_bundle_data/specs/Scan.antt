@@ -1,0 +1,72 @@
+-- Relations: the bytes that a scan of block data has seen. The promises need only two facts: `new`
+-- and `restart` have seen nothing, and `take` adds its bytes.
+
+use Rattle.std.specs.{Prelude.{◌≡◌, ℕ, ◌+◌, ◌≤◌, ◌||◌, ◌==◌, List, ◌++◌, length, take, drop, Option, IsTrue}, Option.option_or}
+use Rattle.link_cbor.specs.declared.head_scan.HeadScan.{HeadScan}
+use Rattle.link_cbor.specs.Head.{AreBytes, Cut, head_front}
+use Rattle.link_cbor.specs.HeadScan.{HasScannedHead}
+use Rattle.link_rules_shared.specs.Heads.{is_long, first_from}
+use Rattle.link_bundle_data.specs.declared.{kind.DataKind.DataKind, due.Due.Due}
+use Rattle.link_bundle_data.specs.declared.due.DataStage.{DataStage}
+use Rattle.link_bundle_data.specs.declared.due.DataStage.TheVariants.{Head, Name, Read, Failed}
+use Rattle.link_bundle_data.specs.declared.{draft.Draft.Draft, scan.DataScan.DataScan}
+use Rattle.link_bundle_data.specs.BlockData.{located, data_of}
+use Rattle.link_bundle_data.specs.Left.{may_follow, due_left, stage_left}
+
+-- in a head that begins at `offset` and is not complete
+pub record IsInHead (head : HeadScan) (offset : ℕ) (seen : List ℕ) : Type 0 where
+  pub in_bytes : offset ≤ length seen
+  pub scanned : HasScannedHead head (drop offset seen)
+  pub cut : head_front (drop offset seen) ≡ Cut
+
+-- the state of the scan at each stage
+abbrev pub IsAtStage : DataStage → HeadScan → ℕ → List ℕ → Type 0
+IsAtStage (Head which) head offset seen = IsInHead head offset seen
+IsAtStage (Read found) head offset seen = IsTrue (may_follow found || (offset == length seen))
+IsAtStage _ head offset seen = Unit {0}
+
+-- Whatever bytes follow, the first long head is `long`, or else the first from this stage on. After
+-- the item it is the first up to there.
+abbrev pub IsFirstLong : DataStage → Option ℕ → ℕ → List ℕ → Type 0
+IsFirstLong (Head which) long offset seen =
+    (more : List ℕ) → first_from is_long 0 0 (seen ++ more)
+    ≡ option_or long (first_from is_long 0 offset (drop offset (seen ++ more)))
+IsFirstLong (Name owner left) long offset seen =
+    (more : List ℕ) → first_from is_long 0 0 (seen ++ more)
+    ≡ option_or long (first_from is_long left (length seen) more)
+IsFirstLong (Read found) long offset seen = long ≡ first_from is_long 0 0 (take offset seen)
+IsFirstLong (Failed fault) long offset seen = Unit {0}
+
+-- Exactly these bytes were seen of data of this kind. Whatever bytes follow, the data is the rest
+-- that is read from this stage on.
+pub record HasSeen (kind : DataKind) (stage : DataStage) (draft : Draft) (head : HeadScan)
+    (offset count : ℕ) (seen : List ℕ) : Type 0 where
+  pub all_bytes : AreBytes seen
+  pub counted : count ≡ length seen
+  pub reads : (more : List ℕ)
+      → data_of kind (seen ++ more) ≡ stage_left stage draft (seen ++ more) offset (length seen)
+  pub stands : IsAtStage stage head offset seen
+
+-- bytes of the head at `offset` were seen, and the head is not judged yet
+pub record HasSeenHead (kind : DataKind) (which : Due) (draft : Draft) (offset count : ℕ)
+    (seen : List ℕ) : Type 0 where
+  pub all_bytes : AreBytes seen
+  pub counted : count ≡ length seen
+  pub in_bytes : offset ≤ length seen
+  pub reads : (more : List ℕ)
+      → data_of kind (seen ++ more)
+      ≡ located (seen ++ more) (due_left which draft (seen ++ more) offset)
+
+pub record HasScanned (kind : DataKind) (scan : DataScan) (seen : List ℕ) : Type 0 where
+  pub state : HasSeen kind scan.stage scan.draft scan.head scan.offset scan.count seen
+  pub long : IsFirstLong scan.stage scan.long scan.offset seen
+
+-- the number of bytes seen
+abbrev pub scan_size : DataScan → ℕ
+scan_size scan = scan.count
+
+-- the scan has taken exactly these bytes
+pub record TakesRun (old new : DataScan) (run : List ℕ) : Type 0 where
+  pub size : scan_size new ≡ scan_size old + length run
+  pub seen : (kind : DataKind) (seen : List ℕ) → HasScanned kind old seen
+      → HasScanned kind new (seen ++ run)

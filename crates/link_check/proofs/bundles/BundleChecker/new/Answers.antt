@@ -1,6 +1,0 @@
-use Rattle.std.proofs.Common.{refl}
-use Rattle.link_check.proofs.BundleTexts.{knows_none}
-use Rattle.link_check.proofs.bundles.BundleChecker.new.Goals as goal
-
-pub returns-clause-knows : goal.returns-clause-knows
-returns-clause-knows c = λ must. knows_none must _ refl c.new.ensures.reads refl

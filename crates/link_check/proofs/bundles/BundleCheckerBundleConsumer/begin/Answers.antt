@@ -1,6 +1,0 @@
-use Rattle.link_bundle_walk.proofs.Told.{told_none}
-use Rattle.link_check.proofs.BundleTexts.{says_none}
-use Rattle.link_check.proofs.bundles.BundleCheckerBundleConsumer.begin.Goals as goal
-
-pub returns-clause-gives : goal.returns-clause-gives
-returns-clause-gives g c = λ knows. told_none (says_none c.args._must.now) knows

@@ -1,8 +1,0 @@
-use Rattle.std.proofs.lemmas.Result.{IfOk-weaker}
-use Rattle.link_command.proofs.Builds.{joined, one_more}
-use Rattle.link_command.proofs.command.with_limits.Goals as goal
-
-pub returns : goal.returns
-returns c =
-    let two = joined (one_more c.transfer_mru.ensures c.in_ok-one.ensures) (one_more c.peer_segment.ensures c.in_ok-two.ensures) in
-    IfOk-weaker c.arg-3.result _ _ (λ three adds. joined two (one_more c.peer_transfer.ensures adds)) c.arg-3.ensures

@@ -1,5 +1,0 @@
-use Rattle.link_laws.proofs.Same.{same_tool}
-use Rattle.link_laws.proofs.laws.unpack_by_transfers.Goals as goal
-
-pub returns : goal.returns
-returns c = same_tool

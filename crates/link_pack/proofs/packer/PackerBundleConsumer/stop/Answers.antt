@@ -1,8 +1,0 @@
-use Rattle.link_bundle_walk.proofs.Told.{told_known}
-use Rattle.link_pack.proofs.Outcomes.{went_on}
-use Rattle.link_pack.proofs.packer.PackerBundleConsumer.stop.Goals as goal
-
-pub returns : goal.returns
-returns g c = λ before keeps stops.
-    told_known (went_on _ _ _ before _ _ stops.numbered _ _ _ _
-    (c.write_run.ensures.gives _ keeps.cut c.requires.few)) (λ kept. tt)

@@ -1,5 +1,0 @@
-use Rattle.link_pack.proofs.Outcomes.{same_tool}
-use Rattle.link_pack.proofs.packer.pack_run.Goals as goal
-
-pub returns : goal.returns
-returns g c = rw (same_tool c.args.options) at c.bundle_walk_run.ensures

@@ -1,0 +1,33 @@
+-- Relations: what a line needs to have room in a text. Each has at most one proof, as a fact in a
+-- struct must.
+
+use Rattle.std.specs.Prelude.{ℕ, ◌+◌, ◌^◌, ◌<◌, Option, Some, None, Result, Ok, Err}
+use Rattle.std.specs.Coded.{Unit-prop, le_prop}
+use Rattle.link_bundle_blocks.specs.Blocks.{Primary, HasShortEids}
+use Rattle.link_bundle_data.specs.BlockData.{BlockData, PreviousNode, Security, StatusReport}
+use Rattle.link_bundle_data.specs.declared.values.DataFault.{DataFault}
+use Rattle.link_bundle_data.specs.DataView.{HasShortName}
+use Rattle.link_report.specs.ShortNames.{IsShort-prop}
+
+-- the dtn name in the data has at most 1,024 bytes, or the offset of its fault is below 2^64
+abbrev pub HasFittingWords : ℕ → Option (Result BlockData DataFault) → Type 0
+HasFittingWords data_start None = Unit {0}
+HasFittingWords data_start (Some (Ok found)) = HasShortName found
+HasFittingWords data_start (Some (Err fault)) = data_start + fault.offset < 2 ^ 64
+
+pub ruleset short_names = (IsShort-prop)
+
+pub HasShortEids-prop : (primary : Primary) → IsProp (HasShortEids primary)
+HasShortEids-prop primary = Prim.hlevel short_names
+
+pub HasShortName-prop : (found : BlockData) → IsProp (HasShortName found)
+HasShortName-prop (PreviousNode node) = IsShort-prop node
+HasShortName-prop (Security block targets source) = IsShort-prop source
+HasShortName-prop (StatusReport report source) = IsShort-prop source
+HasShortName-prop others = Unit-prop
+
+pub HasFittingWords-prop : (data_start : ℕ) (found : Option (Result BlockData DataFault))
+    → IsProp (HasFittingWords data_start found)
+HasFittingWords-prop data_start None = Unit-prop
+HasFittingWords-prop data_start (Some (Ok found)) = HasShortName-prop found
+HasFittingWords-prop data_start (Some (Err fault)) = le_prop

@@ -1,7 +1,0 @@
--- Relations: the first bytes of a bundle.
-use Rattle.std.specs.Prelude.{◌≡◌, ℕ, List, take}
-use Rattle.link_rules.specs.declared.unread.Prefix.{Prefix}
-
--- it has the first four of exactly these bytes
-pub record IsPrefixAt (prefix : Prefix) (seen : List ℕ) : Type 0 where
-  pub bytes : prefix.bytes.items ≡ take 4 seen

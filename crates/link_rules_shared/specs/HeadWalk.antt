@@ -1,0 +1,71 @@
+-- Relations: the bytes that a walk over heads has seen. The promises need only two facts: `new` and
+-- `restart` have seen nothing, and `take` adds its bytes.
+
+use Rattle.std.specs.Prelude.{◌≡◌, ℕ, ◌^◌, ◌<◌, ◌≤◌, Bool, List, [], ◌++◌, length, drop, Option, None}
+use Rattle.std.specs.{Bool.then_some, Option.option_or}
+use Rattle.link_cbor.specs.declared.{head.Head.Head as HeadItem, head_scan.HeadScan.HeadScan}
+use Rattle.link_cbor.specs.Head.{Cut, head_front}
+use Rattle.link_cbor.specs.HeadScan.{HasScannedHead}
+use Rattle.link_rules_shared.specs.declared.heads.{WalkStage.WalkStage, WalkStage.TheVariants.{Inside, Head, Ended}}
+use Rattle.link_rules_shared.specs.declared.heads.{Found.Found, HeadWalk.HeadWalk}
+use Rattle.link_rules_shared.specs.Heads.{is_long, is_open_string, is_open_item, is_encoded, first_from}
+
+-- the first head that is sought from this stage on, if `more` bytes follow those seen
+abbrev pub first_left : (HeadItem → ℕ → Bool) → WalkStage → (seen more : List ℕ) → Option ℕ
+first_left sought (Inside left) seen more = first_from sought left (length seen) more
+first_left sought (Head offset) seen more = first_from sought 0 offset (drop offset seen ++ more)
+first_left sought Ended seen more = None
+
+-- Whatever bytes follow, the first head that is sought is the one found, or else the first from
+-- this stage on.
+pub record HasSought (sought : HeadItem → ℕ → Bool) (found : Option ℕ) (stage : WalkStage)
+    (seen : List ℕ) : Type 0 where
+  pub reads : (more : List ℕ)
+      → first_from sought 1 0 (seen ++ more) ≡ option_or found (first_left sought stage seen more)
+
+-- what is found of each kind of heads
+pub record HasFound (found : Found) (stage : WalkStage) (seen : List ℕ) : Type 0 where
+  pub long : HasSought is_long found.long stage seen
+  pub string : HasSought is_open_string found.string stage seen
+  pub item : HasSought is_open_item found.item stage seen
+  pub encoded : HasSought is_encoded found.encoded stage seen
+
+-- what is found of a kind of heads, before a head of `size` bytes at `offset` and with it
+abbrev pub noted : (sought : HeadItem → ℕ → Bool) → (old : Option ℕ) → (offset : ℕ) → HeadItem
+    → (size : ℕ) → Option ℕ
+noted sought old offset head size = option_or old (then_some (sought head size) offset)
+
+-- what is found before a head of `size` bytes at `offset`, and what is found with it
+pub record NotesHead (old new : Found) (offset : ℕ) (head : HeadItem) (size : ℕ) : Type 0 where
+  pub long : new.long ≡ noted is_long old.long offset head size
+  pub string : new.string ≡ noted is_open_string old.string offset head size
+  pub item : new.item ≡ noted is_open_item old.item offset head size
+  pub encoded : new.encoded ≡ noted is_encoded old.encoded offset head size
+
+-- in a head that begins at `offset` and is not complete
+pub record IsInHead (head : HeadScan) (offset : ℕ) (seen : List ℕ) : Type 0 where
+  pub in_bytes : offset ≤ length seen
+  pub scanned : HasScannedHead head (drop offset seen)
+  pub cut : head_front (drop offset seen) ≡ Cut
+
+-- the scan of a head at each stage
+abbrev pub IsAtStage : WalkStage → HeadScan → List ℕ → Type 0
+IsAtStage (Inside left) head seen = HasScannedHead head []
+IsAtStage (Head offset) head seen = IsInHead head offset seen
+IsAtStage Ended head seen = Unit {0}
+
+-- exactly these bytes were seen
+pub record HasSeen (stage : WalkStage) (found : Found) (head : HeadScan) (count : ℕ)
+    (seen : List ℕ) : Type 0 where
+  pub counted : count ≡ length seen
+  pub sought : HasFound found stage seen
+  pub stands : IsAtStage stage head seen
+
+-- the walk has seen exactly these bytes
+abbrev pub HasWalked : HeadWalk → List ℕ → Type 0
+HasWalked walk seen = HasSeen walk.stage walk.found walk.head walk.count seen
+
+-- the walk has taken exactly these bytes
+pub record TakesRun (old new : HeadWalk) (run : List ℕ) : Type 0 where
+  pub seen : (seen : List ℕ) → length (seen ++ run) < 2 ^ 63 → HasWalked old seen
+      → HasWalked new (seen ++ run)

@@ -1,0 +1,62 @@
+-- Rules of types and reasons that are neither assigned nor for private use (RFC 9174 section 8).
+use Rattle.std.specs.Prelude.{ℕ, Bool, not, ◌&&◌, ◌||◌, ◌==◌, nat_lt, nat_le, find, option_map, Option, Some, None, if◌then◌else◌}
+use Rattle.std.specs.List.{enumerate_from}
+use Rattle.link_wire.specs.Codes.{transfer_length}
+use Rattle.link_wire.specs.declared.message.{Item.Item, Message.Message}
+use Rattle.link_wire.specs.declared.message.Message.TheVariants.{Segment, Refuse, SessTerm, MsgReject}
+use Rattle.link_session_rules.specs.Flags.{is_reply}
+use Rattle.link_session_rules.specs.Heads.{items_of, type_of}
+use Rattle.link_session_rules.specs.declared.rule.MessageRule.{MessageRule}
+use Rattle.link_session_rules.specs.declared.rule.MessageRule.TheVariants.{ItemType, RejectKnown, Reason}
+
+-- ---- item-type
+
+-- From 8000 on, types are for private use. Below, only that of Transfer Length items is assigned,
+-- and these are items of segments (sections 8.3 and 8.4).
+abbrev pub is_unassigned : Message → (type : ℕ) → Bool
+is_unassigned (Segment segment) type = nat_lt type 0x8000 && not (type == transfer_length)
+is_unassigned message type = nat_lt type 0x8000
+
+-- item-type: an extension item has a type that is assigned, or for private use (sections 8.3 and
+-- 8.4). The first item that has another one counts, by its number from 0.
+unfoldable pub item_type : Message → Option MessageRule
+item_type message =
+    option_map (λ (numbered : ℕ × Item). ItemType numbered.0 numbered.1.kind)
+    (find (λ (numbered : ℕ × Item). is_unassigned message numbered.1.kind)
+    (enumerate_from 0 (items_of message)))
+
+-- ---- reject-known
+
+-- the reasons of MSG_REJECT: the type is unknown, the message is unsupported, or it is unexpected
+abbrev pub does_not_fit : (reason : ℕ) → (is_known : Bool) → Bool
+does_not_fit reason is_known = if is_known then reason == 1 else ((reason == 2) || (reason == 3))
+
+-- reject-known: a MSG_REJECT with reason 01 rejects a type other than 01 to 07, and one with reason
+-- 02 or 03 a type from 01 to 07 (section 5.1.2)
+unfoldable pub reject_known : Message → Option MessageRule
+reject_known (MsgReject reason header) =
+    if does_not_fit reason (nat_le 1 header && nat_le header 7)
+    then Some (RejectKnown reason header)
+    else None
+reject_known message = None
+
+-- ---- reason
+
+-- the reasons that are not assigned (sections 8.6 to 8.8). From f0 on, they are for private use.
+abbrev pub is_other_reason : Message → (reason : ℕ) → Bool
+is_other_reason (MsgReject reason header) other = (other == 0) || (nat_le 4 other && nat_lt other 0xf0)
+is_other_reason (Refuse reason id) other = nat_le 7 other && nat_lt other 0xf0
+is_other_reason message other = nat_le 6 other && nat_lt other 0xf0
+
+abbrev pub if_other_reason : Message → (reason : ℕ) → Option MessageRule
+if_other_reason message reason =
+    if is_other_reason message reason then Some (Reason (type_of message) reason) else None
+
+-- reason: a reason is assigned, or for private use (sections 8.6 to 8.8). That of a SESS_TERM that
+-- is a reply repeats what it answers.
+unfoldable pub reason : Message → Option MessageRule
+reason (MsgReject why header) = if_other_reason (MsgReject why header) why
+reason (Refuse why id) = if_other_reason (Refuse why id) why
+reason (SessTerm flags why) =
+    if is_reply flags then None else if_other_reason (SessTerm flags why) why
+reason message = None

@@ -1,0 +1,98 @@
+-- Rules of the lengths of segments and transfers (RFC 9174 sections 4.6 and 5.2).
+use Rattle.std.specs.Prelude.{ℕ, ◌+◌, ◌&&◌, ◌==◌, nat_lt, nat_le, List, [], ◌∷◌, reverse, sum_by, Option, Some, None, if◌then◌else◌}
+use Rattle.std.specs.Option.{option_and_then}
+use Rattle.link_wire.specs.declared.message.{SegmentHead.SegmentHead, Message.Message}
+use Rattle.link_transfer.specs.Announced.{announced_of}
+use Rattle.link_transfer.specs.declared.announcement.Announced.{Announced}
+use Rattle.link_transfer.specs.declared.{announcement.Announced.TheVariants.Total, joiner.Turn.Turn}
+use Rattle.link_transfer.specs.declared.joiner.Turn.TheVariants as turn
+use Rattle.link_session_rules.specs.Heads.{JudgedHead, segment_of}
+use Rattle.link_session_rules.specs.declared.rule.MessageRule.{MessageRule}
+use Rattle.link_session_rules.specs.declared.rule.MessageRule.TheVariants.{PeerSegment, PeerTransferAnnounced, PeerTransferLength}
+
+-- ---- peer-segment
+
+abbrev pub if_longer : (limit : ℕ) → SegmentHead → Option MessageRule
+if_longer limit segment =
+    if nat_lt limit segment.length then Some (PeerSegment segment.length limit) else None
+
+-- peer-segment: the data of a segment, also of a stray one, is no longer than the peer's Segment
+-- MRU (sections 4.6 and 5.2), if this is known
+unfoldable pub peer_segment : (limit : Option ℕ) → Message → Option MessageRule
+peer_segment None message = None
+peer_segment (Some limit) message = option_and_then (if_longer limit) (segment_of message)
+
+-- ---- the segments of a transfer (section 5.2.2), the newest first
+
+-- For a segment with this turn, the earlier segments of its transfer. A stray segment has no
+-- transfer. `so_far` are the segments of the transfer that began last.
+abbrev pub earlier_of : Option Turn → (so_far : List SegmentHead) → Option (List SegmentHead)
+earlier_of (Some (turn.Begin abandoned last)) so_far = Some []
+earlier_of (Some (turn.Continue last)) so_far = Some so_far
+earlier_of _ so_far = None
+
+-- a segment and those before it in its transfer; any other message changes nothing
+abbrev pub joined : Option SegmentHead → (earlier : Option (List SegmentHead))
+    → (so_far : List SegmentHead) → List SegmentHead
+joined (Some segment) (Some earlier) so_far = segment ∷ earlier
+joined _ earlier so_far = so_far
+
+-- the segments of the transfer that began last, by the heads from the newest on
+abbrev pub segments_back : List JudgedHead → List SegmentHead
+segments_back [] = []
+segments_back (head ∷ older) =
+    let so_far = segments_back older in
+    joined (segment_of head.message) (earlier_of head.turn so_far) so_far
+
+abbrev pub segments_of : List JudgedHead → List SegmentHead
+segments_of heads = segments_back (reverse heads)
+
+-- the first segment of a transfer, which is the last of this list
+abbrev pub first_segment : SegmentHead → (earlier : List SegmentHead) → SegmentHead
+first_segment segment [] = segment
+first_segment segment (previous ∷ earlier) = first_segment previous earlier
+
+-- ---- peer-transfer
+
+-- Data of this size after other data of its transfer passes the limit.
+abbrev pub if_passed : (limit before size : ℕ) → Option MessageRule
+if_passed limit before size =
+    if nat_le before limit && nat_lt limit (before + size)
+    then Some (PeerTransferLength (before + size) limit)
+    else None
+
+abbrev pub size_of : List SegmentHead → ℕ
+size_of segments = sum_by (λ (segment : SegmentHead). segment.length) segments
+
+-- the announcement counts with the first segment
+abbrev pub if_first : List SegmentHead → MessageRule → Option MessageRule
+if_first [] rule = Some rule
+if_first (previous ∷ earlier) rule = None
+
+abbrev pub if_exceeded : (limit : ℕ) → Announced → SegmentHead → (earlier : List SegmentHead)
+    → Option MessageRule
+if_exceeded limit (Total total) segment earlier =
+    if nat_lt limit total
+    then if_first earlier (PeerTransferAnnounced total limit)
+    else if_passed limit (size_of earlier) segment.length
+if_exceeded limit _ segment earlier = if_passed limit (size_of earlier) segment.length
+
+-- the length that the first segment of a transfer announces (section 5.2.5.1)
+abbrev pub announced_first : SegmentHead → (earlier : List SegmentHead) → Announced
+announced_first segment earlier = announced_of (first_segment segment earlier).items.items
+
+abbrev pub exceeded : (limit : ℕ) → List JudgedHead → Option Turn → SegmentHead
+    → Option MessageRule
+exceeded limit before turn segment =
+    option_and_then
+    (λ earlier. if_exceeded limit (announced_first segment earlier) segment earlier)
+    (earlier_of turn (segments_of before))
+
+-- peer-transfer: a transfer is no longer than the peer's Transfer MRU (section 4.6), if this is
+-- known. A transfer breaks it once: with the length that it announces, or else with the segment
+-- that takes its data beyond the limit.
+unfoldable pub peer_transfer : (limit : Option ℕ) → List JudgedHead → JudgedHead
+    → Option MessageRule
+peer_transfer None before head = None
+peer_transfer (Some limit) before head =
+    option_and_then (exceeded limit before head.turn) (segment_of head.message)

@@ -1,0 +1,108 @@
+-- Relations: what a history keeps of the heads so far, which is as much as the rules for the next
+-- one need.
+use Rattle.std.specs.Prelude.{◌≡◌, ℕ, ◌+◌, ◌^◌, Bool, not, ◌&&◌, ◌==◌, nat_lt, nat_le, List, [], ◌∷◌, map, take, Option, Some, None, if◌then◌else◌}
+use Rattle.std.specs.List.{list_any, after_first, cons_option}
+use Rattle.link_wire.specs.declared.message.{SegmentHead.SegmentHead, Message.Message}
+use Rattle.link_session_rules.specs.Answers.{last_ack, last_refused, is_acked_since}
+use Rattle.link_session_rules.specs.Endings.{rejects_type, follows, begins_after}
+use Rattle.link_session_rules.specs.Heads.{JudgedHead, messages_of, newest, held, is_sess_init, is_sess_term, is_keepalive, disables_keepalive, is_of_transfer}
+use Rattle.link_session_rules.specs.Lengths.{segments_of, first_segment, size_of}
+use Rattle.link_session_rules.specs.Session.{first_parameters}
+use Rattle.link_session_rules.specs.TransferIds.{last_runs, jumps}
+use Rattle.link_session_rules.specs.TransferRules.{opening_of}
+use Rattle.link_session_rules.specs.declared.{transfer_ids.IdRun.IdRun, transfer_ids.TransferIds.TransferIds, answers.Answers.Answers, endings.Endings.Endings}
+use Rattle.link_session_rules.specs.declared.session.Since.{Since}
+use Rattle.link_session_rules.specs.declared.session.Since.TheVariants.{Neither, First, Both}
+use Rattle.link_session_rules.specs.declared.history.MessageHistory.{MessageHistory}
+use Rattle.link_session_rules.specs.declared.lengths.TransferSoFar.{TransferSoFar}
+
+-- the last ID of some in a row
+abbrev pub end_of : (id : ℕ) → List ℕ → ℕ
+end_of id [] = id
+end_of id (next ∷ more) = end_of next more
+
+-- whether an ID is between two others, or is one of them
+abbrev pub between : (first last id : ℕ) → Bool
+between first last id = nat_le first id && nat_le id last
+
+abbrev pub contains : (id : ℕ) → IdRun → Bool
+contains id run = between run.first run.last id
+
+-- a run, the newest ID first, by its ends
+abbrev pub ends_of : List ℕ → Option IdRun
+ends_of [] = None
+ends_of (last ∷ older) = Some (record { first = end_of last older; last = last })
+
+-- the runs that are kept, the newest first
+abbrev pub kept_runs : TransferIds → List IdRun
+kept_runs ids = cons_option ids.last ids.earlier.items
+
+-- the runs that are kept after one more ID, at most `count` and the last one
+abbrev pub kept_with : (id count : ℕ) → List IdRun → List IdRun
+kept_with id count [] = record { first = id; last = id } ∷ []
+kept_with id count (run ∷ kept) =
+    if id == run.last + 1
+    then record { first = run.first; last = id } ∷ kept
+    else record { first = id; last = id } ∷ take count (run ∷ kept)
+
+-- Exactly these messages came. Their list has the newest first. There are no earlier runs without a
+-- last one.
+pub record RemembersIds (ids : TransferIds) (older : List Message) : Type 0 where
+  pub runs : map Some (kept_runs ids) ≡ map ends_of (last_runs older)
+  pub none : ids.last ≡ None → ids.earlier.items ≡ []
+  pub jumped : ids.jumped ≡ held jumps older
+
+pub record RemembersAnswers (answers : Answers) (older : List Message) : Type 0 where
+  pub ack : answers.ack ≡ last_ack older
+  pub refused : answers.refused ≡ last_refused older
+  pub acked_since : (id : ℕ) → answers.refused ≡ Some id
+      → answers.acked_since ≡ is_acked_since id older
+
+pub record RemembersEndings (endings : Endings) (older : List Message) : Type 0 where
+  pub terminated : endings.terminated ≡ list_any is_sess_term older
+  pub rejected : endings.rejected ≡ list_any rejects_type older
+  pub followed : endings.followed ≡ held follows older
+  pub begun : endings.begun ≡ held begins_after older
+
+-- whether a message of one kind came, and one of another kind after the first of it
+abbrev pub since_of : (first second : Message → Bool) → List Message → Since
+since_of first second messages =
+    if not (list_any first messages) then Neither
+    else if list_any second (after_first first messages) then Both
+    else First
+
+-- what holds after one more message, which may be of the first or of the second kind
+abbrev pub next_since : Since → (is_first is_second : Bool) → Since
+next_since Neither is_first is_second = if is_first then First else Neither
+next_since First is_first is_second = if is_second then Both else First
+next_since Both is_first is_second = Both
+
+-- whether KEEPALIVEs are disabled, and whether one was sent since
+abbrev pub keepalives_of : List Message → Since
+keepalives_of messages = since_of disables_keepalive is_keepalive messages
+
+-- whether a SESS_INIT came, and whether a transfer or an answer came since
+abbrev pub session_of : List Message → Since
+session_of messages = since_of is_sess_init is_of_transfer messages
+
+-- a sum, unless it has more than 64 bits: then it exceeds every limit
+abbrev pub within_64_bits : ℕ → Option ℕ
+within_64_bits sum = if nat_lt sum (2 ^ 64) then Some sum else None
+
+-- the transfer that began last
+abbrev pub so_far_of : List SegmentHead → Option TransferSoFar
+so_far_of [] = None
+so_far_of (segment ∷ earlier) = Some (record {
+  opening = opening_of (first_segment segment earlier);
+  sent = within_64_bits (size_of (segment ∷ earlier));
+})
+
+-- exactly these heads came
+pub record Remembers (history : MessageHistory) (heads : List JudgedHead) : Type 0 where
+  pub parameters : history.parameters ≡ first_parameters (messages_of heads)
+  pub session : history.session ≡ session_of (messages_of heads)
+  pub keepalives : history.keepalives ≡ keepalives_of (messages_of heads)
+  pub ids : RemembersIds history.ids (newest heads)
+  pub answers : RemembersAnswers history.answers (newest heads)
+  pub transfer : history.transfer ≡ so_far_of (segments_of heads)
+  pub endings : RemembersEndings history.endings (newest heads)

@@ -1,0 +1,41 @@
+-- The rule that the data of a closed transfer breaks: it is one bundle (RFC 9171 section 4, RFC
+-- 9174 section 5.2).
+use Rattle.std.specs.Prelude.{ℕ, Bool, true, false, ◌||◌, ◌==◌, List, Option, Some, None, Result, Ok, Err, if◌then◌else◌}
+use Rattle.link_bundle_types.specs.declared.fault.BundleFault.{BundleFault}
+use Rattle.link_bundle_types.specs.declared.fault.BundleFault.TheVariants.{NotABundle, WrongKind, WrongDataKind, WrongCheckKind, BadScheme, BadSpecificPart, EidTooLong, TooManyBlocks}
+use Rattle.link_bundle_types.specs.declared.info.BundleInfo.{BundleInfo}
+use Rattle.link_rules_shared.specs.Heads.{unread_of}
+use Rattle.link_rules_shared.specs.declared.unread.Unread.{Unread}
+use Rattle.link_session_rules.specs.declared.rule.TransferRule.{TransferRule}
+use Rattle.link_session_rules.specs.declared.rule.TransferRule.TheVariants.{Bundle, NotRead}
+
+abbrev pub is_offset : Option ℕ → (byte : ℕ) → Bool
+is_offset None byte = false
+is_offset (Some offset) byte = offset == byte
+
+-- Whether data with a fault at an offset may be a bundle that this toolkit does not read. `unread`
+-- has the offsets of the first heads of the kinds that it reads nowhere: no later one is reached.
+-- Another endpoint scheme, a long dtn name and many blocks exceed limits of this toolkit. RFC 9171
+-- permits items of indefinite length (section 4.1), but for the byte strings of data and of check
+-- values (sections 4.3.2 and 4.2.2). Its appendix B permits tag 55799 before a bundle, and tag 24
+-- before the data of a block.
+abbrev pub may_be_bundle : Unread → BundleFault → (byte : ℕ) → Bool
+may_be_bundle unread BadScheme byte = true
+may_be_bundle unread EidTooLong byte = true
+may_be_bundle unread TooManyBlocks byte = true
+may_be_bundle unread NotABundle byte = unread.tagged
+may_be_bundle unread WrongKind byte =
+    is_offset unread.string byte || is_offset unread.item byte
+may_be_bundle unread BadSpecificPart byte =
+    is_offset unread.string byte || is_offset unread.item byte
+may_be_bundle unread WrongDataKind byte =
+    is_offset unread.item byte || is_offset unread.encoded byte
+may_be_bundle unread WrongCheckKind byte = is_offset unread.item byte
+may_be_bundle unread _ byte = false
+
+-- bundle: the data of a transfer is a bundle. not-read: this toolkit reads the bundle.
+unfoldable pub data_rule : (bytes : List ℕ) → Result BundleInfo (BundleFault × ℕ)
+    → Option TransferRule
+data_rule bytes (Ok info) = None
+data_rule bytes (Err (fault, byte)) =
+    Some (if may_be_bundle (unread_of bytes) fault byte then NotRead fault byte else Bundle fault byte)

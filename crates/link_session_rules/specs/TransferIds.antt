@@ -1,0 +1,85 @@
+-- Rules of transfer IDs (RFC 9174 section 5.2).
+use Rattle.std.specs.Prelude.{ℕ, Bool, true, false, not, ◌+◌, ◌&&◌, ◌==◌, List, [], ◌∷◌, take, filter_map, Option, Some, None, if◌then◌else◌}
+use Rattle.std.specs.{List.list_any, Option.option_and_then}
+use Rattle.link_wire.specs.declared.message.{SegmentHead.SegmentHead, Message.Message}
+use Rattle.link_transfer.specs.declared.joiner.Turn.{Turn}
+use Rattle.link_transfer.specs.declared.joiner.Turn.TheVariants as turn
+use Rattle.link_session_rules.specs.Heads.{JudgedHead, newest, held, is_sess_init, segment_of, start_id}
+use Rattle.link_session_rules.specs.declared.rule.MessageRule.{MessageRule}
+use Rattle.link_session_rules.specs.declared.rule.MessageRule.TheVariants.{Interleaved, TransferId, TransferIdOrder}
+
+-- ---- interleaved
+
+-- the transfer that was open until a START, and is abandoned by it
+abbrev pub abandoned_by : Option Turn → Option ℕ
+abandoned_by (Some (turn.Begin abandoned last)) = abandoned
+abandoned_by _ = None
+
+abbrev pub if_another : SegmentHead → (open_id : ℕ) → Option MessageRule
+if_another segment open_id =
+    if segment.id == open_id then None else Some (Interleaved segment.id open_id)
+
+-- interleaved: a transfer does not begin while one of another ID is open (sections 5.2 and 5.2.2).
+-- The receiver may have refused the open one, which only the other recording shows.
+unfoldable pub interleaved : JudgedHead → Option MessageRule
+interleaved head =
+    option_and_then (λ segment. option_and_then (if_another segment) (abandoned_by head.turn))
+    (segment_of head.message)
+
+-- ---- runs of IDs: longest stretches of successive STARTs in which each ID is one more than the ID
+-- before it. Every START counts, also one that is out of order. The newest run and ID come first.
+
+-- one more ID
+abbrev pub with_id : ℕ → List (List ℕ) → List (List ℕ)
+with_id id ((last ∷ run) ∷ runs) =
+    if id == last + 1 then (id ∷ last ∷ run) ∷ runs else (id ∷ []) ∷ (last ∷ run) ∷ runs
+with_id id runs = (id ∷ []) ∷ runs
+
+abbrev pub runs_of : List ℕ → List (List ℕ)
+runs_of [] = []
+runs_of (id ∷ older) = with_id id (runs_of older)
+
+-- the IDs of STARTs, and their last 64 runs
+abbrev pub ids_of : (older : List Message) → List ℕ
+ids_of older = filter_map start_id older
+
+abbrev pub last_runs : (older : List Message) → List (List ℕ)
+last_runs older = take 64 (runs_of (ids_of older))
+
+abbrev pub is_in : List (List ℕ) → (id : ℕ) → Bool
+is_in runs id = list_any (λ run. list_any (λ earlier. earlier == id) run) runs
+
+-- ---- transfer-id
+
+abbrev pub if_in : List (List ℕ) → (id : ℕ) → Option MessageRule
+if_in runs id = if is_in runs id then Some (TransferId id) else None
+
+-- transfer-id: the ID of a transfer is new (section 5.2.1), as far as the last 64 runs of IDs show
+unfoldable pub transfer_id : List JudgedHead → Message → Option MessageRule
+transfer_id before message =
+    option_and_then (if_in (last_runs (newest before))) (start_id message)
+
+-- ---- transfer-id-order
+
+-- the ID is not the one that comes after these, the newest first
+abbrev pub skips : (ids : List ℕ) → (id : ℕ) → Bool
+skips [] id = not (id == 0)
+skips (last ∷ older) id = not (id == last + 1)
+
+-- a START after a SESS_INIT has a new ID, which is not the next one
+abbrev pub jumps_to : (older : List Message) → Option ℕ → Bool
+jumps_to older None = false
+jumps_to older (Some id) =
+    list_any is_sess_init older && (not (is_in (last_runs older) id) && skips (ids_of older) id)
+
+abbrev pub jumps : (older : List Message) → Message → Bool
+jumps older message = jumps_to older (start_id message)
+
+-- transfer-id-order: the first transfer ID is 0, and each later one is one more than the one before
+-- it (section 5.2.1). The first START that breaks this counts, and no other.
+unfoldable pub transfer_id_order : List JudgedHead → Message → Option MessageRule
+transfer_id_order before message =
+    let older = newest before in
+    option_and_then
+    (λ id. if jumps older message && not (held jumps older) then Some (TransferIdOrder id) else None)
+    (start_id message)

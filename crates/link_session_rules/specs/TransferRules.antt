@@ -1,0 +1,70 @@
+-- The rules that the length of a closed transfer breaks (RFC 9174 section 5.2.5.1). `first` is the
+-- head of its first segment, and `size` the number of bytes of its data.
+use Rattle.std.specs.Prelude.{ℕ, Bool, true, false, ◌&&◌, ◌==◌, List, [], ◌∷◌, codes, filter_map, Option, Some, None, if◌then◌else◌}
+use Rattle.link_wire.specs.Codes.{is_start, is_end}
+use Rattle.link_wire.specs.declared.message.SegmentHead.{SegmentHead}
+use Rattle.link_transfer.specs.Announced.{announced_of}
+use Rattle.link_transfer.specs.declared.announcement.Announced.{Announced}
+use Rattle.link_transfer.specs.declared.announcement.Announced.TheVariants.{Absent, Total, Malformed}
+use Rattle.link_session_rules.specs.declared.opening.Opening.{Opening}
+use Rattle.link_rules_shared.specs.declared.level.{Level.Level, Level.TheVariants.{Must, Should}}
+use Rattle.link_session_rules.specs.declared.rule.TransferRule.{TransferRule}
+use Rattle.link_session_rules.specs.declared.rule.TransferRule.TheVariants as rule
+
+abbrev pub if_malformed : Announced → Option TransferRule
+if_malformed Malformed = Some rule.LengthItem
+if_malformed _ = None
+
+-- length-item: a transfer has at most one Transfer Length item, with a value of 8 bytes
+unfoldable pub length_item : (first : SegmentHead) → Option TransferRule
+length_item first = if_malformed (announced_of first.items.items)
+
+abbrev pub if_different : Announced → (size : ℕ) → Option TransferRule
+if_different (Total total) size =
+    if total == size then None else Some (rule.LengthDiffers total size)
+if_different _ size = None
+
+-- length-differs: a transfer has the length that it announces
+unfoldable pub length_differs : (first : SegmentHead) → (size : ℕ) → Option TransferRule
+length_differs first size = if_different (announced_of first.items.items) size
+
+abbrev pub has_length_item : Announced → Bool
+has_length_item Absent = false
+has_length_item _ = true
+
+-- length-of-one-segment: a transfer of one segment has no Transfer Length item, malformed or not
+unfoldable pub length_of_one_segment : (first : SegmentHead) → Option TransferRule
+length_of_one_segment first =
+    if (is_start first.flags && is_end first.flags)
+    && has_length_item (announced_of first.items.items)
+    then Some rule.LengthOfOneSegment
+    else None
+
+-- the rules that are broken, in order
+unfoldable pub broken_transfer_rules : (first : SegmentHead) → (size : ℕ) → List TransferRule
+broken_transfer_rules first size =
+    filter_map (λ judged. judged)
+    (length_item first ∷ length_differs first size ∷ length_of_one_segment first ∷ [])
+
+unfoldable pub transfer_name_of : TransferRule → List ℕ
+transfer_name_of (rule.Unfinished size) = codes "unfinished"
+transfer_name_of rule.LengthItem = codes "length-item"
+transfer_name_of (rule.LengthDiffers announced size) = codes "length-differs"
+transfer_name_of rule.LengthOfOneSegment = codes "length-of-one-segment"
+transfer_name_of (rule.Bundle fault byte) = codes "bundle"
+transfer_name_of (rule.NotRead fault byte) = codes "not-read"
+
+unfoldable pub transfer_level_of : TransferRule → Level
+transfer_level_of (rule.Unfinished size) = Should
+transfer_level_of rule.LengthItem = Must
+transfer_level_of (rule.LengthDiffers announced size) = Must
+transfer_level_of rule.LengthOfOneSegment = Should
+transfer_level_of (rule.Bundle fault byte) = Must
+transfer_level_of (rule.NotRead fault byte) = Should
+
+-- what is kept of the first segment
+abbrev pub opening_of : SegmentHead → Opening
+opening_of first = record {
+  announced = announced_of first.items.items;
+  single = is_start first.flags && is_end first.flags;
+}

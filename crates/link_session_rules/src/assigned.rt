@@ -1,0 +1,87 @@
+//! Rules of types and reasons that are neither assigned nor for private use.
+
+ghost use Rattle.std.specs.Prelude.{◌≡◌, ◌&&◌, nat_le, nat_lt};
+ghost use Rattle.link_wire.specs.MessageBuffer.{message_of};
+ghost use Rattle.link_session_rules.specs.Assigned.{is_unassigned, item_type, reject_known, reason};
+
+use crate::flags::is_reply;
+use crate::head::{items_of, type_of};
+use crate::rule::MessageRule;
+use link_wire::{Fields, MessageBuffer};
+
+/// The first type of an extension item that is for private use (RFC 9174 sections 8.3 and 8.4).
+const PRIVATE_TYPE: u16 = 0x8000;
+
+/// The type of a Transfer Length item (RFC 9174 section 5.2.5.1).
+const TRANSFER_LENGTH: u16 = 1;
+
+/// Whether a message's item of this type has none that is assigned or for private use.
+fn is_unassigned(message: &MessageBuffer, kind: u16) -> bool
+    ensures { result ≡ is_unassigned (message_of message.now) kind }
+{
+    let is_known = match message.fields {
+        Fields::Segment { .. } => kind == TRANSFER_LENGTH,
+        _ => false,
+    };
+    kind < PRIVATE_TYPE && !is_known
+}
+
+/// The rule of the types of extension items.
+#[tactic(auto, unfolding(crate::specs::Assigned::item_type))]
+#[inline(always)]
+pub(crate) fn item_type(message: &MessageBuffer) -> Option<MessageRule>
+    ensures { result ≡ item_type (message_of message.now) }
+{
+    let items = items_of(message);
+    let mut number = 0;
+    for item in items {
+        if is_unassigned(message, item.kind) {
+            return Some(MessageRule::ItemType {
+                item: number,
+                kind: item.kind,
+            });
+        }
+        number += 1;
+    }
+    None
+}
+
+/// The rule of rejected types.
+#[tactic(auto, unfolding(crate::specs::Assigned::reject_known))]
+pub(crate) fn reject_known(message: &MessageBuffer) -> Option<MessageRule>
+    ensures { result ≡ reject_known (message_of message.now) }
+{
+    let Fields::MsgReject { reason, header } = message.fields else {
+        return None;
+    };
+    let is_wrong = match header {
+        1..=7 => reason == 1,
+        _ => reason == 2 || reason == 3,
+    };
+    is_wrong.then_some(MessageRule::RejectKnown { reason, header })
+}
+
+/// Whether a reason from `first` on is neither assigned nor for private use.
+fn is_other_reason(first: u8, reason: u8) -> bool
+    ensures { result ≡ (nat_le first reason && nat_lt reason 0xf0) }
+{
+    first <= reason && reason < 0xf0
+}
+
+/// The rule of reasons.
+#[tactic(auto, unfolding(crate::specs::Assigned::reason))]
+#[inline(always)]
+pub(crate) fn reason(message: &MessageBuffer) -> Option<MessageRule>
+    ensures { result ≡ reason (message_of message.now) }
+{
+    let (reason, is_wrong) = match message.fields {
+        Fields::MsgReject { reason, .. } => (reason, reason == 0 || is_other_reason(4, reason)),
+        Fields::Refuse { reason, .. } => (reason, is_other_reason(7, reason)),
+        Fields::SessTerm { flags, reason } => {
+            (reason, !is_reply(flags) && is_other_reason(6, reason))
+        }
+        _ => return None,
+    };
+    let kind = type_of(message);
+    is_wrong.then_some(MessageRule::Reason { kind, reason })
+}

@@ -1,0 +1,39 @@
+//! The rule that the data of a transfer breaks.
+
+ghost use Rattle.std.specs.Prelude.{◌≡◌, ℕ, List, Some, Err};
+ghost use Rattle.link_rules_shared.specs.Heads.{unread_of};
+ghost use Rattle.link_session_rules.specs.TransferData.{may_be_bundle, data_rule};
+
+use crate::rule::TransferRule;
+use link_bundle_types::BundleFault;
+use link_rules_shared::Unread;
+
+/// Whether data with a fault at an offset may be a bundle that this toolkit does not read.
+fn may_be_bundle(unread: &Unread, fault: BundleFault, byte: u64) -> bool
+    ensures { result ≡ may_be_bundle unread.now fault byte }
+{
+    let has_string = unread.string == Some(byte);
+    let has_item = unread.item == Some(byte);
+    match fault {
+        BundleFault::BadScheme | BundleFault::EidTooLong | BundleFault::TooManyBlocks => true,
+        BundleFault::NotABundle => unread.tagged,
+        BundleFault::WrongKind | BundleFault::BadSpecificPart => has_string || has_item,
+        BundleFault::WrongDataKind => has_item || unread.encoded == Some(byte),
+        BundleFault::WrongCheckKind => has_item,
+        _ => false,
+    }
+}
+
+/// The rule that the data of a closed transfer breaks, if it has a fault at offset `byte`.
+///
+/// `unread` says where the data has heads that this toolkit does not read.
+#[tactic(auto, unfolding(crate::specs::TransferData::data_rule))]
+pub fn data_rule(fault: BundleFault, byte: u64, unread: &Unread) -> TransferRule
+    ensures { (bytes : List ℕ) → unread.now ≡ unread_of bytes
+        → Some result ≡ data_rule bytes (Err (fault, byte)) }
+{
+    if may_be_bundle(unread, fault, byte) {
+        return TransferRule::NotRead { fault, byte };
+    }
+    TransferRule::Bundle { fault, byte }
+}

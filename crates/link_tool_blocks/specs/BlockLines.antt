@@ -1,0 +1,22 @@
+-- The lines of the blocks of a bundle.
+use Rattle.std.specs.Prelude.{ℕ, List, [], ◌∷◌, ◌++◌}
+use Rattle.link_bundle_blocks.specs.Blocks.{Block, PrimaryOf, CanonicalOf}
+use Rattle.link_bundle_blocks.specs.Bundle.{blocks_in}
+use Rattle.link_report_blocks.specs.Blocks.{primary_text, block_text}
+use Rattle.link_bundle_reader.specs.Found.{found_in, flags_after}
+
+-- the line of a block; the first word is `id`
+abbrev pub block_line : (id flags : ℕ) → (content : List ℕ) → Block → List ℕ
+block_line id flags content (PrimaryOf primary check end) = primary_text id primary check end
+block_line id flags content (CanonicalOf block) = block_text id block (found_in flags content block)
+
+-- the lines of blocks, one after another
+abbrev pub lines_from : (id flags : ℕ) → (content : List ℕ) → List Block → List ℕ
+lines_from id flags content [] = []
+lines_from id flags content (block ∷ rest) =
+    block_line id flags content block ++ lines_from id (flags_after flags block) content rest
+
+-- The lines of the whole blocks of a bundle, also if the content is no bundle. Any flags would do
+-- before the primary block, which comes first.
+unfoldable pub block_lines : (id : ℕ) → (content : List ℕ) → List ℕ
+block_lines id content = lines_from id 0 content (blocks_in content)

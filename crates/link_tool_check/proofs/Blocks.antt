@@ -1,0 +1,128 @@
+-- The whole blocks of a bundle, and what a reader keeps of them, when more bytes follow.
+use Rattle.std.proofs.Common.{◌≡◌, ℕ, ◌+◌, ◌<◌, Bool, true, false, List, [], ◌∷◌, ◌++◌, length, Option, Some, None, fold, All, refl, ap, sym, ◌∙◌, append-nil, length-append, arith}
+use Rattle.std.proofs.lemmas.Grind.{fold-append}
+use Rattle.link_cbor.specs.declared.check.CheckKind.{CheckKind}
+use Rattle.link_bundle_types.specs.declared.info.BundleInfo.{BundleInfo}
+use Rattle.link_bundle_blocks.specs.Blocks.{Primary, Block, PrimaryOf, CanonicalOf, LiesWithin}
+use Rattle.link_bundle_blocks.specs.Bundle.{blocks_in}
+use Rattle.link_bundle_blocks.specs.declared.block.CanonicalBlock.{CanonicalBlock}
+use Rattle.link_bundle_blocks.proofs.{Few.few_blocks, Lying.BlocksWithin-holds}
+use Rattle.link_bundle_reader.specs.Found.{flags_after, found_in, long_head_in}
+use Rattle.link_bundle_reader.proofs.Grown.{all_first, all_rest, data_grown, no_blocks}
+use Rattle.link_rules_shared.specs.Heads.{first_long}
+use Rattle.link_bundle_rules.specs.BundleRules.{broken_bundle_rules}
+use Rattle.link_bundle_rules.specs.{History.bundle_of, ReadBundle.{ReadBundle, begun, block_facts, with_block}}
+use Rattle.link_bundle_rules.specs.declared.history.BundleHistory.{BundleHistory}
+use Rattle.link_tool_check.specs.BundleReader.{HasHistory}
+use Rattle.link_tool_check.specs.BundleRules.{bundle_rules, read_bundle, rules_of, with_next}
+use Rattle.link_tool_check.specs.HistoryLaws.{read_more}
+
+-- ---- no bytes
+
+none_read : read_bundle [] ≡ None
+unfolding read_bundle
+none_read = ap (fold (with_next []) None) no_blocks
+
+pub no_history : (history : BundleHistory) → HasHistory false history (read_bundle []) []
+no_history history = rw none_read tt
+
+-- ---- more bytes
+
+module _ (content more : List ℕ) where
+  flags_more : (new : List Block) → blocks_in (content ++ more) ≡ blocks_in content ++ new
+      → fold flags_after 0 (blocks_in (content ++ more))
+      ≡ fold flags_after (fold flags_after 0 (blocks_in content)) new
+  flags_more new grown = rw grown (fold-append flags_after 0 (blocks_in content) new)
+
+  -- ---- the primary block has ended
+
+  pub history_begins : (history : BundleHistory) (primary : Primary) (check : Option CheckKind)
+      (end : ℕ) → blocks_in (content ++ more) ≡ blocks_in content ++ PrimaryOf primary check end ∷ []
+      → bundle_of history None 0 ≡ begun primary check
+      → HasHistory true history (read_bundle (content ++ more)) (content ++ more)
+  history_begins history primary check end grown same =
+      rw (read_more content more (PrimaryOf primary check end ∷ []) grown) (record {
+        same = same;
+        flags = sym (flags_more (PrimaryOf primary check end ∷ []) grown);
+        few = omega (
+          arith,
+          ap length grown,
+          length-append (blocks_in content) (PrimaryOf primary check end ∷ []),
+        );
+      })
+
+  -- ---- a canonical block has ended
+
+  module _ (block : CanonicalBlock)
+      (grown : blocks_in (content ++ more) ≡ blocks_in content ++ CanonicalOf block ∷ []) where
+    -- the next history has the block too
+    abbrev pub AddsToHistory : (old new : BundleHistory) → Type 0
+    AddsToHistory old new = length old.blocks.items < 64 → bundle_of new None 0
+        ≡ with_block (bundle_of old None 0) block
+        (found_in (fold flags_after 0 (blocks_in (content ++ more))) (content ++ more) block)
+        (long_head_in (fold flags_after 0 (blocks_in (content ++ more))) (content ++ more) block)
+
+    adds_by : (begins : Bool) (old new : BundleHistory) (read : Option ReadBundle)
+        → HasHistory begins old read content → AddsToHistory old new
+        → HasHistory begins new (with_next (content ++ more) read (CanonicalOf block)) (content ++ more)
+    adds_by false old new None was adds = tt
+    adds_by false old new (Some bundle) was adds = absurd was
+    adds_by true old new None was adds = absurd was
+    adds_by true old new (Some bundle) was adds =
+        let now = content ++ more in
+        let flags : bundle.primary.flags ≡ fold flags_after 0 (blocks_in now) =
+        was.flags ∙ sym (flags_more (CanonicalOf block ∷ []) grown) in
+        let one_more : length (blocks_in now) ≡ length (blocks_in content) + 1 =
+        ap length grown ∙ length-append (blocks_in content) (CanonicalOf block ∷ []) in
+        let here : length old.blocks.items ≡ length bundle.blocks =
+        ap (λ (bundle : ReadBundle). length bundle.blocks) was.same in
+        let added = adds (omega (arith, few_blocks now, one_more, was.few, here)) in
+        record {
+          same = added
+              ∙ ap (λ (bundle : ReadBundle). with_block bundle block
+              (found_in (fold flags_after 0 (blocks_in now)) now block)
+              (long_head_in (fold flags_after 0 (blocks_in now)) now block)) was.same
+              ∙ ap (λ (flags : ℕ). with_block bundle block (found_in flags now block)
+              (long_head_in flags now block)) (sym flags);
+          flags = flags;
+          few = omega (
+            arith,
+            was.few,
+            one_more,
+            length-append bundle.blocks
+                (block_facts block (found_in bundle.primary.flags now block)
+                (long_head_in bundle.primary.flags now block) ∷ []),
+          );
+        }
+
+    pub history_adds : (begins : Bool) (old new : BundleHistory)
+        → HasHistory begins old (read_bundle content) content → AddsToHistory old new
+        → HasHistory begins new (read_bundle (content ++ more)) (content ++ more)
+    history_adds begins old new was adds =
+        rw (read_more content more (CanonicalOf block ∷ []) grown)
+        (adds_by begins old new (read_bundle content) was adds)
+
+-- ---- the rules
+
+module _ (content : List ℕ) (info : BundleInfo) (history : BundleHistory) where
+  none_by : (read : Option ReadBundle) → HasHistory false history read content
+      → rules_of content info.payload read ≡ []
+  none_by None was = refl
+  none_by (Some bundle) was = absurd was
+
+  pub rules_none : HasHistory false history (read_bundle content) content
+      → bundle_rules content info ≡ []
+  unfolding bundle_rules
+  rules_none was = none_by (read_bundle content) was
+
+  some_by : (read : Option ReadBundle) → HasHistory true history read content
+      → rules_of content info.payload read
+      ≡ broken_bundle_rules (bundle_of history (first_long content) info.payload)
+  some_by None was = absurd was
+  some_by (Some bundle) was = rw (← was.same) refl
+
+  pub rules_some : HasHistory true history (read_bundle content) content
+      → bundle_rules content info
+      ≡ broken_bundle_rules (bundle_of history (first_long content) info.payload)
+  unfolding bundle_rules
+  rules_some was = some_by (read_bundle content) was

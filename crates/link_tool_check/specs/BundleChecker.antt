@@ -1,0 +1,20 @@
+-- Relations: what is kept of the bundles of an input.
+use Rattle.std.specs.Prelude.{◌≡◌, Bool, [], ◌∷◌, ◌++◌}
+use Rattle.link_bundle_types.specs.declared.info.BundleInfo.{BundleInfo}
+use Rattle.link_run_bundles.specs.Bundles.{size_of}
+use Rattle.link_run_bundles.specs.Telling.{SoFar, between}
+use Rattle.link_tool_check.specs.BundleReader.{IsBundleReaderAt}
+use Rattle.link_tool_check.specs.Bundles.{broken_bundles}
+use Rattle.link_tool_check.specs.Lines.{none_counts}
+use Rattle.link_tool_check.specs.declared.bundles.BundleChecker.{BundleChecker}
+
+-- exactly this has come
+pub record IsBundleCheckerAt (must : Bool) (now : BundleChecker) (so_far : SoFar) : Type 0 where
+  pub offset : now.offset ≡ size_of so_far.bundles
+  pub reading : IsBundleReaderAt now.bundle so_far.begun
+  pub good : now.good ≡ none_counts must (broken_bundles 0 0 so_far.bundles)
+
+-- the bundle that has begun is whole, and has these fields
+abbrev pub with_end : SoFar → BundleInfo → SoFar
+with_end before info =
+    between (before.bundles ++ record { bytes = before.begun; info = info } ∷ [])

@@ -1,0 +1,38 @@
+-- Relations: what a reader keeps of the bytes of a bundle.
+use Rattle.std.specs.Prelude.{◌≡◌, ◌≤◌, ℕ, suc, Bool, true, false, List, length, Option, Some, None, fold}
+use Rattle.link_bundle_blocks.specs.Bundle.{blocks_in}
+use Rattle.link_bundle_reader.specs.DataReader.{IsDataReaderAt, read_size}
+use Rattle.link_bundle_reader.specs.Found.{flags_after}
+use Rattle.link_rules_shared.specs.HeadWalk.{HasWalked}
+use Rattle.link_rules_shared.specs.Prefix.{IsPrefixAt}
+use Rattle.link_bundle_rules.specs.History.{bundle_of}
+use Rattle.link_bundle_rules.specs.ReadBundle.{ReadBundle}
+use Rattle.link_bundle_rules.specs.declared.history.BundleHistory.{BundleHistory}
+use Rattle.link_tool_check.specs.BundleRules.{read_bundle}
+use Rattle.link_tool_check.specs.declared.bundle.BundleReader.{BundleReader}
+
+-- the history has exactly the blocks of this bundle: those that are whole in the content
+pub record IsBundleHistoryAt (history : BundleHistory) (bundle : ReadBundle) (content : List ℕ)
+    : Type 0 where
+  pub same : bundle_of history None 0 ≡ bundle
+  pub flags : bundle.primary.flags ≡ fold flags_after 0 (blocks_in content)
+  pub few : suc (length bundle.blocks) ≤ length (blocks_in content)
+
+-- the history has begun once the primary block is whole
+abbrev pub HasHistory : (begun : Bool) → BundleHistory → Option ReadBundle → (content : List ℕ)
+    → Type 0
+HasHistory false history None content = Unit {0}
+HasHistory false history (Some bundle) content = ⊥
+HasHistory true history None content = ⊥
+HasHistory true history (Some bundle) content = IsBundleHistoryAt history bundle content
+
+-- exactly this content of a bundle was read
+pub record IsBundleReaderAt (now : BundleReader) (content : List ℕ) : Type 0 where
+  pub reading : IsDataReaderAt now.data content
+  pub history : HasHistory now.blocks.begun now.blocks.history (read_bundle content) content
+  pub walked : HasWalked now.heads content
+  pub begins : IsPrefixAt now.prefix content
+
+-- the number of bytes read of the latest block's data
+abbrev pub data_size : BundleReader → ℕ
+data_size now = read_size now.data

@@ -1,0 +1,46 @@
+-- Relations: what is kept of the events of a stream.
+use Rattle.std.specs.Prelude.{◌≡◌, ◌≤◌, Bool, true, false, List, [], Option, Some, if◌then◌else◌}
+use Rattle.link_run_transfers.specs.Saying.{kept_after}
+use Rattle.link_run_transfers.specs.Walk.{WalkEvent, data_size, has_open}
+use Rattle.link_run_judge.specs.TransferJudge.{IsTransferJudgeAt}
+use Rattle.link_run_judge.specs.Transfers.{Transfer}
+use Rattle.link_session_rules.specs.TransferRules.{opening_of}
+use Rattle.link_session_rules.specs.Remembered.{Remembers}
+use Rattle.link_report_rules.specs.declared.line.RuleText.{RuleText}
+use Rattle.link_tool_check.specs.BundleReader.{IsBundleReaderAt}
+use Rattle.link_tool_check.specs.Checking.{Begun, Kept, none_kept, checking, rules_at, closed_rules}
+use Rattle.link_tool_check.specs.declared.checker.Checker.{Checker}
+use Rattle.link_tool_options.specs.declared.check.CheckOptions.{CheckOptions}
+use Rattle.link_tool_check.specs.declared.transfer.CheckedTransfer.{CheckedTransfer}
+
+abbrev pub transfer_of : Begun → Transfer
+transfer_of begun = record { first = begun.first; content = begun.content; closed = false }
+
+-- exactly this transfer was read so far
+pub record IsCheckedTransferAt (now : CheckedTransfer) (begun : Begun) : Type 0 where
+  pub offset : now.offset ≡ begun.offset
+  pub opening : now.opening ≡ opening_of begun.first
+  pub judging : IsTransferJudgeAt now.judge (transfer_of begun)
+  pub reading : IsBundleReaderAt now.bundle begun.content
+
+-- the transfer that began last was read
+pub record IsCheckedTransferAtLatest (now : CheckedTransfer) (latest : Option Begun) : Type 0 where
+  pub begun : Begun
+  pub is : latest ≡ Some begun
+  pub checks : IsCheckedTransferAt now begun
+
+abbrev pub kept_of : CheckOptions → List WalkEvent → Kept
+kept_of options events = kept_after (checking options) none_kept events
+
+-- the state after these events; a transfer that is not open is not read
+pub record IsCheckerAt (options : CheckOptions) (now : Checker) (events : List WalkEvent)
+    : Type 0 where
+  pub size : now.latest.judge.size ≤ data_size events
+  pub good : now.good ≡ (kept_of options events).good
+  pub history : Remembers now.history (kept_of options events).heads
+  pub at_open : has_open events ≡ true
+      → IsCheckedTransferAtLatest now.latest (kept_of options events).latest
+
+-- the rules of the latest transfer that are due once it is closed
+abbrev pub closed_due : (due : Bool) → Option Begun → List RuleText
+closed_due due latest = if due then rules_at closed_rules latest else []

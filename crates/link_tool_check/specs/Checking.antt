@@ -1,0 +1,144 @@
+-- What `check` writes for a recorded stream: a line for each rule that its messages, its transfers
+-- and their bundles break.
+use Rattle.std.specs.Prelude.{ℕ, Bool, true, ◌&&◌, List, [], ◌∷◌, ◌++◌, map, length, Option, Some, None, option_map, Result, Ok, Err, if◌then◌else◌}
+use Rattle.link_wire.specs.declared.message.SegmentHead.{SegmentHead}
+use Rattle.link_bundle_types.specs.declared.fault.BundleFault.{BundleFault}
+use Rattle.link_bundle_types.specs.declared.info.BundleInfo.{BundleInfo}
+use Rattle.link_bundle_blocks.specs.Bundle.{verdict}
+use Rattle.link_run.specs.Made.{Made, tool_of}
+use Rattle.link_run.specs.Run.{Tool}
+use Rattle.link_run.specs.Writers.{on_output}
+use Rattle.link_run_transfers.specs.Saying.{Keeping, telling_of}
+use Rattle.link_run_transfers.specs.Walk.{Head, WalkEvent, ContactHeader, MessageHead, Data, Whole, LeftOpen, closes, is_beginning, Telling, told_of}
+use Rattle.link_session_rules.specs.Flags.{contact_flags}
+use Rattle.link_session_rules.specs.Heads.{JudgedHead, segment_of}
+use Rattle.link_session_rules.specs.MessageRules.{broken_rules}
+use Rattle.link_session_rules.specs.TransferData.{data_rule}
+use Rattle.link_session_rules.specs.TransferRules.{broken_transfer_rules}
+use Rattle.link_session_rules.specs.declared.rule.TransferRule.TheVariants.{Unfinished}
+use Rattle.link_report_rules.specs.declared.{line.RuleText.RuleText, rule.BrokenRule.BrokenRule}
+use Rattle.link_report_rules.specs.declared.rule.BrokenRule.TheVariants.{Message, Transfer, Bundle}
+use Rattle.link_report_rules.specs.declared.rule.BundlePlace.TheVariants as place
+use Rattle.link_tool_check.specs.BundleRules.{bundle_rules}
+use Rattle.link_tool_check.specs.Lines.{lines_of, none_counts, at_offset}
+use Rattle.link_tool_options.specs.declared.check.CheckOptions.{CheckOptions}
+
+-- ---- a transfer
+
+-- A transfer that has begun: the offset and the head of its first segment, and its data so far.
+pub record Begun : Type 0 where
+  pub offset : ℕ
+  pub first : SegmentHead
+  pub content : List ℕ
+
+abbrev pub optional : {A : Type 0} → Option A → List A
+optional None = []
+optional (Some value) = value ∷ []
+
+-- the rules that the data of a transfer breaks, by the verdict on it
+abbrev pub data_rules : (id : ℕ) → (content : List ℕ) → Result BundleInfo (BundleFault × ℕ)
+    → List BrokenRule
+data_rules id content (Ok info) =
+    map (λ rule. Bundle (place.Transfer id) rule) (bundle_rules content info)
+data_rules id content (Err fault) =
+    map (λ rule. Transfer id rule) (optional (data_rule content (Err fault)))
+
+-- The rules that a closed transfer breaks: those of its length, and then those of its data. A wrong
+-- length hides none of the others.
+abbrev pub closed_rules : Begun → List BrokenRule
+closed_rules begun =
+    map (λ rule. Transfer begun.first.id rule)
+    (broken_transfer_rules begun.first (length begun.content))
+    ++ data_rules begun.first.id begun.content (verdict begun.content)
+
+-- A transfer that is open when the stream ends between two messages breaks one rule.
+abbrev pub open_rules : Begun → List BrokenRule
+open_rules begun = Transfer begun.first.id (Unfinished (length begun.content)) ∷ []
+
+-- the rules of the latest transfer are broken at the offset of its first segment
+abbrev pub rules_at : (Begun → List BrokenRule) → Option Begun → List RuleText
+rules_at rules None = []
+rules_at rules (Some begun) = at_offset begun.offset (rules begun)
+
+-- ---- events
+
+-- what is kept of the events so far
+pub record Kept : Type 0 where
+  pub heads : List JudgedHead
+  -- the transfer that began last
+  pub latest : Option Begun
+  -- whether no rule that counts was broken
+  pub good : Bool
+
+abbrev pub none_kept : Kept
+none_kept = record { heads = []; latest = None; good = true }
+
+abbrev pub judged : Head → JudgedHead
+judged head = record { message = head.message; fault = head.fault; turn = head.turn }
+
+-- the latest transfer after a head, which may begin one
+abbrev pub begun_by : Head → Option Begun → Option Begun
+begun_by head latest =
+    if is_beginning head.turn
+    then option_map (λ first. record { offset = head.offset; first = first; content = [] })
+    (segment_of head.message)
+    else latest
+
+abbrev pub with_bytes : (bytes : List ℕ) → Begun → Begun
+with_bytes bytes begun = record begun { content = begun.content ++ bytes }
+
+-- the rules that a head breaks after these heads
+abbrev pub head_rules : CheckOptions → (before : List JudgedHead) → Head → List RuleText
+head_rules options before head =
+    at_offset head.offset
+    (map (λ rule. Message rule) (broken_rules options.peer before (judged head)))
+
+-- The rules that are broken with one more event. A head breaks its own, and may close a transfer
+-- that has no more data.
+abbrev pub broken_by : CheckOptions → Kept → WalkEvent → List RuleText
+broken_by options kept (ContactHeader contact) =
+    at_offset 0 (map (λ rule. Message rule) (optional (contact_flags contact)))
+broken_by options kept (MessageHead head) =
+    head_rules options kept.heads head
+    ++ (if closes head then rules_at closed_rules (begun_by head kept.latest) else [])
+broken_by options kept (Data byte) = []
+broken_by options kept Whole = rules_at closed_rules kept.latest
+broken_by options kept LeftOpen = rules_at open_rules kept.latest
+
+abbrev pub heads_with : List JudgedHead → WalkEvent → List JudgedHead
+heads_with heads (MessageHead head) = heads ++ judged head ∷ []
+heads_with heads _ = heads
+
+abbrev pub latest_with : Option Begun → WalkEvent → Option Begun
+latest_with latest (MessageHead head) = begun_by head latest
+latest_with latest (Data byte) = option_map (with_bytes (byte ∷ [])) latest
+latest_with latest _ = latest
+
+abbrev pub kept_with : CheckOptions → Kept → WalkEvent → Kept
+kept_with options kept event = record {
+  heads = heads_with kept.heads event;
+  latest = latest_with kept.latest event;
+  good = kept.good && none_counts options.must (broken_by options kept event);
+}
+
+-- ---- a stream
+
+abbrev pub checking : CheckOptions → Keeping Kept
+checking options = record {
+  start = none_kept;
+  next = kept_with options;
+  says = λ kept event. on_output (lines_of options.must (broken_by options kept event));
+  good = λ kept. kept.good;
+}
+
+-- What `check` says of a stream. It goes on after faults of the order, and every head matters.
+abbrev pub check_telling : CheckOptions → Telling
+check_telling options =
+    telling_of (checking options) (record { goes_on = true; all_heads = true })
+
+-- what `check` makes of a stream
+abbrev pub check_of : CheckOptions → List ℕ → Made
+check_of options bytes = told_of (check_telling options) bytes
+
+abbrev pub check_tool : CheckOptions → Tool
+check_tool options = tool_of (check_of options)

@@ -1,0 +1,310 @@
+//! `check`: the lines of the rules that a recorded stream breaks.
+
+ghost use Rattle.std.specs.Prelude.{◌≡◌, ℕ, true, [], ◌∷◌, ◌++◌, List, Option, map};
+ghost use Rattle.link_wire.specs.MessageBuffer.{SegmentHasTotals};
+ghost use Rattle.link_session_rules.specs.Flags.{contact_flags};
+ghost use Rattle.link_session_rules.specs.Heads.{JudgedHead, viewed_head};
+ghost use Rattle.link_session_rules.specs.MessageRules.{broken_rules};
+ghost use Rattle.link_session_rules.specs.Remembered.{Remembers};
+ghost use Rattle.link_report_rules.specs.declared.rule.BrokenRule.TheVariants.{Message};
+ghost use Rattle.link_run.specs.Run.{devices, looks, NoneFailed};
+ghost use Rattle.link_run.specs.NewRun.{IsNewRun};
+ghost use Rattle.link_run.specs.WholeRun.{AfterRun};
+ghost use Rattle.link_run_transfers.specs.Telling.{viewed_head as told_head, inner_head};
+ghost use Rattle.link_tool_check.specs.Checker.{IsCheckedTransferAtLatest, IsCheckerAt, closed_due};
+ghost use Rattle.link_tool_check.specs.Checking.{Begun, check_telling, check_tool, head_rules, judged, optional};
+ghost use Rattle.link_tool_check.specs.Lines.{at_offset};
+ghost use Rattle.link_tool_check.specs.Writing.{WritesRules};
+ghost use Rattle.link_tool_options.specs.declared.check.CheckOptions.{CheckOptions};
+
+use crate::lines::write_rules;
+use crate::transfer::CheckedTransfer;
+use link_run::{Run, RunEnd, Writers};
+use link_run_transfers::{Consumer, EventView, HeadView, Manner, WalkRun, walk_run};
+use link_session_rules::{JudgedHeadView, MessageHistory, contact_flags};
+use link_tool_options::CheckOptions;
+use link_wire::{Contact, InDevice, IoFault, OutDevice};
+
+/// What is known about the messages and the transfers so far.
+#[derive(Drop)]
+pub struct Checker {
+    history: MessageHistory,
+    latest: CheckedTransfer,
+    /// Whether no rule that counts was broken.
+    good: bool,
+}
+
+impl Checker {
+    /// What is known before a stream has begun.
+    pub fn new() -> Checker
+        ensures { (options : CheckOptions) → IsCheckerAt options result [] }
+    {
+        Checker {
+            history: MessageHistory::new(),
+            latest: CheckedTransfer::new(),
+            good: true,
+        }
+    }
+}
+
+impl Consumer for Checker {
+    type Options = CheckOptions;
+
+    ghost telling = { check_telling };
+
+    ghost knows = { IsCheckerAt };
+
+    #[inline(always)]
+    fn manner(_options: &CheckOptions) -> Manner {
+        Manner {
+            goes_on: true,
+            all_heads: true,
+        }
+    }
+
+    #[inline(always)]
+    fn event<W: OutDevice, E: OutDevice>(
+        &mut self,
+        options: &CheckOptions,
+        event: EventView<'_>,
+        writers: &mut Writers<W, E>,
+    ) -> Result<(), IoFault> {
+        match event {
+            EventView::Contact(contact) => {
+                write_contact(options.must, contact, writers, &mut self.good)
+            }
+            EventView::Head(head) => {
+                let written = judge(options, &head, &mut self.history, writers, &mut self.good);
+                if head.begins() {
+                    self.latest.begin(&head);
+                }
+                if let Err(fault) = written {
+                    return Err(fault);
+                }
+                close(
+                    options.must,
+                    head.closes(),
+                    &self.latest,
+                    writers,
+                    &mut self.good,
+                )
+            }
+            EventView::Inner { head, bytes } => {
+                if let Err(fault) = self.latest.take(bytes, writers) {
+                    return Err(fault);
+                }
+                let length = bytes.len() as u64;
+                let history = &mut self.history;
+                judge_inner(options, &head, length, history, writers, &mut self.good)
+            }
+            EventView::Data { bytes, whole } => {
+                if let Err(fault) = self.latest.take(bytes, writers) {
+                    return Err(fault);
+                }
+                close(options.must, whole, &self.latest, writers, &mut self.good)
+            }
+            EventView::LeftOpen => {
+                self.latest
+                    .write_open(options.must, writers, &mut self.good)
+            }
+        }
+    }
+
+    #[inline(always)]
+    fn is_good(&self, _options: &CheckOptions) -> bool {
+        self.good
+    }
+}
+
+/// Writes the line of the rule of contact headers, if it is broken.
+fn write_contact<W: OutDevice, E: OutDevice>(
+    must: bool,
+    contact: &Contact,
+    writers: &mut Writers<W, E>,
+    good: &mut bool,
+) -> Result<(), IoFault>
+    ensures { WritesRules W.state E.state must writers.old writers.new good.old good.new result
+        (at_offset 0 (map (λ rule. Message rule) (optional (contact_flags contact.now)))) }
+{
+    match contact_flags(contact) {
+        Some(rule) => write_rules(must, 0, (), &[rule], writers, good),
+        None => Ok(()),
+    }
+}
+
+/// Writes the lines of the rules that a head breaks after those of the history. Then the history
+/// has this head too.
+#[inline(always)]
+fn judge<W: OutDevice, E: OutDevice>(
+    options: &CheckOptions,
+    head: &HeadView<'_>,
+    history: &mut MessageHistory,
+    writers: &mut Writers<W, E>,
+    good: &mut bool,
+) -> Result<(), IoFault>
+    requires { SegmentHasTotals head.now.message.now }
+    ensures gives { (before : List JudgedHead) → Remembers history.old before
+        → WritesRules W.state E.state options.now.must writers.old writers.new good.old good.new
+        result (head_rules options.now before (told_head head.now)) }
+    ensures history { (before : List JudgedHead) → Remembers history.old before
+        → Remembers history.new (before ++ judged (told_head head.now) ∷ []) }
+{
+    let judged = JudgedHeadView {
+        message: head.message,
+        fault: head.fault,
+        turn: head.turn,
+    };
+    let written = write_head(options, head.offset, &judged, history, writers, good);
+    history.take(&judged);
+    written
+}
+
+/// Judges the head of an inner segment with `length` bytes of data. Most break no rule.
+#[inline(always)]
+fn judge_inner<W: OutDevice, E: OutDevice>(
+    options: &CheckOptions,
+    head: &HeadView<'_>,
+    length: u64,
+    history: &mut MessageHistory,
+    writers: &mut Writers<W, E>,
+    good: &mut bool,
+) -> Result<(), IoFault>
+    requires { SegmentHasTotals head.now.message.now }
+    ensures gives { (id : ℕ) (before : List JudgedHead)
+        → told_head head.now ≡ inner_head head.now.offset id length
+        → Remembers history.old before
+        → WritesRules W.state E.state options.now.must writers.old writers.new good.old good.new
+        result (head_rules options.now before (told_head head.now)) }
+    ensures history { (id : ℕ) (before : List JudgedHead)
+        → told_head head.now ≡ inner_head head.now.offset id length
+        → Remembers history.old before
+        → Remembers history.new (before ++ judged (told_head head.now) ∷ []) }
+{
+    if history.take_inner(&options.peer, length) {
+        return Ok(());
+    }
+    judge_apart(options, *head, history, writers, good)
+}
+
+/// Judges a head, as [`judge`] does. This one is not inlined.
+#[cold]
+#[inline(never)]
+fn judge_apart<W: OutDevice, E: OutDevice>(
+    options: &CheckOptions,
+    head: HeadView<'_>,
+    history: &mut MessageHistory,
+    writers: &mut Writers<W, E>,
+    good: &mut bool,
+) -> Result<(), IoFault>
+    requires { SegmentHasTotals head.message.now }
+    ensures gives { (before : List JudgedHead) → Remembers history.old before
+        → WritesRules W.state E.state options.now.must writers.old writers.new good.old good.new
+        result (head_rules options.now before (told_head head.entry)) }
+    ensures history { (before : List JudgedHead) → Remembers history.old before
+        → Remembers history.new (before ++ judged (told_head head.entry) ∷ []) }
+{
+    judge(options, &head, history, writers, good)
+}
+
+/// Writes the lines of the rules that a head breaks after those of the history. Most heads break
+/// none.
+#[inline(always)]
+fn write_head<W: OutDevice, E: OutDevice>(
+    options: &CheckOptions,
+    offset: u64,
+    head: &JudgedHeadView<'_>,
+    history: &MessageHistory,
+    writers: &mut Writers<W, E>,
+    good: &mut bool,
+) -> Result<(), IoFault>
+    requires { SegmentHasTotals head.now.message.now }
+    ensures { (before : List JudgedHead) → Remembers history.now before
+        → WritesRules W.state E.state options.now.must writers.old writers.new good.old good.new
+        result (at_offset offset (map (λ rule. Message rule)
+        (broken_rules options.now.peer before (viewed_head head.now)))) }
+{
+    if history.keeps_rules(&options.peer, head) {
+        return Ok(());
+    }
+    write_broken(options, offset, head, history, writers, good)
+}
+
+/// Writes the lines of the rules that a head breaks, whether or not it breaks any.
+#[inline(never)]
+fn write_broken<W: OutDevice, E: OutDevice>(
+    options: &CheckOptions,
+    offset: u64,
+    head: &JudgedHeadView<'_>,
+    history: &MessageHistory,
+    writers: &mut Writers<W, E>,
+    good: &mut bool,
+) -> Result<(), IoFault>
+    requires { SegmentHasTotals head.now.message.now }
+    ensures { (before : List JudgedHead) → Remembers history.now before
+        → WritesRules W.state E.state options.now.must writers.old writers.new good.old good.new
+        result (at_offset offset (map (λ rule. Message rule)
+        (broken_rules options.now.peer before (viewed_head head.now)))) }
+{
+    let rules = history.rules(&options.peer, head);
+    write_rules(options.must, offset, (), rules.as_slice(), writers, good)
+}
+
+/// Writes the lines of the latest transfer, if they are due since it is closed.
+#[inline(always)]
+fn close<W: OutDevice, E: OutDevice>(
+    must: bool,
+    due: bool,
+    latest: &CheckedTransfer,
+    writers: &mut Writers<W, E>,
+    good: &mut bool,
+) -> Result<(), IoFault>
+    ensures { (begun : Option Begun) → (due ≡ true → IsCheckedTransferAtLatest latest.now begun)
+        → WritesRules W.state E.state must writers.old writers.new good.old good.new result
+        (closed_due due begun) }
+{
+    if due {
+        latest.write_closed(must, writers, good)
+    } else {
+        Ok(())
+    }
+}
+
+/// A run of `check`, step by step.
+pub type CheckRun<R, W, E> = WalkRun<R, W, E, Checker>;
+
+/// Makes a run of `check` that has read and written nothing.
+pub fn check_run<R: InDevice, W: OutDevice, E: OutDevice>(
+    options: CheckOptions,
+    reader: R,
+    output: W,
+    report: E,
+) -> CheckRun<R, W, E>
+    requires sound { NoneFailed (looks R.state W.state E.state) (devices reader output report) }
+    ensures { IsNewRun ⟦<CheckRun<R, W, E> as Run<R, W, E>>⟧ (check_tool options)
+        (devices reader output report) result }
+{
+    walk_run(options, Checker::new(), reader, output, report)
+}
+
+/// Judges by which rules a recorded stream was sent, to the end of the run.
+///
+/// The output has a line for each rule that a message, a transfer or its bundle breaks, in the
+/// order in which this is known. [`CheckOptions`] says which rules have lines. A message that is
+/// not in order breaks a rule, and the run goes on. A fault of the wire stops the stream. Then the
+/// report has its line, and the status is 3. Otherwise the report is empty, and the status is 1 if
+/// the output has a line, and else 0.
+///
+/// The answer is an error if a device failed, or the input has more than 2^63 - 1 bytes.
+#[inline(never)]
+pub fn check<R: InDevice, W: OutDevice, E: OutDevice>(
+    options: CheckOptions,
+    reader: R,
+    output: W,
+    report: E,
+) -> RunEnd<R, W, E>
+    requires sound { NoneFailed (looks R.state W.state E.state) (devices reader output report) }
+    ensures { AfterRun (looks R.state W.state E.state) (check_tool options)
+        (devices reader output report) result }
+{
+    check_run(options, reader, output, report).run()
+}

@@ -1,0 +1,188 @@
+//! The latest transfer of a stream, as far as its rules need it.
+
+ghost use Rattle.std.specs.Prelude.{◌≡◌, ◌+◌, ◌^◌, ◌≤◌, ◌<◌, length};
+ghost use Rattle.link_wire.specs.MessageBuffer.{SegmentHasTotals, message_of};
+ghost use Rattle.link_wire.specs.declared.message.Message.{Message};
+ghost use Rattle.link_wire.specs.declared.message.SegmentHead.{SegmentHead};
+ghost use Rattle.link_session_rules.specs.TransferRules.{opening_of};
+ghost use Rattle.link_tool_check.specs.BundleReader.{data_size};
+
+use crate::bundle::BundleReader;
+use crate::lines::write_rules;
+use link_report_rules::BundlePlace;
+use link_run::Writers;
+use link_run_judge::TransferJudge;
+use link_run_transfers::HeadView;
+use link_session_rules::{Opening, TransferRule, data_rule};
+use link_transfer::Announced;
+use link_wire::{Fields, INPUT_LIMIT, IoFault, MessageBuffer, OutDevice};
+
+/// Reads one transfer after another, and judges each that is over.
+#[derive(Drop)]
+pub(crate) struct CheckedTransfer {
+    /// The offset of the first segment.
+    offset: u64,
+    /// What the rules of its length need of the first segment.
+    opening: Opening,
+    pub(crate) judge: TransferJudge,
+    bundle: BundleReader,
+    ghost read: { data_size bundle ≤ judge.size },
+}
+
+/// What is kept of no segment.
+const NO_OPENING: Opening = Opening {
+    announced: Announced::Absent,
+    single: false,
+};
+
+/// What the rules of a transfer's length need of its first segment, which has this head.
+fn opening_of(message: &MessageBuffer) -> Opening
+    requires { SegmentHasTotals message.now }
+    ensures { (first : SegmentHead) → message_of message.now ≡ Message.Segment first
+        → result ≡ opening_of first }
+{
+    match message.fields {
+        Fields::Segment { flags, .. } => Opening::of(message, flags),
+        _ => NO_OPENING,
+    }
+}
+
+impl CheckedTransfer {
+    ghost use Rattle.std.specs.Prelude.{true, []};
+    ghost use Rattle.link_bundle_blocks.specs.Bundle.{verdict};
+    ghost use Rattle.link_wire.specs.Codes.{is_start};
+    ghost use Rattle.link_wire.specs.MessageBuffer.{SegmentHasTotals, message_of};
+    ghost use Rattle.link_wire.specs.declared.message.Message.{Message};
+    ghost use Rattle.link_wire.specs.declared.message.SegmentHead.{SegmentHead};
+    ghost use Rattle.link_run.specs.Run.{no_texts};
+    ghost use Rattle.link_run_bundles.specs.Telling.{WritesRest};
+    ghost use Rattle.link_tool_check.specs.Checking.{Begun, closed_rules, data_rules, open_rules, with_bytes};
+    ghost use Rattle.link_tool_check.specs.Checker.{IsCheckedTransferAt};
+    ghost use Rattle.link_tool_check.specs.Lines.{at_offset};
+    ghost use Rattle.link_tool_check.specs.Writing.{WritesRules};
+
+    /// What is kept before the first transfer of a stream.
+    pub(crate) fn new() -> CheckedTransfer
+        ensures size { result.judge.size ≡ 0 }
+    {
+        CheckedTransfer {
+            offset: 0,
+            opening: NO_OPENING,
+            judge: TransferJudge::new(),
+            bundle: BundleReader::new(),
+        }
+    }
+
+    /// Begins the transfer whose first segment has this head.
+    pub(crate) fn begin(&mut self, head: &HeadView<'_>)
+        requires { SegmentHasTotals head.now.message.now }
+        ensures follows { (first : SegmentHead) → message_of head.now.message.now
+            ≡ Message.Segment first → is_start first.flags ≡ true
+            → IsCheckedTransferAt self.new
+            (record { offset = head.now.offset; first = first; content = [] }) }
+        ensures size { self.new.judge.size ≤ self.old.judge.size }
+    {
+        self.offset = head.offset;
+        self.opening = opening_of(head.message);
+        self.judge.begin(head.message);
+        self.bundle.restart();
+    }
+
+    /// Reads the next bytes of the transfer's data.
+    ///
+    /// If the data would be longer than any input, it takes nothing. This never happens in a run,
+    /// since the data is part of its input.
+    #[inline(always)]
+    pub(crate) fn take<W: OutDevice, E: OutDevice>(
+        &mut self,
+        bytes: &[u8],
+        writers: &mut Writers<W, E>,
+    ) -> Result<(), IoFault>
+        ensures gives { (begun : Begun) → self.old.judge.size + length bytes.now < 2 ^ 63
+            → IsCheckedTransferAt self.old begun
+            → WritesRest W.state E.state no_texts no_texts
+            (IsCheckedTransferAt self.new (with_bytes bytes.now begun)) writers.old writers.new
+            result }
+        ensures size { self.new.judge.size ≤ self.old.judge.size + length bytes.now }
+    {
+        if bytes.len() as u64 > INPUT_LIMIT - self.judge.size {
+            return Ok(());
+        }
+        let before = self.judge.size;
+        self.judge.size += bytes.len() as u64;
+        self.bundle
+            .take(before, bytes, &mut self.judge.scan, writers)
+    }
+
+    /// Writes the lines of the rules that the transfer breaks, if it is closed and they count. Then
+    /// `good` becomes false.
+    #[inline(never)]
+    pub(crate) fn write_closed<W: OutDevice, E: OutDevice>(
+        &self,
+        must: bool,
+        writers: &mut Writers<W, E>,
+        good: &mut bool,
+    ) -> Result<(), IoFault>
+        ensures { (begun : Begun) → IsCheckedTransferAt self.now begun
+            → WritesRules W.state E.state must writers.old writers.new good.old good.new result
+            (at_offset begun.offset (closed_rules begun)) }
+    {
+        let rules = self.opening.rules(self.judge.size);
+        let written = write_rules(
+            must,
+            self.offset,
+            self.judge.id,
+            rules.as_slice(),
+            writers,
+            good,
+        );
+        if let Err(fault) = written {
+            return Err(fault);
+        }
+        self.write_data(must, writers, good)
+    }
+
+    /// Writes the lines of the rules that the data of a closed transfer breaks.
+    fn write_data<W: OutDevice, E: OutDevice>(
+        &self,
+        must: bool,
+        writers: &mut Writers<W, E>,
+        good: &mut bool,
+    ) -> Result<(), IoFault>
+        ensures { (begun : Begun) → IsCheckedTransferAt self.now begun
+            → WritesRules W.state E.state must writers.old writers.new good.old good.new result
+            (at_offset begun.offset
+            (data_rules begun.first.id begun.content (verdict begun.content))) }
+    {
+        let id = self.judge.id;
+        match self.judge.scan.view() {
+            Ok(info) => {
+                let place = BundlePlace::Transfer(id);
+                self.bundle
+                    .write_rules(must, self.offset, place, info.payload, writers, good)
+            }
+            Err((fault, byte)) => {
+                let rule = data_rule(fault, byte, &self.bundle.unread());
+                write_rules(must, self.offset, id, &[rule], writers, good)
+            }
+        }
+    }
+
+    /// Writes the line of the rule that the transfer breaks if the stream ends while it is open.
+    #[inline(never)]
+    pub(crate) fn write_open<W: OutDevice, E: OutDevice>(
+        &self,
+        must: bool,
+        writers: &mut Writers<W, E>,
+        good: &mut bool,
+    ) -> Result<(), IoFault>
+        ensures { (begun : Begun) → IsCheckedTransferAt self.now begun
+            → WritesRules W.state E.state must writers.old writers.new good.old good.new result
+            (at_offset begun.offset (open_rules begun)) }
+    {
+        let rule = TransferRule::Unfinished {
+            length: self.judge.size,
+        };
+        write_rules(must, self.offset, self.judge.id, &[rule], writers, good)
+    }
+}

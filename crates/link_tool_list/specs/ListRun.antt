@@ -1,0 +1,146 @@
+-- Relations, but for IsNewListing, IsListingAt, most_given: the state of a run of `list`.
+use Rattle.std.specs.Prelude.{◌≡◌, ℕ, ◌<◌, ◌≤◌, Bool, true, false, List, [], ◌++◌, length, Result}
+use Rattle.link_wire.specs.Device.{Input}
+use Rattle.link_wire.specs.Limits.{longest_head, window_size}
+use Rattle.link_wire.specs.Stream.{End, Clean, Cut, Fault, reading_of}
+use Rattle.link_wire.specs.MessageBuffer.{message_of}
+use Rattle.link_wire.specs.Session.{source_of, IsSessionAt, may_open, may_read, is_opened}
+use Rattle.link_wire.specs.Source.{Takes, window_of}
+use Rattle.link_wire.specs.declared.{IoFault.IoFault, session.Session.Session}
+use Rattle.link_report.specs.Message.{message_text}
+use Rattle.link_run.specs.Run.{Texts, Looks, ◌then◌, Devices, Place, LastStep, ContinuedStep, devices_at}
+use Rattle.link_run.specs.Stages.{IsRunAt, AfterStage}
+use Rattle.link_run.specs.Writers.{place_of, on_output, AfterWrite}
+use Rattle.link_run.specs.declared.{next.Next.Next, run.Progress.Progress}
+use Rattle.link_run.specs.declared.next.Next.TheVariants as next
+use Rattle.link_run.specs.declared.writers.Writers.{Writers}
+use Rattle.link_tool_list.specs.Listing.{list_tool, listing_of}
+use Rattle.link_tool_list.specs.declared.listing.{Latest.Latest, Stage.Stage}
+use Rattle.link_tool_list.specs.declared.listing.Stage.TheVariants as stage
+
+-- the most bytes that a step is given: a contact header, the head of a message, or a piece of data
+-- of at most `piece` bytes
+abbrev pub most_by : (piece : ℕ) → Stage → ℕ
+most_by piece stage.Contact = 6
+most_by piece stage.Message = longest_head
+most_by piece stage.Data = piece
+
+abbrev pub most_given : Stage → ℕ
+most_given now = most_by 4096 now
+
+-- whether the session permits the call of a step at this stage
+abbrev pub may_go_on : {R : Type 0} → Stage → Session R → Bool
+may_go_on stage.Contact session = may_open session
+may_go_on stage.Message session = may_read session
+may_go_on stage.Data session = is_opened session
+
+-- Whether the session permits the call that comes after the first part of a step. That call never
+-- reads the contact header.
+abbrev pub may_follow : {R : Type 0} → Next Stage → Session R → Bool
+may_follow (next.Stage stage.Contact) session = false
+may_follow (next.Stage stage.Message) session = may_read session
+may_follow (next.Stage stage.Data) session = is_opened session
+may_follow (next.Ended answer) session = true
+
+-- the line of the message that was read last
+abbrev pub latest_line : Latest → List ℕ
+latest_line latest = message_text latest.offset (message_of latest.message)
+
+-- The stage and the line that waits, by how the reading of the bytes so far ends. Between two
+-- messages, a message comes next, and no line waits. Inside the data of a segment, data comes next,
+-- and the segment's line waits.
+abbrev pub StageFits : Stage → List ℕ → End → Type 0
+StageFits now line Clean = (now ≡ stage.Message)
+StageFits now line (Cut offset message content) =
+    (now ≡ stage.Data) × (line ≡ message_text offset message)
+StageFits now line (Fault offset fault) = ⊥
+
+-- How the reading ends after a step, if data of a segment is still to come. A step that reads a
+-- head is given none of that data.
+abbrev pub HasNoDataYet : Stage → End → Type 0
+HasNoDataYet stage.Message (Cut offset message content) = content ≡ []
+HasNoDataYet now end = Unit {0}
+
+module _ {R : Type 0} (look : R → Input) where
+  -- a run that begins was given nothing
+  pub record IsNewListing (session : Session R) (history : List ℕ) : Type 0 where
+    pub nothing : history ≡ []
+    pub opens : may_open session ≡ true
+
+  -- the state of a run that was given these bytes, the contact header among them
+  pub record IsListingAt (now : Stage) (line : List ℕ) (session : Session R)
+      (history : List ℕ) : Type 0 where
+    pub session_at : IsSessionAt look session history
+    pub waits : StageFits now line (reading_of history).end
+
+  -- the state at each stage; `line` is that of the message that was read last
+  abbrev pub IsListingAtStage : Stage → (line : List ℕ) → Session R → (history : List ℕ) → Type 0
+  IsListingAtStage stage.Contact line session history = IsNewListing session history
+  IsListingAtStage stage.Message line session history = IsListingAt stage.Message line session
+      history
+  IsListingAtStage stage.Data line session history = IsListingAt stage.Data line session history
+
+module _ {R W E : Type 0} (look : Looks R W E) (start : Devices R W E) (piece : ℕ) (now : Stage)
+    (old new : Session R) (writers : Writers W E) (line history : List ℕ) where
+  -- the message is whole, and only its line is still to be written
+  pub record IsLineDue : Type 0 where
+    pub given : List ℕ
+    pub some : 0 < length given
+    pub takes : Takes look.input (source_of old) (source_of new) given
+    pub size : length given ≤ most_by piece now
+    pub few : length (window_of (source_of new)) < window_size
+    pub stood : IsRunAt look listing_of start true (place_of (source_of old) writers) history
+    pub texts : (listing_of history).texts then on_output line
+        ≡ (listing_of (history ++ given)).texts
+    pub session_at : IsSessionAt look.input new (history ++ given)
+    pub clean : (reading_of (history ++ given)).end ≡ Clean
+
+  -- What holds after the first part of a step. If a message comes next, a line is due.
+  abbrev pub AfterRead : Next Stage → Type 0
+  AfterRead (next.Stage stage.Contact) = ⊥
+  AfterRead (next.Stage stage.Message) = IsLineDue
+  AfterRead (next.Stage stage.Data) =
+      ContinuedStep (source_of old) (source_of new)
+      (λ bytes. IsRunAt look listing_of start true (place_of (source_of new) writers) bytes
+      × (IsListingAt look.input stage.Data line new bytes
+      × HasNoDataYet now (reading_of bytes).end)) (most_by piece now) history
+  AfterRead (next.Ended answer) =
+      LastStep look list_tool start (devices_at (place_of (source_of new) writers))
+      (most_by piece now)
+      history answer
+
+module _ {R : Type 0} (look : R → Input) (first : Texts) where
+  -- Between two messages, after the texts `first`, these lines make the texts of the bytes so far.
+  pub record AreLinesTo (session : Session R) (lines history : List ℕ) : Type 0 where
+    pub session_at : IsSessionAt look session history
+    pub clean : (reading_of history).end ≡ Clean
+    pub texts : first then on_output lines ≡ (listing_of history).texts
+
+  -- some whole messages were given after the history, and these lines make the texts now
+  pub record ListsOn (old new : Session R) (lines history : List ℕ) : Type 0 where
+    pub given : List ℕ
+    pub takes : Takes look (source_of old) (source_of new) given
+    pub listed : AreLinesTo new lines (history ++ given)
+
+-- some whole messages were given, and their lines were written, or a writer failed while writing
+-- them
+abbrev pub AfterLines : {R W E : Type 0} → Looks R W E → (first : Texts) → (old new : Session R)
+    → (before after : Writers W E) → (history : List ℕ) → Result (Unit {0}) IoFault → Type 0
+AfterLines look first old new before after history result =
+    (lines : List ℕ) × AfterWrite look.output look.report before after (on_output lines) result
+    × ListsOn look.input first old new lines history
+
+-- What holds after a step, or after a stride if `far` is true. Only a step has its bound.
+abbrev pub AfterStepOrStride : {R W E : Type 0} → Looks R W E → Devices R W E → (piece : ℕ)
+    → (far : Bool)
+    → (now : Stage) → (old new : Place R W E) → (knows : List ℕ → Type 0) → (history : List ℕ)
+    → Result Progress IoFault → Type 0
+AfterStepOrStride look start piece far now old new knows history result =
+    (size : ℕ) × (far ≡ false → size ≡ most_by piece now) × (0 < size)
+    × AfterStage look listing_of start true old new knows size history result
+
+-- data comes next if some is to come, and else a message
+abbrev pub NextFits : (left : ℕ) → Next Stage → Type 0
+NextFits left (next.Stage stage.Message) = left ≡ 0
+NextFits left (next.Stage stage.Data) = 0 < left
+NextFits left _ = ⊥

@@ -1,0 +1,25 @@
+-- Relations, but for IsCutterFor, IsCutterIn: what the cutter of a packer has.
+use Rattle.std.specs.Prelude.{◌≡◌, ℕ, ◌-◌, ◌≤◌, max, false, List}
+use Rattle.link_transfer.specs.Cutter.{IsCutterAt, cut_waits, kept_size}
+use Rattle.link_transfer.specs.Cutting.{Cutting, beginning}
+use Rattle.link_transfer.specs.declared.cutter.Cutter.{Cutter}
+use Rattle.link_tool_pack.specs.Segments.{going}
+use Rattle.link_tool_pack.specs.Packing.{segment_size}
+use Rattle.link_tool_options.specs.declared.pack.PackOptions.{PackOptions}
+
+-- the history of a cutter to which these bytes of an incomplete bundle were pushed, and which has
+-- cut all chunks that are due
+abbrev pub cutting : PackOptions → (begun : List ℕ) → Cutting
+cutting options begun = going (segment_size options) options.announce begun
+
+-- the cutter is new and has the limits of these options; no chunk is ready
+abbrev pub IsCutterFor : PackOptions → Cutter → Type 0
+IsCutterFor options cutter =
+    IsCutterAt cutter (beginning (segment_size options) options.announce)
+    × (cut_waits cutter ≡ false)
+
+-- exactly the bytes `begun` of the current bundle have come
+pub record IsCutterIn (options : PackOptions) (cutter : Cutter) (begun : List ℕ) : Type 0 where
+  pub cut : IsCutterAt cutter (cutting options begun)
+  -- the cutter keeps less than a segment, or a bundle whose length may still be announced
+  pub kept : kept_size cutter ≤ max (segment_size options - 1) options.announce

@@ -1,0 +1,96 @@
+-- What `pack` writes for an input: the stream of a sender (RFC 9174) that carries its bundles.
+use Rattle.std.specs.Prelude.{ℕ, suc, min, Bool, true, false, List, [], ◌∷◌, ◌++◌, length, Option, Some, None, if◌then◌else◌}
+use Rattle.link_wire.specs.Spelling.{contact_bytes, sess_init_bytes, sess_term_bytes}
+use Rattle.link_transfer.specs.Chunks.{chunk_count}
+use Rattle.link_report.specs.Packed.{packed_text}
+use Rattle.link_run.specs.Made.{Made, tool_of}
+use Rattle.link_run.specs.Run.{Tool}
+use Rattle.link_run_bundles.specs.Bundles.{Packed, Rest, Divided, divided}
+use Rattle.link_run_bundles.specs.Telling.{stop_by}
+use Rattle.link_tool_pack.specs.Segments.{Sending, segments_of}
+use Rattle.link_tool_options.specs.declared.pack.PackOptions.{PackOptions}
+
+-- ---- the output
+
+-- the contact header (section 4.2) and SESS_INIT (section 4.6)
+unfoldable pub prelude_bytes : PackOptions → List ℕ
+prelude_bytes options =
+    contact_bytes 0 ++ sess_init_bytes options.keepalive options.segment_mru
+    options.transfer_mru options.node.items
+
+-- the most bytes of data in a segment: what the peer takes, but no more than 65,536
+abbrev pub segment_size : PackOptions → ℕ
+segment_size options = min options.peer_segment 65536
+
+-- the bytes that the segments of a transfer carry: a whole bundle, or those accepted so far
+abbrev pub sending : PackOptions → (whole : Bool) → List ℕ → Sending
+sending options whole bundle =
+    record {
+      segment = segment_size options;
+      hold = options.announce;
+      bundle = bundle;
+      whole = whole;
+    }
+
+-- each bundle is a transfer (section 5.2.2), whose ID is the bundle's number
+unfoldable pub transfer_bytes : PackOptions → (number : ℕ) → List Packed → List ℕ
+transfer_bytes options number [] = []
+transfer_bytes options number (bundle ∷ more) =
+    segments_of number (sending options true bundle.bytes)
+    ++ transfer_bytes options (suc number) more
+
+-- The due segments of the accepted bytes at the end of an input, if these are not a bundle. None of
+-- them is the last of its transfer.
+abbrev pub rest_segments : PackOptions → (number : ℕ) → Option Rest → List ℕ
+rest_segments options number None = []
+rest_segments options number (Some rest) = segments_of number (sending options false rest.accepted)
+
+-- SESS_TERM (section 6.1), if the options ask for it, after an input that does not stop at a fault
+abbrev pub end_bytes : PackOptions → List ℕ
+end_bytes options = if options.send_term then sess_term_bytes 0 0 else []
+
+-- ---- the report
+
+abbrev pub report_line : PackOptions → (number : ℕ) → Packed → List ℕ
+report_line options number bundle = packed_text (record {
+  number = number;
+  segments = chunk_count (segment_size options) (length bundle.bytes);
+  length = length bundle.bytes;
+  info = bundle.info;
+})
+
+-- a line for each bundle
+unfoldable pub report_lines : PackOptions → (number : ℕ) → List Packed → List ℕ
+report_lines options number [] = []
+report_lines options number (bundle ∷ more) =
+    report_line options number bundle ++ report_lines options (suc number) more
+
+-- ---- the whole input
+
+abbrev pub bundles_output : PackOptions → Divided → List ℕ
+bundles_output options input =
+    prelude_bytes options ++ transfer_bytes options 0 input.bundles
+    ++ rest_segments options (length input.bundles) input.rest
+
+-- What `pack` makes of an input, by its bundles and what follows them. If no fault stops the input,
+-- everything is good. Then `input.rest` is `None`, so the output has whole transfers only.
+abbrev pub packing_by : PackOptions → Divided → Made
+packing_by options input = record {
+  texts = record {
+    output = bundles_output options input;
+    report = report_lines options 0 input.bundles;
+  };
+  stop = stop_by (length input.bundles) input.rest;
+  ended = record {
+    output = bundles_output options input ++ end_bytes options;
+    report = report_lines options 0 input.bundles;
+  };
+  good = true;
+}
+
+-- what `pack` makes of an input
+unfoldable pub packing_of : PackOptions → List ℕ → Made
+packing_of options bytes = packing_by options (divided options.peer_transfer bytes)
+
+abbrev pub pack_tool : PackOptions → Tool
+pack_tool options = tool_of (packing_of options)

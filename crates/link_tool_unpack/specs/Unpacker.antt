@@ -1,0 +1,27 @@
+-- Relations: what is kept of the events of a stream.
+use Rattle.std.specs.Prelude.{◌≡◌, ◌+◌, ◌≤◌, Bool, true, not, List, ◌∷◌, length}
+use Rattle.link_run_transfers.specs.Walk.{WalkEvent, data_size, has_open}
+use Rattle.link_run_judge.specs.Transfers.{Transfer}
+use Rattle.link_run_judge.specs.Unpacking.{parts_of, told_after}
+use Rattle.link_tool_unpack.specs.TransferScan.{IsTransferScanAt}
+use Rattle.link_tool_unpack.specs.declared.transfer.TransferScan.{TransferScan}
+use Rattle.link_tool_unpack.specs.declared.unpacker.Unpacker.{Unpacker}
+use Rattle.link_tool_options.specs.declared.wanted.Wanted.{Wanted}
+
+-- the scan is at the latest transfer, which is open or not
+pub record IsTransferScanAtLatest (wanted : Wanted) (latest : TransferScan) (is_open : Bool)
+    (transfers : List Transfer) : Type 0 where
+  pub transfer : Transfer
+  pub earlier : List Transfer
+  pub are : transfers ≡ transfer ∷ earlier
+  pub opened : is_open ≡ not transfer.closed
+  pub follows : IsTransferScanAt wanted latest transfer earlier
+
+-- the state after these events; a transfer that is not open needs no scan
+pub record IsUnpackerAt (wanted : Wanted) (now : Unpacker) (events : List WalkEvent) : Type 0 where
+  pub sum : now.latest.start + now.latest.written
+      ≡ length (parts_of wanted (told_after wanted events).transfers)
+  pub total : now.latest.total ≤ data_size events
+  pub good : now.good ≡ (told_after wanted events).good
+  pub at_open : has_open events ≡ true
+      → IsTransferScanAtLatest wanted now.latest true (told_after wanted events).transfers

@@ -1,0 +1,31 @@
+-- Relations: conditions on the functions that read the matches, and on their results.
+use Rattle.std.specs.Prelude.{◌≡◌, ◌<◌, ◌⊎◌, ⊤, true, false, List, Option, Some, None, codes, length}
+use Rattle.clap.specs.{Words.{Row, Text}, declared.error.kind.ErrorKind.ErrorKind}
+use Rattle.clap.specs.declared.error.kind.ErrorKind.TheVariants.{OutOfMemory}
+use Rattle.link_tools_command.specs.Usage.{is_request, limits_bundles_of, mixes_inputs_of, node_of}
+use Rattle.link_tools_command.specs.declared.usage.UsageFault.{UsageFault}
+use Rattle.link_tools_command.specs.declared.usage.UsageFault.TheVariants.{Help, Words, NodeTooLong, MixedInputs, LimitedBundles, Memory}
+
+abbrev pub IsToolName : Text → Type 0
+IsToolName name = (name ≡ codes "list")
+    ⊎ ((name ≡ codes "unpack")
+    ⊎ ((name ≡ codes "blocks") ⊎ ((name ≡ codes "check") ⊎ (name ≡ codes "pack"))))
+
+-- the words name one of the five tools
+abbrev pub NamesTool : Option (Text × List Row) → Type 0
+NamesTool None = ⊥
+NamesTool (Some tool) = IsToolName tool.0
+
+-- the faults that may be returned for the matches of a tool
+abbrev pub IsToolFault : Option (Text × List Row) → UsageFault → Type 0
+IsToolFault tool fault = ((fault ≡ NodeTooLong) × (1024 < length (node_of tool)))
+    ⊎ (((fault ≡ MixedInputs) × (mixes_inputs_of tool ≡ true))
+    ⊎ (((fault ≡ LimitedBundles) × (limits_bundles_of tool ≡ true)) ⊎ (fault ≡ Memory)))
+
+-- The faults that may be returned for an error of `clap` of this kind. `Memory` may be returned for
+-- any kind.
+abbrev pub IsFaultForKind : ErrorKind → UsageFault → Type 0
+IsFaultForKind kind (Help text) = is_request kind ≡ true
+IsFaultForKind kind (Words text) = (is_request kind ≡ false) × (kind ≡ OutOfMemory → ⊥)
+IsFaultForKind kind Memory = ⊤
+IsFaultForKind kind _ = ⊥

@@ -1,0 +1,71 @@
+-- The reasons why a command line starts no run, and how the program then ends.
+use Rattle.std.specs.Prelude.{◌≡◌, ◌<◌, ⊤, ℕ, Bool, true, false, List, [], Option, codes, length}
+use Rattle.std.specs.Option.{option_map_or}
+use Rattle.clap.specs.Words.{IsAmong, Row, Text, fault_of, subcommand_of}
+use Rattle.clap.specs.declared.error.kind.ErrorKind.{ErrorKind}
+use Rattle.clap.specs.declared.error.kind.ErrorKind.TheVariants.{DisplayHelp, DisplayVersion}
+use Rattle.link_tools_command.specs.Table.{table}
+use Rattle.link_tools_command.specs.Invoked.{limits_bundles, mixes_inputs, text_of}
+use Rattle.link_tools_command.specs.declared.usage.UsageFault.{UsageFault}
+use Rattle.link_tools_command.specs.declared.usage.UsageFault.TheVariants.{Help, Words, NodeTooLong, MixedInputs, LimitedBundles, Memory}
+
+-- ---- errors that `clap` finds in the words
+
+-- whether an error of this kind is a request for help or for the version
+abbrev pub is_request : ErrorKind → Bool
+is_request DisplayHelp = true
+is_request DisplayVersion = true
+is_request _ = false
+
+-- `clap` finds an error in the words, and `is_kind` returns `expected` for its kind
+abbrev pub Finds : (is_kind : ErrorKind → Bool) → (expected : Bool) → (words : List Text) → Type 0
+Finds is_kind expected words =
+    (kind : ErrorKind) × IsAmong kind (fault_of table words) × (is_kind kind ≡ expected)
+
+-- `clap` finds no error in the words
+abbrev pub AreValidWords : (words : List Text) → Type 0
+AreValidWords words = fault_of table words ≡ []
+
+-- the value of `--node`, which is empty if the tool has none
+abbrev pub node_of : (tool : Option (Text × List Row)) → Text
+node_of tool = option_map_or (λ t. text_of (codes "node") t.1) tool []
+
+-- whether the tool is given `--bundles` and an option for recordings
+abbrev pub mixes_inputs_of : (tool : Option (Text × List Row)) → Bool
+mixes_inputs_of tool = option_map_or (λ t. mixes_inputs t.1) tool false
+
+-- whether the tool is given `--bundles` and a limit of the peer
+abbrev pub limits_bundles_of : (tool : Option (Text × List Row)) → Bool
+limits_bundles_of tool = option_map_or (λ t. limits_bundles t.1) tool false
+
+-- when each fault may be returned; `Memory` may be returned for any words
+abbrev pub IsFaultOf : (words : List Text) → UsageFault → Type 0
+IsFaultOf words (Help text) = Finds is_request true words
+IsFaultOf words (Words text) = Finds is_request false words
+IsFaultOf words NodeTooLong =
+    AreValidWords words × (1024 < length (node_of (subcommand_of table words)))
+IsFaultOf words MixedInputs =
+    AreValidWords words × (mixes_inputs_of (subcommand_of table words) ≡ true)
+IsFaultOf words LimitedBundles =
+    AreValidWords words × (limits_bundles_of (subcommand_of table words) ≡ true)
+IsFaultOf words Memory = ⊤
+
+-- ---- the end of the program
+
+abbrev pub usage_status : UsageFault → ℕ
+usage_status (Help text) = 0
+usage_status (Words text) = 2
+usage_status NodeTooLong = 2
+usage_status MixedInputs = 2
+usage_status LimitedBundles = 2
+usage_status Memory = 4
+
+-- the program's own message; it is empty for a fault that carries a text
+abbrev pub usage_text : UsageFault → Text
+usage_text (Help text) = []
+usage_text (Words text) = []
+usage_text NodeTooLong = codes "tcpclkit: node id longer than 1024 bytes"
+usage_text MixedInputs = codes "tcpclkit: --bundles goes with no other option"
+usage_text LimitedBundles =
+    codes "tcpclkit: --bundles goes with neither --peer-segment nor --peer-transfer"
+usage_text Memory = codes "tcpclkit: out of memory"

@@ -1,0 +1,304 @@
+-- What `unpack` reports of a recording in which `check --must` finds no rule broken.
+use Rattle.std.specs.List.{All, flat_map}
+use Rattle.std.proofs.Common.{◌≡◌, ℕ, true, List, [], ◌∷◌, ◌++◌, length, map, filter_map, Option, Result, arith, false, drop, option_map, Some, None, if◌then◌else◌, refl, ap, sym, ◌∙◌, subst}
+use Rattle.std.proofs.lemmas.{Bool.and_parts, List.map-append, Grind.{flat_map-append, fold-append}}
+use Rattle.std.proofs.lemmas.List.Elements.{All-nil, All-cons, All-append, All-head, All-tail}
+use Rattle.link_tool_options.specs.{declared.limits.PeerLimits.PeerLimits, declared.wanted.Wanted.Wanted}
+use Rattle.link_wire.specs.{Message.data_length, Stream.{Entry, End, Reading, reading_of, heads_of}}
+use Rattle.link_wire.specs.{declared.message.Contact.Contact, declared.message.Message.Message}
+use Rattle.link_bundle_types.specs.declared.fault.BundleFault.{BundleFault}
+use Rattle.link_bundle_types.specs.declared.info.BundleInfo.{BundleInfo}
+use Rattle.link_bundle_blocks.specs.Bundle.{verdict}
+use Rattle.link_transfer.specs.{Announced.announced_of, Event.event_of, Order.{refusal, with_taken}}
+use Rattle.link_transfer.specs.declared.announcement.Announced.{Announced}
+use Rattle.link_transfer.specs.declared.fault.OrderFault.{OrderFault}
+use Rattle.link_session_rules.specs.{TransferData.data_rule, Flags.item_flags, NodeIds.node_id}
+use Rattle.link_session_rules.specs.TransferRules.{broken_transfer_rules, if_malformed, if_different, length_item, length_differs, length_of_one_segment, transfer_level_of}
+use Rattle.link_session_rules.specs.declared.rule.TransferRule.{TransferRule}
+use Rattle.link_session_rules.specs.{Heads.{JudgedHead, messages_of}, Session.{order, order_level}}
+use Rattle.link_session_rules.specs.MessageRules.{broken_rules, judged_rules, level_of}
+use Rattle.link_session_rules.specs.declared.rule.MessageRule.{MessageRule}
+use Rattle.link_report.specs.Judgement.{judged_length, judged_data}
+use Rattle.link_report.specs.declared.fault.Fault.TheVariants.{Order}
+use Rattle.link_report_rules.specs.{Names.rule_level, declared.line.RuleText.RuleText}
+use Rattle.link_run.specs.Made.{StreamStop, stop_of}
+use Rattle.link_run_transfers.specs.Walk.{head_at, WalkEvent, MessageHead, content_events, Walked, none_walked, with_next, walked_of, end_events, stop_by, told_of}
+use Rattle.link_run_judge.specs.{Transfers.Transfer, Unpacking.Told}
+use Rattle.link_tool_check.specs.Checking.{closed_rules, data_rules, Begun, heads_with, judged, latest_with, check_tool}
+use Rattle.link_tool_check.specs.Lines.{none_counts, at_offset}
+use Rattle.link_tools_laws.specs.Checked.{MayBeGood, IsAllowed, IsSecondInit, MayStop, HasOnlyAllowed}
+use Rattle.link_tools_laws.specs.{Cuts.{fault_at, faults_after, lined}, RoundTrip.all}
+use Rattle.link_tools_laws.specs.Transfers.{ordered_by, ordered_after, ordered, transfers_of, unpacked_of}
+use Rattle.link_tools_laws.proofs.Placed.{counts_append, options, broken_with, broken_from, good_kept, none_before, Placed, is_closed, passing, transfers_in, begun_of, due_of, rules_of, told_transfers, AfterAll, from_start}
+use Rattle.link_tools_laws.proofs.Same.{accepted_in_order, all_kept, not_stray, taken_more, unpacked_in_order, heads_said}
+use Rattle.link_tools_laws.proofs.Walks.{walk_told, heads_grow, going, content_none, walk_events, walk_is}
+use Rattle.link_tools_laws.proofs.{Prefixes.front_first, SameRules.status_clean}
+use Rattle.link_tools_laws.proofs.Whole.{AreRead, reading_read}
+use Rattle.link_report_rules.specs.declared.rule.BrokenRule.TheVariants as rule
+use Rattle.link_session_rules.specs.declared.rule.MessageRule.TheVariants as message_rule
+
+-- ---- closed transfers that break no rule of level `must`
+
+-- no rule of this list is of level `must`
+abbrev NoMust : List RuleText → Type 0
+NoMust lines = none_counts true lines ≡ true
+
+pub closed_no_must : (lines : List RuleText) → NoMust lines → NoMust (passing is_closed lines)
+unfolding none_counts
+closed_no_must [] none = none
+closed_no_must (line ∷ more) none = grind (arith, closed_no_must more)
+
+no_must_both : (first second : List RuleText) → NoMust (first ++ second)
+    → (NoMust first) × (NoMust second)
+no_must_both first second none = and_parts _ _ (rw counts_append at none)
+
+-- ---- one transfer
+
+module _ (offset id : ℕ) (content : List ℕ) where
+  data_allowed : (said : Result BundleInfo (BundleFault × ℕ))
+      → NoMust (at_offset offset (data_rules id content said))
+      → MayBeGood content (judged_data said)
+  unfolding data_rule none_counts rule_level transfer_level_of
+  data_allowed said none = grind arith
+
+  length_allowed : (announced : Announced) (size : ℕ) (single : Option TransferRule)
+      (said : Result BundleInfo (BundleFault × ℕ))
+      → NoMust (at_offset offset (map (λ one. rule.Transfer id one)
+      (filter_map (λ judged. judged)
+      (if_malformed announced ∷ if_different announced size ∷ single ∷ []))))
+      → MayBeGood content (judged_data said)
+      → MayBeGood content (judged_length announced size said)
+  unfolding none_counts rule_level transfer_level_of
+  length_allowed announced size single said none may = grind arith
+
+closed_allowed : (placed : Placed)
+    → NoMust (at_offset placed.offset (closed_rules (begun_of placed)))
+    → MayBeGood placed.transfer.content
+    (judged_length (announced_of placed.transfer.first.items.items)
+    (length placed.transfer.content) (verdict placed.transfer.content))
+unfolding broken_transfer_rules length_item length_differs
+closed_allowed placed none =
+    let transfer = placed.transfer in
+    let id = transfer.first.id in
+    let both = no_must_both _ _ (rw map-append at none) in
+    length_allowed placed.offset id transfer.content (announced_of transfer.first.items.items)
+    (length transfer.content) (length_of_one_segment transfer.first) (verdict transfer.content)
+    both.0 (data_allowed placed.offset id transfer.content (verdict transfer.content) both.1)
+
+-- transfers that break no rule of level `must` once they are closed
+pub all_allowed : (placed : List Placed) → NoMust (rules_of placed)
+    → All IsAllowed (transfers_in placed)
+all_allowed [] none = All-nil IsAllowed
+all_allowed (latest ∷ earlier) none =
+    let both = no_must_both (rules_of earlier) (due_of latest) none in
+    All-cons IsAllowed latest.transfer (transfers_in earlier)
+    (grind (arith, closed_allowed, both.1)) (all_allowed earlier both.0)
+
+-- ---- the transfers of heads
+
+module _ (peer : PeerLimits) (contact : Option Contact) where
+  abbrev every : List Entry → Walked
+  every heads = walked_of (going true) contact heads
+
+  -- none of the rules counts that these heads break
+  abbrev KeepsMusts : List Entry → Type 0
+  KeepsMusts heads = none_counts true (broken_from peer [] None (every heads).events) ≡ true
+
+  module _ (heads : List Entry) (read : AreRead heads) where
+    placed : AfterAll peer [] [] None (every heads).events
+    placed = grind (arith, from_start, walk_told)
+
+    same_transfers : (wanted : Wanted)
+        → transfers_in placed.after ≡ (unpacked_of wanted heads).transfers
+    same_transfers wanted =
+        placed.are
+        ∙ sym (told_transfers wanted (every heads).events)
+        ∙ ap (λ (told : Told). told.transfers) (heads_said wanted true contact heads read)
+
+    transfers_allowed : KeepsMusts heads → (wanted : Wanted)
+        → All IsAllowed (unpacked_of wanted heads).transfers
+    transfers_allowed keeps wanted =
+        subst (All IsAllowed) (same_transfers wanted)
+        (all_allowed placed.after
+        (rw placed.rules (closed_no_must (broken_from peer [] None (every heads).events) keeps)))
+
+  -- the first heads keep what all keep
+  first_keep : (first rest : List Entry) → KeepsMusts (first ++ rest) → KeepsMusts first
+  unfolding walked_of
+  first_keep first rest keeps =
+      none_before peer true [] None (every first).events (every (first ++ rest)).events
+      (rw (fold-append (with_next (going true)) (none_walked contact) first rest)
+      (heads_grow (going true) rest (every first)))
+      keeps
+
+-- ---- the faults of heads
+
+abbrev faults_of : WalkEvent → List (ℕ × OrderFault)
+faults_of (MessageHead head) = fault_at head.offset head.fault
+faults_of event = []
+
+abbrev all_faults : List WalkEvent → List (ℕ × OrderFault)
+all_faults events = flat_map faults_of events
+
+walk_faults : (heads : List Entry) (taken : List Message)
+    → all_faults (walk_events true taken heads) ≡ faults_after taken heads
+unfolding faults_after
+walk_faults [] taken = refl
+walk_faults (head ∷ more) taken =
+    let at = head_at taken head.offset head.message in
+    let content = content_events at.turn (data_length head.message) head.content in
+    rw (
+      flat_map-append faults_of content (walk_events true (with_taken taken head.message) more),
+      content_none faults_of (λ byte. refl) refl at.turn (data_length head.message) head.content,
+      walk_faults more (with_taken taken head.message),
+    )
+
+-- ---- rules of messages of level `must`
+
+module _ (offset : ℕ) where
+  abbrev lines_for : List MessageRule → List RuleText
+  lines_for broken = at_offset offset (map (λ one. rule.Message one) broken)
+
+  -- rules after others
+  later_rules : (first : Option MessageRule) (others : List (Option MessageRule))
+      → none_counts true (lines_for (filter_map (λ judged. judged) (first ∷ others))) ≡ true
+      → none_counts true (lines_for (filter_map (λ judged. judged) others)) ≡ true
+  unfolding none_counts
+  later_rules None others none = none
+  later_rules (Some first) others none = (and_parts _ _ none).1
+
+  -- the fault of a head, whose rule comes before others
+  order_rule : (earlier : List Message) (message : Message) (fault : Option OrderFault)
+      (others : List (Option MessageRule))
+      → none_counts true (lines_for (filter_map (λ judged. judged)
+      (option_map (λ fault. message_rule.Order fault (order_level earlier message fault)) fault
+      ∷ others))) ≡ true
+      → All IsSecondInit (fault_at offset fault)
+  unfolding none_counts rule_level level_of
+  order_rule earlier message fault others none = grind arith
+
+module _ (peer : PeerLimits) where
+  head_allowed : (heads : List JudgedHead) (offset : ℕ) (head : JudgedHead)
+      → none_counts true (lines_for offset (broken_rules peer heads head)) ≡ true
+      → All IsSecondInit (fault_at offset head.fault)
+  unfolding broken_rules order
+  head_allowed heads offset head none =
+      let judged = judged_rules peer heads head in
+      order_rule offset (messages_of heads) head.message head.fault (drop 3 judged)
+      (later_rules offset (item_flags head.message) (drop 2 judged)
+      (later_rules offset (node_id head.message) (drop 1 judged) none))
+
+  event_allowed : (heads : List JudgedHead) (latest : Option Begun) (event : WalkEvent)
+      → none_counts true (broken_with peer heads latest event) ≡ true
+      → All IsSecondInit (faults_of event)
+  event_allowed heads latest (MessageHead head) none =
+      head_allowed heads head.offset (judged head) (grind (arith, counts_append))
+  event_allowed heads latest event none = All-nil IsSecondInit
+
+  events_allowed : (events : List WalkEvent) (heads : List JudgedHead) (latest : Option Begun)
+      → none_counts true (broken_from peer heads latest events) ≡ true
+      → All IsSecondInit (all_faults events)
+  events_allowed [] heads latest none = All-nil IsSecondInit
+  events_allowed (event ∷ more) heads latest none =
+      All-append IsSecondInit (faults_of event) (all_faults more)
+      (event_allowed heads latest event (grind (arith, counts_append)))
+      (events_allowed more (heads_with heads event) (latest_with latest event)
+      (grind (arith, counts_append)))
+
+-- ---- a run that ends at a fault of the order
+
+-- the fault at which the walk ends, if there is one
+abbrev MayRefuse : Option (ℕ × OrderFault) → Type 0
+MayRefuse None = Unit {0}
+MayRefuse (Some fault) = IsSecondInit fault
+
+may_refuse : (heads : List Entry) (before : List Message)
+    → All IsSecondInit (faults_after before heads) → MayRefuse (ordered_after before heads).refused
+unfolding ordered_after faults_after
+may_refuse [] before faults = tt
+may_refuse (head ∷ more) before faults =
+    let seen = before ++ head.message ∷ [] in
+    let later = faults_after (with_taken before head.message) more in
+    (elim (refusal before (event_of head.message)) as (λ refused.
+    refusal before (event_of head.message) ≡ refused
+    → All IsSecondInit (fault_at head.offset refused ++ later)
+    → MayRefuse (ordered_by refused head (ordered_after seen more)).refused) [
+      | None ↦ λ is all.
+          let belongs = not_stray before (event_of head.message) is in
+          may_refuse more seen (rw (taken_more before head.message belongs) at all)
+      | Some fault ↦ λ is all. All-head IsSecondInit (head.offset, fault) later all
+    ]) refl faults
+
+may_stop : (refused : Option (ℕ × OrderFault)) (end : End) → stop_of end ≡ None
+    → MayRefuse refused → MayStop (stop_by refused end)
+may_stop None end none may = rw none tt
+may_stop (Some (offset, fault)) end none may = (offset, ap (λ f. Order offset f) may)
+
+lined_allowed : (stop : Option StreamStop) (transfers : List Transfer) → All IsAllowed transfers
+    → All IsAllowed (lined stop transfers)
+lined_allowed None transfers allowed = allowed
+lined_allowed (Some stop) [] allowed = allowed
+lined_allowed (Some stop) (latest ∷ earlier) allowed =
+    elim latest.closed as (λ closed. All IsAllowed (if closed then latest ∷ earlier else earlier))
+    [ true ↦ allowed | false ↦ All-tail IsAllowed latest earlier allowed ]
+
+-- ---- a recording
+
+module _ (peer : PeerLimits) (bytes : List ℕ)
+    (is : ((check_tool (options peer true)).whole bytes).status ≡ 0) where
+  abbrev reading : Reading
+  reading = reading_of bytes
+
+  abbrev heads : List Entry
+  heads = heads_of reading
+
+  abbrev walk : Walked
+  walk = every peer reading.contact heads
+
+  -- there is no fault of the wire, and no rule that counts is broken
+  record IsKept : Type 0 where
+    pub unstopped : stop_of reading.end ≡ None
+    pub none : none_counts true
+        (broken_from peer [] None (walk.events ++ end_events walk.taken)) ≡ true
+
+  kept : IsKept
+  unfolding told_of
+  kept =
+      let unrefused = ap (λ (w : Walked). w.refused) (walk_is true reading.contact heads) in
+      grind (arith, good_kept, status_clean)
+
+  keeps : KeepsMusts peer reading.contact heads
+  keeps = grind (arith, front_first, kept, none_before)
+
+  faults : All IsSecondInit (faults_after [] heads)
+  faults =
+      let same : all_faults walk.events ≡ faults_after [] heads =
+      grind (arith, walk_faults, walk_is) in
+      rw (← same) (events_allowed peer walk.events [] None keeps)
+
+  -- the heads before the first that is refused
+  abbrev accepted : List Entry
+  accepted = (ordered heads).heads
+
+  accepted_allowed : All IsAllowed (transfers_of accepted)
+  accepted_allowed =
+      let first = all_kept heads in
+      let read = first.read (reading_read bytes).heads in
+      rw (unpacked_in_order all accepted read (accepted_in_order heads)).made at (
+      transfers_allowed peer reading.contact accepted read
+      (first_keep peer reading.contact accepted first.rest
+      (subst (KeepsMusts peer reading.contact) first.parts keeps)) all
+      )
+
+  pub only_allowed : HasOnlyAllowed bytes
+  unfolding ordered
+  only_allowed = record {
+    stop = may_stop (ordered heads).refused reading.end kept.unstopped (may_refuse heads [] faults);
+    transfers = lined_allowed (stop_by (ordered heads).refused reading.end) (transfers_of accepted)
+        accepted_allowed;
+    unstopped = kept.unstopped;
+    faults = faults;
+    transfers_on = λ wanted.
+        rw kept.unstopped
+        (transfers_allowed peer reading.contact heads (reading_read bytes).heads keeps wanted);
+  }

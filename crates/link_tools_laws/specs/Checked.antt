@@ -1,0 +1,46 @@
+-- What `unpack` reports of a recording in which `check --must` finds no rule broken.
+use Rattle.std.specs.{Prelude.{◌≡◌, ℕ, true, List, [], Option, Some, None}, List.All}
+use Rattle.link_tool_options.specs.declared.wanted.Wanted.{Wanted}
+use Rattle.link_wire.specs.Stream.{reading_of, heads_of}
+use Rattle.link_transfer.specs.declared.fault.OrderFault.{OrderFault}
+use Rattle.link_transfer.specs.declared.fault.OrderFault.TheVariants.{SecondSessInit}
+use Rattle.link_rules_shared.specs.Heads.{unread_of}
+use Rattle.link_session_rules.specs.TransferData.{may_be_bundle}
+use Rattle.link_report.specs.declared.{fault.Fault.TheVariants.Order, judgement.Judgement.Judgement}
+use Rattle.link_report.specs.declared.judgement.Judgement.TheVariants.{Abandoned, BadLengthItem, LengthDiffers, Bad, Good}
+use Rattle.link_run.specs.Made.{StreamStop, stop_of}
+use Rattle.link_run_judge.specs.Transfers.{Transfer}
+use Rattle.link_run_judge.specs.Unpacking.{judgement_of}
+use Rattle.link_tools_laws.specs.Cuts.{faults_after, reported, reported_on, stream_stop}
+
+-- A transfer with this data is good or abandoned, or its data may be a bundle that this toolkit
+-- does not read.
+abbrev pub MayBeGood : (content : List ℕ) → Judgement → Type 0
+MayBeGood content Abandoned = Unit {0}
+MayBeGood content BadLengthItem = ⊥
+MayBeGood content (LengthDiffers announced) = ⊥
+MayBeGood content (Bad fault offset) = may_be_bundle (unread_of content) fault offset ≡ true
+MayBeGood content (Good info) = Unit {0}
+
+abbrev pub IsAllowed : Transfer → Type 0
+IsAllowed transfer = MayBeGood transfer.content (judgement_of transfer)
+
+-- the fault of a head is that it is a second SESS_INIT
+abbrev pub IsSecondInit : ℕ × OrderFault → Type 0
+IsSecondInit fault = fault.1 ≡ SecondSessInit
+
+-- the stream stops at no fault, or at a second SESS_INIT
+abbrev pub MayStop : Option StreamStop → Type 0
+MayStop None = Unit {0}
+MayStop (Some stop) = (offset : ℕ) × (stop.fault ≡ Order offset SecondSessInit)
+
+-- The only faults in the reports of `unpack` are abandoned transfers, data that may be bundles, and
+-- a second SESS_INIT. `CutsOutput` and `CutsOutputOn` say what the reports are.
+pub record HasOnlyAllowed (bytes : List ℕ) : Type 0 where
+  -- where a fault of the order ends the run
+  pub stop : MayStop (stream_stop bytes)
+  pub transfers : All IsAllowed (reported bytes)
+  -- where it does not
+  pub unstopped : stop_of (reading_of bytes).end ≡ None
+  pub faults : All IsSecondInit (faults_after [] (heads_of (reading_of bytes)))
+  pub transfers_on : (wanted : Wanted) → All IsAllowed (reported_on wanted bytes)

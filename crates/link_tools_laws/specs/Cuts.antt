@@ -1,0 +1,173 @@
+-- How the data of the stream makes up the output of `unpack`, and how the report cuts the output:
+-- where a fault of the order ends the run, and where it does not.
+use Rattle.std.specs.Prelude.{◌≡◌, ℕ, ◌+◌, ◌≤◌, Bool, true, false, List, [], ◌∷◌, ◌++◌, length, Option, Some, None}
+use Rattle.std.specs.List.{flat_map}
+use Rattle.link_tool_options.specs.declared.wanted.Wanted.{Wanted}
+use Rattle.link_wire.specs.Stream.{Entry, reading_of, heads_of}
+use Rattle.link_wire.specs.declared.message.Message.{Message}
+use Rattle.link_transfer.specs.Event.{event_of}
+use Rattle.link_transfer.specs.Order.{is_stray, refusal, with_taken}
+use Rattle.link_transfer.specs.declared.fault.OrderFault.{OrderFault}
+use Rattle.link_report.specs.Fault.{fault_text}
+use Rattle.link_report.specs.declared.fault.Fault.TheVariants.{Order}
+use Rattle.link_report.specs.Transfer.{transfer_text}
+use Rattle.link_report.specs.declared.transfer.TransferEntry.{TransferEntry}
+use Rattle.link_run.specs.Made.{StreamStop, stop_of}
+use Rattle.link_run_judge.specs.Transfers.{Transfer}
+use Rattle.link_run_transfers.specs.Walk.{stop_by}
+use Rattle.link_tools_laws.specs.Transfers.{Ordered, ordered, transfers_of, settled, unpacked_of}
+use Rattle.link_run_judge.specs.Unpacking.{parts_of, entry_of, unpacking_of, unpack_tool}
+use Rattle.link_tools_laws.specs.RoundTrip.{all}
+
+-- the same of the transfers is wanted, and a fault of the order does not end the run
+abbrev pub going_on : Wanted → Wanted
+going_on wanted =
+    record { only = wanted.only; payload = wanted.payload; keep_going = true }
+
+abbrev pub stopping : Wanted → Wanted
+stopping wanted =
+    record { only = wanted.only; payload = wanted.payload; keep_going = false }
+
+-- ---- the output
+
+-- the data of a segment, as far as it is there
+abbrev pub data_of : Entry → List ℕ
+data_of head = head.content
+
+-- the heads of a stream that are in order, and the first that is refused, if there is one
+abbrev pub order_of : List ℕ → Ordered
+order_of bytes = ordered (heads_of (reading_of bytes))
+
+-- for all transfers, and without `--payload`, the output is the data of the accepted segments, in
+-- order
+abbrev pub HasEveryByte : List ℕ → Type 0
+HasEveryByte bytes =
+    ((unpack_tool all).whole bytes).texts.output ≡ flat_map data_of (order_of bytes).heads
+
+-- the heads that are not stray, from those that come after these messages
+abbrev pub prepended_unless : (stray : Bool) → Entry → List Entry → List Entry
+prepended_unless true head rest = rest
+prepended_unless false head rest = head ∷ rest
+
+unfoldable pub taken_after : List Message → List Entry → List Entry
+taken_after before [] = []
+taken_after before (head ∷ more) =
+    prepended_unless (is_stray before (event_of head.message)) head
+    (taken_after (with_taken before head.message) more)
+
+-- as `HasEveryByte`, where a fault of the order does not end the run: the output is the data of the
+-- segments that are not stray, in order
+abbrev pub HasEveryTakenByte : List ℕ → Type 0
+HasEveryTakenByte bytes =
+    ((unpack_tool (going_on all)).whole bytes).texts.output
+    ≡ flat_map data_of (taken_after [] (heads_of (reading_of bytes)))
+
+-- ---- the report
+
+-- The entries of the report's lines for these transfers. The list of transfers begins with the
+-- latest, and the list of entries ends with it.
+unfoldable pub entries_of : Wanted → List Transfer → List TransferEntry
+entries_of wanted [] = []
+entries_of wanted (latest ∷ earlier) =
+    entries_of wanted earlier ++ entry_of wanted latest (length (parts_of wanted earlier)) ∷ []
+
+-- the first entry begins at `start`, and each other where the one before it ends
+unfoldable pub Follow : (start : ℕ) → List TransferEntry → Type 0
+Follow start [] = Unit {0}
+Follow start (entry ∷ more) = (entry.start ≡ start) × Follow (start + entry.written) more
+
+unfoldable pub total_written : List TransferEntry → ℕ
+total_written [] = 0
+total_written (entry ∷ more) = entry.written + total_written more
+
+-- where the stream stops: at the head that is refused, and else where its reading does
+abbrev pub stream_stop : List ℕ → Option StreamStop
+stream_stop bytes = stop_by (order_of bytes).refused (reading_of bytes).end
+
+-- The transfers that have a line. An open transfer is abandoned at a clean end, and has its line.
+-- At a fault it has no line, since it might have gone on.
+abbrev pub lined : Option StreamStop → List Transfer → List Transfer
+lined None transfers = transfers
+lined (Some stop) transfers = settled transfers
+
+-- the transfers that have a line in the report, the latest first
+abbrev pub reported : List ℕ → List Transfer
+reported bytes = lined (stream_stop bytes) (transfers_of (order_of bytes).heads)
+
+-- the line of the fault, if there is one
+abbrev pub stop_line : Option StreamStop → List ℕ
+stop_line None = []
+stop_line (Some stop) = fault_text stop.fault
+
+-- The parts of the output that the lines of these transfers describe follow one another from its
+-- beginning. The rest of the output is the part of the transfer that has no line.
+pub record Divides (wanted : Wanted) (output : List ℕ) (transfers : List Transfer) : Type 0 where
+  pub follow : Follow 0 (entries_of wanted transfers)
+  -- the transfer that has no line, if there is one: it is the latest, and the last in the output
+  pub left : List Transfer
+  pub one : length left ≤ 1
+  pub whole : output ≡ parts_of wanted (left ++ transfers)
+  pub size : length (parts_of wanted transfers) ≡ total_written (entries_of wanted transfers)
+
+-- The report is the lines of these transfers, and then the line of the fault. The lines cut the
+-- output.
+pub record CutsOutput (wanted : Wanted) (bytes : List ℕ) : Type 0 where
+  pub lines : ((unpack_tool wanted).whole bytes).texts.report
+      ≡ flat_map transfer_text (entries_of wanted (reported bytes))
+      ++ stop_line (stream_stop bytes)
+  pub divides : Divides wanted ((unpack_tool wanted).whole bytes).texts.output (reported bytes)
+
+-- ---- a report with the lines of heads that are not in order
+
+-- a line of the report: of a head that is not in order, or of a transfer
+pub data ReportLine : Type 0 where
+  OfHead : (offset : ℕ) (fault : OrderFault) → ReportLine
+  OfTransfer : (entry : TransferEntry) → ReportLine
+
+abbrev pub line_text : ReportLine → List ℕ
+line_text (OfHead offset fault) = fault_text (Order offset fault)
+line_text (OfTransfer entry) = transfer_text entry
+
+abbrev pub entry_in : ReportLine → List TransferEntry
+entry_in (OfHead offset fault) = []
+entry_in (OfTransfer entry) = entry ∷ []
+
+abbrev pub fault_in : ReportLine → List (ℕ × OrderFault)
+fault_in (OfHead offset fault) = (offset, fault) ∷ []
+fault_in (OfTransfer entry) = []
+
+-- each head that is not in order, and its fault, from the heads that come after these messages
+abbrev pub fault_at : (offset : ℕ) → Option OrderFault → List (ℕ × OrderFault)
+fault_at offset None = []
+fault_at offset (Some fault) = (offset, fault) ∷ []
+
+unfoldable pub faults_after : List Message → List Entry → List (ℕ × OrderFault)
+faults_after before [] = []
+faults_after before (head ∷ more) =
+    fault_at head.offset (refusal before (event_of head.message))
+    ++ faults_after (with_taken before head.message) more
+
+-- the transfers that have a line in the report, if a fault of the order does not end the run
+abbrev pub reported_on : Wanted → List ℕ → List Transfer
+reported_on wanted bytes =
+    let reading = reading_of bytes in
+    lined (stop_of reading.end) (unpacked_of wanted (heads_of reading)).transfers
+
+-- As `CutsOutput`, where a fault of the order does not end the run. The report has a line for each
+-- head that is not in order. Without these lines it cuts the output.
+pub record CutsOutputOn (wanted : Wanted) (bytes : List ℕ) : Type 0 where
+  pub lines : List ReportLine
+  pub report : ((unpack_tool wanted).whole bytes).texts.report
+      ≡ flat_map line_text lines ++ stop_line (stop_of (reading_of bytes).end)
+  pub faults : flat_map fault_in lines ≡ faults_after [] (heads_of (reading_of bytes))
+  pub entries : flat_map entry_in lines ≡ entries_of wanted (reported_on wanted bytes)
+  pub divides : Divides wanted ((unpack_tool wanted).whole bytes).texts.output
+      (reported_on wanted bytes)
+
+-- ---- heads that are all in order
+
+-- if no head is refused, it changes nothing whether a fault of the order ends the run
+abbrev pub IsSameIfInOrder : Wanted → List ℕ → Type 0
+IsSameIfInOrder wanted bytes =
+    (order_of bytes).refused ≡ None
+    → unpacking_of (going_on wanted) bytes ≡ unpacking_of (stopping wanted) bytes

@@ -1,0 +1,39 @@
+-- The rules that `check` finds broken in a packed stream.
+use Rattle.std.specs.{Prelude.{◌≡◌, ℕ, ◌≤◌, Bool, List, None, Ok, IfSome}, List.{All, flat_map}}
+use Rattle.link_tool_options.specs.declared.limits.PeerLimits.{PeerLimits}
+use Rattle.link_tool_options.specs.declared.pack.PackOptions.{PackOptions}
+use Rattle.link_wire.specs.Spelling.{sess_init_with}
+use Rattle.link_wire.specs.declared.message.Message.{Message}
+use Rattle.link_bundle_blocks.specs.Bundle.{verdict}
+use Rattle.link_session_rules.specs.NodeIds.{node_id, node_name}
+use Rattle.link_session_rules.specs.Session.{keepalive_interval}
+use Rattle.link_tool_check.specs.Checking.{check_tool}
+use Rattle.link_tools_laws.specs.SameRules.{Carried, broken_in_transfer, reports}
+
+-- the limits that are known are at least those for which the stream was packed
+pub record AllowsLimits (options : PackOptions) (peer : PeerLimits) : Type 0 where
+  pub segment : IfSome peer.segment (λ limit. options.peer_segment ≤ limit)
+  pub transfer : IfSome peer.transfer (λ limit. options.peer_transfer ≤ limit)
+
+-- a SESS_INIT keeps the rules of its node ID and of its interval
+pub record KeepsInitRules (init : Message) : Type 0 where
+  pub id : node_id init ≡ None
+  pub name : node_name init ≡ None
+  pub interval : keepalive_interval init ≡ None
+
+-- the SESS_INIT of the stream keeps them
+abbrev pub KeepsRules : PackOptions → Type 0
+KeepsRules options =
+    KeepsInitRules (sess_init_with options.keepalive options.segment_mru options.transfer_mru
+    options.node.items)
+
+-- The transfers of the stream carry the bundles of the input, one after another. `check` writes the
+-- lines of the rules that these bundles break, and no others.
+pub record BreaksNoMore (peer : PeerLimits) (bytes stream : List ℕ) : Type 0 where
+  pub transfers : List Carried
+  pub good : All (λ (carried : Carried). verdict carried.bundle.bytes ≡ Ok carried.bundle.info)
+      transfers
+  pub carries : flat_map (λ (carried : Carried). carried.bundle.bytes) transfers ≡ bytes
+  pub checked : (must : Bool)
+      → (check_tool (record { must = must; peer = peer })).whole stream
+      ≡ reports must (flat_map broken_in_transfer transfers)

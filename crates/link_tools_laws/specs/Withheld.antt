@@ -1,0 +1,32 @@
+-- What the texts share of all inputs that begin with some bytes. Nothing of it is withheld.
+use Rattle.std.specs.Prelude.{◌≡◌, ◌⊎◌, ℕ, List, [], ◌++◌}
+use Rattle.link_wire.specs.Bytes.{AreBytes}
+use Rattle.link_report.specs.Text.{newline}
+use Rattle.link_run.specs.Run.{Texts, Tool}
+use Rattle.link_tools_laws.specs.Prefix.{IsPrefixOf}
+
+-- whole lines: nothing, or a text that ends in a line feed
+abbrev pub AreLines : List ℕ → Type 0
+AreLines text = (text ≡ []) ⊎ ((before : List ℕ) × (text ≡ before ++ newline))
+
+-- The texts of each input that begins with the bytes, as `text_of` selects one of the two texts,
+-- begin with `common`. Bytes of any number may follow, and none.
+abbrev pub IsShared : (text_of : Texts → List ℕ) → Tool → (bytes common : List ℕ) → Type 0
+IsShared text_of tool bytes common =
+    (more : List ℕ) → AreBytes more
+    → IsPrefixOf common (text_of (tool.whole (bytes ++ more)).texts)
+
+abbrev pub output_of : Texts → List ℕ
+output_of texts = texts.output
+
+abbrev pub report_of : Texts → List ℕ
+report_of texts = texts.report
+
+-- `so_far` has each byte of output, and each whole line of the report, that all these inputs share.
+-- Of the report, whole lines alone: after the one byte 0, all reports begin with
+-- `tcpclkit: byte 0: `, and the rest of the line depends on the bytes that follow.
+pub record WithholdsNothing (tool : Tool) (bytes : List ℕ) : Type 0 where
+  pub output : (common : List ℕ) → IsShared output_of tool bytes common
+      → IsPrefixOf common (tool.so_far bytes).output
+  pub report : (common : List ℕ) → AreLines common → IsShared report_of tool bytes common
+      → IsPrefixOf common (tool.so_far bytes).report

@@ -1,0 +1,27 @@
+//! The law that no determined text is withheld.
+//!
+//! The contract of the function is the law, and the function does nothing when it runs. Its proof
+//! uses the contract of the call in it.
+
+ghost use Rattle.std.specs.Prelude.{List, ℕ};
+ghost use Rattle.link_tool_options.specs.declared.wanted.Wanted.{Wanted};
+ghost use Rattle.link_wire.specs.Bytes.{AreBytes};
+ghost use Rattle.link_tool_list.specs.Listing.{list_tool};
+ghost use Rattle.link_run_judge.specs.Unpacking.{unpack_tool};
+ghost use Rattle.link_tools_laws.specs.Withheld.{WithholdsNothing};
+
+use link_wire::laws::exactly_one_reading;
+
+/// The texts that some bytes determine leave nothing out that all inputs share which begin with
+/// these bytes.
+///
+/// Let all these inputs have the same bytes at the beginning of their outputs. Then the determined
+/// output has these bytes. Let all of them have the same whole lines at the beginning of their
+/// reports. Then the determined report has these lines.
+pub fn sofar_is_all()
+    ensures list { (bytes : List ℕ) → AreBytes bytes → WithholdsNothing list_tool bytes }
+    ensures unpack { (wanted : Wanted) (bytes : List ℕ) → AreBytes bytes
+        → WithholdsNothing (unpack_tool wanted) bytes }
+{
+    exactly_one_reading();
+}

@@ -1,5 +1,0 @@
-use Rattle.link_wire.specs.Message.{HasTotals}
-use Rattle.wire_tests.proofs.lengths.items_of.Given as goal
-
-abbrev pub invariant-loop-kind : goal.invariant-loop-kind
-invariant-loop-kind l = HasTotals l.items.items

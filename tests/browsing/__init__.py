@@ -1,7 +1,0 @@
-"""What tests/browser is made of."""
-
-import os
-import sys
-
-TOP = os.path.dirname(os.path.dirname(os.path.dirname(os.path.realpath(__file__))))
-sys.path.append(f"{TOP}/examples")

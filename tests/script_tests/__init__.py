@@ -1,8 +1,0 @@
-"""The tests of scripts/, a file for each script. tests/scripts runs them."""
-
-import os
-import sys
-
-TOP = os.path.dirname(os.path.dirname(os.path.dirname(os.path.realpath(__file__))))
-
-sys.path.insert(0, f"{TOP}/examples")
