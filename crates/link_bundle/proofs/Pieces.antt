@@ -165,7 +165,7 @@ pub all_judged : (scan : BundleScan) (seen : List ℕ) → HasScanned scan seen 
 all_judged scan seen come = record {
   seen = seen;
   rest = [];
-  append-take_drop = append-nil seen;
+  parts = append-nil seen;
   scanned = come;
   enough = inl refl;
 }
