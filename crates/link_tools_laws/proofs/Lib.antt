@@ -18,3 +18,4 @@ mod SharedLines
 mod FaultLines
 mod Endings
 mod NothingWithheld
+mod LessSaid

@@ -1,5 +1,5 @@
 -- What the texts share of all inputs that begin with some bytes. Nothing of it is withheld.
-use Rattle.std.specs.Prelude.{◌≡◌, ◌⊎◌, ℕ, List, [], ◌++◌}
+use Rattle.std.specs.Prelude.{◌≡◌, ◌⊎◌, ℕ, ◌<◌, List, [], ◌++◌, length}
 use Rattle.link_wire.specs.Bytes.{AreBytes}
 use Rattle.link_report.specs.Text.{newline}
 use Rattle.link_run.specs.Run.{Texts, Tool}
@@ -30,3 +30,11 @@ pub record WithholdsNothing (tool : Tool) (bytes : List ℕ) : Type 0 where
       → IsPrefixOf common (tool.so_far bytes).output
   pub report : (common : List ℕ) → AreLines common → IsShared report_of tool bytes common
       → IsPrefixOf common (tool.so_far bytes).report
+
+-- `less` makes the same of whole inputs as `tool`, but says less after these bytes: bytes of output
+-- are missing, or whole lines of the report are.
+pub record SaysLess (tool less : Tool) (bytes : List ℕ) : Type 0 where
+  pub whole : less.whole ≡ tool.whole
+  pub lacks : (length (less.so_far bytes).output < length (tool.so_far bytes).output)
+      ⊎ (AreLines (tool.so_far bytes).report
+      × (length (less.so_far bytes).report < length (tool.so_far bytes).report))

@@ -1,14 +1,15 @@
 //! The law that no determined text is withheld.
 //!
-//! The contract of the function is the law, and the function does nothing when it runs. Its proof
-//! uses the contract of the call in it.
+//! The contract of each function is a law, and the function does nothing when it runs. The proof of
+//! the first uses the contract of the call in it.
 
 ghost use Rattle.std.specs.Prelude.{List, ℕ};
 ghost use Rattle.link_tool_options.specs.declared.wanted.Wanted.{Wanted};
 ghost use Rattle.link_wire.specs.Bytes.{AreBytes};
 ghost use Rattle.link_tool_list.specs.Listing.{list_tool};
 ghost use Rattle.link_run_judge.specs.Unpacking.{unpack_tool};
-ghost use Rattle.link_tools_laws.specs.Withheld.{WithholdsNothing};
+ghost use Rattle.link_run.specs.Run.{Tool};
+ghost use Rattle.link_tools_laws.specs.Withheld.{SaysLess, WithholdsNothing};
 
 use link_wire::laws::exactly_one_reading;
 
@@ -25,3 +26,14 @@ pub fn sofar_is_all()
 {
     exactly_one_reading();
 }
+
+/// A definition that withholds something breaks the law.
+///
+/// It makes the same of whole inputs, and lacks bytes of the output that some bytes determine, or
+/// whole lines of the report.
+pub fn less_is_not_all()
+    ensures list { (less : Tool) (bytes : List ℕ) → SaysLess list_tool less bytes
+        → WithholdsNothing less bytes → ⊥ }
+    ensures unpack { (wanted : Wanted) (less : Tool) (bytes : List ℕ)
+        → SaysLess (unpack_tool wanted) less bytes → WithholdsNothing less bytes → ⊥ }
+{}
