@@ -572,8 +572,8 @@ fn is_taken(
 
 /// Calls `options` twice, and checks that at least one call returns these options and this file.
 ///
-/// The other call may report that there is no memory: `tests/gate/refused` refuses each request in
-/// turn. If a request for the words themselves was refused, no call is made.
+/// The other call may report that there is no memory: `tests/gate/refused-memory` refuses each
+/// request in turn. If a request for the words themselves was refused, no call is made.
 fn asks_for(
     rt: &(impl Abort + AllocGlobal + Print),
     line: &[&str],

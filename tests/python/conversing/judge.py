@@ -1,7 +1,7 @@
 """What scripts/session_rules says of two recordings, in this process.
 
-It starts `tcpclkit list` and `check` for each recording. Here it may get what the model of tests/python/model
-says instead, which takes no process. Everything else is its own code.
+It starts `tcpclkit list` and `check` for each recording. Here it may get what the model of
+tests/python/model says instead, which takes no process. Everything else is its own code.
 """
 
 import io

@@ -1,4 +1,4 @@
-"""The inputs of tests/gate/sweep, in groups.
+"""The inputs of tests/gate/model-sweep, in groups.
 
 A group is a name, and a call that yields its inputs. An input is (bytes, runs), and a run is a tool
 with its options.

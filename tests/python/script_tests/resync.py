@@ -1,8 +1,8 @@
 """Tests of scripts/resync.
 
 Only data of an example that looks like messages is not known from how the example was made. There,
-the offsets that `resync` finds are those that the model of tests/python/model finds, which tries each
-offset. `tcpclkit list` reads on from each of them.
+the offsets that `resync` finds are those that the model of tests/python/model finds, which tries
+each offset. `tcpclkit list` reads on from each of them.
 """
 
 import bisect

@@ -1,4 +1,4 @@
-//! Does what tests/gate/callers asks for on standard input, with the crate `tcpclkit`.
+//! Does what tests/gate/library-callers asks for on standard input, with the crate `tcpclkit`.
 //!
 //! The jobs and the answers are those of `caller.c` beside this file.
 

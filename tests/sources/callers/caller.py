@@ -1,5 +1,5 @@
 #!/usr/bin/env python3
-"""Does what tests/gate/callers asks for on standard input, with the module `tcpclkit`.
+"""Does what tests/gate/library-callers asks for on standard input, with the module `tcpclkit`.
 
 The jobs and the answers are those of caller.c beside this file.
 """

@@ -1,5 +1,5 @@
 /*
- * Does what tests/gate/callers asks for on standard input, with the C library.
+ * Does what tests/gate/library-callers asks for on standard input, with the C library.
  *
  * A job is a line, `NAME NUMBER.. LENGTH`, and LENGTH bytes. The answer is a line, `STATUS OUTPUT
  * REPORT`, and the bytes of two texts, as long as OUTPUT and REPORT say. Each job but the tools has

@@ -1,6 +1,7 @@
 """Tests of the module `tcpclkit`, on the examples of the repository.
 
-PYTHONPATH names the folder of the module. tests/gate/callers runs them with an installed one.
+PYTHONPATH names the folder of the module. tests/gate/library-callers runs them with an installed
+one.
 """
 
 import array
