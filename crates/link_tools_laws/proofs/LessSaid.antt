@@ -1,11 +1,12 @@
 -- A tool that says less than another of the same bytes withholds something.
-use Rattle.std.proofs.Common.{◌≡◌, ℕ, ◌<◌, ⊎_elim, List, ◌++◌, length, arith}
+use Rattle.std.proofs.Common.{ℕ, ◌<◌, ⊎_elim, List, length, ap, ◌∙◌, length-append, arith}
 use Rattle.link_run.specs.Run.{Tool}
 use Rattle.link_tools_laws.specs.{Prefix.{IsPrefixOf, HasPrefixTexts}, Withheld.{WithholdsNothing, SaysLess}}
 
 -- a prefix is not longer
 no_longer : (text whole : List ℕ) → IsPrefixOf text whole → length whole < length text → ⊥
-no_longer text whole (rest, is) fewer = grind arith
+no_longer text whole (rest, is) fewer =
+    omega (arith, fewer, ap length is ∙ length-append text rest)
 
 pub said_less : {tool : Tool} (less : Tool) (bytes : List ℕ)
     → ((more : List ℕ) → HasPrefixTexts tool bytes more)
