@@ -20,10 +20,11 @@ abbrev pub is_kind : Option CheckKind → CheckKind → Bool
 is_kind None kind = false
 is_kind (Some found) kind = same_kind found kind
 
--- the data of a canonical block has begun
+-- whether the primary block is whole, and the heads of a canonical block were read
 abbrev pub has_block : Draft → Bool
 has_block draft = draft.whole && not (length draft.numbers == 0)
 
+-- what a draft has at each stage
 abbrev pub stage_fits : ScanStage → Draft → Bool
 stage_fits PrimaryBlock draft =
     is_none draft.payload_span && (not draft.whole && length draft.numbers == 0)
@@ -34,12 +35,12 @@ stage_fits Break draft = is_some draft.payload_span && has_block draft
 stage_fits Ended draft = is_some draft.payload_span && draft.whole
 stage_fits (Failed fault offset) draft = lasts fault
 
--- the hold has room for more bytes of the part
+-- whether the hold has room for more bytes of the part; after a fault no more are held
 abbrev pub hold_fits : ScanStage → Cursor → Bool
 hold_fits (Failed fault offset) cursor = true
 hold_fits stage cursor = nat_lt (length cursor.hold) (limit stage)
 
--- The bytes that are held end inside the part. `numbers` are the numbers of the blocks before.
+-- whether the held bytes end inside the part, if the stage has one; `numbers` are those before it
 abbrev pub part_goes : ScanStage → (numbers hold : List ℕ) → Bool
 part_goes stage numbers hold = not (is_part stage) || is_cut (any_reading stage numbers hold)
 

@@ -57,10 +57,11 @@ with_block draft block = record draft {
   payload_span = then_some (block.block_type == 1) (block.data_start, block.data_length);
 }
 
--- the offset and the length of the payload
+-- the offset and the length of the payload, or zeros that no result shows
 abbrev pub span_of : Option (ℕ × ℕ) → ℕ × ℕ
 span_of payload = unwrap_or payload (0, 0)
 
+-- the bundle of a draft that is whole and ends before `end`, without its blocks
 abbrev pub bundle_of : Draft → ℕ → Bundle
 bundle_of draft end =
     let payload = span_of draft.payload_span in
@@ -71,6 +72,7 @@ bundle_of draft end =
       blocks = [];
     }
 
+-- the same result, where a stop also has the offset and the length of the payload, if known
 abbrev pub with_known_payload : Option (ℕ × ℕ) → Result Bundle Stop → Result Bundle Stop
 with_known_payload None reading = reading
 with_known_payload (Some payload) reading = with_payload payload reading
@@ -86,13 +88,13 @@ last_block draft end =
     if length draft.numbers == 0 then PrimaryOf (primary_of draft) draft.check end
     else CanonicalOf (ended draft.block end)
 
--- the block that ended last, at the stages between two blocks
+-- the block that ended last, as a list: `[]` at a stage that does not begin where a block ends
 abbrev pub stage_last : ScanStage → Draft → ℕ → List Block
 stage_last BlockHeads draft start = last_block draft start ∷ []
 stage_last Break draft start = last_block draft start ∷ []
 stage_last _ draft start = []
 
--- the rest after a block: the next block, or the break after the payload block
+-- the rest after a block: the next blocks, or the break if the block was the payload block
 abbrev pub block_end : Option (ℕ × ℕ) → List ℕ → Primary → List ℕ → ℕ → Result Bundle Stop
 block_end None numbers primary bytes offset =
     blocks_at (64 - length numbers) numbers primary bytes offset
@@ -125,7 +127,7 @@ in_block draft bytes = read_alone bytes (with_known_payload draft.payload_span d
   with_blocks (CanonicalOf (ended (current draft) end) ∷ [])
       (block_end draft.payload_span draft.numbers (primary_of draft) bytes end))
 
--- the rest at a stage
+-- what is read of the bundle from a stage on; the part of the stage begins at `start`
 unfoldable pub stage_left : ScanStage → Draft → ℕ → List ℕ → Result Bundle Stop
 stage_left InPrimaryBlock draft start bytes = judged_bundle bytes
 stage_left BlockHeads draft start bytes = after_block draft bytes start
@@ -136,7 +138,7 @@ stage_left Ended draft start bytes = if_alone bytes (bundle_of draft start)
 stage_left (Failed fault at) draft start bytes =
     with_known_payload draft.payload_span (Err (stopped fault at))
 
--- the block in whose data or check field the bytes end, at a stage
+-- the block in whose data or check field the bytes end, if they end at this stage
 abbrev pub stage_block : ScanStage → Draft → Option CanonicalBlock
 stage_block (BlockData left) draft = Some (current draft)
 stage_block (CheckField kind) draft = Some (current draft)

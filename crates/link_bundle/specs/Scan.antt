@@ -30,7 +30,7 @@ IsPlaced (CheckField kind) draft front covered =
     × (draft.block.start ≤ length front) × (covered ≡ drop draft.block.start front)
 IsPlaced _ draft front covered = Unit {0}
 
--- Bytes of a part were seen, and not all of it. They are held, after those of the parts before.
+-- The scan holds the bytes seen of its part, which end inside it. `front` are those before it.
 pub record HoldsPart (stage : ScanStage) (cursor : Cursor) (draft : Draft)
     (seen : List ℕ) : Type 0 where
   pub front : List ℕ
@@ -45,7 +45,7 @@ abbrev pub IsChecked : Option CheckKind → Check → List ℕ → Type 0
 IsChecked None check covered = Unit {0}
 IsChecked (Some kind) check covered = HasPushed kind check covered
 
--- in the data of a block, which has `left` bytes left
+-- the bytes seen end in the data of a block, which has `left` bytes left
 pub record IsInData (left : ℕ) (cursor : Cursor) (block : CanonicalBlock)
     (seen : List ℕ) : Type 0 where
   pub nothing : cursor.hold ≡ []
@@ -53,7 +53,7 @@ pub record IsInData (left : ℕ) (cursor : Cursor) (block : CanonicalBlock)
   pub begun : block.start ≤ cursor.count
   pub checks : IsChecked block.check cursor.check (drop block.start seen)
 
--- the state of the cursor at each stage
+-- the state of the cursor and the draft at each stage
 abbrev pub IsAtStage : ScanStage → Cursor → Draft → List ℕ → Type 0
 IsAtStage (BlockData left) cursor draft seen = IsInData left cursor draft.block seen
 IsAtStage Ended cursor draft seen = cursor.hold ≡ []
@@ -92,9 +92,9 @@ PartLeadsTo Break old cursor size next new check =
     (row_at closing cursor.hold 0 ≡ Ok (true, size)) × (new ≡ old) × (next ≡ Ended)
 PartLeadsTo _ old cursor size next new check = Unit {0}
 
--- Exactly these bytes were seen. Whatever bytes follow, the bundle is the whole blocks, and the
--- rest that is read from this stage on. The last of the blocks is not among those before if it
--- ended just before the part that the scan is in.
+-- These are the parts of a scan that has seen exactly these bytes. Whatever bytes follow, the
+-- reading of all bytes has the blocks that ended, and then what is read from this stage on. A block
+-- that ended just before the current part is in `stage_last`, and the others are in `before`.
 pub record HasSeen (stage : ScanStage) (cursor : Cursor) (draft : Draft) (before : List Block)
     (seen : List ℕ) : Type 0 where
   pub all_bytes : AreBytes seen
@@ -158,8 +158,8 @@ AddsBlock old new piece count =
     (seen : List ℕ) → HasScanned old seen
     → blocks_in (seen ++ take count piece) ≡ blocks_in seen ++ ending new
 
--- The scan's verdict is that on these bytes. It has seen all of them, or the bytes that it has not
--- seen cannot change the verdict.
+-- The scan's verdict is the verdict on `content`. It has seen all these bytes, or those that it has
+-- not seen, `rest`, cannot change the verdict.
 pub record HasJudged (scan : BundleScan) (content : List ℕ) : Type 0 where
   pub seen : List ℕ
   pub rest : List ℕ

@@ -25,7 +25,7 @@ takes_bytes state.Going = true
 takes_bytes state.Ended = true
 takes_bytes (state.Failed fault offset) = false
 
--- whether a block ends before a stage
+-- whether a stage begins where a block ends
 abbrev pub follows_block : ScanStage → Bool
 follows_block BlockHeads = true
 follows_block Break = true
@@ -49,7 +49,7 @@ limit (CheckField kind) = 13
 limit Break = 9
 limit _ = 1
 
--- the bytes of a block before its check field were pushed to the check
+-- at a check field, `covered` was pushed to the check: the bytes of the block before the field
 abbrev pub Covers : ScanStage → Check → List ℕ → Type 0
 Covers (CheckField kind) check covered = HasPushed kind check covered
 Covers _ check covered = Unit {0}
@@ -59,8 +59,8 @@ abbrev pub end_of : {A : Type 0} → ReadAt A → Result ℕ Stop
 end_of (Ok (value, next)) = Ok next
 end_of (Err stop) = Err stop
 
--- The part of a stage, at the beginning of some bytes, whatever check value a check field has.
--- `numbers` are the numbers of the blocks before.
+-- The offset after the part of this stage that the bytes begin with, or the stop. A check field may
+-- have any check value. `numbers` are the numbers of the blocks before.
 abbrev pub any_reading : ScanStage → (numbers bytes : List ℕ) → Result ℕ Stop
 any_reading PrimaryBlock numbers bytes = end_of (whole_primary bytes)
 any_reading BlockHeads numbers bytes = end_of (next_block_at numbers bytes 0)
@@ -68,12 +68,13 @@ any_reading (CheckField kind) numbers bytes = end_of (any_field kind bytes)
 any_reading Break numbers bytes = end_of (row_at closing bytes 0)
 any_reading _ numbers bytes = Ok 0
 
--- The part of a stage. `covered` are the bytes of the block before its check field.
+-- The offset after the part of this stage that the bytes begin with, or the stop. A check field has
+-- the check value of the block, whose bytes before the field are `covered`.
 abbrev pub part_reading : ScanStage → (numbers covered bytes : List ℕ) → Result ℕ Stop
 part_reading (CheckField kind) numbers covered bytes = end_of (field_from kind covered bytes)
 part_reading stage numbers covered bytes = any_reading stage numbers bytes
 
--- the end of a part that was read
+-- the offset after a part, or its stop, by the result of `read_part`
 abbrev pub part_end : Result (ℕ × ScanStage) PartFault → Result ℕ Stop
 part_end (Ok (size, next)) = Ok size
 part_end (Err stop) = Err (stopped stop.fault stop.offset)
@@ -83,7 +84,7 @@ abbrev pub is_cut : Result ℕ Stop → Bool
 is_cut (Ok next) = false
 is_cut (Err stop) = not (lasts stop.fault)
 
--- the stage after a block: the break follows the payload block
+-- the stage after a block; it was the payload block, which the break follows, if `payload` is known
 abbrev pub stage_after : Option (ℕ × ℕ) → ScanStage
 stage_after None = BlockHeads
 stage_after (Some payload) = Break

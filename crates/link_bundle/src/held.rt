@@ -17,7 +17,8 @@ use link_cbor::Check;
 
 /// Reads the part of this stage from the held bytes, and keeps it in the draft.
 ///
-/// Returns the size of the part, and the stage after it.
+/// Returns the size of the part, and the stage after it. The error is the fault of the part, which
+/// is `Cut` if the held bytes end inside it.
 #[inline(always)]
 #[tactic(auto, using(crate::proofs::StageParts::heads_within))]
 pub(crate) fn read_part(

@@ -165,7 +165,7 @@ impl BundleScan {
         self.cursor.count += 1;
     }
 
-    /// Takes one byte, of whatever is next.
+    /// Takes one byte, at any stage before a fault.
     fn take_byte(&mut self, byte: u8)
         requires may_step { IsTrue (may_scan self.old) }
         requires room { scan_size self.old < 2 ^ 63 - 1 }
@@ -270,7 +270,7 @@ impl BundleScan {
     ghost use Rattle.link_bundle.specs.Scan.{MayAdvance, Advances, AddsBlock};
     ghost use Rattle.link_bundle.specs.Stages.{is_part};
 
-    /// Takes bytes of the part that the scan is in.
+    /// Takes bytes of the part that the scan is in, and returns how many, at least one.
     // Cold, so that the attempt to read a whole bundle or block at once keeps its registers.
     #[cold]
     #[inline(never)]

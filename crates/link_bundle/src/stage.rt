@@ -51,7 +51,7 @@ impl ScanStage {
         }
     }
 
-    /// Whether a block ends before this stage.
+    /// Whether this stage begins where a block ends.
     #[inline(always)]
     pub fn follows_block(self) -> bool
         ensures { result ≡ follows_block self }
@@ -59,7 +59,7 @@ impl ScanStage {
         matches!(self, ScanStage::BlockHeads | ScanStage::Break)
     }
 
-    /// The number of bytes within which the part of this stage is read, at most.
+    /// The greatest number of bytes that are held to read the part of this stage.
     #[inline(always)]
     pub fn limit(self) -> usize
         ensures limit { result ≡ limit self }

@@ -33,7 +33,7 @@ pub data Block : Type 0 where
 abbrev pub ended : CanonicalBlock → ℕ → CanonicalBlock
 ended block offset = record block { end = Some offset }
 
--- the block that a view shows
+-- the primary block that a view shows
 abbrev pub viewed_primary : PrimaryBlock → Primary
 viewed_primary view =
     record {
@@ -61,18 +61,19 @@ pub record HasShortEids (primary : Primary) : Type 0 where
   pub source : IsShort primary.source
   pub report_to : IsShort primary.report_to
 
+-- if this is a primary block, its dtn names have at most 1,024 bytes each
 abbrev pub HasShortBlock : Block → Type 0
 HasShortBlock (PrimaryOf primary check end) = HasShortEids primary
 HasShortBlock (CanonicalOf block) = Unit {0}
 
--- The next block, if it is a canonical block: the first of these blocks, or if there are none,
--- `cut`, the block that the bytes cut short.
+-- The canonical block that comes next: the first of these, or if there are none, `cut`, the block
+-- that the bytes cut short. The result is `None` if the primary block comes next.
 abbrev pub next_of : List Block → Option CanonicalBlock → Option CanonicalBlock
 next_of [] cut = cut
 next_of (PrimaryOf primary check end ∷ rest) cut = None
 next_of (CanonicalOf block ∷ rest) cut = Some (record block { end = None })
 
--- the block ends within that many bytes, and so does its data
+-- the block and its data end within that many bytes
 abbrev pub LiesWithin : ℕ → Block → Type 0
 LiesWithin count (PrimaryOf primary check end) = end ≤ count
 LiesWithin count (CanonicalOf block) =

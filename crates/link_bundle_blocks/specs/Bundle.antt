@@ -23,22 +23,21 @@ pub record Bundle : Type 0 where
   pub payload_span : ℕ × ℕ
   pub blocks : List Block
 
--- a stop after the head of the payload's data, where the offset and the length of the payload are
--- known
+-- the same result, where a stop also has the offset and the length of the payload
 abbrev pub with_payload : {A : Type 0} → ℕ × ℕ → Result A Stop → Result A Stop
 with_payload payload (Ok value) = Ok value
 with_payload payload (Err stop) = Err (record stop { payload_span = Some payload })
 
--- what is read after these blocks
+-- the same result, with these blocks before its own
 abbrev pub with_blocks : List Block → Result Bundle Stop → Result Bundle Stop
 with_blocks blocks (Ok bundle) = Ok (record bundle { blocks = blocks ++ bundle.blocks })
 with_blocks blocks (Err stop) = Err (record stop { blocks = blocks ++ stop.blocks })
 
--- the block in which a stop lies, if the bytes end there
+-- the block in which a reading stops, if it stops because the bytes end; `None` at another fault
 abbrev pub cut_in : BundleFault → CanonicalBlock → Option CanonicalBlock
 cut_in fault block = if lasts fault then None else Some block
 
--- what is read inside the data or the check field of a block
+-- the same reading of a block's data and check field, where a stop also has the block if it is cut
 abbrev pub inside : CanonicalBlock → ReadAt Bool → ReadAt Bool
 inside block (Ok read) = Ok read
 inside block (Err stop) = Err (record stop { cut_block = cut_in stop.fault block })
@@ -59,12 +58,12 @@ info_of primary blocks size =
       payload = size;
     }
 
--- the data of a canonical block and its check field
+-- the data of a canonical block and its check field; the value `true` has no meaning
 abbrev pub rest_of : CanonicalBlock → List ℕ → ReadAt Bool
 rest_of block bytes =
     inside block (content_at block.data_length block.check block.start bytes block.data_start)
 
--- the rest of the payload block, and the break after it; the bundle has `blocks` canonical blocks
+-- the bundle, read from the data of its last block on: the payload block, one of `blocks` blocks
 unfoldable pub payload_at : Primary → ℕ → CanonicalBlock → List ℕ → Result Bundle Stop
 payload_at primary blocks block bytes = with_payload (block.data_start, block.data_length) do
   (_, end) ← rest_of block bytes
@@ -77,7 +76,7 @@ payload_at primary blocks block bytes = with_payload (block.data_start, block.da
       blocks = [];
     })
 
--- The canonical blocks up to the payload block, which has type 1 and is the last, and the break.
+-- The bundle, read from a canonical block on, up to the payload block, of type 1, and the break.
 -- `left` more blocks may come, and `numbers` are the numbers of the blocks before.
 unfoldable pub blocks_at : ℕ → List ℕ → Primary → List ℕ → ℕ → Result Bundle Stop
 blocks_at zero numbers primary bytes start = do
@@ -90,7 +89,7 @@ blocks_at (suc left) numbers primary bytes start = do
     with_blocks (CanonicalOf (ended block end) ∷ [])
         (blocks_at left (numbers ++ block.number ∷ []) primary bytes end)
 
--- the first byte opens an array of indefinite length
+-- the first byte, which opens an array of indefinite length; the value `true` has no meaning
 unfoldable pub opening_at : List ℕ → ReadAt Bool
 opening_at [] = cut_short []
 opening_at (first ∷ rest) = if first == 0x9f then Ok (true, 1) else Err (stopped NotABundle 0)
@@ -130,19 +129,19 @@ verdict_by (Err stop) = Err (stop.fault, stop.offset)
 unfoldable pub verdict : List ℕ → Result BundleInfo (BundleFault × ℕ)
 verdict bytes = verdict_by (judged_bundle bytes)
 
--- the whole blocks among the bytes, in order, also if the bytes are no bundle
 abbrev pub blocks_of : Result Bundle Stop → List Block
 blocks_of (Ok bundle) = bundle.blocks
 blocks_of (Err stop) = stop.blocks
 
+-- the whole blocks among the bytes, in order, also if the bytes are no bundle
 unfoldable pub blocks_in : List ℕ → List Block
 blocks_in bytes = blocks_of (judged_bundle bytes)
 
--- the block in whose data or check field the bytes end
 abbrev pub cut_block_of : Result Bundle Stop → Option CanonicalBlock
 cut_block_of (Ok bundle) = None
 cut_block_of (Err stop) = stop.cut_block
 
+-- the block in whose data or check field the bytes end, or `None` if they end elsewhere
 unfoldable pub cut_block_in : List ℕ → Option CanonicalBlock
 cut_block_in bytes = cut_block_of (judged_bundle bytes)
 
@@ -161,15 +160,15 @@ bytes_of (Some (offset, size)) bytes = take size (drop offset bytes)
 unfoldable pub payload_in : List ℕ → List ℕ
 payload_in bytes = bytes_of (payload_of (judged_bundle bytes)) bytes
 
--- the offset of the payload's first byte, and the number of its bytes that are there
 abbrev pub spanned : Option (ℕ × ℕ) → ℕ → Option (ℕ × ℕ)
 spanned None count = None
 spanned (Some (offset, size)) count = Some (offset, count)
 
+-- the offset of the payload's first byte, and the number of its bytes that are there
 unfoldable pub payload_seen : List ℕ → Option (ℕ × ℕ)
 payload_seen bytes = spanned (payload_of (judged_bundle bytes)) (length (payload_in bytes))
 
--- the state of a scan, by its verdict; more bytes are needed if the bytes end inside a bundle
+-- the state of a scan with this verdict: it needs more bytes if those seen end inside a bundle
 abbrev pub state_of : Result BundleInfo (BundleFault × ℕ) → State
 state_of (Ok info) = state.Ended
 state_of (Err (fault, offset)) = if lasts fault then state.Failed fault offset else state.Going

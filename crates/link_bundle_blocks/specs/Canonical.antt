@@ -32,7 +32,7 @@ heads_at numbers bytes start = do
     offset,
   )
 
--- the data of a canonical block that begins at `start`, and its check field
+-- the data of a canonical block that begins at `start`, and its check field; `true` has no meaning
 unfoldable pub content_at : ℕ → Option CheckKind → ℕ → List ℕ → ℕ → ReadAt Bool
 content_at size check start bytes offset = do
   (_, offset) ← bytes_at size bytes offset

@@ -10,23 +10,24 @@ use Rattle.link_bundle_blocks.specs.Reading.{ReadAt, stopped}
 use Rattle.link_bundle_blocks.specs.Primary.{PrimaryFields, all_fields, ElementsAt}
 use Rattle.link_bundle_blocks.specs.PrimaryView.{viewed_fields}
 
--- a part that was read, as `view` shows its value, or the stop
+-- the result of an exact reader as the definitions have it: `view` maps the value of the part
 abbrev pub reading_by : {A B : Type 0} → (A → B) → Result (A × ℕ) PartFault → ReadAt B
 reading_by view (Ok (value, next)) = Ok (view value, next)
 reading_by view (Err stop) = Err (stopped stop.fault stop.offset)
 
+-- the result of an exact reader as the definitions have it, with the value as it is
 abbrev pub reading_of : {A : Type 0} → Result (A × ℕ) PartFault → ReadAt A
 reading_of (Ok read) = Ok read
 reading_of (Err stop) = Err (stopped stop.fault stop.offset)
 
--- a part whose value has no meaning, or the stop
+-- the result of an exact reader that returns only the offset after its part; `true` has no meaning
 abbrev pub passed_of : Result ℕ PartFault → ReadAt Bool
 passed_of (Ok next) = Ok (true, next)
 passed_of (Err stop) = Err (stopped stop.fault stop.offset)
 
 -- ---- the primary block, with the fields before its first fault
 
--- the primary block that was read and its check type with the offset after it, or the stop
+-- the primary block that was read, its check type and the offset after it, or the stop
 abbrev pub primary_reading : Result PrimaryBlock (PrimaryView × PartFault)
     → ReadAt (Primary × Option CheckKind)
 primary_reading (Ok block) = Ok ((viewed_primary block, block.check), block.end)
@@ -37,7 +38,7 @@ abbrev pub known_fields : Result PrimaryBlock (PrimaryView × PartFault) → Pri
 known_fields (Ok block) = all_fields (viewed_primary block)
 known_fields (Err (view, stop)) = viewed_fields view
 
--- elements that were read, as `view` shows their value, or the stop and the fields before it
+-- the result of a reader of elements: `view` maps their value, and a stop has the fields before it
 abbrev pub elements_by : {A B : Type 0} → (A → B) → Result (A × ℕ) (PrimaryView × PartFault)
     → ElementsAt B
 elements_by view (Ok (value, next)) = Ok (view value, next)

@@ -51,7 +51,7 @@ all_fields block =
       fragment_total = (unwrap_or block.fragment (0, 0)).1;
     }
 
--- the fields of a block whose first `count` elements were read, and no others
+-- the fields of a block whose first `count` elements were read; the later ones are 0 or `None`
 abbrev pub first_elements : ℕ → Primary → PrimaryFields
 first_elements count block =
     record (all_fields block) {
@@ -82,12 +82,12 @@ no_primary =
 abbrev pub ElementsAt : Type 0 → Type 0
 ElementsAt A = Result (A × ℕ) (PrimaryFields × Stop)
 
--- a part that comes after the first `count` elements of a block
+-- the same reading of a part, where a stop also has the first `count` elements, which come before
 abbrev pub after : {A : Type 0} → ℕ → Primary → ReadAt A → ElementsAt A
 after count block (Ok read) = Ok read
 after count block (Err stop) = Err (first_elements count block, stop)
 
--- the same without the fields before the stop
+-- the same reading without the fields before the stop
 abbrev pub without_fields : {A : Type 0} → ElementsAt A → ReadAt A
 without_fields (Ok read) = Ok read
 without_fields (Err (fields, stop)) = Err stop

@@ -10,12 +10,11 @@ use Rattle.link_bundle_heads.specs.Rows.{◌>>=◌}
 use Rattle.link_bundle_blocks.specs.declared.block.CanonicalBlock.{CanonicalBlock}
 use Rattle.link_bundle_blocks.specs.Blocks.{Block}
 
--- The end of a reading: the fault and its offset. If the head of the payload's data was accepted
--- before, the offset and the length of the payload are known too.
+-- Where a reading ends, and why: the fault and its offset.
 pub record Stop : Type 0 where
   pub fault : BundleFault
   pub offset : ℕ
-  -- the offset and the length
+  -- the offset and the length of the payload, if the head of its data was accepted before
   pub payload_span : Option (ℕ × ℕ)
   -- the whole blocks before the fault
   pub blocks : List Block
@@ -34,7 +33,7 @@ ReadAt A = Result (A × ℕ) Stop
 abbrev pub cut_short : {A : Type 0} → List ℕ → Result A Stop
 cut_short bytes = Err (stopped Cut (length bytes))
 
--- the head at an offset, by what the bytes from there on begin with
+-- the head at an offset, if the bytes from there on begin with this, or the stop
 abbrev pub head_by : List ℕ → ℕ → HeadFront → ReadAt Head
 head_by bytes offset CutHead = cut_short bytes
 head_by bytes offset IllFormed = Err (stopped BadHead offset)
@@ -49,7 +48,7 @@ abbrev pub outcome_at : {A : Type 0} → ℕ → ℕ → Result A BundleFault �
 outcome_at offset next (Ok value) = Ok (value, next)
 outcome_at offset next (Err fault) = Err (stopped fault offset)
 
--- the head at an offset, judged by a function of link_bundle_heads
+-- the head at an offset, judged by `row`, such as a function of link_bundle_heads
 unfoldable pub row_at : {A : Type 0} → (Head → Result A BundleFault) → List ℕ → ℕ → ReadAt A
 row_at row bytes offset = do
   (head, next) ← head_at bytes offset

@@ -31,7 +31,7 @@ abbrev pub moved : ℕ → CanonicalBlock → CanonicalBlock
 moved count block =
     record block { start = count + block.start; data_start = count + block.data_start }
 
--- a bundle of `count` canonical blocks whose payload has this offset and this length
+-- a bundle of `count` canonical blocks that ends before `end`; `span` is where its payload lies
 abbrev pub bundle_with : Primary → ℕ → ℕ × ℕ → ℕ → List Block → Bundle
 bundle_with primary count span end blocks =
     record {

@@ -31,7 +31,7 @@ pub struct PartFault {
 }
 
 impl PartFault {
-    /// The bytes end inside the part.
+    /// The fault of a part that the bytes cut short.
     pub(crate) fn cut(bytes: &[u8]) -> PartFault
         ensures fault { result.fault ≡ BundleFault.Cut }
         ensures offset { result.offset ≡ length bytes.now }
@@ -43,7 +43,7 @@ impl PartFault {
     }
 }
 
-/// Reads a head.
+/// Reads the head at an offset, and returns it with the offset after it.
 #[inline(always)]
 #[tactic(auto, using(crate::proofs::ExactReading::heads))]
 pub(crate) fn head_at(bytes: &[u8], offset: usize) -> Result<(Head, usize), PartFault>
@@ -65,7 +65,7 @@ pub(crate) fn head_at(bytes: &[u8], offset: usize) -> Result<(Head, usize), Part
     }
 }
 
-/// The outcome of judging the head at an offset, with the offset after the head or of its fault.
+/// The value of the head at `offset` with the offset after it, `next`, or the fault at `offset`.
 #[inline(always)]
 pub(crate) fn outcome_at<T>(
     offset: usize,

@@ -20,7 +20,7 @@ const BREAK: u8 = 0xff;
 /// The greatest length of a head in bytes (RFC 8949 section 3).
 const LONGEST: usize = 9;
 
-/// The additional information of a head that has this major type, or at least 32.
+/// The additional information of the head at an offset, or at least 32 for another major type.
 #[inline(always)]
 fn information_at(major: u8, bytes: &[u8], offset: usize) -> Result<u8, BundleFault>
     requires { major < 8 }

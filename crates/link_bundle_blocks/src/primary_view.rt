@@ -64,7 +64,7 @@ impl<'a> PrimaryView<'a> {
 
     /// The fields of a block whose first elements were accepted, `count` of them.
     ///
-    /// The endpoint IDs of other elements are left out. Their other fields have to be 0 or `None`.
+    /// Endpoint IDs of later elements are left out. Their other fields have to be 0 or `None`.
     pub(crate) fn first(count: u64, block: PrimaryBlock<'a>) -> PrimaryView<'a>
         ensures { viewed_fields result ≡ first_elements count (viewed_primary block.entry) }
     {

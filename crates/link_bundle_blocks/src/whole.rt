@@ -259,8 +259,8 @@ fn heads_at(
 
 /// Reads a canonical block with its data and its check field.
 ///
-/// `numbers` are the numbers of the blocks before it. If they have no room for one more, there are
-/// too many blocks. Returns the offset after the block too.
+/// `numbers` are the numbers of the blocks before it. If they are full, the block is one too many,
+/// which is a fault. Returns the offset after the block too.
 #[tactic(auto, unfolding(crate::specs::Whole::whole_canonical))]
 #[inline(always)]
 pub fn whole_canonical(
@@ -282,7 +282,8 @@ pub fn whole_canonical(
 
 /// Reads the canonical blocks, and the break after the payload block.
 ///
-/// Returns the offset and the length of the payload, and the offset after the break.
+/// Returns the offset and the length of the payload, and the offset after the break. The result
+/// does not depend on the primary block.
 #[inline(always)]
 pub fn blocks_at(
     numbers: &mut BlockNumbers,

@@ -32,7 +32,7 @@ pub data BlockData : Type 0 where
   -- an administrative record of another type, by its type code
   OtherRecord : ℕ → BlockData
 
--- what was read up to an offset, if the data ends there
+-- `found`, which was read up to an offset, or the fault of trailing bytes if the data goes on
 unfoldable pub alone : List ℕ → ℕ → BlockData → Result BlockData Stop
 alone bytes offset found =
     if offset == length bytes then Ok found else Err (stopped Trailing offset)
@@ -85,7 +85,7 @@ security bytes = do
       }) (take 64 targets) source
       )
 
--- the time of a status that is asserted
+-- the assertion of a status with the time at an offset
 abbrev pub asserted_at : List ℕ → ℕ → ReadAt Assertion
 asserted_at bytes offset = do
   (time, offset) ← row_at unsigned bytes offset
@@ -151,7 +151,7 @@ administrative_record bytes = do
   (type, offset) ← row_at unsigned bytes offset
   if type == 1 then report_at bytes offset else Ok (OtherRecord type)
 
--- the reading of data of each kind
+-- what data of this kind says, or the stop
 abbrev pub reading_of : DataKind → List ℕ → Result BlockData Stop
 reading_of kind.PreviousNode bytes = previous_node bytes
 reading_of kind.BundleAge bytes = bundle_age bytes
@@ -169,8 +169,8 @@ is_limit WrongKind (Whole head size) = is_indefinite head
 is_limit BadSpecificPart (Whole head size) = is_indefinite head
 is_limit _ front = false
 
--- A fault at an offset. This is the offset of the head at which the reading stops, the number of
--- bytes if they end inside the item, or the offset of the first byte after the item.
+-- The fault of data whose reading stops at an offset: at a head, at the end of the bytes if they
+-- end inside the item, or at the first byte after the item.
 abbrev pub fault_at : List ℕ → BundleFault → ℕ → DataFault
 fault_at bytes fault offset =
     record { offset = offset; is_limit = is_limit fault (head_front (drop offset bytes)) }

@@ -14,7 +14,7 @@ integer head = do
   argument ← valued WrongKind ((head.major == 0) || (head.major == 1)) head.value
   Ok (record { negative = head.major == 1; argument = argument })
 
--- false and true (RFC 8949 section 3.3) are the simple values 20 and 21
+-- the Boolean of a simple value: 20 is false and 21 is true (RFC 8949 section 3.3)
 abbrev pub boolean_of : ℕ → Result Bool BundleFault
 boolean_of simple =
     if simple == 20 then Ok false else (if simple == 21 then Ok true else Err WrongKind)
@@ -33,19 +33,19 @@ assertion has_time size head = do
   asserted ← boolean size head
   wanted (asserted || not has_time) asserted WrongKind
 
--- the array of a status report (RFC 9171 section 6.1.1), which has six elements for a fragment
+-- the number of elements of a status report (RFC 9171 section 6.1.1): four, or six for a fragment
 unfoldable pub four_or_six : Head → Result ℕ BundleFault
 four_or_six head = do
   count ← array head
   wanted ((count == 4) || (count == 6)) count BadCount
 
--- the array of status assertions
+-- the number of status assertions, which is at least four
 unfoldable pub four_or_more : Head → Result ℕ BundleFault
 four_or_more head = do
   count ← array head
   wanted (nat_le 4 count) count BadCount
 
--- the array of one status assertion, which has two elements if it has a time
+-- the number of elements of a status assertion: two if it has a time, and one if not
 unfoldable pub one_or_two : Head → Result ℕ BundleFault
 one_or_two head = do
   count ← array head

@@ -8,12 +8,12 @@ use Rattle.link_bundle_data.specs.declared.due.DataStage.{DataStage}
 use Rattle.link_bundle_data.specs.declared.due.DataStage.TheVariants.{Head, Name, Failed}
 use Rattle.link_bundle_data.specs.declared.draft.Draft.{Draft}
 
--- in a name, the endpoint ID has room for the bytes that are left
+-- in a name, the endpoint ID has room for the bytes that are left; other stages have no bound
 abbrev pub stage_fits : DataStage → Draft → Bool
 stage_fits (Name owner left) draft = nat_lt 0 left && name_fits draft.eid left
 stage_fits _ draft = true
 
--- at a head, the head is not complete
+-- at a head, the scan of the head is not complete
 abbrev pub head_fits : DataStage → HeadScan → Bool
 head_fits (Head which) head = may_scan_head head
 head_fits _ head = true
@@ -21,12 +21,12 @@ head_fits _ head = true
 abbrev pub scan_fits : DataStage → HeadScan → Draft → Bool
 scan_fits stage head draft = head_fits stage head && stage_fits stage draft
 
--- data is malformed at an offset up to the end of the bytes seen
+-- if the data is malformed, its offset is at most `count`, the number of bytes seen
 abbrev pub failed_within : DataStage → ℕ → Bool
 failed_within (Failed fault) count = nat_le fault.offset count
 failed_within _ count = true
 
--- a long head begins within the bytes seen
+-- if there is a long head, its offset is at most `count`, the number of bytes seen
 abbrev pub long_within : Option ℕ → ℕ → Bool
 long_within None count = true
 long_within (Some at) count = nat_le at count

@@ -34,7 +34,7 @@ use Rattle.link_bundle_data.specs.Turns.{with_others, with_times, with_assertion
 
 -- ---- after the item
 
--- what the data says, if its item ends before `offset`
+-- what the data says, if its item was read and ends before `offset`
 abbrev pub data_from : Found → Draft → ℕ → BlockData
 data_from found.PreviousNode draft offset = PreviousNode draft.eid
 data_from (found.BundleAge age) draft offset = BundleAge age
@@ -50,12 +50,13 @@ may_follow found.Security = true
 may_follow (found.OtherRecord type) = true
 may_follow _ = false
 
--- the first long head, if the heads of such data are judged
+-- the first long head, or `None` in an administrative record, whose heads are not judged
 abbrev pub if_judged : Found → Option ℕ → Option ℕ
 if_judged found.StatusReport long = None
 if_judged (found.OtherRecord type) long = None
 if_judged _ long = long
 
+-- what the data says, if its item ends before `offset`, or the fault of bytes after the item
 abbrev pub ended : Found → Draft → List ℕ → ℕ → Result BlockData Stop
 ended found draft bytes offset =
     if may_follow found then Ok (data_from found draft offset)
@@ -87,11 +88,13 @@ timestamp_left draft bytes offset = do
 
 -- ---- endpoint IDs
 
+-- the rest after an endpoint ID
 abbrev pub owner_left : Owner → Draft → List ℕ → ℕ → Result BlockData Stop
 owner_left owner.PreviousNode draft bytes offset = ended found.PreviousNode draft bytes offset
 owner_left owner.Security draft bytes offset = ended found.Security draft bytes offset
 owner_left owner.Report draft bytes offset = timestamp_left draft bytes offset
 
+-- the rest from an endpoint ID on, if this is the reading of it
 abbrev pub by_eid : Owner → Draft → List ℕ → ReadAt Eid → Result BlockData Stop
 by_eid owner draft bytes reading = do
   (eid, offset) ← reading
@@ -132,6 +135,7 @@ received_left draft bytes reading = do
   (received, offset) ← reading
   forwarded_left (with_assertion status.Received received draft) bytes (assertion_at bytes offset)
 
+-- the rest from a status assertion on, if this is the reading of it
 abbrev pub by_assertion : Status → Draft → List ℕ → ReadAt Assertion → Result BlockData Stop
 by_assertion status.Received draft bytes reading = received_left draft bytes reading
 by_assertion status.Forwarded draft bytes reading = forwarded_left draft bytes reading
@@ -198,6 +202,7 @@ type_left draft bytes offset = do
   if type == 1 then report_left draft bytes offset
       else ended (found.OtherRecord type) draft bytes offset
 
+-- the rest after an unsigned integer, which has this meaning and this value
 abbrev pub number_left : Number → Draft → ℕ → List ℕ → ℕ → Result BlockData Stop
 number_left number.Age draft age bytes offset = ended (found.BundleAge age) draft bytes offset
 number_left number.HopLimit draft limit bytes offset = do
@@ -242,6 +247,7 @@ pair_left pair_.HopCount draft bytes offset = limit_left draft bytes offset
 pair_left pair_.Record draft bytes offset = type_left draft bytes offset
 pair_left pair_.Timestamp draft bytes offset = time_left draft bytes offset
 
+-- the rest from the head that is due, which begins at `offset`
 unfoldable pub due_left : Due → Draft → List ℕ → ℕ → Result BlockData Stop
 due_left (due.Number which) draft bytes offset = do
   (value, offset) ← row_at unsigned bytes offset

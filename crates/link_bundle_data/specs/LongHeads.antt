@@ -19,6 +19,6 @@ abbrev pub long_in : Result BlockData DataFault → List ℕ → Option ℕ
 long_in (Ok found) bytes = first_from is_long 0 0 (judged_part found bytes)
 long_in (Err fault) bytes = None
 
--- The offset in data of this kind of the first such head. None is judged in malformed data.
+-- The offset of the first long head in data of this kind. None is judged in malformed data.
 unfoldable pub long_head : DataKind → List ℕ → Option ℕ
 long_head kind bytes = long_in (data_of kind bytes) bytes

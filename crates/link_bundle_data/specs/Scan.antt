@@ -13,7 +13,7 @@ use Rattle.link_bundle_data.specs.declared.{draft.Draft.Draft, scan.DataScan.Dat
 use Rattle.link_bundle_data.specs.BlockData.{located, data_of}
 use Rattle.link_bundle_data.specs.Left.{may_follow, due_left, stage_left}
 
--- in a head that begins at `offset` and is not complete
+-- the bytes seen end inside the head that begins at `offset`
 pub record IsInHead (head : HeadScan) (offset : ℕ) (seen : List ℕ) : Type 0 where
   pub in_bytes : offset ≤ length seen
   pub scanned : HasScannedHead head (drop offset seen)
@@ -37,8 +37,9 @@ IsFirstLong (Name owner left) long offset seen =
 IsFirstLong (Read found) long offset seen = long ≡ first_from is_long 0 0 (take offset seen)
 IsFirstLong (Failed fault) long offset seen = Unit {0}
 
--- Exactly these bytes were seen of data of this kind. Whatever bytes follow, the data is the rest
--- that is read from this stage on.
+-- These are the parts of a scan that has seen exactly these bytes of data of this kind. Whatever
+-- bytes follow, reading on from this stage gives what all the bytes say. `offset` is where the
+-- current head begins, or the item ended.
 pub record HasSeen (kind : DataKind) (stage : DataStage) (draft : Draft) (head : HeadScan)
     (offset count : ℕ) (seen : List ℕ) : Type 0 where
   pub all_bytes : AreBytes seen
@@ -47,7 +48,7 @@ pub record HasSeen (kind : DataKind) (stage : DataStage) (draft : Draft) (head :
       → data_of kind (seen ++ more) ≡ stage_left stage draft (seen ++ more) offset (length seen)
   pub stands : IsAtStage stage head offset seen
 
--- bytes of the head at `offset` were seen, and the head is not judged yet
+-- exactly these bytes were seen; the head at `offset` is not judged yet, and may be complete
 pub record HasSeenHead (kind : DataKind) (which : Due) (draft : Draft) (offset count : ℕ)
     (seen : List ℕ) : Type 0 where
   pub all_bytes : AreBytes seen
@@ -57,6 +58,7 @@ pub record HasSeenHead (kind : DataKind) (which : Due) (draft : Draft) (offset c
       → data_of kind (seen ++ more)
       ≡ located (seen ++ more) (due_left which draft (seen ++ more) offset)
 
+-- the scan is of data of this kind and has seen exactly these bytes
 pub record HasScanned (kind : DataKind) (scan : DataScan) (seen : List ℕ) : Type 0 where
   pub state : HasSeen kind scan.stage scan.draft scan.head scan.offset scan.count seen
   pub long : IsFirstLong scan.stage scan.long scan.offset seen

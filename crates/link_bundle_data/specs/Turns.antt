@@ -79,12 +79,12 @@ first_of pair_.Timestamp = due.Number number.CreationTime
 
 -- the fields that a head sets
 
--- before the first assertion, if this many follow the first four
+-- the draft before the first assertion, if `others` assertions follow the first four
 abbrev pub with_others : ℕ → Draft → Draft
 with_others others draft =
     record draft { others = others; report = record draft.report { timed = false; untimed = false } }
 
--- whether some asserted status so far has a time, and whether some has none, after one more
+-- the draft after one more assertion: whether some asserted status has a time, and some has none
 abbrev pub with_times : Draft → Assertion → Draft
 with_times draft assertion =
     record draft {
@@ -112,12 +112,12 @@ with_targets count draft =
       targets = record { items = [] };
     }
 
--- the first targets, after one more
+-- the targets that are kept after one more: the first 64
 abbrev pub kept_targets : List ℕ → ℕ → List ℕ
 kept_targets targets target =
     if nat_lt (length targets) 64 then targets ++ target ∷ [] else targets
 
--- whether 0 is among the targets so far, and the first of them, after one more
+-- the draft after one more target: whether 0 is among the targets, and the first 64 of them
 abbrev pub with_target : Draft → ℕ → Draft
 with_target draft target =
     record draft {
@@ -157,6 +157,7 @@ took_sequence sequence draft =
       record draft { report = record draft.report { sequence = sequence; fragment = None } },
     )
 
+-- the stage and the draft after an unsigned integer, which has this meaning and this value
 abbrev pub took : Number → ℕ → Draft → DataStage × Draft
 took number.Age age draft = (Read (found.BundleAge age), draft)
 took number.HopLimit limit draft = (Head (due.Number (number.HopCount limit)), draft)
@@ -192,7 +193,7 @@ took_dtn owner None draft = took_eid owner DtnNone draft
 took_dtn owner (Some size) draft =
     (name_due owner size, with_eid (Dtn (record { items = [] })) draft)
 
--- bytes of a name that has `left` bytes left
+-- the bytes of a run, in a name that has `left` bytes left
 abbrev pub took_run : Owner → ℕ → List ℕ → Draft → DataStage × Draft
 took_run owner left run draft = (
   name_due owner (left - length run),
@@ -204,7 +205,7 @@ took_asserted status true asserted draft = (Head (due.Number (number.AssertedTim
 took_asserted status false asserted draft =
     took_assertion status (if asserted then Yes else No) draft
 
--- a complete head of `size` bytes, judged by the row of what is due
+-- what a complete head of `size` bytes leads to, judged by the function (row) of the head due
 abbrev pub judged : Due → ℕ → HeadItem → Draft → Result (DataStage × Draft) BundleFault
 judged (due.Number which) size head draft = unsigned head >>= λ value. Ok (took which value draft)
 judged (due.Pair which) size head draft = pair head >>= λ _. Ok (Head (first_of which), draft)
@@ -229,7 +230,7 @@ judged (due.Assertion status) size head draft =
 judged (due.Asserted status has_time) size head draft =
     assertion has_time size head >>= λ asserted. Ok (took_asserted status has_time asserted draft)
 
--- a function's result with the draft that it leaves
+-- the stage that a function returns with the draft that it leaves, or its fault alone
 abbrev pub turned : Result DataStage BundleFault → Draft → Result (DataStage × Draft) BundleFault
 turned (Ok stage) draft = Ok (stage, draft)
 turned (Err fault) draft = Err fault

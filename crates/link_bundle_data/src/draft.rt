@@ -91,7 +91,7 @@ impl Draft {
 
     /// Judges a complete head of `size` bytes, and returns the stage after it.
     ///
-    /// If the head is not the one that is due, the fault is that of the row by which it is judged.
+    /// A head that is not the one due has the fault of its row, here or in `link_bundle_heads`.
     pub fn head(&mut self, due: Due, size: u64, head: Head) -> Result<DataStage, BundleFault>
         ensures judged { turned result self.new ≡ turns.judged due size head self.old }
         ensures fits { IfOk result (λ stage. IsTrue (stage_fits stage self.new)) }

@@ -140,7 +140,7 @@ impl Owner {
         }
     }
 
-    /// The stage in a dtn name that has this many bytes left.
+    /// The stage in a dtn name with `left` more bytes, or after the endpoint ID if there are none.
     pub fn name_due(self, left: u64) -> DataStage
         ensures { result ≡ turns.name_due self left }
     {
@@ -173,7 +173,7 @@ impl Owner {
 }
 
 impl Status {
-    /// The head after the assertion about this status, if `others` are not kept.
+    /// The head after the assertion about this status. `others` assertions follow the first four.
     pub fn next(self, others: u64) -> Due
         ensures { result ≡ turns.after_status self others }
     {

@@ -45,7 +45,7 @@ fn first_of(piece: &[u8], left: u64) -> &[u8]
     &piece[..size]
 }
 
-/// The fault of data that is malformed at an offset, where no limit of this toolkit is the reason.
+/// The fault of data that is malformed at an offset for another reason than a limit.
 fn no_limit(offset: u64) -> DataFault
     ensures { result ≡ record { offset = offset; is_limit = false } }
 {
@@ -55,7 +55,7 @@ fn no_limit(offset: u64) -> DataFault
     }
 }
 
-/// Whether an item that begins with this head and has this fault exceeds a limit of this toolkit.
+/// Whether an item with this head, of any size, and this fault exceeds a limit of this toolkit.
 fn is_limit(fault: BundleFault, head: Head) -> bool
     ensures { (size : ℕ) → result ≡ is_limit fault (Whole head size) }
 {
@@ -241,7 +241,7 @@ impl DataScan {
         self.take_head(due, run.len() as u64, head);
     }
 
-    /// Judges a complete head of `size` bytes, the last bytes seen.
+    /// Judges a complete head of `size` bytes, from `offset` on: the last bytes seen.
     fn take_head(&mut self, due: Due, size: u64, head: Head)
         requires stage { self.old.stage ≡ DataStage.Head due }
         ensures size { scan_size self.new ≡ scan_size self.old }
@@ -282,7 +282,7 @@ impl DataScan {
         self.head = HeadScan::new();
     }
 
-    /// Takes bytes after the item, which are at fault if the item has to be the last.
+    /// Takes bytes after the item. The data is malformed if the item has to be the last.
     fn after_item(&mut self, found: Found, run: &[u8])
         requires stage { self.old.stage ≡ DataStage.Read found }
         requires some { 0 < length run.now }

@@ -19,14 +19,14 @@ abbrev pub ◌>>=◌ : {A B E : Type 0} → Result A E → (A → Result B E) �
 abbrev pub wanted : {A : Type 0} → Bool → A → BundleFault → Result A BundleFault
 wanted passes value fault = if passes then Ok value else Err fault
 
--- the value of an item that has the right major type and a value (RFC 8949 section 3.1)
+-- the value of an item, or `fault` if it has the wrong major type (`false`) or no value
 abbrev pub valued : BundleFault → Bool → Option ℕ → Result ℕ BundleFault
 valued fault true (Some value) = Ok value
 valued fault true None = Err fault
 valued fault false value = Err fault
 
--- The value of an item of this major type. It is an unsigned integer (0), the length of a byte
--- string (2), or the number of elements of an array (4).
+-- The value of an item of this major type, or `fault` for any other item. It is an unsigned integer
+-- (0), the length of a byte string (2), or the number of elements of an array (4).
 abbrev pub of_major : BundleFault → ℕ → Head → Result ℕ BundleFault
 of_major fault major head = valued fault (head.major == major) head.value
 
@@ -40,7 +40,7 @@ block_data head = of_major WrongDataKind 2 head
 unfoldable pub array : Head → Result ℕ BundleFault
 array head = of_major WrongKind 4 head
 
--- an array that has to have two elements
+-- the number of elements of an array, which has to be two
 unfoldable pub pair : Head → Result ℕ BundleFault
 pair head = do
   count ← array head
@@ -55,8 +55,8 @@ is_absent (Some value) = false
 unfoldable pub is_break : Head → Bool
 is_break head = (head.major == 7) && is_absent head.value
 
--- the primary block (section 4.3.1) has eight elements, two more in a fragment, and one more with a
--- check field
+-- the number of elements of the primary block (section 4.3.1): eight, two more in a fragment, and
+-- one more with a check field
 unfoldable pub primary_block : Head → Result ℕ BundleFault
 primary_block head = do
   count ← array head
@@ -67,11 +67,11 @@ version head = do
   number ← unsigned head
   wanted (number == 7) number BadVersion
 
--- bundle processing control flag 01 (section 4.2.3)
+-- whether bundle processing control flag 01 is set (section 4.2.3)
 unfoldable pub is_fragment : ℕ → Bool
 is_fragment flags = bit_and flags 1 == 1
 
--- the check types by their numbers (section 4.2.1)
+-- the check type with this number, which is `None` for 0 (section 4.2.1)
 abbrev pub kind_of_type : ℕ → Result (Option CheckKind) BundleFault
 kind_of_type number =
     if number == 0 then Ok None else
@@ -88,12 +88,13 @@ abbrev pub check_elements : Option CheckKind → ℕ
 check_elements None = 0
 check_elements (Some kind) = 1
 
+-- the check type of a primary block with these flags, whose array has `count` elements
 unfoldable pub primary_check_type : ℕ → ℕ → Head → Result (Option CheckKind) BundleFault
 primary_check_type count flags head = do
   kind ← check_type head
   wanted (count == 8 + (if is_fragment flags then 2 else 0) + check_elements kind) kind BadCount
 
--- an endpoint ID (section 4.2.5.1) is an array of a scheme and a specific part
+-- the scheme of an endpoint ID, which is an array of a scheme and a specific part (section 4.2.5.1)
 unfoldable pub scheme : Head → Result Scheme BundleFault
 scheme head = do
   number ← unsigned head
@@ -125,23 +126,25 @@ block head =
       count ← array head
       wanted (nat_le 5 count && nat_le count 6) count BadCount
 
--- the same after 64 blocks, where another block is a fault
+-- the head of a block after 64 blocks, where another block is a fault: never a value
 unfoldable pub block_too_many : Head → Result ℕ BundleFault
 block_too_many head = do
   count ← block head
   Err TooManyBlocks
 
--- the payload block (type 1) has number 1 and no other block has it; 0 is that of the primary block
--- (section 4.1)
+-- whether a block of this type may have this number: the payload block (type 1) has number 1, no
+-- other block has it, and 0 is the number of the primary block (section 4.1)
 abbrev pub fits_type : ℕ → ℕ → Bool
 fits_type type number = not (number == 0) && (if type == 1 then number == 1 else not (number == 1))
 
+-- the number of a block of this type, after blocks with these `numbers`
 unfoldable pub block_number : ℕ → List ℕ → Head → Result ℕ BundleFault
 block_number type numbers head = do
   number ← unsigned head
   fitting ← wanted (fits_type type number) number BadBlockNumber
   wanted (not (list_any (λ earlier. earlier == number) numbers)) number RepeatedBlockNumber
 
+-- the check type of a canonical block whose array has `count` elements
 unfoldable pub block_check_type : ℕ → Head → Result (Option CheckKind) BundleFault
 block_check_type count head = do
   kind ← check_type head
@@ -158,6 +161,6 @@ check_field kind head = do
   count ← of_major WrongCheckKind 2 head
   wanted (count == check_width kind) count BadCheckLength
 
--- the break after the payload block
+-- the break that closes the bundle, after the payload block; `true` has no meaning
 unfoldable pub closing : Head → Result Bool BundleFault
 closing head = wanted (is_break head) true NoPayloadLast

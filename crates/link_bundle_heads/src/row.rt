@@ -1,4 +1,4 @@
-//! The rows of the tables in docs/FORMATS.md, each from a head to its value or its first fault.
+//! The rows of the tables in docs/FORMATS.md. Each judges a head: its value, or its first fault.
 //!
 //! Each clause `lasts` says that no bytes that follow can mend the fault.
 //!
@@ -36,7 +36,7 @@ pub const PAYLOAD_TYPE: u64 = 1;
 /// The block number of the payload block (RFC 9171 section 4.1).
 const PAYLOAD_NUMBER: u64 = 1;
 
-/// The value of a head, which has to have this major type. If it has another, this is the fault.
+/// The value of a head of this major type, or `fault` for any other head or one without a value.
 #[inline(always)]
 fn of_major(fault: BundleFault, major: u8, head: Head) -> Result<u64, BundleFault>
     requires { IsTrue (lasts fault) }
@@ -73,6 +73,7 @@ pub fn block_data(head: Head) -> Result<u64, BundleFault>
     of_major(BundleFault::WrongDataKind, BYTE_STRING, head)
 }
 
+/// The number of elements of an array. The fault of another item is `WrongKind`.
 #[inline(always)]
 #[tactic(auto, unfolding(crate::specs::Rows::array))]
 fn array(head: Head) -> Result<u64, BundleFault>
@@ -264,7 +265,7 @@ pub fn block(head: Head) -> Result<u64, BundleFault>
     }
 }
 
-/// Whether a number is one of these.
+/// Whether a number is among these.
 // A loop, since `contains` is a call: for a few numbers it takes longer than the comparisons.
 #[inline(always)]
 fn is_among(number: u64, numbers: &[u64]) -> bool
@@ -343,7 +344,7 @@ pub fn check_field(kind: CheckKind, head: Head) -> Result<u64, BundleFault>
     }
 }
 
-/// Returns true for the break after the payload block.
+/// Returns true for the break that closes the bundle, after the payload block.
 ///
 /// Any other head has the fault `NoPayloadLast`.
 #[inline(always)]

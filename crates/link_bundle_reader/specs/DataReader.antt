@@ -8,7 +8,7 @@ use Rattle.link_report_blocks.specs.Kinds.{kind_of}
 use Rattle.link_bundle_reader.specs.Found.{data_in, flags_after}
 use Rattle.link_bundle_reader.specs.declared.data.DataReader.{DataReader}
 
--- the number of bytes read of a block's data, if it is read
+-- the number of bytes read of a block's data, or 0 if data of its type is not read
 abbrev pub size_by : Option DataKind → DataScan → ℕ
 size_by None scan = 0
 size_by (Some kind) scan = scan_size scan
@@ -16,8 +16,7 @@ size_by (Some kind) scan = scan_size scan
 abbrev pub read_size : DataReader → ℕ
 read_size now = size_by now.kind now.scan
 
--- the reader has read the bytes of this block's data that are in `seen`, the bytes of the bundle so
--- far
+-- the reader has read the data of this block that is in `seen`, the bytes of the bundle so far
 pub record IsDataReaderIn (now : DataReader) (seen : List ℕ) (block : CanonicalBlock) : Type 0 where
   pub kind : now.kind ≡ kind_of now.flags block.block_type
   pub scanned : (kind : DataKind) → now.kind ≡ Some kind

@@ -8,7 +8,7 @@ use Rattle.link_bundle_data.specs.LongHeads.{long_head}
 use Rattle.link_bundle_data.specs.declared.values.DataFault.{DataFault}
 use Rattle.link_report_blocks.specs.Kinds.{kind_of}
 
--- the bytes of a block's data that are in the content: all of them if the block is whole
+-- the bytes of a block's data that are in `content`, the bytes of its bundle so far
 abbrev pub data_in : (content : List ℕ) → CanonicalBlock → List ℕ
 data_in content block = take block.data_length (drop block.data_start content)
 
@@ -25,7 +25,7 @@ long_head_in flags content block =
     option_and_then (λ kind. long_head kind (data_in content block))
     (kind_of flags block.block_type)
 
--- the flags of the bundle after one of its blocks: the primary block has them
+-- the flags of the bundle, if `flags` were known before this block: the primary block has them
 abbrev pub flags_after : ℕ → Block → ℕ
 flags_after flags (PrimaryOf primary check end) = primary.flags
 flags_after flags (CanonicalOf block) = flags

@@ -42,7 +42,7 @@ impl DataReader {
         }
     }
 
-    /// Begins another bundle.
+    /// Begins another bundle, of which no byte has come.
     pub fn restart(&mut self)
         ensures reads { IsDataReaderAt self.new [] }
         ensures size { read_size self.new ≡ 0 }
@@ -91,7 +91,7 @@ impl DataReader {
     /// Reads the data in a run of the bundle that ends with this block. The run comes after the
     /// bundle's first `before` bytes.
     ///
-    /// The scan has seen the run, and no block ends before.
+    /// The scan has seen the run, and no block ends before the last byte of the run.
     #[inline(always)]
     pub fn follow(&mut self, before: u64, run: &[u8], ended: &BlockView<'_>, scan: &BundleScan)
         requires room { before + length run.now < 2 ^ 63 }
@@ -135,7 +135,7 @@ impl DataReader {
         }
     }
 
-    /// What the data of the latest block says, if it is read, or why it is malformed.
+    /// What the data of the latest block says, or why it is malformed; `None` if it is not read.
     #[inline(always)]
     pub fn found(&self) -> Option<Result<DataView<'_>, DataFault>>
         ensures found { (seen : List ℕ) (block : CanonicalBlock)
@@ -150,8 +150,8 @@ impl DataReader {
         }
     }
 
-    /// The offset in the data of the latest block of the first head that is longer than its number
-    /// needs, of the heads that are read.
+    /// The offset of the first head that is longer than its number needs, in the data of the latest
+    /// block. Only the heads that are read count.
     pub fn long_head(&self) -> Option<u64>
         ensures found { (seen : List ℕ) (block : CanonicalBlock)
             → IsDataReaderIn self.now seen block

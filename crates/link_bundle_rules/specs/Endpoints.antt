@@ -9,7 +9,7 @@ use Rattle.link_bundle_rules.specs.declared.rule.{BundleRule.BundleRule, Endpoin
 use Rattle.link_bundle_rules.specs.declared.rule.BundleRule.TheVariants.{DtnName, SourceNode}
 use Rattle.link_bundle_rules.specs.declared.rule.Endpoint.TheVariants.{PreviousNode, SecuritySource, ReportSource}
 
--- an endpoint ID in the data of a block that is a text and no dtn name
+-- the endpoint ID in the data of block `number`, if it is a text and no dtn name
 abbrev pub bad_name_in : (number : ℕ) → DataFacts → Option Endpoint
 bad_name_in number (facts.PreviousNode node) =
     if node.has_bad_name then Some (PreviousNode number) else None
@@ -19,13 +19,14 @@ bad_name_in number (facts.StatusReport report) =
     if report.has_bad_source then Some ReportSource else None
 bad_name_in number _ = None
 
+-- what `bad_name_in` finds in the data of a block, unless the data may be ciphertext
 abbrev pub bad_name_of : ReadBundle → BlockFacts → Option Endpoint
 bad_name_of bundle read =
     option_and_then (λ read. bad_name_in read.number read.data) (unless_hidden bundle read)
 
 -- dtn-name: an endpoint ID of scheme dtn that is a text is a dtn name (section 4.2.5.1.1). The
--- first one that is not counts: in the primary block, and then in the data of the blocks, in order.
--- A status report is the payload, which is the last block.
+-- first one that is no dtn name counts. Those of the primary block come first, and then those in
+-- the data of the blocks, in order. A status report is the payload, which is the last block.
 unfoldable pub dtn_name : ReadBundle → Option BundleRule
 dtn_name bundle =
     option_map DtnName (option_or bundle.primary.bad_name (find_map (bad_name_of bundle) bundle.blocks))

@@ -30,6 +30,7 @@ previous_node bundle =
 
 -- ---- the previous node and the age
 
+-- the rule that the node of a previous node block breaks; `None` for data of another kind
 abbrev pub node_rule : (number : ℕ) → DataFacts → Option BundleRule
 node_rule number (PreviousNode node) = option_map (λ level. rule.PreviousNodeId number level) node.level
 node_rule number _ = None
@@ -44,6 +45,7 @@ if_no_node_id read = node_rule read.number read.data
 unfoldable pub previous_node_id : ReadBundle → Option BundleRule
 previous_node_id bundle = option_and_then if_no_node_id (first_readable block.previous_node bundle)
 
+-- the rule that an age above the lifetime breaks; `None` for data of another kind
 abbrev pub age_rule : (lifetime : ℕ) → DataFacts → Option BundleRule
 age_rule lifetime (BundleAge age) =
     if nat_lt lifetime age then Some (rule.Expired lifetime age) else None
@@ -71,7 +73,7 @@ hops_of read = hops_in read.data
 unfoldable pub first_hops : ReadBundle → Option Hops
 first_hops bundle = option_and_then hops_of (first_readable block.hop_count bundle)
 
--- a hop limit is from 1 to 255
+-- whether there is a hop limit, and it is not from 1 to 255
 abbrev pub has_bad_limit : Option Hops → Bool
 has_bad_limit None = false
 has_bad_limit (Some hops) = (hops.limit == 0) || nat_lt 255 hops.limit
@@ -86,6 +88,7 @@ hop_count bundle =
     then Some (rule.HopCount blocks (option_map (λ hops. hops.limit) first))
     else None
 
+-- the rule that a hop count above its hop limit breaks
 abbrev pub if_exceeded : Hops → Option BundleRule
 if_exceeded hops =
     if nat_lt hops.limit hops.count then Some (rule.Hops hops.limit hops.count) else None
@@ -96,7 +99,7 @@ hops bundle = option_and_then if_exceeded (first_hops bundle)
 
 -- ---- block types
 
--- reserved: 0, those of version 6 of the protocol alone (section 9.1), and those above 255
+-- whether a block type is reserved: 0, of protocol version 6 alone (section 9.1), or above 255
 abbrev pub is_reserved : (type : ℕ) → Bool
 is_reserved type =
     (type == 0) || ((nat_le 2 type && nat_le type 5)
@@ -106,14 +109,14 @@ abbrev pub if_reserved : BlockFacts → Option BundleRule
 if_reserved read =
     if is_reserved read.block_type then Some (rule.BlockType read.number read.block_type) else None
 
--- block-type: a block has no type that is reserved (sections 4.3.2 and 9.1). The first one that has
--- one counts.
+-- block-type: a block has no type that is reserved (sections 4.3.2 and 9.1). The first block that
+-- has one counts.
 unfoldable pub block_type : ReadBundle → Option BundleRule
 block_type bundle = find_map if_reserved bundle.blocks
 
 -- ---- data that is malformed or not read, if it cannot be ciphertext
 
--- a block that is no payload, and whose data is read
+-- whether a block is an extension block or a security block, whose data is read
 abbrev pub has_read_data : BlockFacts → Bool
 has_read_data read = is_extension read || is_security_block read
 
@@ -129,7 +132,7 @@ if_malformed_extension bundle read =
 
 -- block-data: the data of previous node, bundle age, hop count and security blocks is well formed
 -- (sections 4.4.1, 4.4.2 and 4.4.3, RFC 9172 section 3.6), as far as it is read. The first block
--- whose data is not counts.
+-- with other data counts.
 unfoldable pub block_data : ReadBundle → Option BundleRule
 block_data bundle = find_map (if_malformed_extension bundle) bundle.blocks
 
@@ -144,7 +147,7 @@ if_unread bundle read =
     then unread_rule read.number read.data
     else None
 
--- data-not-read: this toolkit reads the data of these blocks, and administrative records. RFC 9171
+-- data-not-read: this toolkit reads data of extension and security blocks, and records. RFC 9171
 -- permits data that exceeds its limits (section 4.1). The first block with such data counts.
 unfoldable pub data_not_read : ReadBundle → Option BundleRule
 data_not_read bundle = find_map (if_unread bundle) bundle.blocks

@@ -69,7 +69,7 @@ record_reports bundle =
     then Some (rule.RecordReports flags)
     else None
 
--- whether the blocks of a bundle must request no status reports (section 4.2.4)
+-- whether no block of a bundle may request a status report (section 4.2.4)
 abbrev pub forbids_reports : PrimaryFacts → Bool
 forbids_reports primary = is_set record_flag primary.flags || primary.is_anonymous
 
@@ -78,7 +78,7 @@ if_reporting block =
     if is_set block_report block.flags then Some (rule.BlockReports block.number) else None
 
 -- block-reports: no block of an administrative record, or of a bundle without a source, requests a
--- status report (section 4.2.4). The first one that does counts.
+-- status report (section 4.2.4). The first block that does counts.
 unfoldable pub block_reports : ReadBundle → Option BundleRule
 block_reports bundle =
     if forbids_reports bundle.primary then find_map if_reporting bundle.blocks else None
@@ -89,7 +89,7 @@ if_other_block_flags block =
     then Some (rule.BlockFlags block.number block.flags)
     else None
 
--- block-flags: a block has no flag but those that are defined (section 4.2.4). The first one that
--- has another one counts.
+-- block-flags: a block has no flag but those that are defined (section 4.2.4). The first block with
+-- another flag counts.
 unfoldable pub block_flags : ReadBundle → Option BundleRule
 block_flags bundle = find_map if_other_block_flags bundle.blocks

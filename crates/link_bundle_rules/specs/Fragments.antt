@@ -18,6 +18,7 @@ level_in bundle = if is_later bundle.primary.fragment then Should else Must
 abbrev pub has_hidden_payload : ReadBundle → Bool
 has_hidden_payload bundle = is_hidden bundle 1
 
+-- `part` has the offset and the total length of a fragment, if the bundle is one
 abbrev pub if_no_part : ReadBundle → (part : ℕ × ℕ) → Option BundleRule
 if_no_part bundle (offset, total) =
     let size = bundle.payload_length in
@@ -26,8 +27,8 @@ if_no_part bundle (offset, total) =
     then Some (Fragment offset size total)
     else None
 
--- fragment: a fragment may be one, and its payload is some bytes of the original one (sections 3.1,
--- 4.3.1 and 5.8)
+-- fragment: the flags of a fragment permit fragments, and its payload is some bytes of the original
+-- one (sections 3.1, 4.3.1 and 5.8)
 unfoldable pub fragment : ReadBundle → Option BundleRule
 fragment bundle = option_and_then (if_no_part bundle) bundle.primary.fragment
 

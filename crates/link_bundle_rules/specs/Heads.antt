@@ -8,7 +8,7 @@ use Rattle.link_bundle_rules.specs.declared.block.BlockFacts.{BlockFacts}
 use Rattle.link_bundle_rules.specs.declared.rule.BundleRule.{BundleRule}
 use Rattle.link_bundle_rules.specs.declared.rule.BundleRule.TheVariants.{LongHead}
 
--- the least of two offsets, as far as they are there
+-- the lesser of two offsets, or the only one
 abbrev pub least : (one other : Option ℕ) → Option ℕ
 least None other = other
 least one None = one
@@ -19,11 +19,12 @@ least (Some byte) (Some other) = Some (min byte other)
 abbrev pub readable_head : ReadBundle → BlockFacts → Option ℕ
 readable_head bundle read = option_and_then (λ read. read.long_head) (unless_hidden bundle read)
 
--- the first in the data of some blocks; blocks are in the order of their offsets
+-- the first long head in the data of the blocks that pass a test; they are in the order of offsets
 abbrev pub data_head : (BlockFacts → Bool) → ReadBundle → Option ℕ
 data_head test bundle =
     find_map (λ read. if test read then readable_head bundle read else None) bundle.blocks
 
+-- the rule of a long head at this offset, if there is one
 abbrev pub of_level : Level → Option ℕ → Option BundleRule
 of_level level byte = option_map (λ byte. LongHead byte level) byte
 

@@ -36,7 +36,7 @@ abbrev pub unless_hidden : ReadBundle → BlockFacts → Option BlockFacts
 unless_hidden bundle read =
     if is_hidden_block bundle read.block_type read.number then None else Some read
 
--- the first block of a type, unless its data may be ciphertext
+-- the first block of a type, or `None` if there is none or its data may be ciphertext
 unfoldable pub first_readable : (type : ℕ) → ReadBundle → Option BlockFacts
 first_readable type bundle =
     option_and_then (unless_hidden bundle) (find (is_of_type type) bundle.blocks)

@@ -3,7 +3,8 @@ use Rattle.std.specs.Prelude.{ℕ, Option}
 use Rattle.link_bundle_rules.specs.ReadBundle.{ReadBundle}
 use Rattle.link_bundle_rules.specs.declared.history.BundleHistory.{BundleHistory}
 
--- the bundle, if exactly these blocks came
+-- The bundle whose blocks a history has. The history keeps neither the offset of the first long
+-- head outside the data of blocks nor the length of the payload.
 abbrev pub bundle_of : BundleHistory → (long_head : Option ℕ) → (payload_length : ℕ) → ReadBundle
 bundle_of history long_head payload_length = record {
   primary = history.primary;

@@ -11,6 +11,7 @@ use Rattle.link_bundle_rules.specs.declared.block.{BlockFacts.BlockFacts, Counts
 use Rattle.link_bundle_rules.specs.declared.block.DataFacts.TheVariants.{Nothing, PreviousNode, BundleAge, HopCount}
 use Rattle.link_bundle_rules.specs.declared.primary.PrimaryFacts.{PrimaryFacts}
 
+-- whether this data is known to break no rule of data; other kinds than these are never plain
 abbrev pub is_plain_data : (lifetime : ℕ) → DataFacts → Bool
 is_plain_data lifetime Nothing = true
 is_plain_data lifetime (PreviousNode node) = not node.has_bad_name && is_none node.level
@@ -19,6 +20,7 @@ is_plain_data lifetime (HopCount limit count) =
     nat_lt 0 limit && (nat_lt limit 256 && nat_le count limit)
 is_plain_data lifetime _ = false
 
+-- whether this block can break no rule of single blocks
 abbrev pub is_plain_block : (lifetime : ℕ) → BlockFacts → Bool
 is_plain_block lifetime read =
     is_none (if_reporting read)
@@ -26,6 +28,7 @@ is_plain_block lifetime read =
     && (is_none (if_reserved read)
     && (is_none read.long_head && is_plain_data lifetime read.data)))
 
+-- whether this primary block can break no rule, whatever the other blocks are
 abbrev pub is_plain_primary : PrimaryFacts → Bool
 is_plain_primary primary =
     primary.has_check
@@ -50,7 +53,7 @@ has_plain_counts bundle =
     && (nat_le (count_of_type block.hop_count bundle.blocks) 1
     && ((ages == 1) || ((ages == 0) && not bundle.primary.has_zero_time)))
 
--- whether no rule can be broken but that of long heads outside the data of blocks
+-- whether only the rule of long heads outside the data of blocks can be broken
 abbrev pub is_plain : ReadBundle → Bool
 is_plain bundle =
     is_plain_primary bundle.primary

@@ -9,12 +9,12 @@ use Rattle.link_bundle_blocks.specs.Blocks.{Primary}
 use Rattle.link_bundle_rules.specs.declared.rule.Endpoint.{Endpoint}
 use Rattle.link_bundle_rules.specs.declared.rule.Endpoint.TheVariants.{Destination, Source, ReportTo}
 
--- dtn:none as the number 0 is no text
+-- whether an endpoint ID is a text of scheme dtn and no dtn name; the number 0 is no text
 abbrev pub has_bad_name : Eid → Bool
 has_bad_name (eid.Dtn name) = not (is_dtn_name name.items)
 has_bad_name _ = false
 
--- the first endpoint ID of a primary block that has one
+-- the first endpoint ID of a primary block that has a bad name
 abbrev pub bad_name : Primary → Option Endpoint
 bad_name primary =
     if has_bad_name primary.destination then Some Destination
@@ -26,17 +26,17 @@ bad_name primary =
 abbrev pub dtn_level : (name : List ℕ) → Option Level
 dtn_level name = if is_dtn_name name then demux_level (demux_of name) else None
 
--- a dtn name whose demux begins with `~`: its endpoint is no singleton (section 4.2.5.1.1)
+-- whether it is a dtn name with a demux that begins with `~`: no singleton (section 4.2.5.1.1)
 abbrev pub is_group : Eid → Bool
 is_group (eid.Dtn name) =
     starts_with nat_eq (demux_of name.items) (codes "~") && is_dtn_name name.items
 is_group _ = false
 
--- an ipn name whose service number is not 0 names no node (section 4.2.5.1.2)
+-- how strictly a service number is forbidden in a node ID: only 0 names a node (section 4.2.5.1.2)
 abbrev pub service_level : (service : ℕ) → Option Level
 service_level service = if service == 0 then None else Some Should
 
--- how strictly an endpoint ID is forbidden as a node ID; dtn:none names no node
+-- how strictly an endpoint ID is forbidden as a node ID, or `None` if it may be one
 abbrev pub node_level : Eid → Option Level
 node_level eid.DtnNone = Some Must
 node_level (eid.Dtn name) = dtn_level name.items

@@ -65,7 +65,7 @@ is_security_block block = is_security block.block_type
 abbrev pub count_of_type : (type : ℕ) → List BlockFacts → ℕ
 count_of_type type blocks = count_by (is_of_type type) blocks
 
--- what a function returns for the first of some elements for which it returns something
+-- the first `Some` that `f` returns for the elements, in order
 abbrev pub find_map : {A B : Type 0} → (A → Option B) → List A → Option B
 find_map f [] = None
 find_map f (element ∷ more) = option_or (f element) (find_map f more)
@@ -96,15 +96,15 @@ is_later (Some (offset, total)) = nat_lt 0 offset
 
 -- ---- a canonical block
 
--- Why data is malformed that begins at an offset in the bundle. If a limit of this toolkit is the
--- reason, RFC 9171 may permit the data.
+-- Why the data of a block is malformed; it begins at offset `data_start` of the bundle. If a limit
+-- of this toolkit is the reason, RFC 9171 may permit the data.
 abbrev pub fault_facts : (data_start : ℕ) → DataFault → DataFacts
 fault_facts data_start fault =
     if fault.is_limit
     then facts.NotRead (data_start + fault.offset)
     else facts.Malformed (data_start + fault.offset)
 
--- a name that breaks dtn-name, and how strictly it is forbidden as a node ID
+-- whether a node has a bad name, and how strictly it is forbidden as a node ID
 abbrev pub node_facts : Eid → NodeFacts
 node_facts node = record { has_bad_name = has_bad_name node; level = node_level node }
 
@@ -151,8 +151,8 @@ block_facts block found long_head = record {
 
 -- ---- a security block
 
--- What the rules need of a security block (RFC 9172 section 3.6). The first 64 targets are kept.
--- What a block says whose data is malformed, or is not read, is not known.
+-- What the rules need of a security block (RFC 9172 section 3.6). The first 64 targets are kept. If
+-- its data is malformed or not read, what it says is not known.
 abbrev pub security_facts : CanonicalBlock → Option (Result BlockData DataFault) → SecurityFacts
 security_facts read (Some (Ok (Security block targets source))) = record {
   number = read.number;

@@ -9,7 +9,7 @@ use Rattle.link_bundle_rules.specs.declared.block.DataFacts.TheVariants.{StatusR
 use Rattle.link_bundle_rules.specs.declared.rule.BundleRule.{BundleRule}
 use Rattle.link_bundle_rules.specs.declared.rule.BundleRule.TheVariants as rule
 
--- what the payload says
+-- the payload block, unless its data may be ciphertext
 abbrev pub record_of : ReadBundle → Option BlockFacts
 record_of bundle = first_readable payload bundle
 

@@ -11,8 +11,8 @@ use Rattle.link_bundle_rules.specs.declared.rule.BundleRule.{BundleRule}
 use Rattle.link_bundle_rules.specs.declared.rule.BundleRule.TheVariants.{PrimaryCheck, ConfidentialPrimary, SecurityFlags, SecurityContext, ConfidentialFlags, ConfidentialContext}
 use Rattle.link_bundle_rules.specs.declared.security.SecurityFacts.{SecurityFacts}
 
--- Whether a block integrity block may have the primary block as a target. The targets of one that
--- is malformed or hidden are not known.
+-- Whether a block integrity block may have the primary block as a target. If its data is malformed
+-- or hidden, its targets are not known.
 abbrev pub may_protect_primary : ReadBundle → SecurityFacts → Bool
 may_protect_primary bundle block =
     (block.block_type == block_integrity)
@@ -33,7 +33,7 @@ if_confidential_primary block =
     else None
 
 -- confidential-primary: no block confidentiality block has the primary block as a target (RFC 9172
--- section 3.8). The first one that does counts.
+-- section 3.8). The first block that does counts.
 unfoldable pub confidential_primary : ReadBundle → Option BundleRule
 confidential_primary bundle = find_map if_confidential_primary bundle.security
 
@@ -72,7 +72,7 @@ copied = 0x01
 abbrev pub discarded : ℕ
 discarded = 0x10
 
--- a block confidentiality block may be discarded, or has the payload as a target and is not copied
+-- whether the flags permit to discard a block, or to leave it out of a fragment that it encrypts
 abbrev pub may_be_lost : SecurityFacts → Bool
 may_be_lost block =
     is_set discarded block.flags

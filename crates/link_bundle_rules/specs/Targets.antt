@@ -18,7 +18,7 @@ is_integrity block = block.block_type == block_integrity
 abbrev pub is_confidentiality : SecurityFacts → Bool
 is_confidentiality block = block.block_type == block_confidentiality
 
--- a security block counts if its data is neither malformed nor hidden
+-- whether a security block counts: its data is neither malformed nor hidden
 abbrev pub counts : ReadBundle → SecurityFacts → Bool
 counts bundle block =
     not block.is_malformed && not (is_hidden_block bundle block.block_type block.number)
@@ -39,14 +39,14 @@ first_target test block =
 abbrev pub has_target : (target : ℕ) → SecurityFacts → Bool
 has_target target block = list_any (λ other. other == target) block.targets.items
 
--- a block of a type has this target, and counts
+-- whether a block is of this type, has this target, and counts
 abbrev pub is_target_of : ReadBundle → (type target : ℕ) → SecurityFacts → Bool
 is_target_of bundle type target block =
     (block.block_type == type) && (has_target target block && counts bundle block)
 
 -- ---- security-targets
 
--- the first target that is named before, also among the targets that come `before` these
+-- the first of these targets that also comes earlier, in `before` or among these
 abbrev pub first_repeated : (before targets : List ℕ) → Option ℕ
 first_repeated before [] = None
 first_repeated before (target ∷ more) =
@@ -54,6 +54,7 @@ first_repeated before (target ∷ more) =
     then Some target
     else first_repeated (before ++ target ∷ []) more
 
+-- the rule that a block breaks without a target (`None`), or by naming one twice
 abbrev pub if_bad_targets : SecurityFacts → Option BundleRule
 if_bad_targets block =
     if block.count == 0
@@ -61,11 +62,12 @@ if_bad_targets block =
     else option_map (λ target. rule.SecurityTargets block.number (Some target) Must)
     (first_repeated [] block.targets.items)
 
--- the number of no block; the primary block has number 0
+-- whether no block has this number; the primary block has number 0
 abbrev pub is_missing : ReadBundle → (target : ℕ) → Bool
 is_missing bundle target =
     not (target == 0) && not (list_any (λ read. read.number == target) bundle.blocks)
 
+-- the rule of targets that are no blocks of the bundle; a fragment may lack blocks
 abbrev pub missing_target : ReadBundle → Option BundleRule
 missing_target bundle =
     if is_none bundle.primary.fragment
@@ -87,8 +89,8 @@ first_with bundle type target =
     find_map (λ block. then_some (is_target_of bundle type target block) block.number)
     bundle.security
 
--- A block before this one, of its type, has this target: the first that has it is another. Each
--- block has its own number.
+-- Whether an earlier block of the same type has this target: the first block that has it is
+-- another. No two blocks have the same number.
 abbrev pub is_taken : ReadBundle → SecurityFacts → (target : ℕ) → Bool
 is_taken bundle block target =
     elim (first_with bundle block.block_type target) [
@@ -103,6 +105,7 @@ security_twice bundle =
     option_map (λ (block, target). rule.SecurityTwice block target)
     (first_counted bundle (first_target (is_taken bundle)))
 
+-- whether a block confidentiality block that counts has this target
 abbrev pub is_confidential : ReadBundle → (target : ℕ) → Bool
 is_confidential bundle target =
     list_any (is_target_of bundle block_confidentiality target) bundle.security
@@ -119,7 +122,7 @@ shared_target bundle =
 
 -- ---- targets that are security blocks
 
--- a security block is a target of a block integrity block
+-- whether `block` is a block integrity block, and its target is a security block
 abbrev pub is_protected : ReadBundle → SecurityFacts → (target : ℕ) → Bool
 is_protected bundle block target =
     is_integrity block && list_any (λ other. other.number == target) bundle.security
@@ -130,13 +133,13 @@ integrity_target bundle =
     option_map (λ (block, target). rule.IntegrityTarget block target)
     (first_counted bundle (first_target (is_protected bundle)))
 
--- a block confidentiality block is a target of one
+-- whether `block` is a block confidentiality block, and so is its target
 abbrev pub is_encrypted : ReadBundle → SecurityFacts → (target : ℕ) → Bool
 is_encrypted bundle block target =
     is_confidentiality block
     && list_any (λ other. (other.number == target) && is_confidentiality other) bundle.security
 
--- confidential-target: no block confidentiality block is a target of one, itself included (section
+-- confidential-target: no block confidentiality block is a target of another or of itself (section
 -- 3.8)
 unfoldable pub confidential_target : ReadBundle → Option BundleRule
 confidential_target bundle =

@@ -123,7 +123,7 @@ pub(crate) struct BlockFacts {
     pub(crate) long_head: Option<u64>,
 }
 
-/// Why data is malformed that begins at this offset in the bundle.
+/// Why the data of a block is malformed; it begins at offset `data_start` of the bundle.
 fn fault_facts(data_start: u64, fault: DataFault) -> DataFacts
     ensures { data_start + fault.offset < 2 ^ 64 → result ≡ fault_facts data_start fault }
 {
@@ -166,7 +166,7 @@ fn data_facts(read: &ReadBlockView<'_>) -> DataFacts
     }
 }
 
-/// The offset in the bundle of the first long head in the data of a block.
+/// The offset in the bundle, if it is below 2^64, of the first long head in the data of a block.
 #[inline(always)]
 fn long_head_at(read: &ReadBlockView<'_>) -> Option<u64>
     ensures { IfSome (long_head_at read.now.block.now read.now.long_head) (λ byte. byte < 2 ^ 64)
@@ -177,7 +177,7 @@ fn long_head_at(read: &ReadBlockView<'_>) -> Option<u64>
 }
 
 impl BlockFacts {
-    /// What the rules need of a block.
+    /// What the rules need of a block, whose offsets in the bundle are below 2^64.
     #[inline(always)]
     pub(crate) fn of(read: &ReadBlockView<'_>) -> BlockFacts
         ensures { IfSome (malformed_at read.now.block.now (option_map viewed_result read.now.found))
@@ -225,7 +225,7 @@ pub(crate) fn is_security_block(block: &BlockFacts) -> bool
     is_security(block.block_type)
 }
 
-/// The first block of a type.
+/// The first block of a type, if there is one.
 pub(crate) fn first_of_type(block_type: u64, blocks: &[BlockFacts]) -> Option<&BlockFacts>
     ensures { option_map (λ block. block.now) result ≡ find (is_of_type block_type) blocks.now }
 {
@@ -244,7 +244,7 @@ impl Counts {
     ghost use Rattle.std.specs.Prelude.{◌≡◌};
     ghost use Rattle.link_bundle_rules.specs.Kept.{counts_of};
 
-    /// The numbers of blocks among these.
+    /// Counts the blocks of these types.
     pub(crate) fn of(blocks: &[BlockFacts]) -> Counts
         ensures { result ≡ counts_of blocks.now }
     {

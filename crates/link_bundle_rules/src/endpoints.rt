@@ -8,7 +8,7 @@ use crate::history::BundleHistory;
 use crate::rule::{BundleRule, Endpoint};
 use crate::rules::first_found;
 
-/// The endpoint ID in the data of a block that is a text and no dtn name.
+/// The endpoint ID in the data of block `number`, if it is a text and no dtn name.
 fn bad_name_in(number: u64, found: DataFacts) -> Option<Endpoint>
     ensures { result ≡ bad_name_in number found }
 {
@@ -27,8 +27,7 @@ impl BundleHistory {
     ghost use Rattle.link_bundle_rules.specs.ReadBundle.{find_map};
     ghost use Rattle.std.specs.Option.{option_or};
 
-    /// The endpoint ID in the data of a block that is a text and no dtn name, unless the data may
-    /// be ciphertext.
+    /// What `bad_name_in` returns for a block, unless its data may be ciphertext.
     fn bad_name_of(&self, block: &BlockFacts) -> Option<Endpoint>
         ensures { result ≡ bad_name_of (bundle_of self.now None 0) block.now }
     {
@@ -36,7 +35,7 @@ impl BundleHistory {
         bad_name_in(read.number, read.data)
     }
 
-    /// The first endpoint ID that is a text and no dtn name.
+    /// The first endpoint ID of the bundle that is a text and no dtn name.
     fn first_bad_name(&self) -> Option<Endpoint>
         ensures { result ≡ option_or self.now.primary.bad_name
             (find_map (bad_name_of (bundle_of self.now None 0)) self.now.blocks.items) }
@@ -47,7 +46,7 @@ impl BundleHistory {
         first_found(self.blocks.as_slice(), |block| self.bad_name_of(block))
     }
 
-    /// The rule of dtn names.
+    /// The rule of dtn names, if it is broken.
     #[tactic(auto, unfolding(crate::specs::Endpoints::dtn_name))]
     pub(crate) fn dtn_name(&self) -> Option<BundleRule>
         ensures { (byte : Option ℕ) (size : ℕ)
@@ -57,7 +56,7 @@ impl BundleHistory {
         Some(BundleRule::DtnName { of })
     }
 
-    /// The rule of sources that are no singletons.
+    /// The rule of sources that are no singletons, if it is broken.
     #[tactic(auto, unfolding(crate::specs::Endpoints::source_node))]
     pub(crate) fn source_node(&self) -> Option<BundleRule>
         ensures { (byte : Option ℕ) (size : ℕ)

@@ -42,7 +42,7 @@ impl Hops {
         }
     }
 
-    /// The rule that it breaks if the hop count is above the hop limit.
+    /// The rule that is broken if the hop count is above the hop limit, and else `None`.
     pub(crate) fn if_exceeded(self) -> Option<BundleRule>
         ensures { result ≡ if_exceeded self }
     {
@@ -75,7 +75,7 @@ fn if_expired(lifetime: u64, block: &BlockFacts) -> Option<BundleRule>
     }
 }
 
-/// Whether a block type is reserved, or of version 6 of the protocol alone.
+/// Whether a block type is reserved: 0, of version 6 of the protocol alone, or above 255.
 fn is_reserved(block_type: u64) -> bool
     ensures { result ≡ is_reserved block_type }
 {
@@ -92,7 +92,7 @@ pub(crate) fn if_reserved(block: &BlockFacts) -> Option<BundleRule>
     })
 }
 
-/// Whether the data of a block is read, if it is no payload.
+/// Whether a block is an extension block or a security block, whose data is read.
 fn has_read_data(block: &BlockFacts) -> bool
     ensures { result ≡ has_read_data block.now }
 {
@@ -150,7 +150,7 @@ impl BundleHistory {
     ghost use Rattle.link_bundle_rules.specs.History.{bundle_of};
     ghost use Rattle.link_bundle_rules.specs.Kept.{is_plain_block, counts_of};
 
-    /// The rule of bundle age blocks.
+    /// The rule of bundle age blocks, if it is broken.
     #[tactic(auto, unfolding(crate::specs::Extensions::age))]
     pub(crate) fn age(&self, counts: Counts) -> Option<BundleRule>
         ensures { (byte : Option ℕ) (size : ℕ)
@@ -169,7 +169,7 @@ impl BundleHistory {
         None
     }
 
-    /// The rule of previous node blocks.
+    /// The rule of previous node blocks, if it is broken.
     #[tactic(auto, unfolding(crate::specs::Extensions::previous_node))]
     pub(crate) fn previous_node(&self, counts: Counts) -> Option<BundleRule>
         ensures { (byte : Option ℕ) (size : ℕ)
@@ -180,7 +180,7 @@ impl BundleHistory {
         (blocks > 1).then_some(BundleRule::PreviousNode { blocks })
     }
 
-    /// The rule of the node of the first previous node block.
+    /// The rule of the node of the first previous node block, if it is broken.
     #[tactic(auto, unfolding(crate::specs::Extensions::previous_node_id))]
     pub(crate) fn previous_node_id(&self) -> Option<BundleRule>
         ensures { (byte : Option ℕ) (size : ℕ)
@@ -189,7 +189,7 @@ impl BundleHistory {
         if_no_node_id(&self.first_readable(PREVIOUS_NODE)?)
     }
 
-    /// The rule of the age of the first bundle age block.
+    /// The rule of the age of the first bundle age block, if it is broken.
     #[tactic(auto, unfolding(crate::specs::Extensions::expired))]
     pub(crate) fn expired(&self) -> Option<BundleRule>
         ensures { (byte : Option ℕ) (size : ℕ)
@@ -207,7 +207,7 @@ impl BundleHistory {
         Hops::of(self.first_readable(HOP_COUNT)?.data)
     }
 
-    /// The rule of hop count blocks.
+    /// The rule of hop count blocks, if it is broken. `plain` is whether all blocks are plain.
     #[tactic(auto, unfolding(crate::specs::Extensions::hop_count))]
     pub(crate) fn hop_count(&self, plain: bool, counts: Counts) -> Option<BundleRule>
         ensures { (byte : Option ℕ) (size : ℕ)
@@ -225,7 +225,7 @@ impl BundleHistory {
         is_wrong.then_some(BundleRule::HopCount { blocks, limit })
     }
 
-    /// The rule of the first hop count.
+    /// The rule of the first hop count, if it is broken: never if all are `plain`.
     #[tactic(auto, unfolding(crate::specs::Extensions::hops))]
     pub(crate) fn hops(&self, plain: bool) -> Option<BundleRule>
         ensures { (byte : Option ℕ) (size : ℕ)
@@ -238,7 +238,7 @@ impl BundleHistory {
         self.first_hops()?.if_exceeded()
     }
 
-    /// The rule of block types.
+    /// The rule of block types, if it is broken.
     #[tactic(auto, unfolding(crate::specs::Extensions::block_type))]
     pub(crate) fn block_type(&self) -> Option<BundleRule>
         ensures { (byte : Option ℕ) (size : ℕ)
@@ -247,7 +247,7 @@ impl BundleHistory {
         first_found(self.blocks.as_slice(), |block| if_reserved(block))
     }
 
-    /// The rule of the data of extension blocks.
+    /// The rule of the data of extension blocks, if it is broken: never if all are `plain`.
     #[tactic(auto, unfolding(crate::specs::Extensions::block_data))]
     pub(crate) fn block_data(&self, plain: bool) -> Option<BundleRule>
         ensures { (byte : Option ℕ) (size : ℕ)
@@ -263,7 +263,7 @@ impl BundleHistory {
         )
     }
 
-    /// The rule of data that this toolkit does not read.
+    /// The rule of data that this toolkit does not read, if it is broken: never if all are `plain`.
     #[tactic(auto, unfolding(crate::specs::Extensions::data_not_read))]
     pub(crate) fn data_not_read(&self, plain: bool) -> Option<BundleRule>
         ensures { (byte : Option ℕ) (size : ℕ)

@@ -39,7 +39,7 @@ pub(crate) fn requests_reports(flags: u64) -> bool
     flags & REPORT_REQUESTS != 0
 }
 
-/// The rule that a block breaks by requesting a status report, where none must.
+/// The rule that a block breaks by requesting a status report, in a bundle where none must.
 pub(crate) fn if_reporting(block: &BlockFacts) -> Option<BundleRule>
     ensures { result ≡ if_reporting block.now }
 {

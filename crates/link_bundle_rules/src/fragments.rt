@@ -21,7 +21,7 @@ impl BundleHistory {
     ghost use Rattle.link_bundle_rules.specs.Fragments.{if_no_part, fragment, if_all, whole_fragment};
     ghost use Rattle.link_bundle_rules.specs.History.{bundle_of};
 
-    /// The rule of fragments. `size` is the number of bytes of the payload.
+    /// The rule of fragments, if it is broken. The payload has `size` bytes; no long head matters.
     #[tactic(auto, unfolding(crate::specs::Fragments::fragment))]
     pub(crate) fn fragment(&self, size: u64) -> Option<BundleRule>
         ensures { (byte : Option ℕ) → result ≡ fragment (bundle_of self.now byte size) }
@@ -46,7 +46,7 @@ impl BundleHistory {
         })
     }
 
-    /// The rule of fragments with the whole payload. `size` is the number of bytes of the payload.
+    /// The rule of fragments with the whole payload, of `size` bytes, if it is broken.
     #[tactic(auto, unfolding(crate::specs::Fragments::whole_fragment))]
     pub(crate) fn whole_fragment(&self, size: u64) -> Option<BundleRule>
         ensures { (byte : Option ℕ) → result ≡ whole_fragment (bundle_of self.now byte size) }

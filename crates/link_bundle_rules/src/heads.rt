@@ -9,7 +9,7 @@ use crate::rule::BundleRule;
 use crate::rules::first_found;
 use link_rules_shared::Level;
 
-/// The least of two offsets, as far as they are there.
+/// The lesser of two offsets, or the only one, or `None`.
 fn least(one: Option<u64>, other: Option<u64>) -> Option<u64>
     ensures { result ≡ least one other }
 {
@@ -20,7 +20,7 @@ fn least(one: Option<u64>, other: Option<u64>) -> Option<u64>
     }
 }
 
-/// The rule of a long head at this offset.
+/// The rule of a long head at this offset, if there is one.
 fn of_level(level: Level, byte: Option<u64>) -> Option<BundleRule>
     ensures { result ≡ of_level level byte }
 {
@@ -82,7 +82,8 @@ impl BundleHistory {
         )
     }
 
-    /// The rule of long heads. `byte` is the offset of the first one outside the data of blocks.
+    /// The rule of long heads, if it is broken. `byte` is the offset of the first long head outside
+    /// the data of blocks. The payload's length does not matter.
     #[tactic(auto, unfolding(crate::specs::Heads::long_head))]
     pub(crate) fn long_head(&self, byte: Option<u64>) -> Option<BundleRule>
         ensures { (size : ℕ) → result ≡ long_head (bundle_of self.now byte size) }

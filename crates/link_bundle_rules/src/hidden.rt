@@ -20,7 +20,7 @@ impl BundleHistory {
         (self.primary.is_later() && number != PAYLOAD_NUMBER) || self.has_hider(number)
     }
 
-    /// Whether a block confidentiality block is, or may be, one that encrypts this block.
+    /// Whether a block confidentiality block encrypts, or may encrypt, the block with this number.
     fn has_hider(&self, number: u64) -> bool
         ensures { result ≡ list_any (may_hide number) self.now.security.items }
     {
@@ -45,7 +45,7 @@ impl BundleHistory {
         Some(*block)
     }
 
-    /// The first block of a type, unless its data may be ciphertext.
+    /// The first block of a type, or `None` if there is none or its data may be ciphertext.
     #[tactic(auto, unfolding(crate::specs::Hidden::first_readable))]
     pub(crate) fn first_readable(&self, block_type: u64) -> Option<BlockFacts>
         ensures { (byte : Option ℕ) (size : ℕ)

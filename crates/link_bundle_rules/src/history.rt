@@ -11,6 +11,9 @@ use link_bundle_blocks::PrimaryBlock;
 use link_bundle_types::BLOCK_LIMIT;
 
 /// The blocks of a bundle so far, as far as the rules for it need them.
+///
+/// In a contract about every `byte` and every `size`, the rule looks neither at the first long head
+/// outside the data of blocks nor at the length of the payload (`bundle_of`).
 #[derive(Drop)]
 pub struct BundleHistory {
     pub(crate) primary: PrimaryFacts,
@@ -49,7 +52,7 @@ impl BundleHistory {
 
     /// Takes the next canonical block.
     ///
-    /// A bundle has at most 64 such blocks, and an offset in a bundle has 64 bits.
+    /// Each good bundle meets two premises of the contract: 64 such blocks, and offsets of 64 bits.
     #[inline(always)]
     pub fn take(&mut self, read: &ReadBlockView<'_>)
         ensures { array_vec_len self.old.blocks < 64

@@ -12,7 +12,7 @@ use crate::history::BundleHistory;
 use crate::primary::PrimaryFacts;
 use link_rules_shared::has_other_flags;
 
-/// Whether no rule of the data of blocks can be broken by this data.
+/// Whether this data is known to break no rule of data. Rare kinds of data are never plain.
 #[inline(always)]
 fn is_plain_data(lifetime: u64, found: DataFacts) -> bool
     ensures { result ≡ is_plain_data lifetime found }
@@ -65,9 +65,9 @@ impl BundleHistory {
 
     /// Whether the bundle is known to break no rule, if it is good and all its blocks came.
     ///
-    /// This takes less time than its rules. It is never known of a fragment, nor of a bundle
-    /// without a source, without a check of its primary block, with an administrative record that
-    /// is read or with a security block.
+    /// This takes less time than `rules`. False means that it is not known. It is always false for
+    /// a fragment, and for a bundle without a source, without a check of its primary block, with an
+    /// administrative record that is read or with a security block.
     ///
     /// `first_long_head` is as for [`BundleHistory::rules`].
     #[inline(always)]
@@ -78,7 +78,7 @@ impl BundleHistory {
         first_long_head.is_none() && self.is_plain()
     }
 
-    /// Whether no rule can be broken but that of long heads outside the data of blocks.
+    /// Whether only the rule of long heads outside the data of blocks can be broken.
     #[inline(always)]
     fn is_plain(&self) -> bool
         ensures { (byte : Option ℕ) (size : ℕ) → result ≡ is_plain (bundle_of self.now byte size) }
@@ -89,7 +89,7 @@ impl BundleHistory {
             && self.security.is_empty()
     }
 
-    /// Whether no rule of single blocks is broken.
+    /// Whether all blocks are plain, so that no rule of single blocks is broken.
     #[inline(always)]
     pub(crate) fn has_plain_blocks(&self) -> bool
         ensures { result

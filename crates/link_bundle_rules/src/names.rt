@@ -20,7 +20,7 @@ pub(crate) fn has_bad_name(eid: &EidView<'_>) -> bool
     }
 }
 
-/// The first endpoint ID of a primary block that is a text and no dtn name.
+/// The first bad name of a primary block: an endpoint ID that is a text and no dtn name.
 pub(crate) fn bad_name(primary: &PrimaryBlock<'_>) -> Option<Endpoint>
     ensures { result ≡ bad_name (viewed_primary primary.now) }
 {
@@ -36,7 +36,7 @@ pub(crate) fn bad_name(primary: &PrimaryBlock<'_>) -> Option<Endpoint>
     None
 }
 
-/// Whether an endpoint ID is a dtn name of an endpoint that is no singleton.
+/// Whether an endpoint ID is a dtn name with a demux that begins with `~`: no singleton.
 pub(crate) fn is_group(eid: &EidView<'_>) -> bool
     ensures { result ≡ is_group (viewed_eid eid.now) }
 {
@@ -46,7 +46,7 @@ pub(crate) fn is_group(eid: &EidView<'_>) -> bool
     }
 }
 
-/// How strictly the demux of a dtn name is forbidden in a node ID.
+/// How strictly the demux of a dtn name is forbidden in a node ID. Other texts are not judged.
 fn dtn_level(text: &[u8]) -> Option<Level>
     ensures { result ≡ dtn_level text.now }
 {
@@ -68,7 +68,7 @@ fn service_level(service: u64) -> Option<Level>
     }
 }
 
-/// How strictly an endpoint ID is forbidden as a node ID.
+/// How strictly an endpoint ID is forbidden as a node ID, or `None` if it may be one.
 pub(crate) fn node_level(eid: &EidView<'_>) -> Option<Level>
     ensures { result ≡ node_level (viewed_eid eid.now) }
 {

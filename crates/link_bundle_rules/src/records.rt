@@ -32,7 +32,7 @@ impl BundleHistory {
         self.first_readable(PAYLOAD)
     }
 
-    /// The rule of malformed administrative records.
+    /// The rule of malformed administrative records, if it is broken.
     #[tactic(auto, unfolding(crate::specs::Records::administrative_record))]
     pub(crate) fn administrative_record(&self) -> Option<BundleRule>
         ensures { (byte : Option ℕ) (size : ℕ)
@@ -44,7 +44,7 @@ impl BundleHistory {
         }
     }
 
-    /// The rule of the types of administrative records.
+    /// The rule of the types of administrative records, if it is broken.
     #[tactic(auto, unfolding(crate::specs::Records::record_type))]
     pub(crate) fn record_type(&self) -> Option<BundleRule>
         ensures { (byte : Option ℕ) (size : ℕ)
@@ -65,7 +65,7 @@ impl BundleHistory {
         report_in(self.record_of()?.data)
     }
 
-    /// The rule of the times of a status report.
+    /// The rule of the times of a status report, if it is broken.
     #[tactic(auto, unfolding(crate::specs::Records::report_times))]
     pub(crate) fn report_times(&self) -> Option<BundleRule>
         ensures { (byte : Option ℕ) (size : ℕ)
@@ -75,7 +75,7 @@ impl BundleHistory {
         (report.timed && report.untimed).then_some(BundleRule::ReportTimes)
     }
 
-    /// The rule of status reports that assert nothing.
+    /// The rule of status reports that assert nothing, if it is broken.
     #[tactic(auto, unfolding(crate::specs::Records::report_empty))]
     pub(crate) fn report_empty(&self) -> Option<BundleRule>
         ensures { (byte : Option ℕ) (size : ℕ)
@@ -85,7 +85,7 @@ impl BundleHistory {
         (!report.timed && !report.untimed).then_some(BundleRule::ReportEmpty)
     }
 
-    /// The rule of the reasons of status reports.
+    /// The rule of the reasons of status reports, if it is broken.
     #[tactic(auto, unfolding(crate::specs::Records::report_reason))]
     pub(crate) fn report_reason(&self) -> Option<BundleRule>
         ensures { (byte : Option ℕ) (size : ℕ)
@@ -95,7 +95,7 @@ impl BundleHistory {
         (reason > LAST_REASON).then_some(BundleRule::ReportReason { reason })
     }
 
-    /// The rule of status reports about bundles without a source.
+    /// The rule of status reports about bundles without a source, if it is broken.
     #[tactic(auto, unfolding(crate::specs::Records::report_source))]
     pub(crate) fn report_source(&self) -> Option<BundleRule>
         ensures { (byte : Option ℕ) (size : ℕ)

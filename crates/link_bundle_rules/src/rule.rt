@@ -99,8 +99,8 @@ pub enum BundleRule {
         block: u64,
         byte: u64,
     },
-    /// The data of such a block, or an administrative record, exceeds a limit of this toolkit, and
-    /// RFC 9171 may permit it (section 4.1).
+    /// The data of an extension or security block, or an administrative record, exceeds a limit of
+    /// this toolkit, and RFC 9171 may permit it (section 4.1).
     DataNotRead {
         block: u64,
         byte: u64,

@@ -20,7 +20,7 @@ const RULES: usize = 36;
 /// The rules that a bundle breaks, in order.
 pub type BrokenBundleRules = ArrayVec<BundleRule, RULES>;
 
-/// What a function returns for the first of some elements for which it returns something.
+/// The first `Some` that `find` returns, in order. `found` is `find` as the definitions have it.
 pub(crate) fn first_found<T, U, F: Fn(&T) -> Option<U>>(elements: &[T], find: F) -> Option<U>
     requires { F.IsAlwaysCallable find }
     ensures { (found : T → Option U)
@@ -95,7 +95,7 @@ impl BundleHistory {
         ])
     }
 
-    /// The rule of the bundle's flags.
+    /// The rule of the bundle's flags, if it is broken.
     #[tactic(auto, unfolding(crate::specs::Flags::bundle_flags))]
     fn bundle_flags(&self) -> Option<BundleRule>
         ensures { (byte : Option ℕ) (size : ℕ)
@@ -105,7 +105,7 @@ impl BundleHistory {
         has_other_flags(BUNDLE_FLAGS, flags).then_some(BundleRule::BundleFlags { flags })
     }
 
-    /// The rule of bundles without a source.
+    /// The rule of bundles without a source, if it is broken.
     #[tactic(auto, unfolding(crate::specs::Flags::anonymous))]
     fn anonymous(&self) -> Option<BundleRule>
         ensures { (byte : Option ℕ) (size : ℕ)
@@ -116,7 +116,7 @@ impl BundleHistory {
         (self.primary.is_anonymous && is_wrong).then_some(BundleRule::Anonymous { flags })
     }
 
-    /// The rule of the reports that an administrative record requests.
+    /// The rule of the reports that an administrative record requests, if it is broken.
     #[tactic(auto, unfolding(crate::specs::Flags::record_reports))]
     fn record_reports(&self) -> Option<BundleRule>
         ensures { (byte : Option ℕ) (size : ℕ)
@@ -127,7 +127,7 @@ impl BundleHistory {
         is_wrong.then_some(BundleRule::RecordReports { flags })
     }
 
-    /// The rule of blocks that request a status report.
+    /// The rule of blocks that request a status report, if it is broken: never if all are `plain`.
     #[tactic(auto, unfolding(crate::specs::Flags::block_reports))]
     fn block_reports(&self, plain: bool) -> Option<BundleRule>
         ensures { (byte : Option ℕ) (size : ℕ)
@@ -143,7 +143,7 @@ impl BundleHistory {
         first_found(self.blocks.as_slice(), |block| if_reporting(block))
     }
 
-    /// The rule of the flags of blocks.
+    /// The rule of the flags of blocks, if it is broken: never if all are `plain`.
     #[tactic(auto, unfolding(crate::specs::Flags::block_flags))]
     fn block_flags(&self, plain: bool) -> Option<BundleRule>
         ensures { (byte : Option ℕ) (size : ℕ)

@@ -10,7 +10,7 @@ use crate::rules::first_found;
 use crate::security::{SecurityFacts, has_number};
 use link_rules_shared::Level;
 
-/// The first number that is named before.
+/// The first number that also comes earlier in the list, or `None` if no number is repeated.
 fn first_repeated(targets: &[u64]) -> Option<u64>
     ensures { result ≡ first_repeated [] targets.now }
 {
@@ -22,7 +22,7 @@ fn first_repeated(targets: &[u64]) -> Option<u64>
     None
 }
 
-/// The rule that a security block breaks if it has no target, or one twice.
+/// The rule that a security block breaks without a target (`None`), or by naming one twice.
 fn if_bad_targets(block: &SecurityFacts) -> Option<BundleRule>
     ensures { result ≡ if_bad_targets block.now }
 {
@@ -64,14 +64,14 @@ impl BundleHistory {
     ghost use Rattle.link_bundle_rules.specs.History.{bundle_of};
     ghost use Rattle.link_bundle_rules.specs.Targets.{is_confidentiality, counts, if_counted, first_counted, first_target, is_target_of, if_bad_targets, missing_target, security_targets, first_with, is_taken, security_twice, is_confidential, shared_target, integrity_target, confidential_target, is_asked};
 
-    /// Whether the data of a security block is neither malformed nor hidden.
+    /// Whether a security block counts: its data is neither malformed nor hidden.
     pub(crate) fn counts(&self, block: &SecurityFacts) -> bool
         ensures { result ≡ counts (bundle_of self.now None 0) block.now }
     {
         !block.is_malformed && !self.is_hidden_block(block.block_type, block.number)
     }
 
-    /// The rule that a security block breaks, if the block counts.
+    /// Returns `broken`, the rule that a security block breaks, if it counts, and else `None`.
     pub(crate) fn if_counted(
         &self,
         block: &SecurityFacts,
@@ -82,14 +82,14 @@ impl BundleHistory {
         if self.counts(block) { broken } else { None }
     }
 
-    /// Whether a security block of a type has a target, and counts.
+    /// Whether a security block is of this type, has this target, and counts.
     fn is_target_of(&self, block_type: u64, target: u64, block: &SecurityFacts) -> bool
         ensures { result ≡ is_target_of (bundle_of self.now None 0) block_type target block.now }
     {
         block.block_type == block_type && block.has_target(target) && self.counts(block)
     }
 
-    /// The number of the first block of a type that has a target.
+    /// The number of the first block of a type that has this target, and counts.
     fn first_with(&self, block_type: u64, target: u64) -> Option<u64>
         ensures { result ≡ first_with (bundle_of self.now None 0) block_type target }
     {
@@ -101,7 +101,7 @@ impl BundleHistory {
         )
     }
 
-    /// Whether a block before this one, of its type, has a target.
+    /// Whether an earlier block of the same type has this target.
     fn is_taken(&self, block: &SecurityFacts, target: u64) -> bool
         ensures { result ≡ is_taken (bundle_of self.now None 0) block.now target }
     {
@@ -111,7 +111,7 @@ impl BundleHistory {
         }
     }
 
-    /// Whether a block confidentiality block has a target.
+    /// Whether a block confidentiality block that counts has this target.
     fn is_confidential(&self, target: u64) -> bool
         ensures { result ≡ is_confidential (bundle_of self.now None 0) target }
     {
@@ -173,7 +173,7 @@ impl BundleHistory {
         )
     }
 
-    /// The first block that counts and has such a target, and its first such target.
+    /// The first block that counts and has a target as a rule asks, and the first such target.
     fn first_asked(&self, asked: Asked) -> Option<(u64, u64)>
         ensures { result ≡ first_counted (bundle_of self.now None 0)
             (first_target (is_asked asked (bundle_of self.now None 0))) }
@@ -184,7 +184,7 @@ impl BundleHistory {
         )
     }
 
-    /// The first block that has no target, or one twice.
+    /// The rule that the first security block without a target, or with a repeated one, breaks.
     fn bad_targets(&self) -> Option<BundleRule>
         ensures { result ≡ first_counted (bundle_of self.now None 0) if_bad_targets }
     {
@@ -194,7 +194,7 @@ impl BundleHistory {
         )
     }
 
-    /// The rule of targets that are missing. Those of a fragment need not be there.
+    /// The rule of targets that are no blocks, if it is broken. A fragment may lack blocks.
     fn missing_target(&self) -> Option<BundleRule>
         ensures { result ≡ missing_target (bundle_of self.now None 0) }
     {
@@ -209,7 +209,7 @@ impl BundleHistory {
         })
     }
 
-    /// The rule of the targets of single security blocks.
+    /// The rule of the targets of single security blocks, if it is broken.
     #[tactic(auto, unfolding(crate::specs::Targets::security_targets))]
     pub(crate) fn security_targets(&self) -> Option<BundleRule>
         ensures { (byte : Option ℕ) (size : ℕ)
@@ -222,7 +222,7 @@ impl BundleHistory {
         self.missing_target()
     }
 
-    /// The rule of targets that two blocks of a type have.
+    /// The rule of targets that two blocks of a type have, if it is broken.
     #[tactic(auto, unfolding(crate::specs::Targets::security_twice))]
     pub(crate) fn security_twice(&self) -> Option<BundleRule>
         ensures { (byte : Option ℕ) (size : ℕ)
@@ -232,7 +232,7 @@ impl BundleHistory {
         Some(BundleRule::SecurityTwice { block, target })
     }
 
-    /// The rule of targets that blocks of both types have.
+    /// The rule of targets that blocks of both types have, if it is broken.
     #[tactic(auto, unfolding(crate::specs::Targets::shared_target))]
     pub(crate) fn shared_target(&self) -> Option<BundleRule>
         ensures { (byte : Option ℕ) (size : ℕ)
@@ -242,7 +242,7 @@ impl BundleHistory {
         Some(BundleRule::SharedTarget { block, target })
     }
 
-    /// The rule of security blocks that are targets of block integrity blocks.
+    /// The rule of security blocks that are targets of block integrity blocks, if it is broken.
     #[tactic(auto, unfolding(crate::specs::Targets::integrity_target))]
     pub(crate) fn integrity_target(&self) -> Option<BundleRule>
         ensures { (byte : Option ℕ) (size : ℕ)
@@ -252,7 +252,7 @@ impl BundleHistory {
         Some(BundleRule::IntegrityTarget { block, target })
     }
 
-    /// The rule of block confidentiality blocks that are targets of others.
+    /// The rule of block confidentiality blocks that are targets of one, if it is broken.
     #[tactic(auto, unfolding(crate::specs::Targets::confidential_target))]
     pub(crate) fn confidential_target(&self) -> Option<BundleRule>
         ensures { (byte : Option ℕ) (size : ℕ)

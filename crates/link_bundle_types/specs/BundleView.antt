@@ -20,7 +20,7 @@ viewed_info view =
       payload = view.payload;
     }
 
--- the verdict, if its bundle is given as a view
+-- the verdict whose bundle is shown by a view
 abbrev pub viewed_verdict : Result BundleView (BundleFault × ℕ)
     → Result BundleInfo (BundleFault × ℕ)
 viewed_verdict (Ok view) = Ok (viewed_info view)

@@ -13,14 +13,14 @@ formed Dtn name = eid.Dtn (record { items = name })
 formed (Ipn node service) name = eid.Ipn node service
 formed (Ipn3 allocator node service) name = eid.Ipn3 allocator node service
 
--- the bytes of a dtn name, or no bytes
+-- the bytes of a dtn name; there are none in another endpoint ID
 abbrev pub name_of : Eid → List ℕ
 name_of eid.DtnNone = []
 name_of (eid.Dtn name) = name.items
 name_of (eid.Ipn node service) = []
 name_of (eid.Ipn3 allocator node service) = []
 
--- whether a dtn name has room for this many more bytes
+-- whether an endpoint ID has a dtn name with room for this many more bytes
 abbrev pub name_fits : Eid → ℕ → Bool
 name_fits eid.DtnNone more = false
 name_fits (eid.Dtn name) more = nat_le (length name.items + more) 1024

@@ -65,7 +65,7 @@ impl KeptEid {
         }
     }
 
-    /// Keeps an endpoint ID of this form, whose dtn name has no bytes yet.
+    /// Keeps an endpoint ID of this form. A dtn name has no bytes yet.
     #[inline(always)]
     pub fn set(&mut self, form: EidForm)
         ensures { self.new ≡ formed form [] }

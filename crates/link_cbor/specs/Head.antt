@@ -65,7 +65,7 @@ whole_of (Whole head size) = Some (head, size)
 abbrev pub is_indefinite : Head → Bool
 is_indefinite head = not (is_some head.value) && not (head.major == 7)
 
--- the outcome of a scan, by what the bytes that it has seen begin with
+-- the outcome of a scan whose bytes so far begin with this
 abbrev pub step_at : HeadFront → HeadStep
 step_at Cut = More
 step_at IllFormed = Bad
@@ -75,13 +75,13 @@ step_at (Whole head size) = Done head
 abbrev pub step_of : List ℕ → HeadStep
 step_of bytes = step_at (head_front bytes)
 
--- the head that a scan of `size` bytes has seen, by its outcome
+-- what the `size` bytes of a scan with this outcome begin with; the inverse of `step_at`
 abbrev pub front_by_step : HeadStep → ℕ → HeadFront
 front_by_step More size = Cut
 front_by_step (Done head) size = Whole head size
 front_by_step Bad size = IllFormed
 
--- whether more bytes are needed
+-- whether the bytes end inside a head, so that more are needed
 abbrev pub is_cut : HeadFront → Bool
 is_cut Cut = true
 is_cut IllFormed = false

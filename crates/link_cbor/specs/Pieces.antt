@@ -5,13 +5,13 @@ use Rattle.std.proofs.Common.{◌⊎◌}
 
 -- `seen` is the list of bytes seen before; `goes` is whether more bytes are needed after a list
 
--- the shortest prefix of the bytes after which no more are needed, or all of them
+-- the bytes that a scan consumes: the shortest prefix after which no more are needed, or all bytes
 unfoldable pub taken : (List ℕ → Bool) → List ℕ → List ℕ → List ℕ
 taken goes seen [] = []
 taken goes seen (byte ∷ bytes) =
     if goes seen then byte ∷ taken goes (seen ++ byte ∷ []) bytes else []
 
--- the same prefix by its properties
+-- `front` is the prefix that `taken` returns, described by its properties
 pub record IsShortestPrefix (goes : List ℕ → Bool) (seen bytes front : List ℕ) : Type 0 where
   pub is_front : front ≡ take (length front) bytes
   -- more bytes were needed before each byte that was taken
@@ -19,7 +19,7 @@ pub record IsShortestPrefix (goes : List ℕ → Bool) (seen bytes front : List 
   -- no more bytes are needed, or none is left
   pub stops : (goes (seen ++ front) ≡ false) ⊎ (front ≡ bytes)
 
--- the bytes taken of two pieces are those taken of the pieces joined
+-- cutting the bytes into two pieces does not change which of them are taken
 abbrev pub JoinsPieces : (List ℕ → Bool) → Type 0
 JoinsPieces goes =
     (seen first second : List ℕ) →

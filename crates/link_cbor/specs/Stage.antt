@@ -6,7 +6,7 @@ use Rattle.link_cbor.specs.declared.head_scan.HeadStage.{HeadStage}
 use Rattle.link_cbor.specs.declared.head_scan.HeadStage.TheVariants.{Start, Argument, Simple, Whole as WholeHead, IllFormed as NoHead}
 use Rattle.link_cbor.specs.Head.{HeadFront, Cut, IllFormed, Whole, big_endian, head_front, argument_front}
 
--- the head at this stage after `count` bytes, if the bytes `more` follow
+-- what all bytes begin with, if a scan is at this stage after `count` bytes and `more` follow
 unfoldable pub front_from : ℕ → HeadStage → List ℕ → HeadFront
 front_from count Start more = head_front more
 front_from count (Argument major left value) more =
@@ -19,7 +19,7 @@ front_from count Simple more = argument_front 7 1 more
 front_from count (WholeHead head) more = Whole head count
 front_from count NoHead more = IllFormed
 
--- the stage in an argument whose bytes seen encode `value`, if `left` more are needed
+-- the stage of a scan in an argument: the bytes seen encode `value`, and `left` more are needed
 abbrev pub in_argument : ℕ → ℕ → ℕ → HeadStage
 in_argument major left value =
     if nat_lt 0 left then Argument major left value

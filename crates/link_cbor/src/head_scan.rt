@@ -64,7 +64,7 @@ impl HeadStage {
         }
     }
 
-    /// The stage in an argument whose bytes seen encode `value`; `left` more are needed.
+    /// The stage in an argument: its bytes seen encode `value`, and `left` more are needed.
     #[inline(always)]
     fn in_argument(major: u8, left: u8, value: u64) -> HeadStage
         ensures { result ≡ in_argument major left value }
@@ -132,6 +132,7 @@ impl HeadScan {
         self.stage.outcome()
     }
 
+    /// The stage after one more byte. `ended` cannot occur: such a scan takes no more bytes.
     #[tactic(auto, unfolding(crate::specs::Head::argument_front, crate::specs::Head::with_argument, crate::specs::Head::big_endian, crate::specs::Stage::front_from, crate::specs::Stage::head_stage_fits))]
     fn next_stage(&self, byte: u8) -> HeadStage
         requires { IsTrue (may_scan_head self.now) }

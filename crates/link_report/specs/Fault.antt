@@ -9,7 +9,7 @@ use Rattle.link_report.specs.declared.fault.Fault.TheVariants.{Wire, Order, Bund
 use Rattle.link_report.specs.BundleFault.{code_text, bundle_fault_text}
 use Rattle.link_report.specs.Text.{hex2, number_text, newline}
 
--- a fault of the wire (RFC 9174 sections 4.2, 4.5, 4.6, 4.8, 5.1, 5.2 and 6.1)
+-- the text of a fault of the wire (RFC 9174 sections 4.2, 4.5, 4.6, 4.8, 5.1, 5.2 and 6.1)
 unfoldable pub wire_text : WireFault → List ℕ
 wire_text wire.Truncated = codes "truncated"
 wire_text wire.BadMagic = codes "not a contact header"
@@ -20,7 +20,7 @@ wire_text (wire.ListTooLong size) = number_text (codes "extension list too long:
 wire_text wire.TooManyItems = codes "too many extension items"
 wire_text wire.ItemsOverrun = codes "extension items overrun their list"
 
--- a fault of the order of messages (RFC 9174 sections 4, 4.7, 5.1.2, 5.2 and 6.1)
+-- the text of a fault of the order of messages (RFC 9174 sections 4, 4.7, 5.1.2, 5.2 and 6.1)
 unfoldable pub order_text : OrderFault → List ℕ
 order_text order.SecondSessInit = codes "second session initiation"
 order_text order.SegmentBeforeSessInit = codes "segment before session initiation"
@@ -28,11 +28,11 @@ order_text order.NoSuchOpenTransfer = codes "no such open transfer"
 order_text order.StartRepeatsOpenId = codes "start repeats the open transfer"
 order_text order.StartAfterSessTerm = codes "start after session termination"
 
--- the offset of the message that has a fault
+-- the position of a fault of a message: the offset of the message
 unfoldable pub offset_text : ℕ → List ℕ
 offset_text offset = number_text (codes "byte ") offset ++ codes ": "
 
--- the number of the bundle that has a fault, and the fault's offset in it
+-- the position of a fault of a bundle: the bundle's number, and the offset of the fault in it
 unfoldable pub bundle_offset_text : ℕ → ℕ → List ℕ
 bundle_offset_text number offset =
     number_text (codes "bundle ") number ++ number_text (codes " byte ") offset ++ codes ": "

@@ -14,13 +14,13 @@ use Rattle.link_report.specs.BundleFault.{code_text}
 use Rattle.link_report.specs.Identity.{identity_text}
 use Rattle.link_report.specs.Text.{number_text}
 
--- the judgement by the verdict on the data
+-- the judgement on data with this verdict, if nothing else is wrong with its transfer
 abbrev pub judged_data : Result BundleInfo (BundleFault × ℕ) → Judgement
 judged_data (Ok info) = Good info
 judged_data (Err (fault, offset)) = Bad fault offset
 
--- The announcement of the extension items is compared with the length of the data. The verdict
--- comes after that (RFC 9174 section 5.2.5.1).
+-- The judgement on `size` bytes of data, if their transfer was not abandoned. The announced length
+-- is compared first, and then the verdict counts (RFC 9174 section 5.2.5.1).
 abbrev pub judged_length : Announced → ℕ → Result BundleInfo (BundleFault × ℕ) → Judgement
 judged_length Absent size verdict = judged_data verdict
 judged_length (Total total) size verdict =
@@ -42,7 +42,7 @@ outcome_text (Bad fault offset) =
     codes "bad=" ++ code_text fault ++ number_text (codes " byte=") offset
 outcome_text (Good info) = codes "good"
 
--- the identity of a good bundle
+-- the identity of a good bundle, and nothing for another judgement
 unfoldable pub good_text : Judgement → List ℕ
 good_text (Good info) = codes " " ++ identity_text info
 good_text _ = []
@@ -58,7 +58,7 @@ viewed_judgement (view.LengthDiffers announced) = LengthDiffers announced
 viewed_judgement (view.Bad fault offset) = Bad fault offset
 viewed_judgement (view.Good info) = Good (viewed_info info)
 
--- the dtn names in the source and the destination of a good bundle have at most 1,024 bytes each
+-- the dtn names of a good bundle have at most 1,024 bytes each; other judgements have no names
 abbrev pub IsShortJudgement : Judgement → Type 0
 IsShortJudgement (Good info) = HasShortNames info
 IsShortJudgement _ = Unit {0}

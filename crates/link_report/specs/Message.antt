@@ -7,10 +7,11 @@ use Rattle.link_wire.specs.declared.message.Message.TheVariants.{SessInit, Segme
 use Rattle.link_report.specs.Reason.{refuse_names, term_names, reject_names, name_in}
 use Rattle.link_report.specs.Text.{hex2, hex4, escaped, number_text, newline}
 
+-- the flags of a contact header or a message, which are one byte, with their label
 unfoldable pub flags_text : ℕ → List ℕ
 flags_text flags = codes " flags=" ++ hex2 flags
 
--- the code of a reason, and its name
+-- the code of a reason and its name, with their label
 unfoldable pub reason_text : ℕ → List ℕ → List ℕ
 reason_text reason name = codes " reason=" ++ hex2 reason ++ codes "/" ++ name
 

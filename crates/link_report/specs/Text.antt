@@ -18,11 +18,11 @@ hex4 number = hex2 (number / 256) ++ hex2 (number % 256)
 unfoldable pub is_plain : ℕ → Bool
 is_plain byte = nat_le 0x21 byte && (nat_le byte 0x7e && not (byte == 0x5c))
 
--- a byte of an escaped text
+-- what a byte becomes in an escaped text: `\x` and two digits, if it is not plain
 unfoldable pub escaped_byte : ℕ → List ℕ
 escaped_byte byte = if is_plain byte then byte ∷ [] else codes "\\x" ++ hex2 byte
 
--- an escaped text
+-- the text that shows these bytes, each plain or escaped
 unfoldable pub escaped : List ℕ → List ℕ
 escaped bytes = flat_map escaped_byte bytes
 

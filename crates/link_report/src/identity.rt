@@ -51,7 +51,7 @@ fn write_three(page: &mut [u8], at: usize, allocator: u64, node: u64, service: u
     write_number(page, at, *b".", service)
 }
 
-/// Writes an endpoint ID.
+/// Writes an endpoint ID from `at` on, and returns the index after it.
 #[tactic(auto, unfolding(crate::specs::Eid::eid_text))]
 #[inline(always)]
 pub fn write_eid(page: &mut [u8], at: usize, eid: &EidView<'_>) -> usize

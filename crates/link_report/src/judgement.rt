@@ -133,7 +133,7 @@ fn write_bad(page: &mut [u8], at: usize, fault: BundleFault, offset: u64) -> usi
     write_number(page, at, *b" byte=", offset)
 }
 
-/// Writes a judgement without the identity of a good bundle.
+/// Writes a judgement without the identity of a good bundle, and returns the index after it.
 #[tactic(auto, unfolding(crate::specs::Judgement::outcome_text))]
 #[inline(always)]
 pub fn write_outcome(page: &mut [u8], at: usize, judgement: &JudgementView<'_>) -> usize

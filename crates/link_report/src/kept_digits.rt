@@ -46,7 +46,7 @@ impl KeptDigits {
         }
     }
 
-    /// Keeps the digits of this multiple of 10,000 in place of others.
+    /// Keeps the digits of this multiple of 10,000. If it is 0, the digits kept before stay.
     #[cold]
     #[inline(never)]
     fn set(&mut self, round: u64)
@@ -59,7 +59,7 @@ impl KeptDigits {
 
     /// Writes a number in decimal, with the kept digits if they are its own.
     ///
-    /// Then its last four digits are written over the four zeros.
+    /// With kept digits, only its last four digits are made: they are written over the four zeros.
     #[inline(always)]
     pub(crate) fn write(&self, page: &mut [u8], at: usize, number: u64) -> usize
         requires { at + 20 ≤ length page.old }

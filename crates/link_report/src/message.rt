@@ -245,7 +245,7 @@ pub struct MessageText<'a> {
     pub offset: u64,
     /// The message.
     pub message: &'a MessageBuffer,
-    /// Kept digits of the offset, which do not change the text.
+    /// Kept digits of the offset. They save time, and do not change the text.
     pub kept: &'a KeptDigits,
 }
 

@@ -74,7 +74,7 @@ impl<'a> Text for PackedText<'a> {
     }
 }
 
-/// Writes the line of a packed bundle into an empty line, from references.
+/// Writes the line of a packed bundle into an empty line, from an entry by reference.
 ///
 /// The names in the bundle's source and destination have at most 1,024 bytes each.
 pub fn packed_view_line(line: &mut Line, entry: &PackedView<'_>)

@@ -8,7 +8,7 @@ ghost use Rattle.link_report.specs.Written.{PutsText};
 
 use link_wire::copy_into;
 
-/// Writes `text` unchanged.
+/// Writes `text` unchanged from `at` on, and returns the index after it.
 #[inline(always)]
 pub fn write_text(page: &mut [u8], at: usize, text: &str) -> usize
     requires { at + length text.now ≤ length page.old }
@@ -42,7 +42,7 @@ fn write_byte(page: &mut [u8], at: usize, byte: u8) -> usize
     at + 1
 }
 
-/// Writes `number` in decimal, if that has `count` digits.
+/// Writes `number` in decimal, which has `count` digits.
 #[tactic(auto, using(crate::proofs::Pages::text_from))]
 #[inline(always)]
 fn write_counted(page: &mut [u8], at: usize, number: u64, count: usize) -> usize
@@ -69,7 +69,7 @@ fn write_long(page: &mut [u8], at: usize, number: u64) -> usize
     write_counted(page, at, number, count)
 }
 
-/// Writes `number` in decimal, without leading zeros.
+/// Writes `number` in decimal, without leading zeros, and returns the index after it.
 ///
 /// There has to be room for 20 digits. Most numbers of a line are below 1,000, except its offset.
 /// Where the number of digits is a constant, the compiler leaves only the stores.
@@ -98,7 +98,7 @@ pub(crate) fn hex_digits(byte: u8) -> [u8; 2]
     digits
 }
 
-/// Writes `byte` as two lower-case hexadecimal digits.
+/// Writes `byte` as two lower-case hexadecimal digits, and returns the index after it.
 #[inline(always)]
 pub fn write_hex2(page: &mut [u8], at: usize, byte: u8) -> usize
     requires { at + 2 ≤ length page.old }
@@ -148,7 +148,7 @@ fn write_escaped_byte(page: &mut [u8], at: usize, byte: u8) -> usize
     write_hex2(page, at, byte)
 }
 
-/// Writes `bytes`, with each byte that is not plain as an escape.
+/// Writes `bytes`, where each byte that is not plain becomes an escape.
 ///
 /// It takes at most 4 bytes for each of them.
 #[cold]
@@ -165,7 +165,7 @@ pub(crate) fn write_escaped(page: &mut [u8], at: usize, bytes: &[u8]) -> usize
     end
 }
 
-/// Writes `label` and `number` in decimal.
+/// Writes `label` and `number` in decimal, and returns the index after them.
 #[tactic(auto, unfolding(crate::specs::Text::number_text))]
 #[inline(always)]
 pub fn write_number<const N: usize>(

@@ -89,7 +89,7 @@ impl<'a> Text for TransferText<'a> {
     }
 }
 
-/// Writes the line of a transfer into an empty line, from references.
+/// Writes the line of a transfer into an empty line, from an entry by reference.
 ///
 /// The names in the source and destination of a good bundle have at most 1,024 bytes each.
 pub fn transfer_view_line(line: &mut Line, entry: &TransferView<'_>)

@@ -15,14 +15,15 @@ use Rattle.link_report.specs.declared.judgement.Judgement.{Judgement}
 use Rattle.link_report_blocks.specs.Fields.{control_text, type_text, length_to}
 use Rattle.link_report_blocks.specs.Words.{words_text}
 
--- The line of a primary block (RFC 9171 section 4.3.1) that ends before `end` is two texts: the
--- first ends with the source.
+-- The line of a primary block (RFC 9171 section 4.3.1) that ends before `end`, up to the source.
+-- The rest of the line is another text.
 unfoldable pub primary_start_text : ℕ → Primary → Option CheckKind → ℕ → List ℕ
 primary_start_text id primary check end =
     decimal id ++ number_text (codes " primary at=1 length=") (end - 1)
     ++ control_text primary.flags check ++ codes " destination=" ++ eid_text primary.destination
     ++ codes " source=" ++ eid_text primary.source
 
+-- the rest of the line of a primary block, from the report-to endpoint ID on
 unfoldable pub primary_rest_text : Primary → List ℕ
 primary_rest_text primary =
     codes " report-to=" ++ eid_text primary.report_to ++ number_text (codes " time=") primary.time

@@ -6,14 +6,14 @@ use Rattle.link_cbor.specs.declared.check.CheckKind.{CheckKind}
 use Rattle.link_cbor.specs.declared.check.CheckKind.TheVariants.{Crc16, Crc32}
 use Rattle.link_report.specs.Text.{hex2, number_text}
 
--- the bytes of a number without zeros before them, but one byte at least
+-- the bytes of a number without its leading zeros; a number of zeros alone keeps one
 abbrev pub significant : List ℕ → List ℕ
 significant [] = []
 significant (byte ∷ []) = byte ∷ []
 significant (byte ∷ next ∷ rest) =
     if byte == 0 then significant (next ∷ rest) else byte ∷ next ∷ rest
 
--- flags: as many pairs of hexadecimal digits as the number needs, at least one pair
+-- flags without a label: as many pairs of hexadecimal digits as they need, at least one pair
 unfoldable pub flags_text : ℕ → List ℕ
 flags_text flags = flat_map hex2 (significant (to_be_bytes w64 flags))
 
@@ -23,7 +23,7 @@ check_text None = codes "none"
 check_text (Some Crc16) = codes "crc16"
 check_text (Some Crc32) = codes "crc32c"
 
--- the processing control flags of a block or of its bundle, and the check of the block
+-- the processing control flags of a block or of its bundle and the check of the block, with labels
 unfoldable pub control_text : ℕ → Option CheckKind → List ℕ
 control_text flags check =
     codes " flags=" ++ flags_text flags ++ codes " check=" ++ check_text check

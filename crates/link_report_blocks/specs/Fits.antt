@@ -9,7 +9,7 @@ use Rattle.link_bundle_data.specs.declared.values.DataFault.{DataFault}
 use Rattle.link_bundle_data.specs.DataView.{HasShortName}
 use Rattle.link_report.specs.ShortNames.{IsShort-prop}
 
--- the dtn name in the data has at most 1,024 bytes, or the offset of its fault is below 2^64
+-- if data is read, its dtn name has at most 1,024 bytes, or the offset of its fault is below 2^64
 abbrev pub HasFittingWords : ℕ → Option (Result BlockData DataFault) → Type 0
 HasFittingWords data_start None = Unit {0}
 HasFittingWords data_start (Some (Ok found)) = HasShortName found

@@ -62,7 +62,7 @@ subject_text report source =
     codes " of-source=" ++ eid_text source ++ number_text (codes " of-time=") report.time
     ++ number_text (codes " of-sequence=") report.sequence ++ subject_fragment report.fragment
 
--- the words of each type
+-- the words for what the data of a block says
 unfoldable pub data_text : BlockData → List ℕ
 data_text (PreviousNode node) = codes " node=" ++ eid_text node
 data_text (BundleAge age) = number_text (codes " age=") age

@@ -15,7 +15,7 @@ pub(crate) const CONTROL_MAX: usize = 36;
 /// The greatest length in bytes of the text of a block type.
 pub(crate) const TYPE_MAX: usize = 30;
 
-/// The bytes from the first that is not zero on, or the last byte.
+/// The bytes from the first that is not zero on, or the last byte if all are zero.
 fn significant(bytes: &[u8]) -> &[u8]
     requires { 0 < length bytes.now }
     ensures bytes { result.now ≡ significant bytes.now }
@@ -44,7 +44,7 @@ fn write_long_flags(page: &mut [u8], at: usize, flags: u64) -> usize
     end
 }
 
-/// Writes flags in pairs of hexadecimal digits.
+/// Writes flags in pairs of hexadecimal digits, without a label, and returns the index after it.
 #[inline(always)]
 pub fn write_flags(page: &mut [u8], at: usize, flags: u64) -> usize
     requires { at + 16 ≤ length page.old }

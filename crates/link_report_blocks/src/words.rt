@@ -75,7 +75,7 @@ fn write_next(page: &mut [u8], at: usize, number: u64) -> usize
     }
 }
 
-/// Writes an integer in decimal.
+/// Writes an integer in decimal, and returns the index after it.
 #[tactic(auto, unfolding(crate::specs::Words::integer_text))]
 pub fn write_integer(page: &mut [u8], at: usize, number: Integer) -> usize
     requires { at + 21 ≤ length page.old }
@@ -139,7 +139,7 @@ fn write_statuses(page: &mut [u8], at: usize, report: &Report) -> usize
     write_text(page, at, report_name(report.reason))
 }
 
-/// Writes the offset and the length of the payload of a fragment, or nothing.
+/// Writes the offset and the length of the payload, if the bundle is a fragment, or else nothing.
 #[tactic(auto, unfolding(crate::specs::Words::subject_fragment))]
 fn write_part(page: &mut [u8], at: usize, fragment: Option<(u64, u64)>) -> usize
     requires { at + PART_MAX ≤ length page.old }
@@ -230,9 +230,9 @@ fn write_data(page: &mut [u8], at: usize, found: &DataView<'_>) -> usize
     }
 }
 
-/// Writes the words of a block whose data begins at `data_start` in its bundle.
+/// Writes the words of a block whose data begins at offset `data_start` of its bundle.
 ///
-/// There are none if its data is not read.
+/// There are none if its data is not read. Returns the index after them.
 #[tactic(auto, unfolding(crate::specs::Words::words_text))]
 #[inline(always)]
 pub fn write_words(

@@ -9,11 +9,12 @@ use Rattle.link_report_rules.specs.declared.rule.BrokenRule.TheVariants.{Message
 use Rattle.link_report_rules.specs.declared.rule.BundlePlace.{BundlePlace}
 use Rattle.link_report_rules.specs.declared.rule.BundlePlace.TheVariants as place
 
+-- the words for the place of a bundle: its transfer, or its number in the input
 unfoldable pub place_text : BundlePlace → List ℕ
 place_text (place.Transfer id) = number_text (codes " transfer=") id
 place_text (place.Input number) = number_text (codes " bundle=") number
 
--- the transfer or the bundle that breaks a rule; a message has no such word
+-- the words for the transfer or the bundle that breaks a rule; a message has none
 unfoldable pub subject_text : BrokenRule → List ℕ
 subject_text (Message rule) = []
 subject_text (Transfer id rule) = place_text (place.Transfer id)

@@ -36,7 +36,7 @@ answer_text AfterEnd = codes "after-end"
 answer_text AfterRefusal = codes "after-refusal"
 answer_text RefusedAfterEnd = codes "refused-after-end"
 
--- the flags of a message are one byte
+-- the words of a rule of messages
 unfoldable pub message_words : MessageRule → List ℕ
 message_words (message.ContactFlags flags) = flags_text flags
 message_words (message.NodeId size) = number_text (codes " length=") size

@@ -54,7 +54,7 @@ fn write_subject(page: &mut [u8], at: usize, rule: &BrokenRule) -> usize
     }
 }
 
-/// Writes the line of a broken rule.
+/// Writes the line of a broken rule, and returns the index after it.
 #[tactic(auto, unfolding(crate::specs::Line::rule_line))]
 #[inline(never)]
 pub fn write_rule(page: &mut [u8], at: usize, line: &RuleText) -> usize

@@ -138,7 +138,7 @@ fn write_order(page: &mut [u8], at: usize, fault: OrderFault) -> usize
     write_hyphenated(page, at, order_words(fault))
 }
 
-/// Writes the length of a transfer, which may have more than 64 bits, and the limit that it passes.
+/// Writes the length of a transfer, which may exceed 64 bits, and the limit that it exceeds.
 #[tactic(auto, unfolding(link_report::specs::Text::number_text))]
 fn write_passed(page: &mut [u8], at: usize, size: u128, limit: u64) -> usize
     requires { at + WORDS_MAX ≤ length page.old }
@@ -274,7 +274,7 @@ fn write_endpoint_block(page: &mut [u8], at: usize, endpoint: Endpoint) -> usize
     }
 }
 
-/// Writes which endpoint ID it is.
+/// Writes the name of an endpoint ID, and the number of its block if it needs one.
 fn write_endpoint(page: &mut [u8], at: usize, endpoint: Endpoint) -> usize
     requires { at + WORDS_MAX ≤ length page.old }
     ensures { PutsText page.old page.new at result WORDS_MAX
@@ -285,7 +285,7 @@ fn write_endpoint(page: &mut [u8], at: usize, endpoint: Endpoint) -> usize
     write_endpoint_block(page, at, endpoint)
 }
 
-/// Writes the number of a block and its flags, or the flags of its security context.
+/// Writes the number of a block, and its flags or the flags of its security context.
 fn write_block_flags(page: &mut [u8], at: usize, block: u64, flags: u64) -> usize
     requires { at + WORDS_MAX ≤ length page.old }
     ensures { PutsText page.old page.new at result WORDS_MAX
@@ -331,7 +331,7 @@ fn write_fragment(page: &mut [u8], at: usize, offset: u64, size: u64, total: u64
     write_number(page, at, *b" total=", total)
 }
 
-/// Writes a number of hop count blocks, and a hop limit if the first one says it.
+/// Writes the number of hop count blocks, and the hop limit if the first block has one.
 #[tactic(auto, unfolding(crate::specs::Words::limit_words))]
 fn write_hop_limit(page: &mut [u8], at: usize, blocks: u64, limit: Option<u64>) -> usize
     requires { at + WORDS_MAX ≤ length page.old }

@@ -4,7 +4,7 @@ use Rattle.std.specs.{Char.is_ascii_graphic, List.{list_all, starts_with}}
 use Rattle.link_rules_shared.specs.Uri.{first_of, after_mark, is_reg_name}
 use Rattle.link_rules_shared.specs.declared.level.{Level.Level, Level.TheVariants.{Must, Should}}
 
--- a node name, and a slash after it; the node name may be empty
+-- whether a node name, which may be empty, comes before the first slash, at index `slash`
 abbrev pub is_named_at : (slash : Option ℕ) → List ℕ → Bool
 is_named_at None text = false
 is_named_at (Some slash) text = is_reg_name (take slash text)
@@ -19,8 +19,8 @@ is_dtn_name text =
 abbrev pub demux_of : List ℕ → List ℕ
 demux_of text = after_mark 0x2f (after_mark 0x2f (after_mark 0x2f text))
 
--- How strictly a demux is forbidden in the name of a node: one that begins with `~` names an
--- endpoint that is no singleton, and any other that is not empty names no node.
+-- How strictly a demux is forbidden in the name of a node, or `None` for the empty one. One that
+-- begins with `~` names an endpoint that is no singleton. Another that is not empty names no node.
 abbrev pub demux_level : List ℕ → Option Level
 demux_level [] = None
 demux_level (first ∷ rest) = if first == 0x7e then Some Must else Some Should

@@ -16,45 +16,45 @@ first_left sought (Inside left) seen more = first_from sought left (length seen)
 first_left sought (Head offset) seen more = first_from sought 0 offset (drop offset seen ++ more)
 first_left sought Ended seen more = None
 
--- Whatever bytes follow, the first head that is sought is the one found, or else the first from
--- this stage on.
+-- Whatever bytes follow, the first head that is sought is the one at `found`, or if nothing was
+-- found yet, the first from this stage on.
 pub record HasSought (sought : HeadItem → ℕ → Bool) (found : Option ℕ) (stage : WalkStage)
     (seen : List ℕ) : Type 0 where
   pub reads : (more : List ℕ)
       → first_from sought 1 0 (seen ++ more) ≡ option_or found (first_left sought stage seen more)
 
--- what is found of each kind of heads
+-- `HasSought` holds for each kind of heads that is sought
 pub record HasFound (found : Found) (stage : WalkStage) (seen : List ℕ) : Type 0 where
   pub long : HasSought is_long found.long stage seen
   pub string : HasSought is_open_string found.string stage seen
   pub item : HasSought is_open_item found.item stage seen
   pub encoded : HasSought is_encoded found.encoded stage seen
 
--- what is found of a kind of heads, before a head of `size` bytes at `offset` and with it
+-- what is found of a kind of heads after a head of `size` bytes at `offset`; `old` was found before
 abbrev pub noted : (sought : HeadItem → ℕ → Bool) → (old : Option ℕ) → (offset : ℕ) → HeadItem
     → (size : ℕ) → Option ℕ
 noted sought old offset head size = option_or old (then_some (sought head size) offset)
 
--- what is found before a head of `size` bytes at `offset`, and what is found with it
+-- a head of `size` bytes at `offset` turns what was found, `old`, into `new`
 pub record NotesHead (old new : Found) (offset : ℕ) (head : HeadItem) (size : ℕ) : Type 0 where
   pub long : new.long ≡ noted is_long old.long offset head size
   pub string : new.string ≡ noted is_open_string old.string offset head size
   pub item : new.item ≡ noted is_open_item old.item offset head size
   pub encoded : new.encoded ≡ noted is_encoded old.encoded offset head size
 
--- in a head that begins at `offset` and is not complete
+-- the bytes seen end inside the head that begins at `offset`
 pub record IsInHead (head : HeadScan) (offset : ℕ) (seen : List ℕ) : Type 0 where
   pub in_bytes : offset ≤ length seen
   pub scanned : HasScannedHead head (drop offset seen)
   pub cut : head_front (drop offset seen) ≡ Cut
 
--- the scan of a head at each stage
+-- the state of the scan of a head at each stage; between two heads it is new
 abbrev pub IsAtStage : WalkStage → HeadScan → List ℕ → Type 0
 IsAtStage (Inside left) head seen = HasScannedHead head []
 IsAtStage (Head offset) head seen = IsInHead head offset seen
 IsAtStage Ended head seen = Unit {0}
 
--- exactly these bytes were seen
+-- these are the parts of a walk that has seen exactly these bytes
 pub record HasSeen (stage : WalkStage) (found : Found) (head : HeadScan) (count : ℕ)
     (seen : List ℕ) : Type 0 where
   pub counted : count ≡ length seen

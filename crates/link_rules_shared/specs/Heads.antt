@@ -24,15 +24,15 @@ shortest_size (Some value) =
 abbrev pub is_long : Head → ℕ → Bool
 is_long head size = nat_lt (shortest_size head.value) size
 
--- whether a head is that of a byte string of indefinite length, 5f (section 3.2.3)
+-- whether a head, of any size, is that of a byte string of indefinite length, 5f (section 3.2.3)
 abbrev pub is_open_string : Head → ℕ → Bool
 is_open_string head size = is_indefinite head && (head.major == 2)
 
--- whether a head is that of a text, an array or a map of indefinite length (section 3.2)
+-- whether a head, of any size, opens a text, an array or a map of indefinite length (section 3.2)
 abbrev pub is_open_item : Head → ℕ → Bool
 is_open_item head size = is_indefinite head && not (head.major == 2)
 
--- whether a head is tag 24 in two bytes, d8 18: a byte string that follows has encoded CBOR
+-- whether a head is tag 24 in two bytes, d8 18, which marks a byte string with encoded CBOR
 -- (section 3.4.5.1)
 abbrev pub is_encoded : Head → ℕ → Bool
 is_encoded head size = (head.major == 6) && ((size == 2) && (unwrap_or head.value 0 == 24))
@@ -54,7 +54,7 @@ first_from sought zero offset (byte ∷ bytes) =
 abbrev pub first_long : List ℕ → Option ℕ
 first_long bytes = first_from is_long 1 0 bytes
 
--- whether bytes begin as a bundle in tag 55799 does, which says that CBOR follows (section 3.4.6)
+-- whether bytes begin with tag 55799, which says that CBOR follows (section 3.4.6), and then 9f
 abbrev pub is_tagged : List ℕ → Bool
 is_tagged bytes =
     (get_or bytes 0 0 == 0xd9)

@@ -7,15 +7,15 @@ use Rattle.std.specs.List.{list_any, list_all, position}
 abbrev pub first_of : (mark : ℕ) → List ℕ → Option ℕ
 first_of mark bytes = position (λ byte. byte == mark) bytes
 
--- the bytes after the first byte that is `mark`, or all if there is none
 abbrev pub after_at : Option ℕ → List ℕ → List ℕ
 after_at None bytes = bytes
 after_at (Some at) bytes = drop (at + 1) bytes
 
+-- the bytes after the first byte that is `mark`, or all if there is none
 abbrev pub after_mark : (mark : ℕ) → List ℕ → List ℕ
 after_mark mark bytes = after_at (first_of mark bytes) bytes
 
--- whether a text is a word, in any case of letters
+-- whether a text is this word, whatever the case of its letters
 unfoldable pub is_word : (word text : List ℕ) → Bool
 is_word word text = pointwise nat_eq (map to_ascii_lowercase text) (map to_ascii_lowercase word)
 
@@ -28,28 +28,29 @@ others = 0x22 ∷ 0x3c ∷ 0x3e ∷ 0x5c ∷ 0x5e ∷ 0x60 ∷ 0x7b ∷ 0x7c ∷
 abbrev pub delimiters : List ℕ
 delimiters = 0x3a ∷ 0x2f ∷ 0x3f ∷ 0x23 ∷ 0x5b ∷ 0x5d ∷ 0x40 ∷ []
 
--- a byte that a URI may have (section 2)
+-- whether a byte may be in a URI (section 2)
 unfoldable pub is_uri_byte : ℕ → Bool
 is_uri_byte byte = is_ascii_graphic byte && not (list_any (λ other. other == byte) others)
 
--- two hexadecimal digits come first
+-- whether the bytes begin with two hexadecimal digits
 abbrev pub begins_octet : List ℕ → Bool
 begins_octet bytes =
     nat_le 2 (length bytes)
     && (is_ascii_hexdigit (slice_index bytes 0) && is_ascii_hexdigit (slice_index bytes 1))
 
--- two hexadecimal digits come after each `%` (section 2.1)
+-- whether two hexadecimal digits come after each `%` (section 2.1)
 abbrev pub has_octets : List ℕ → Bool
 has_octets [] = true
 has_octets (byte ∷ rest) = (not (byte == 0x25) || begins_octet rest) && has_octets rest
 
--- bytes that may be in a URI
+-- whether bytes may be in a URI
 unfoldable pub are_uri_bytes : List ℕ → Bool
 are_uri_bytes bytes = list_all is_uri_byte bytes && has_octets bytes
 
--- a registered name (section 3.2.2), which may be empty
+-- whether a byte may be in a registered name (section 3.2.2)
 abbrev pub is_name_byte : ℕ → Bool
 is_name_byte byte = is_uri_byte byte && not (list_any (λ other. other == byte) delimiters)
 
+-- whether bytes are a registered name, which may be empty
 unfoldable pub is_reg_name : List ℕ → Bool
 is_reg_name bytes = list_all is_name_byte bytes && has_octets bytes

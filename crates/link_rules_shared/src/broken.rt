@@ -4,7 +4,7 @@ ghost use Rattle.std.specs.Prelude.{◌≡◌, filter_map};
 
 use arrayvec::ArrayVec;
 
-/// The broken ones of some rules, in order. Each rule is `None` if it is kept.
+/// The broken rules among these, in order. A rule that is kept is `None`.
 pub fn broken_of<T: Copy + Default, const N: usize>(judged: &[Option<T>; N]) -> ArrayVec<T, N>
     ensures { result.items ≡ filter_map (λ rule. rule) judged.now }
 {

@@ -61,7 +61,7 @@ pub fn is_long(head: Head, size: usize) -> bool
     }
 }
 
-/// Whether a head is that of a byte string of indefinite length.
+/// Whether a head, of any size, is that of a byte string of indefinite length.
 // Inlined, as the next two: then callers need not store the head in memory.
 #[inline(always)]
 fn is_open_string(head: Head) -> bool
@@ -70,7 +70,7 @@ fn is_open_string(head: Head) -> bool
     head.is_indefinite() && head.major == BYTE_STRING
 }
 
-/// Whether a head is that of a text, an array or a map of indefinite length.
+/// Whether a head, of any size, opens a text, an array or a map of indefinite length.
 #[inline(always)]
 fn is_open_item(head: Head) -> bool
     ensures { (size : ℕ) → result ≡ is_open_item head size }
@@ -168,8 +168,8 @@ impl Found {
 
     /// Takes the heads that a piece begins with, and their strings. The first is at `offset`.
     ///
-    /// Returns how many bytes it took, and how many bytes of the last string are still to come. It
-    /// stops before a head that is ill-formed or cut.
+    /// Returns how many bytes it took, and how many bytes of the last string come after the piece.
+    /// It stops before a head that is ill-formed or cut.
     #[inline(always)]
     fn take_heads(&mut self, offset: u64, piece: &[u8]) -> (usize, u64)
         ensures within { result.0 ≤ length piece.now }
@@ -328,7 +328,7 @@ impl HeadWalk {
         }
     }
 
-    /// Takes the next bytes, where a head begins.
+    /// Takes the next bytes, where a head begins, and returns how many, at least one.
     #[inline(always)]
     fn next_heads(&mut self, piece: &[u8]) -> usize
         requires stage { self.old.stage ≡ WalkStage.Inside 0 }
@@ -349,8 +349,8 @@ impl HeadWalk {
         taken
     }
 
-    /// Passes over the first bytes of a piece, which belong to the last head and its string: the
-    /// `left` bytes that these have more, or all.
+    /// Passes over the first `left` bytes of a piece, or all if it has fewer, and returns how many.
+    /// They belong to the last head and its string.
     fn pass_first(&mut self, left: u64, piece: &[u8]) -> usize
         requires stage { self.old.stage ≡ WalkStage.Inside left }
         requires left { 0 < left }
@@ -364,7 +364,7 @@ impl HeadWalk {
         passed
     }
 
-    /// Passes over a run of the last head and its string, which have `left` more bytes.
+    /// Passes over bytes of the last head and its string, which have `left` more bytes.
     #[inline(always)]
     fn pass(&mut self, left: u64, run: &[u8])
         requires stage { self.old.stage ≡ WalkStage.Inside left }

@@ -32,7 +32,7 @@ impl Prefix {
     ghost use Rattle.link_rules_shared.specs.Heads.{is_tagged};
     ghost use Rattle.link_rules_shared.specs.Prefix.{IsPrefixAt};
 
-    /// Before the first byte.
+    /// The prefix of a bundle before its first byte.
     pub fn new() -> Prefix
         ensures { IsPrefixAt result [] }
     {
@@ -41,7 +41,7 @@ impl Prefix {
         }
     }
 
-    /// Makes it new.
+    /// Empties the prefix, before the first byte of the next bundle.
     pub fn restart(&mut self)
         ensures { IsPrefixAt self.new [] }
     {

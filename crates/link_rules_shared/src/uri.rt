@@ -27,7 +27,7 @@ pub fn after_mark(mark: u8, bytes: &[u8]) -> &[u8]
     }
 }
 
-/// Whether a text is a word, in any case of letters.
+/// Whether a text is this word, whatever the case of its letters.
 #[tactic(auto, unfolding(crate::specs::Uri::is_word))]
 pub fn is_word(word: &[u8], text: &[u8]) -> bool
     ensures { result ≡ is_word word.now text.now }
@@ -35,7 +35,7 @@ pub fn is_word(word: &[u8], text: &[u8]) -> bool
     text.eq_ignore_ascii_case(word)
 }
 
-/// Whether a URI may have a byte (section 2).
+/// Whether a byte may be in a URI (section 2).
 #[tactic(auto, unfolding(crate::specs::Uri::is_uri_byte))]
 fn is_uri_byte(byte: u8) -> bool
     ensures { result ≡ is_uri_byte byte }
@@ -43,7 +43,7 @@ fn is_uri_byte(byte: u8) -> bool
     byte.is_ascii_graphic() && !OTHERS.contains(&byte)
 }
 
-/// Whether two hexadecimal digits come first.
+/// Whether the bytes begin with two hexadecimal digits.
 fn begins_octet(bytes: &[u8]) -> bool
     ensures { result ≡ begins_octet bytes.now }
 {
@@ -79,7 +79,7 @@ pub fn are_uri_bytes(bytes: &[u8]) -> bool
     all_in_uri(bytes) && has_octets(bytes)
 }
 
-/// Whether a registered name may have a byte (section 3.2.2).
+/// Whether a byte may be in a registered name (section 3.2.2).
 fn is_name_byte(byte: u8) -> bool
     ensures { result ≡ is_name_byte byte }
 {

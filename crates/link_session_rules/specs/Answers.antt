@@ -47,6 +47,7 @@ ack_length before _ = None
 
 -- ---- answer-order
 
+-- whether the last XFER_ACK has this ID, has it with END, and whether the last XFER_REFUSE has it
 abbrev pub is_acked : Option Ack → (id : ℕ) → Bool
 is_acked None id = false
 is_acked (Some ack) id = ack.id == id
@@ -59,7 +60,7 @@ abbrev pub is_refused : Option ℕ → (id : ℕ) → Bool
 is_refused None id = false
 is_refused (Some refused) id = refused == id
 
--- an XFER_ACK without START, by the last XFER_ACK and the last XFER_REFUSE
+-- what is wrong with an XFER_ACK of `id` without START, by the last XFER_ACK and XFER_REFUSE
 abbrev pub fault_of_later : (ack : Option Ack) → (refused : Option ℕ) → (acked_since : Bool)
     → (id : ℕ) → Option AnswerFault
 fault_of_later ack refused acked_since id =
@@ -77,13 +78,15 @@ answer_fault older (message.Refuse reason id) =
     if not (reason == 4) && has_ended (last_ack older) id then Some RefusedAfterEnd else None
 answer_fault older _ = None
 
+-- the ID of the transfer that a message answers, or 0 if it is no answer
 abbrev pub answered_id : Message → ℕ
 answered_id (message.Ack flags id size) = id
 answered_id (message.Refuse reason id) = id
 answered_id _ = 0
 
 -- answer-order: the segments of one transfer after another are acknowledged, each once, and a
--- transfer is refused before its end is acknowledged (sections 5.2.3 and 5.2.4)
+-- transfer is refused before its end is acknowledged (sections 5.2.3 and 5.2.4). Answers before a
+-- SESS_INIT are not judged.
 unfoldable pub answer_order : List JudgedHead → Message → Option MessageRule
 answer_order before message =
     option_and_then

@@ -11,14 +11,14 @@ use Rattle.link_session_rules.specs.declared.rule.MessageRule.TheVariants.{ItemT
 
 -- ---- item-type
 
--- From 8000 on, types are for private use. Below, only that of Transfer Length items is assigned,
--- and these are items of segments (sections 8.3 and 8.4).
+-- Whether the type of an item is neither assigned nor for private use, which begins at 8000. Only
+-- that of Transfer Length items, in segments, is assigned (sections 8.3 and 8.4).
 abbrev pub is_unassigned : Message → (type : ℕ) → Bool
 is_unassigned (Segment segment) type = nat_lt type 0x8000 && not (type == transfer_length)
 is_unassigned message type = nat_lt type 0x8000
 
 -- item-type: an extension item has a type that is assigned, or for private use (sections 8.3 and
--- 8.4). The first item that has another one counts, by its number from 0.
+-- 8.4). The first item of another type counts, by its number from 0.
 unfoldable pub item_type : Message → Option MessageRule
 item_type message =
     option_map (λ (numbered : ℕ × Item). ItemType numbered.0 numbered.1.kind)
@@ -27,7 +27,7 @@ item_type message =
 
 -- ---- reject-known
 
--- the reasons of MSG_REJECT: the type is unknown, the message is unsupported, or it is unexpected
+-- whether a MSG_REJECT's reason (1 unknown, 2 unsupported, 3 unexpected) does not fit its type
 abbrev pub does_not_fit : (reason : ℕ) → (is_known : Bool) → Bool
 does_not_fit reason is_known = if is_known then reason == 1 else ((reason == 2) || (reason == 3))
 
@@ -42,7 +42,7 @@ reject_known message = None
 
 -- ---- reason
 
--- the reasons that are not assigned (sections 8.6 to 8.8). From f0 on, they are for private use.
+-- whether a reason is neither assigned (sections 8.6 to 8.8) nor for private use, from f0 on
 abbrev pub is_other_reason : Message → (reason : ℕ) → Bool
 is_other_reason (MsgReject reason header) other = (other == 0) || (nat_le 4 other && nat_lt other 0xf0)
 is_other_reason (Refuse reason id) other = nat_le 7 other && nat_lt other 0xf0
@@ -52,8 +52,8 @@ abbrev pub if_other_reason : Message → (reason : ℕ) → Option MessageRule
 if_other_reason message reason =
     if is_other_reason message reason then Some (Reason (type_of message) reason) else None
 
--- reason: a reason is assigned, or for private use (sections 8.6 to 8.8). That of a SESS_TERM that
--- is a reply repeats what it answers.
+-- reason: a reason is assigned, or for private use (sections 8.6 to 8.8). In a SESS_TERM that is a
+-- reply, it is not judged: it repeats the reason of the peer.
 unfoldable pub reason : Message → Option MessageRule
 reason (MsgReject why header) = if_other_reason (MsgReject why header) why
 reason (Refuse why id) = if_other_reason (Refuse why id) why

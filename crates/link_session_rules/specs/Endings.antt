@@ -11,15 +11,16 @@ use Rattle.link_session_rules.specs.declared.rule.MessageRule.TheVariants.{After
 
 -- ---- after-reject
 
--- a MSG_REJECT says that the type of a message is unknown, which ends the connection
+-- whether it is a MSG_REJECT that says that a type is unknown, which ends the connection
 abbrev pub rejects_type : Message → Bool
 rejects_type (message.MsgReject reason header) = reason == 1
 rejects_type _ = false
 
--- a message begins or ends a session, or begins a transfer
+-- whether a message begins or ends a session, or begins a transfer
 abbrev pub begins_anew : Message → Bool
 begins_anew message = is_sess_init message || (is_sess_term message || begins_transfer message)
 
+-- whether `message`, whatever it is, comes after a MSG_REJECT that says that a type is unknown
 abbrev pub follows : (older : List Message) → Message → Bool
 follows older message = list_any rejects_type older
 
@@ -27,7 +28,7 @@ abbrev pub begins_after : (older : List Message) → Message → Bool
 begins_after older message = list_any rejects_type older && begins_anew message
 
 -- after-reject: no message comes after a MSG_REJECT that says that a type is unknown (sections
--- 5.1.2 and 8.5). The first that does counts, and the first that begins or ends something.
+-- 5.1.2 and 8.5). The first such one counts, and the first that begins or ends something.
 unfoldable pub after_reject : List JudgedHead → Message → Option MessageRule
 after_reject before message =
     let older = newest before in
@@ -39,6 +40,7 @@ after_reject before message =
 
 -- ---- term-order
 
+-- whether a SESS_TERM came, and this is another one or the first SESS_INIT
 abbrev pub is_late : (older : List Message) → Message → Bool
 is_late older message =
     (is_sess_term message || (is_sess_init message && not (list_any is_sess_init older)))

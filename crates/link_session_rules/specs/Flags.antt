@@ -23,7 +23,7 @@ start_and_end = 3
 abbrev pub reply : ℕ
 reply = 1
 
--- a SESS_TERM with these flags answers one of the peer, and repeats its flags and its reason
+-- whether a SESS_TERM with these flags is a reply, which repeats the peer's flags and reason
 abbrev pub is_reply : (flags : ℕ) → Bool
 is_reply flags = bit_and flags reply == reply
 
@@ -33,7 +33,7 @@ contact_flags contact =
     if has_other_flags can_tls contact.flags then Some (ContactFlags contact.flags) else None
 
 -- item-flags: an extension item has no flag but CRITICAL (sections 4.8 and 5.2.5). The first item
--- that has another one counts, by its number from 0.
+-- with another flag counts, by its number from 0.
 unfoldable pub item_flags : Message → Option MessageRule
 item_flags message =
     option_map (λ (numbered : ℕ × Item). ItemFlags numbered.0 numbered.1.flags)

@@ -12,7 +12,7 @@ use Rattle.link_session_rules.specs.Session.{before_session, keepalive}
 use Rattle.link_session_rules.specs.TransferIds.{interleaved, transfer_id, transfer_id_order}
 use Rattle.link_tool_options.specs.declared.limits.PeerLimits.{PeerLimits}
 
--- those of XFER_ACKs, XFER_REFUSEs and KEEPALIVEs
+-- after these heads, the message breaks no rule of XFER_ACKs, XFER_REFUSEs and KEEPALIVEs
 pub record KeepsAnswerRules (before : List JudgedHead) (message : Message) : Type 0 where
   pub in_session : before_session before message ≡ None
   pub acknowledged : ack_length before message ≡ None
@@ -20,7 +20,7 @@ pub record KeepsAnswerRules (before : List JudgedHead) (message : Message) : Typ
   pub alive : keepalive before message ≡ None
   pub reason : reason message ≡ None
 
--- those of segments
+-- after the heads `before`, the segment breaks no rule of segments
 pub record KeepsSegmentRules (limits : PeerLimits) (before : List JudgedHead) (head : JudgedHead)
     : Type 0 where
   pub flags : segment_flags head.message ≡ None

@@ -24,14 +24,14 @@ peer_segment (Some limit) message = option_and_then (if_longer limit) (segment_o
 
 -- ---- the segments of a transfer (section 5.2.2), the newest first
 
--- For a segment with this turn, the earlier segments of its transfer. A stray segment has no
--- transfer. `so_far` are the segments of the transfer that began last.
+-- The earlier segments of the transfer of a segment with this turn, or `None` for a stray segment.
+-- `so_far` are the segments of the transfer that began last.
 abbrev pub earlier_of : Option Turn → (so_far : List SegmentHead) → Option (List SegmentHead)
 earlier_of (Some (turn.Begin abandoned last)) so_far = Some []
 earlier_of (Some (turn.Continue last)) so_far = Some so_far
 earlier_of _ so_far = None
 
--- a segment and those before it in its transfer; any other message changes nothing
+-- the segments so far after a message: a segment joins those before it, others change nothing
 abbrev pub joined : Option SegmentHead → (earlier : Option (List SegmentHead))
     → (so_far : List SegmentHead) → List SegmentHead
 joined (Some segment) (Some earlier) so_far = segment ∷ earlier
@@ -47,14 +47,14 @@ segments_back (head ∷ older) =
 abbrev pub segments_of : List JudgedHead → List SegmentHead
 segments_of heads = segments_back (reverse heads)
 
--- the first segment of a transfer, which is the last of this list
+-- the first segment of a transfer: the last of `earlier`, or `segment` if there is none
 abbrev pub first_segment : SegmentHead → (earlier : List SegmentHead) → SegmentHead
 first_segment segment [] = segment
 first_segment segment (previous ∷ earlier) = first_segment previous earlier
 
 -- ---- peer-transfer
 
--- Data of this size after other data of its transfer passes the limit.
+-- the rule that `size` bytes of data break, if they take the `before` bytes past the limit
 abbrev pub if_passed : (limit before size : ℕ) → Option MessageRule
 if_passed limit before size =
     if nat_le before limit && nat_lt limit (before + size)
@@ -64,11 +64,13 @@ if_passed limit before size =
 abbrev pub size_of : List SegmentHead → ℕ
 size_of segments = sum_by (λ (segment : SegmentHead). segment.length) segments
 
--- the announcement counts with the first segment
+-- the rule, if the segment with it is the first of its transfer: none is earlier
 abbrev pub if_first : List SegmentHead → MessageRule → Option MessageRule
 if_first [] rule = Some rule
 if_first (previous ∷ earlier) rule = None
 
+-- The rule that a segment breaks, if its transfer exceeds the limit: with its first segment if it
+-- announces too much, or else with the segment whose data exceeds the limit.
 abbrev pub if_exceeded : (limit : ℕ) → Announced → SegmentHead → (earlier : List SegmentHead)
     → Option MessageRule
 if_exceeded limit (Total total) segment earlier =
@@ -81,6 +83,7 @@ if_exceeded limit _ segment earlier = if_passed limit (size_of earlier) segment.
 abbrev pub announced_first : SegmentHead → (earlier : List SegmentHead) → Announced
 announced_first segment earlier = announced_of (first_segment segment earlier).items.items
 
+-- the rule that a segment with this turn breaks after these heads; a stray one breaks none
 abbrev pub exceeded : (limit : ℕ) → List JudgedHead → Option Turn → SegmentHead
     → Option MessageRule
 exceeded limit before turn segment =

@@ -48,7 +48,7 @@ is_ipn_part part = is_unjudged part || (are_two part || are_three_at (first_of 0
 
 -- ---- node-id
 
--- the part after the scheme is as its scheme asks for
+-- whether the part after the colon has the syntax of its scheme; other schemes have none here
 abbrev pub is_of_scheme : (scheme part : List ℕ) → Bool
 is_of_scheme scheme part =
     if is_word (codes "dtn") scheme then is_dtn_part part
@@ -75,12 +75,12 @@ node_id message = None
 
 -- ---- node-name
 
--- the last of two or three numbers is 0 (section 4.2.5.1.2)
+-- whether the last of two or three numbers is 0 (section 4.2.5.1.2)
 abbrev pub ends_in_zero : List ℕ → Bool
 ends_in_zero part = list_all (λ digit. digit == 0x30) (after_mark 0x2e (after_mark 0x2e part))
 
--- `None` for a name that a node ID may be. RFC 9171 names nodes by the schemes dtn and ipn (section
--- 4.2.5.1).
+-- How strictly a name is forbidden as a node ID, or `None` if it may be one. RFC 9171 names nodes
+-- by the schemes dtn and ipn (section 4.2.5.1).
 unfoldable pub name_level : (scheme part : List ℕ) → Option Level
 name_level scheme part =
     if is_word (codes "dtn") scheme

@@ -16,7 +16,7 @@ use Rattle.link_session_rules.specs.declared.session.Since.TheVariants.{Neither,
 use Rattle.link_session_rules.specs.declared.history.MessageHistory.{MessageHistory}
 use Rattle.link_session_rules.specs.declared.lengths.TransferSoFar.{TransferSoFar}
 
--- the last ID of some in a row
+-- the last of `id` and the IDs after it
 abbrev pub end_of : (id : ℕ) → List ℕ → ℕ
 end_of id [] = id
 end_of id (next ∷ more) = end_of next more
@@ -28,7 +28,7 @@ between first last id = nat_le first id && nat_le id last
 abbrev pub contains : (id : ℕ) → IdRun → Bool
 contains id run = between run.first run.last id
 
--- a run, the newest ID first, by its ends
+-- the first and the last ID of a run, which is given with the newest ID first
 abbrev pub ends_of : List ℕ → Option IdRun
 ends_of [] = None
 ends_of (last ∷ older) = Some (record { first = end_of last older; last = last })
@@ -52,6 +52,8 @@ pub record RemembersIds (ids : TransferIds) (older : List Message) : Type 0 wher
   pub none : ids.last ≡ None → ids.earlier.items ≡ []
   pub jumped : ids.jumped ≡ held jumps older
 
+-- The answers are the last of exactly these messages, the newest first. `acked_since` is read only
+-- after an XFER_REFUSE.
 pub record RemembersAnswers (answers : Answers) (older : List Message) : Type 0 where
   pub ack : answers.ack ≡ last_ack older
   pub refused : answers.refused ≡ last_refused older
@@ -77,7 +79,7 @@ next_since Neither is_first is_second = if is_first then First else Neither
 next_since First is_first is_second = if is_second then Both else First
 next_since Both is_first is_second = Both
 
--- whether KEEPALIVEs are disabled, and whether one was sent since
+-- whether a SESS_INIT disabled KEEPALIVEs, and whether one was sent since
 abbrev pub keepalives_of : List Message → Since
 keepalives_of messages = since_of disables_keepalive is_keepalive messages
 
@@ -89,7 +91,7 @@ session_of messages = since_of is_sess_init is_of_transfer messages
 abbrev pub within_64_bits : ℕ → Option ℕ
 within_64_bits sum = if nat_lt sum (2 ^ 64) then Some sum else None
 
--- the transfer that began last
+-- what is kept of the transfer with these segments, the newest first
 abbrev pub so_far_of : List SegmentHead → Option TransferSoFar
 so_far_of [] = None
 so_far_of (segment ∷ earlier) = Some (record {
@@ -97,7 +99,7 @@ so_far_of (segment ∷ earlier) = Some (record {
   sent = within_64_bits (size_of (segment ∷ earlier));
 })
 
--- exactly these heads came
+-- the history keeps what the rules need of exactly these heads
 pub record Remembers (history : MessageHistory) (heads : List JudgedHead) : Type 0 where
   pub parameters : history.parameters ≡ first_parameters (messages_of heads)
   pub session : history.session ≡ session_of (messages_of heads)

@@ -22,6 +22,7 @@ are_same first second =
     (first.interval == second.interval)
     && ((first.segment_mru == second.segment_mru) && (first.transfer_mru == second.transfer_mru))
 
+-- whether there are both, and they differ
 abbrev pub are_other : Option Parameters → Option Parameters → Bool
 are_other (Some first) (Some second) = not (are_same first second)
 are_other _ _ = false
@@ -37,7 +38,7 @@ changes_session earlier message =
     are_other (first_parameters earlier) (parameters_of message)
     && list_any is_of_transfer (after_sess_init earlier)
 
--- a second SESS_INIT that changes nothing breaks no MUST
+-- how strictly a fault is forbidden: a second SESS_INIT that changes nothing breaks no MUST
 abbrev pub order_level : List Message → Message → OrderFault → Level
 order_level earlier message SecondSessInit =
     if changes_session earlier message then Must else Should
@@ -67,7 +68,7 @@ before_session before message =
 
 -- ---- KEEPALIVEs
 
--- the interval of a SESS_INIT, if it is neither 0 nor from 30 seconds to ten minutes
+-- the rule that an interval breaks, if it is neither 0 nor from 30 seconds to ten minutes
 abbrev pub if_unusual : (interval : ℕ) → Option MessageRule
 if_unusual interval =
     if (interval == 0) || (nat_le 30 interval && nat_le interval 600)

@@ -10,7 +10,7 @@ use Rattle.link_session_rules.specs.declared.rule.MessageRule.TheVariants.{Inter
 
 -- ---- interleaved
 
--- the transfer that was open until a START, and is abandoned by it
+-- the ID of the transfer that a START abandons, since it was open until then
 abbrev pub abandoned_by : Option Turn → Option ℕ
 abandoned_by (Some (turn.Begin abandoned last)) = abandoned
 abandoned_by _ = None
@@ -29,7 +29,7 @@ interleaved head =
 -- ---- runs of IDs: longest stretches of successive STARTs in which each ID is one more than the ID
 -- before it. Every START counts, also one that is out of order. The newest run and ID come first.
 
--- one more ID
+-- the runs after one more ID
 abbrev pub with_id : ℕ → List (List ℕ) → List (List ℕ)
 with_id id ((last ∷ run) ∷ runs) =
     if id == last + 1 then (id ∷ last ∷ run) ∷ runs else (id ∷ []) ∷ (last ∷ run) ∷ runs
@@ -39,7 +39,7 @@ abbrev pub runs_of : List ℕ → List (List ℕ)
 runs_of [] = []
 runs_of (id ∷ older) = with_id id (runs_of older)
 
--- the IDs of STARTs, and their last 64 runs
+-- the IDs of the STARTs among these messages, and then the last 64 runs of them
 abbrev pub ids_of : (older : List Message) → List ℕ
 ids_of older = filter_map start_id older
 
@@ -61,12 +61,12 @@ transfer_id before message =
 
 -- ---- transfer-id-order
 
--- the ID is not the one that comes after these, the newest first
+-- whether an ID is not the one that has to follow these, given with the newest first
 abbrev pub skips : (ids : List ℕ) → (id : ℕ) → Bool
 skips [] id = not (id == 0)
 skips (last ∷ older) id = not (id == last + 1)
 
--- a START after a SESS_INIT has a new ID, which is not the next one
+-- whether a START after a SESS_INIT has a new ID that is not the next one
 abbrev pub jumps_to : (older : List Message) → Option ℕ → Bool
 jumps_to older None = false
 jumps_to older (Some id) =

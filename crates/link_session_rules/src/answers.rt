@@ -40,7 +40,7 @@ impl Answers {
     ghost use Rattle.link_session_rules.specs.Answers.{is_acked, is_refused, has_ended, fault_of_later, answer_fault, answer_order, ack_length};
     ghost use Rattle.link_session_rules.specs.Remembered.{RemembersAnswers};
 
-    /// The answers before the first.
+    /// The answers before the first message.
     pub(crate) fn none() -> Answers
         ensures { RemembersAnswers result [] }
     {
@@ -104,7 +104,7 @@ impl Answers {
         }
     }
 
-    /// What is wrong with an XFER_ACK without START.
+    /// What is wrong with an XFER_ACK without START, by the last answers, or `None`.
     fn fault_of_later(&self, id: u64) -> Option<AnswerFault>
         ensures { result ≡ fault_of_later self.now.ack self.now.refused self.now.acked_since id }
     {
@@ -121,7 +121,7 @@ impl Answers {
         None
     }
 
-    /// What is wrong with the order of a message, if it is an answer.
+    /// What is wrong with the order of an answer, or `None`. Other messages are in order.
     #[tactic(auto, using(crate::proofs::Later::same_fault))]
     #[inline(always)]
     fn fault(&self, message: &MessageBuffer) -> Option<AnswerFault>
@@ -140,7 +140,7 @@ impl Answers {
         }
     }
 
-    /// The rule of the order of answers. `initiated` is whether a SESS_INIT came.
+    /// The rule of the order of answers, if it is broken. `initiated` is whether a SESS_INIT came.
     #[tactic(auto, unfolding(crate::specs::Answers::answer_order))]
     #[inline(always)]
     pub(crate) fn answer_order(
@@ -160,7 +160,7 @@ impl Answers {
         Some(MessageRule::AnswerOrder { id, fault })
     }
 
-    /// The rule of acknowledged lengths.
+    /// The rule of acknowledged lengths, if it is broken.
     #[tactic(auto, unfolding(crate::specs::Answers::ack_length))]
     #[inline(always)]
     pub(crate) fn ack_length(&self, message: &MessageBuffer) -> Option<MessageRule>
@@ -182,7 +182,7 @@ impl Answers {
     }
 }
 
-/// The ID of the transfer that a message answers, if it does.
+/// The ID of the transfer that a message answers, or 0 if it is no answer.
 fn answered_id(message: &MessageBuffer) -> u64
     ensures { result ≡ answered_id (message_of message.now) }
 {

@@ -15,7 +15,7 @@ const PRIVATE_TYPE: u16 = 0x8000;
 /// The type of a Transfer Length item (RFC 9174 section 5.2.5.1).
 const TRANSFER_LENGTH: u16 = 1;
 
-/// Whether a message's item of this type has none that is assigned or for private use.
+/// Whether the type of an item of this message is neither assigned nor for private use.
 fn is_unassigned(message: &MessageBuffer, kind: u16) -> bool
     ensures { result ≡ is_unassigned (message_of message.now) kind }
 {
@@ -26,7 +26,7 @@ fn is_unassigned(message: &MessageBuffer, kind: u16) -> bool
     kind < PRIVATE_TYPE && !is_known
 }
 
-/// The rule of the types of extension items.
+/// The rule of the types of extension items, if it is broken.
 #[tactic(auto, unfolding(crate::specs::Assigned::item_type))]
 #[inline(always)]
 pub(crate) fn item_type(message: &MessageBuffer) -> Option<MessageRule>
@@ -46,7 +46,7 @@ pub(crate) fn item_type(message: &MessageBuffer) -> Option<MessageRule>
     None
 }
 
-/// The rule of rejected types.
+/// The rule of rejected types, if it is broken.
 #[tactic(auto, unfolding(crate::specs::Assigned::reject_known))]
 pub(crate) fn reject_known(message: &MessageBuffer) -> Option<MessageRule>
     ensures { result ≡ reject_known (message_of message.now) }
@@ -61,14 +61,14 @@ pub(crate) fn reject_known(message: &MessageBuffer) -> Option<MessageRule>
     is_wrong.then_some(MessageRule::RejectKnown { reason, header })
 }
 
-/// Whether a reason from `first` on is neither assigned nor for private use.
+/// Whether a reason is neither below `first` nor for private use.
 fn is_other_reason(first: u8, reason: u8) -> bool
     ensures { result ≡ (nat_le first reason && nat_lt reason 0xf0) }
 {
     first <= reason && reason < 0xf0
 }
 
-/// The rule of reasons.
+/// The rule of reasons, if it is broken.
 #[tactic(auto, unfolding(crate::specs::Assigned::reason))]
 #[inline(always)]
 pub(crate) fn reason(message: &MessageBuffer) -> Option<MessageRule>

@@ -21,7 +21,7 @@ pub(crate) struct Endings {
     rejected: bool,
     /// Whether a message came after it.
     followed: bool,
-    /// Whether one of these began or ended something.
+    /// Whether one of those messages began or ended a session, or began a transfer.
     begun: bool,
 }
 
@@ -45,7 +45,7 @@ impl Endings {
     ghost use Rattle.link_session_rules.specs.Endings.{after_reject, term_order};
     ghost use Rattle.link_session_rules.specs.Remembered.{RemembersEndings};
 
-    /// No end so far.
+    /// The endings before the first message.
     pub(crate) fn none() -> Endings
         ensures { RemembersEndings result [] }
     {
@@ -82,7 +82,7 @@ impl Endings {
         self.rejected
     }
 
-    /// The rule of messages after such a MSG_REJECT.
+    /// The rule of messages after a MSG_REJECT that says that a type is unknown, if it is broken.
     #[tactic(auto, unfolding(crate::specs::Endings::after_reject))]
     pub(crate) fn after_reject(&self, message: &MessageBuffer) -> Option<MessageRule>
         ensures { (before : List JudgedHead) → RemembersEndings self.now (newest before)
@@ -103,7 +103,7 @@ impl Endings {
         Some(MessageRule::AfterReject { kind, level })
     }
 
-    /// The rule of SESS_TERMs. `initiated` is whether a SESS_INIT came.
+    /// The rule of messages after a SESS_TERM, if it is broken. `initiated`: a SESS_INIT came.
     #[tactic(auto, unfolding(crate::specs::Endings::term_order))]
     pub(crate) fn term_order(&self, initiated: bool, message: &MessageBuffer) -> Option<MessageRule>
         ensures { (before : List JudgedHead) → initiated ≡ list_any is_sess_init (newest before)

@@ -22,7 +22,7 @@ const START_AND_END: u64 = 0x03;
 /// The flag of a SESS_TERM that is defined (RFC 9174 section 6.1).
 const REPLY: u8 = 0x01;
 
-/// The rule that a contact header breaks, if it does.
+/// The rule that a contact header breaks by a flag other than CAN_TLS, or `None`.
 #[tactic(auto, unfolding(crate::specs::Flags::contact_flags))]
 pub fn contact_flags(contact: &Contact) -> Option<MessageRule>
     ensures { result ≡ contact_flags contact.now }
@@ -31,7 +31,7 @@ pub fn contact_flags(contact: &Contact) -> Option<MessageRule>
     has_other_flags(CAN_TLS, u64::from(flags)).then_some(MessageRule::ContactFlags { flags })
 }
 
-/// The rule of the flags of extension items.
+/// The rule of the flags of extension items, if it is broken.
 #[tactic(auto, unfolding(crate::specs::Flags::item_flags))]
 #[inline(always)]
 pub(crate) fn item_flags(message: &MessageBuffer) -> Option<MessageRule>
@@ -51,7 +51,7 @@ pub(crate) fn item_flags(message: &MessageBuffer) -> Option<MessageRule>
     None
 }
 
-/// The rule of the flags of an XFER_SEGMENT.
+/// The rule of the flags of an XFER_SEGMENT, if it is broken.
 #[tactic(auto, unfolding(crate::specs::Flags::segment_flags))]
 #[inline(always)]
 pub(crate) fn segment_flags(message: &MessageBuffer) -> Option<MessageRule>
@@ -73,7 +73,7 @@ pub(crate) fn is_reply(flags: u8) -> bool
     flags & REPLY == REPLY
 }
 
-/// The rule of the flags of a SESS_TERM. A reply repeats the flags of what it answers.
+/// The rule of the flags of a SESS_TERM, if it is broken. A reply is not judged.
 #[tactic(auto, unfolding(crate::specs::Flags::term_flags))]
 #[inline(always)]
 pub(crate) fn term_flags(message: &MessageBuffer) -> Option<MessageRule>

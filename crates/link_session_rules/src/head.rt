@@ -63,7 +63,7 @@ pub(crate) fn is_end(flags: u8) -> bool
     flags & END == END
 }
 
-/// The length that a segment with these flags announces.
+/// The length that a segment announces. Without START in its `flags`, it announces none.
 #[tactic(auto, unfolding(link_transfer::specs::Announced::announced_of))]
 pub(crate) fn announcement(message: &MessageBuffer, flags: u8) -> Announced
     requires { HasTotals message.now.items.items }

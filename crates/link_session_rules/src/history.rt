@@ -68,9 +68,9 @@ impl MessageHistory {
         }
     }
 
-    /// Whether the next message is known to break no rule. This takes less time than its rules.
+    /// Whether the next message is known to break no rule. This takes less time than `rules`.
     ///
-    /// It is never known of a SESS_INIT, a SESS_TERM or a MSG_REJECT, which are rare.
+    /// False means not known. It is false for each SESS_INIT, SESS_TERM and MSG_REJECT, all rare.
     #[inline(always)]
     pub fn keeps_rules(&self, limits: &PeerLimits, head: &JudgedHeadView<'_>) -> bool
         requires { SegmentHasTotals head.now.message.now }
@@ -102,8 +102,8 @@ impl MessageHistory {
         self.parameters.is_some()
     }
 
-    /// Whether the next message, if it is an XFER_ACK, an XFER_REFUSE or a KEEPALIVE, breaks no
-    /// rule of such messages.
+    /// Whether the next message, an XFER_ACK, XFER_REFUSE or KEEPALIVE, breaks no rule of such
+    /// messages.
     #[inline(always)]
     fn keeps_answer_rules(&self, message: &MessageBuffer) -> bool
         ensures { (before : List JudgedHead) → Remembers self.now before → result ≡ true
@@ -196,7 +196,7 @@ impl MessageHistory {
     /// Takes an inner segment with `length` bytes of data, if it is known to break no rule, and
     /// returns whether it did. If not, the history stays as it was.
     ///
-    /// It is never known if the peer has a limit.
+    /// It is never known if the peer has a limit. The ID of the segment does not matter.
     #[tactic(auto, using(crate::proofs::Kept::none_if, crate::proofs::Inner::inner_kept))]
     #[inline(always)]
     pub fn take_inner(&mut self, limits: &PeerLimits, length: u64) -> bool

@@ -21,7 +21,7 @@ pub(crate) struct TransferSoFar {
     sent: Option<u64>,
 }
 
-/// The rule of the peer's Segment MRU.
+/// The rule of the peer's Segment MRU, if it is broken.
 #[tactic(auto, unfolding(crate::specs::Lengths::peer_segment))]
 #[inline(always)]
 pub(crate) fn peer_segment(limit: Option<u64>, message: &MessageBuffer) -> Option<MessageRule>
@@ -35,7 +35,8 @@ pub(crate) fn peer_segment(limit: Option<u64>, message: &MessageBuffer) -> Optio
     }
 }
 
-/// The rule for data of `length` bytes, after `before` bytes of its transfer.
+/// The rule that data of `length` bytes breaks, if it takes its transfer past the limit. `before`
+/// bytes came earlier; with `None`, too many for 64 bits, the limit was exceeded before.
 fn passed(limit: u64, before: Option<u64>, length: u64) -> Option<MessageRule>
     ensures { (sum : ℕ) → before ≡ within_64_bits sum → result ≡ if_passed limit sum length }
 {
@@ -69,7 +70,7 @@ impl TransferSoFar {
         }
     }
 
-    /// Adds a further segment of `length` bytes.
+    /// Adds a further segment of `length` bytes. Its other fields do not matter.
     #[inline(always)]
     pub(crate) fn add(&mut self, length: u64)
         ensures { (segment previous : SegmentHead) (earlier : List SegmentHead)
@@ -79,7 +80,7 @@ impl TransferSoFar {
         self.sent = sum_within(self.sent, length);
     }
 
-    /// The rule for a further segment of `length` bytes.
+    /// The rule that a further segment of `length` bytes breaks, if any, whatever else it has.
     fn exceeded(self, limit: u64, length: u64) -> Option<MessageRule>
         ensures { (segment previous : SegmentHead) (earlier : List SegmentHead)
             → segment.length ≡ length → Some self ≡ so_far_of (previous ∷ earlier)
@@ -104,7 +105,7 @@ fn sum_within(before: Option<u64>, length: u64) -> Option<u64>
 }
 
 /// The rule that the first segment of a transfer breaks, if any. The segment has `length` bytes of
-/// data, and announces `announced`.
+/// data, and announces the length `announced`.
 fn first_exceeded(limit: u64, announced: Announced, length: u64) -> Option<MessageRule>
     ensures { (segment : SegmentHead) → segment.length ≡ length
         → result ≡ if_exceeded limit announced segment [] }
@@ -133,7 +134,7 @@ fn earlier(turn: Option<Turn>, so_far: Option<TransferSoFar>) -> Option<Option<T
     }
 }
 
-/// The rule of the peer's Transfer MRU. `so_far` is the transfer that began last.
+/// The rule of the peer's Transfer MRU, if it is broken. `so_far` is the transfer that began last.
 #[tactic(auto, unfolding(crate::specs::Lengths::peer_transfer))]
 #[inline(always)]
 pub(crate) fn peer_transfer(

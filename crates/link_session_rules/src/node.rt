@@ -92,7 +92,7 @@ fn is_ipn_part(part: &[u8]) -> bool
     is_unjudged(part) || are_two(part) || are_three(part)
 }
 
-/// Whether bytes may follow a scheme and a colon.
+/// Whether bytes may follow this scheme and a colon. In an unknown scheme, all bytes may.
 fn is_of_scheme(scheme: &[u8], part: &[u8]) -> bool
     ensures { result ≡ is_of_scheme scheme.now part.now }
 {
@@ -120,7 +120,7 @@ fn is_uri(node: &[u8]) -> bool
     }
 }
 
-/// The rule of the syntax of node IDs.
+/// The rule of the syntax of node IDs, if it is broken.
 #[tactic(auto, unfolding(crate::specs::NodeIds::node_id))]
 pub(crate) fn node_id(message: &MessageBuffer) -> Option<MessageRule>
     ensures { result ≡ node_id (message_of message.now) }
@@ -145,7 +145,7 @@ fn ends_in_zero(part: &[u8]) -> bool
     last.iter().all(|digit| *digit == b'0')
 }
 
-/// How strictly a node ID that has the syntax of its scheme is forbidden.
+/// How strictly a node ID that has the syntax of its scheme is forbidden, or `None` if it is not.
 #[tactic(auto, unfolding(crate::specs::NodeIds::name_level))]
 fn name_level(scheme: &[u8], part: &[u8]) -> Option<Level>
     ensures { result ≡ name_level scheme.now part.now }
@@ -162,7 +162,7 @@ fn name_level(scheme: &[u8], part: &[u8]) -> Option<Level>
     Some(Level::Should)
 }
 
-/// The rule of the names of nodes.
+/// The rule of the names of nodes, if it is broken.
 #[tactic(auto, unfolding(crate::specs::NodeIds::node_name))]
 pub(crate) fn node_name(message: &MessageBuffer) -> Option<MessageRule>
     ensures { result ≡ node_name (message_of message.now) }

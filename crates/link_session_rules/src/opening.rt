@@ -54,7 +54,7 @@ impl Opening {
         ])
     }
 
-    /// The rule of malformed Transfer Length items.
+    /// The rule of malformed Transfer Length items, if it is broken.
     #[tactic(auto, unfolding(crate::specs::TransferRules::length_item))]
     fn length_item(&self) -> Option<TransferRule>
         ensures { (first : SegmentHead) → self.now ≡ opening_of first
@@ -66,7 +66,7 @@ impl Opening {
         }
     }
 
-    /// The rule of announced lengths.
+    /// The rule of announced lengths, if it is broken.
     #[tactic(auto, unfolding(crate::specs::TransferRules::length_differs))]
     fn length_differs(&self, length: u64) -> Option<TransferRule>
         ensures { (first : SegmentHead) → self.now ≡ opening_of first
@@ -80,7 +80,7 @@ impl Opening {
         }
     }
 
-    /// The rule of Transfer Length items in a transfer of one segment.
+    /// The rule of Transfer Length items in a transfer of one segment, if it is broken.
     #[tactic(auto, unfolding(crate::specs::TransferRules::length_of_one_segment))]
     fn length_of_one_segment(&self) -> Option<TransferRule>
         ensures { (first : SegmentHead) → self.now ≡ opening_of first

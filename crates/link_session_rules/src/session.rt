@@ -89,7 +89,7 @@ pub(crate) fn keepalives_after(keepalives: Since, message: &MessageBuffer) -> Si
     }
 }
 
-/// Whether two SESS_INITs set different parameters.
+/// Whether two SESS_INITs set different parameters; false if there is only one.
 fn are_other(first: &Option<Parameters>, second: &Option<Parameters>) -> bool
     ensures { result ≡ are_other first.now second.now }
 {
@@ -137,7 +137,7 @@ fn is_keepalive(message: &MessageBuffer) -> bool
     matches!(message.fields, Fields::Keepalive)
 }
 
-/// The rule of KEEPALIVEs.
+/// The rule of KEEPALIVEs, if it is broken.
 #[tactic(auto, using(crate::proofs::Since::keepalive_by, crate::proofs::Since::then_some_rule_in))]
 #[inline(always)]
 pub(crate) fn keepalive(keepalives: Since, message: &MessageBuffer) -> Option<MessageRule>
@@ -150,7 +150,7 @@ pub(crate) fn keepalive(keepalives: Since, message: &MessageBuffer) -> Option<Me
     }
 }
 
-/// The rule of the interval of KEEPALIVEs.
+/// The rule of the interval of KEEPALIVEs, if it is broken.
 #[tactic(auto, unfolding(crate::specs::Session::keepalive_interval))]
 pub(crate) fn keepalive_interval(message: &MessageBuffer) -> Option<MessageRule>
     ensures { result ≡ keepalive_interval (message_of message.now) }
@@ -176,7 +176,7 @@ fn changes_session(parameters: &Option<Parameters>, session: Since, message: &Me
     matches!(session, Since::Both) && are_other(parameters, &parameters_of(message))
 }
 
-/// The level of a fault of the order.
+/// The level of a fault of the order. `parameters` and `session` are what came before.
 fn order_level(
     parameters: &Option<Parameters>,
     session: Since,
@@ -195,7 +195,7 @@ fn order_level(
     }
 }
 
-/// The rule of the order of messages.
+/// The rule of the order of messages, if it is broken.
 #[tactic(auto, unfolding(crate::specs::Session::order))]
 #[inline(always)]
 pub(crate) fn order(
@@ -212,7 +212,7 @@ pub(crate) fn order(
     Some(MessageRule::Order { fault, level })
 }
 
-/// The type byte of a message that comes after a SESS_INIT (RFC 9174 section 4.5).
+/// The type byte (RFC 9174 section 4.5) of an answer or a KEEPALIVE, which follow a SESS_INIT.
 fn type_after_sess_init(message: &MessageBuffer) -> Option<u8>
     ensures { result ≡ type_after_sess_init (message_of message.now) }
 {
@@ -224,7 +224,7 @@ fn type_after_sess_init(message: &MessageBuffer) -> Option<u8>
     }
 }
 
-/// The rule of messages before a SESS_INIT. `parameters` are those of the first one.
+/// The rule of messages before a SESS_INIT, if it is broken. `parameters` are those of the first.
 #[tactic(auto, unfolding(crate::specs::Session::before_session))]
 #[inline(always)]
 pub(crate) fn before_session(

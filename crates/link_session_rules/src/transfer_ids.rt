@@ -89,7 +89,7 @@ impl TransferIds {
     ghost use Rattle.link_session_rules.specs.TransferIds.{is_in, last_runs, ids_of, skips, jumps, jumps_to, transfer_id, transfer_id_order};
     ghost use Rattle.link_session_rules.specs.Remembered.{RemembersIds, kept_runs, kept_with};
 
-    /// The IDs before the first.
+    /// The IDs before the first message.
     pub(crate) fn none() -> TransferIds
         ensures { RemembersIds result [] }
     {
@@ -113,7 +113,7 @@ impl TransferIds {
         }
     }
 
-    /// Whether an ID is not the next one.
+    /// Whether an ID is not the one after the last. The first ID has to be 0.
     #[tactic(auto, using(crate::proofs::Runs::skips_by))]
     #[inline(always)]
     fn skips(&self, id: u64) -> bool
@@ -150,7 +150,7 @@ impl TransferIds {
         self.jumped = jumped;
     }
 
-    /// Whether an ID broke the rule of their order, up to this one.
+    /// Whether this ID, or one before it, broke the rule of their order.
     #[inline(always)]
     fn has_jumped(&self, initiated: bool, id: u64) -> bool
         ensures { (older : List Message) → initiated ≡ list_any is_sess_init older
@@ -182,7 +182,7 @@ impl TransferIds {
         }
     }
 
-    /// The rule of new transfer IDs.
+    /// The rule of new transfer IDs, if it is broken.
     #[tactic(auto, unfolding(crate::specs::TransferIds::transfer_id))]
     #[inline(always)]
     pub(crate) fn transfer_id(&self, message: &MessageBuffer) -> Option<MessageRule>
@@ -193,7 +193,7 @@ impl TransferIds {
         self.contains(id).then_some(MessageRule::TransferId { id })
     }
 
-    /// The rule of the order of transfer IDs. `initiated` is whether a SESS_INIT came.
+    /// The rule of the order of transfer IDs, if it is broken. `initiated`: a SESS_INIT came.
     #[tactic(auto, unfolding(crate::specs::TransferIds::transfer_id_order))]
     #[inline(always)]
     pub(crate) fn transfer_id_order(
@@ -224,7 +224,7 @@ fn start_id(message: &MessageBuffer) -> Option<u64>
     }
 }
 
-/// The transfer that a message with this effect abandons.
+/// The transfer that a message with this effect abandons, if it does.
 fn abandoned_by(turn: Option<Turn>) -> Option<u64>
     ensures { result ≡ abandoned_by turn }
 {
@@ -234,7 +234,7 @@ fn abandoned_by(turn: Option<Turn>) -> Option<u64>
     }
 }
 
-/// The rule of transfers that begin while another is open.
+/// The rule of transfers that begin while another is open, if it is broken.
 #[tactic(auto, unfolding(crate::specs::TransferIds::interleaved))]
 #[inline(always)]
 pub(crate) fn interleaved(head: &JudgedHeadView<'_>) -> Option<MessageRule>

@@ -25,7 +25,7 @@ number_below limit text =
     if is_numeral text && nat_lt (digits_value 10 (without_leading_plus text)) limit
     then Some (digits_value 10 (without_leading_plus text)) else None
 
--- the value of a numeric option, if there is one below the limit
+-- the value of a numeric option, or `None` if it has none below the limit
 unfoldable pub number_in : (limit : ℕ) → (name : Text) → List Row → Option ℕ
 number_in limit name rows = option_and_then (number_below limit) (one_of name rows)
 
@@ -38,7 +38,7 @@ number_of limit name rows = unwrap_or (number_in limit name rows) 0
 unfoldable pub is_set : (name : Text) → List Row → Bool
 is_set name rows = option_map_or (λ text. bytes_eq text (codes "true")) (first_of name rows) false
 
--- the text that is the value of a required option
+-- the value of a required option; it is empty without the option, which `clap` refuses
 unfoldable pub text_of : (name : Text) → List Row → Text
 text_of name rows = unwrap_or (first_of name rows) []
 
@@ -89,7 +89,7 @@ pub record IsPackOptions (rows : List Row) (packing : PackOptions) : Type 0 wher
   pub announce : packing.announce ≡ min 1048576 (number_of (2 ^ 64) (codes "announce") rows)
   pub send_term : packing.send_term ≡ is_set (codes "end") rows
 
--- the options of the tool of this name
+-- these are the options of the tool of this name, by its matches
 abbrev pub AreOptions : (name : Text) → List Row → Options → Type 0
 AreOptions name rows options.List = name ≡ codes "list"
 AreOptions name rows (options.Unpack wanted) = (name ≡ codes "unpack") × IsUnpackOptions rows wanted
@@ -102,15 +102,16 @@ AreOptions name rows (options.BundleCheck must) = (name ≡ codes "check")
     × (must ≡ is_set (codes "must") rows)
 AreOptions name rows (options.Pack packing) = (name ≡ codes "pack") × IsPackOptions rows packing
 
+-- this is the invocation of the tool of this name, by its matches
 pub record IsInvokedBy (name : Text) (rows : List Row) (invocation : Invocation) : Type 0 where
   pub options : AreOptions name rows invocation.options
   pub file : option_map string_bytes invocation.file ≡ first_of (codes "file") rows
 
--- the invocation of a tool, by its name and its matches; without a tool there is none
+-- this is the invocation of a tool, by its name and its matches; without a tool there is none
 abbrev pub IsInvokedByTool : Option (Text × List Row) → Invocation → Type 0
 IsInvokedByTool None invocation = ⊥
 IsInvokedByTool (Some tool) invocation = IsInvokedBy tool.0 tool.1 invocation
 
--- The words are those of the command line. The first is the program's own name.
+-- This is the invocation that the words ask for. The first word is the program's own name.
 abbrev pub IsInvoked : (words : List Text) → Invocation → Type 0
 IsInvoked words = IsInvokedByTool (subcommand_of table words)

@@ -11,18 +11,18 @@ IsToolName name = (name ≡ codes "list")
     ⊎ ((name ≡ codes "unpack")
     ⊎ ((name ≡ codes "blocks") ⊎ ((name ≡ codes "check") ⊎ (name ≡ codes "pack"))))
 
--- the words name one of the five tools
+-- there is a tool, and it is one of the five
 abbrev pub NamesTool : Option (Text × List Row) → Type 0
 NamesTool None = ⊥
 NamesTool (Some tool) = IsToolName tool.0
 
--- the faults that may be returned for the matches of a tool
+-- whether a fault may be returned for the matches of a tool
 abbrev pub IsToolFault : Option (Text × List Row) → UsageFault → Type 0
 IsToolFault tool fault = ((fault ≡ NodeTooLong) × (1024 < length (node_of tool)))
     ⊎ (((fault ≡ MixedInputs) × (mixes_inputs_of tool ≡ true))
     ⊎ (((fault ≡ LimitedBundles) × (limits_bundles_of tool ≡ true)) ⊎ (fault ≡ Memory)))
 
--- The faults that may be returned for an error of `clap` of this kind. `Memory` may be returned for
+-- Whether a fault may be returned for an error of `clap` of this kind. `Memory` may be returned for
 -- any kind.
 abbrev pub IsFaultForKind : ErrorKind → UsageFault → Type 0
 IsFaultForKind kind (Help text) = is_request kind ≡ true

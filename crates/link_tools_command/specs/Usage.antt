@@ -17,7 +17,7 @@ is_request DisplayHelp = true
 is_request DisplayVersion = true
 is_request _ = false
 
--- `clap` finds an error in the words, and `is_kind` returns `expected` for its kind
+-- `clap` finds an error in the words for whose kind `is_kind` returns `expected`
 abbrev pub Finds : (is_kind : ErrorKind → Bool) → (expected : Bool) → (words : List Text) → Type 0
 Finds is_kind expected words =
     (kind : ErrorKind) × IsAmong kind (fault_of table words) × (is_kind kind ≡ expected)
@@ -38,7 +38,7 @@ mixes_inputs_of tool = option_map_or (λ t. mixes_inputs t.1) tool false
 abbrev pub limits_bundles_of : (tool : Option (Text × List Row)) → Bool
 limits_bundles_of tool = option_map_or (λ t. limits_bundles t.1) tool false
 
--- when each fault may be returned; `Memory` may be returned for any words
+-- whether a fault may be returned for these words; `Memory` may be returned for any
 abbrev pub IsFaultOf : (words : List Text) → UsageFault → Type 0
 IsFaultOf words (Help text) = Finds is_request true words
 IsFaultOf words (Words text) = Finds is_request false words

@@ -149,7 +149,7 @@ Example:
   $ tcpclkit pack --node ipn:1.0 --peer-segment 17 bundles > session.tcpcl
   bundle 0 segments=2 length=34 source=ipn:1.1 time=0 sequence=0 destination=ipn:2.1 payload=5";
 
-/// The command `tcpclkit` with its tools.
+/// Makes the command `tcpclkit` with its tools.
 pub(crate) fn tcpclkit<'a>(alloc: Global) -> Result<Command<'a>, AllocError>
     ensures { IfOk result (λ command. app_of command ≡ table) }
 {
@@ -165,7 +165,7 @@ pub(crate) fn tcpclkit<'a>(alloc: Global) -> Result<Command<'a>, AllocError>
     four.subcommand(pack)
 }
 
-/// The command `tcpclkit` without its tools.
+/// Makes the command `tcpclkit` without its tools.
 fn program<'a>(alloc: Global) -> Command<'a>
     ensures { app_of result ≡ record { top = program; subs = [] } }
 {
@@ -176,7 +176,7 @@ fn program<'a>(alloc: Global) -> Command<'a>
         .subcommand_required(true)
 }
 
-/// The tool `list`.
+/// Makes the command of the tool `list`.
 #[tactic(auto, using(crate::proofs::Builds::tools), unfolding(crate::specs::Table::list_words))]
 fn list_command<'a>(alloc: Global) -> Result<Command<'a>, AllocError>
     ensures { IfOk result (IsTool list_words) }
@@ -184,7 +184,7 @@ fn list_command<'a>(alloc: Global) -> Result<Command<'a>, AllocError>
     tool(alloc, "list", LIST_ABOUT, LIST_HELP).arg(file(alloc))
 }
 
-/// The tool `unpack`.
+/// Makes the command of the tool `unpack`.
 fn unpack_command<'a>(alloc: Global) -> Result<Command<'a>, AllocError>
     ensures { IfOk result (IsTool unpack_words) }
 {
@@ -194,7 +194,7 @@ fn unpack_command<'a>(alloc: Global) -> Result<Command<'a>, AllocError>
     two.arg(file(alloc))
 }
 
-/// Adds the options of `unpack` for the data that is written.
+/// Adds the options of `unpack` that select the data: `--transfer` and `--payload`.
 fn with_selection<'a>(alloc: Global, tool: Command<'a>) -> Result<Command<'a>, AllocError>
     ensures { IfOk result (AddsRules (
         number (codes "transfer") any_u64
@@ -210,7 +210,7 @@ fn with_selection<'a>(alloc: Global, tool: Command<'a>) -> Result<Command<'a>, A
     one.arg(payload)
 }
 
-/// The tool `blocks`.
+/// Makes the command of the tool `blocks`.
 fn blocks_command<'a>(alloc: Global) -> Result<Command<'a>, AllocError>
     ensures { IfOk result (IsTool blocks_words) }
 {
@@ -220,7 +220,7 @@ fn blocks_command<'a>(alloc: Global) -> Result<Command<'a>, AllocError>
     two.arg(file(alloc))
 }
 
-/// Adds the options of `blocks` for recordings.
+/// Adds the options of `blocks` for recordings: `--transfer` and `--keep-going`.
 fn with_shown<'a>(alloc: Global, tool: Command<'a>) -> Result<Command<'a>, AllocError>
     ensures { IfOk result (AddsRules (
         number (codes "transfer") any_u64
@@ -235,7 +235,7 @@ fn with_shown<'a>(alloc: Global, tool: Command<'a>) -> Result<Command<'a>, Alloc
     one.arg(keep_going(alloc))
 }
 
-/// The tool `check`.
+/// Makes the command of the tool `check`.
 fn check_command<'a>(alloc: Global) -> Result<Command<'a>, AllocError>
     ensures { IfOk result (IsTool check_words) }
 {
@@ -271,7 +271,7 @@ fn with_judged<'a>(alloc: Global, tool: Command<'a>) -> Result<Command<'a>, Allo
     two.arg(transfer)
 }
 
-/// The tool `pack`.
+/// Makes the command of the tool `pack`.
 #[tactic(auto, using(crate::proofs::Builds::tools), unfolding(crate::specs::Table::pack_words))]
 fn pack_command<'a>(alloc: Global) -> Result<Command<'a>, AllocError>
     ensures { IfOk result (IsTool pack_words) }
@@ -328,7 +328,7 @@ fn with_form<'a>(alloc: Global, tool: Command<'a>) -> Result<Command<'a>, AllocE
     two.arg(file(alloc))
 }
 
-/// The option `--transfer` of `unpack` and `blocks`.
+/// Makes the argument for the option `--transfer` of `unpack` and `blocks`.
 fn transfer<'a>(alloc: Global, help: &'a str) -> Arg<'a>
     ensures { HasRule (number (codes "transfer") any_u64) result }
 {
@@ -336,7 +336,7 @@ fn transfer<'a>(alloc: Global, help: &'a str) -> Arg<'a>
     transfer.value_name("ID")
 }
 
-/// The flag `--keep-going` of `unpack` and `blocks`.
+/// Makes the argument for the flag `--keep-going` of `unpack` and `blocks`.
 fn keep_going<'a>(alloc: Global) -> Arg<'a>
     ensures { HasRule (flag (codes "keep-going")) result }
 {
@@ -347,7 +347,7 @@ fn keep_going<'a>(alloc: Global) -> Arg<'a>
     )
 }
 
-/// The flag `--bundles` of `blocks` and `check`.
+/// Makes the argument for the flag `--bundles` of `blocks` and `check`.
 fn bundles<'a>(alloc: Global) -> Arg<'a>
     ensures { HasRule (flag (codes "bundles")) result }
 {
@@ -358,7 +358,7 @@ fn bundles<'a>(alloc: Global) -> Arg<'a>
     )
 }
 
-/// The option `--node` of `pack`.
+/// Makes the argument for the option `--node` of `pack`.
 fn node<'a>(alloc: Global) -> Arg<'a>
     ensures { HasRule (record (option (codes "node")) { required = true }) result }
 {
@@ -371,7 +371,7 @@ fn node<'a>(alloc: Global) -> Arg<'a>
     node.required(true)
 }
 
-/// The option `--keepalive` of `pack`.
+/// Makes the argument for the option `--keepalive` of `pack`.
 fn keepalive<'a>(alloc: Global) -> Arg<'a>
     ensures { HasRule (number_or (codes "keepalive") any_u16 (codes "60")) result }
 {
@@ -384,7 +384,7 @@ fn keepalive<'a>(alloc: Global) -> Arg<'a>
     keepalive.default_value("60")
 }
 
-/// The option `--segment-mru` of `pack`.
+/// Makes the argument for the option `--segment-mru` of `pack`.
 fn segment_mru<'a>(alloc: Global) -> Arg<'a>
     ensures { HasRule (number_or (codes "segment-mru") any_u64 (codes "65536")) result }
 {
@@ -397,7 +397,7 @@ fn segment_mru<'a>(alloc: Global) -> Arg<'a>
     segment_mru.default_value("65536")
 }
 
-/// The option `--transfer-mru` of `pack`.
+/// Makes the argument for the option `--transfer-mru` of `pack`.
 fn transfer_mru<'a>(alloc: Global) -> Arg<'a>
     ensures { HasRule (number_or (codes "transfer-mru") any_u64 (codes "1048576")) result }
 {
@@ -410,7 +410,7 @@ fn transfer_mru<'a>(alloc: Global) -> Arg<'a>
     transfer_mru.default_value("1048576")
 }
 
-/// The option `--peer-segment` of `pack`.
+/// Makes the argument for the option `--peer-segment` of `pack`.
 fn peer_segment<'a>(alloc: Global) -> Arg<'a>
     ensures { HasRule (number_or (codes "peer-segment") one_or_more (codes "65536")) result }
 {
@@ -423,7 +423,7 @@ fn peer_segment<'a>(alloc: Global) -> Arg<'a>
     peer_segment.default_value("65536")
 }
 
-/// The option `--peer-transfer` of `pack`.
+/// Makes the argument for the option `--peer-transfer` of `pack`.
 fn peer_transfer<'a>(alloc: Global) -> Arg<'a>
     ensures { HasRule (
         number_or (codes "peer-transfer") any_u64 (codes "18446744073709551615")) result }
@@ -437,14 +437,14 @@ fn peer_transfer<'a>(alloc: Global) -> Arg<'a>
     peer_transfer.default_value("18446744073709551615")
 }
 
-/// A tool without its arguments; `about` and `help` are texts of its `--help`.
+/// Makes a tool without its arguments; `about` and `help` are texts of its `--help`.
 fn tool<'a>(alloc: Global, name: &'a str, about: &'a str, help: &'a str) -> Command<'a>
     ensures { IsTool (tool name.entry.now []) result }
 {
     Command::new(alloc, name).about(about).after_help(help)
 }
 
-/// The argument `[FILE]`.
+/// Makes the argument `[FILE]`.
 fn file<'a>(alloc: Global) -> Arg<'a>
     ensures { HasRule file result }
 {
@@ -453,7 +453,7 @@ fn file<'a>(alloc: Global) -> Arg<'a>
         .help("The file to read; `-` or no FILE is standard input")
 }
 
-/// A flag `--NAME`.
+/// Makes a flag `--NAME`.
 fn flag<'a>(alloc: Global, name: &'a str, help: &'a str) -> Arg<'a>
     ensures { HasRule (flag name.entry.now) result }
 {
@@ -463,7 +463,7 @@ fn flag<'a>(alloc: Global, name: &'a str, help: &'a str) -> Arg<'a>
         .help(help)
 }
 
-/// An option `--NAME VALUE`; `value` is the word for its value in the help text.
+/// Makes an option `--NAME VALUE`; `value` is the word for its value in the help text.
 fn option<'a>(alloc: Global, name: &'a str, value: &'a str, help: &'a str) -> Arg<'a>
     ensures { HasRule (option name.entry.now) result }
 {
@@ -473,7 +473,7 @@ fn option<'a>(alloc: Global, name: &'a str, value: &'a str, help: &'a str) -> Ar
         .help(help)
 }
 
-/// An option `--NAME N`, whose value is a number in this range.
+/// Makes an option `--NAME N`, whose value is a number in this range.
 fn number<'a>(alloc: Global, name: &'a str, range: ValueParser<'a>, help: &'a str) -> Arg<'a>
     ensures { HasRule (number name.entry.now range.entry) result }
 {

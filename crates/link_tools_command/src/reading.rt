@@ -46,7 +46,7 @@ pub fn options(alloc: Global, words: &[String]) -> Result<Invocation, UsageFault
     }
 }
 
-/// The invocation that the matches of the program ask for.
+/// The invocation that the matches of the program ask for. They always have a tool.
 fn invocation(alloc: Global, matches: &ArgMatches<'_>) -> Result<Invocation, UsageFault>
     requires { NamesTool (subcommand_rows_of matches.now) }
     ensures ok { IfOk result (IsInvokedByTool (subcommand_rows_of matches.now)) }
@@ -89,7 +89,7 @@ fn options_of(name: &str, tool: &ArgMatches<'_>) -> Result<Options, UsageFault>
     }
 }
 
-/// The value of FILE, if there is one.
+/// A copy of the value of FILE, if there is one. The error is a lack of memory.
 fn file(alloc: Global, tool: &ArgMatches<'_>) -> Result<Option<String>, AllocError>
     ensures { IfOk result (λ file. option_map string_bytes file
         ≡ first_of (codes "file") (rows_of (found_of tool.now))) }
@@ -197,7 +197,7 @@ fn keepalive(tool: &ArgMatches<'_>) -> u16
     tool.get_one::<u16>("keepalive").unwrap_or(0)
 }
 
-/// The value of a numeric option that has a default.
+/// The value of a numeric option. It has a default, so the matches always have a value.
 #[tactic(auto, unfolding(crate::specs::Invoked::number_of))]
 fn number_of(tool: &ArgMatches<'_>, name: &str) -> u64
     ensures { result ≡ number_of (2 ^ 64) name.now (rows_of (found_of tool.now)) }
@@ -205,7 +205,7 @@ fn number_of(tool: &ArgMatches<'_>, name: &str) -> u64
     number_in(tool, name).unwrap_or(0)
 }
 
-/// The value of a numeric option, if it has one.
+/// The value of a numeric option, or `None` if it was not given.
 fn number_in(tool: &ArgMatches<'_>, name: &str) -> Option<u64>
     ensures { result ≡ number_in (2 ^ 64) name.now (rows_of (found_of tool.now)) }
 {
@@ -223,7 +223,7 @@ fn is_set(tool: &ArgMatches<'_>, name: &str) -> bool
     }
 }
 
-/// The value of an argument as text, if it has one.
+/// The value of an argument as text, or `None` if it has none.
 #[tactic(auto, using(crate::proofs::Numbers::texts))]
 fn text<'a>(tool: &ArgMatches<'a>, name: &str) -> Option<&'a str>
     ensures { option_map (λ text. text.now) result

@@ -10,7 +10,7 @@ use Rattle.link_tools.specs.Options.{AfterJob}
 use Rattle.link_tools.specs.declared.options.Job.{Job}
 use Rattle.tcpclkit.specs.Ending.{answer_after_flush}
 
--- `first` is a prefix of the bytes `all`, if these are known
+-- `first` is a prefix of `all`, the bytes of a device, if these are known
 abbrev pub AreFirst : (all first : Option (List ℕ)) → Type 0
 AreFirst all first = (count : ℕ) × Keeps (option_map (take count) all) first
 

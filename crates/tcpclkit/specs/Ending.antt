@@ -40,12 +40,12 @@ ending_text (Answer answer) = exit_text answer
 abbrev pub status_after : (status : ℕ) → (written : Bool) → ℕ
 status_after status written = if not written && status == 0 then 4 else status
 
--- whether the input is a named file: `-`, or no name, is standard input
+-- whether a value of FILE names a file: `-`, or no value, is standard input
 abbrev pub names_a_file : Option (List ℕ) → Bool
 names_a_file None = false
 names_a_file (Some name) = not (bytes_eq name (codes "-"))
 
--- The words ask for this tool, and for this input: a file, or else standard input.
+-- The words ask for this tool, and for its input: a file if `is_file`, or else standard input.
 abbrev pub AskFor : (words : List (List ℕ)) → Job → (is_file : Bool) → Type 0
 AskFor words job is_file =
     (invocation : Invocation) × IsInvoked words invocation × (options_of job ≡ invocation.options)

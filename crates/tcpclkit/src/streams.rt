@@ -168,7 +168,7 @@ fn handed_on_after<W: OutDevice, E: Write + Drop>(
 
 /// Hands on what waits, and returns the device below.
 ///
-/// If not all of it was handed on, the device has failed.
+/// If not all of it was handed on, the `failed` of the device returns true.
 fn handed_on<W: Write + Drop>(writer: TextWriter<Writer<W>>) -> Writer<W>
     ensures { HandsOn (⟦<TextWriter<Writer<W>> as OutDevice>⟧.state writer)
         (⟦<Writer<W> as OutDevice>⟧.state result) }

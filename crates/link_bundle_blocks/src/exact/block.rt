@@ -151,8 +151,8 @@ pub fn check_field_at(kind: CheckKind, check: Check, bytes: &[u8]) -> Result<usi
 ///
 /// # Errors
 ///
-/// `Cut` if the bytes end inside a head, `BadHead` at offset 0 if they begin with no well-formed
-/// head, and `NoPayloadLast` at offset 0 for any other head than the break.
+/// `Cut` if the bytes end inside a head. At offset 0, `BadHead` if they begin with no well-formed
+/// head, and `NoPayloadLast` if they begin with another head than the break.
 #[tactic(auto, unfolding(crate::specs::Reading::row_at, link_bundle_heads::specs::Rows::closing))]
 pub fn break_at(bytes: &[u8]) -> Result<usize, PartFault>
     ensures { passed_of result ≡ row_at row.closing bytes.now 0 }

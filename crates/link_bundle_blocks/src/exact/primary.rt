@@ -31,7 +31,7 @@ pub const OPENING: u8 = 0x9f;
 /// The fields before the first fault of a primary block, and the fault.
 type Known<'a> = (PrimaryView<'a>, PartFault);
 
-/// A block no field of which was read.
+/// A block of which no field was read.
 fn no_fields<'a>() -> PrimaryBlock<'a>
     ensures { viewed_primary result ≡ no_primary }
 {
@@ -67,7 +67,7 @@ fn after<'a, T>(
     }
 }
 
-/// Reads the first byte of a bundle.
+/// Reads the first byte of a bundle, and returns the offset after it.
 #[tactic(auto, using(std::proofs::lemmas::List::nil_from_length, std::proofs::lemmas::Slice::first_rest), unfolding(crate::specs::Bundle::opening_at))]
 fn opening_at(bytes: &[u8]) -> Result<usize, PartFault>
     ensures read { passed_of result ≡ opening_at bytes.now }
@@ -165,7 +165,7 @@ fn primary_elements(bytes: &[u8], offset: usize) -> Result<(PrimaryBlock<'_>, us
     Ok((block, offset))
 }
 
-/// Reads the check field of the block, if it has one, and returns the offset after it.
+/// Reads the check field, if any, and returns the offset after it. The block begins at offset 1.
 #[tactic(auto, unfolding(crate::specs::CheckField::field_at))]
 fn field_at(check: Option<CheckKind>, bytes: &[u8], offset: usize) -> Result<usize, PartFault>
     ensures { passed_of result ≡ field_at check 1 bytes.now offset }
