@@ -27,8 +27,7 @@ no_block =
       data_seen = 0;
     }
 
--- a canonical block, of whose data that many bytes are there; the length of one that is not whole
--- is 0
+-- a canonical block, of whose data `seen` bytes are there; its length is 0 if it is not whole
 abbrev pub canonical_shown : CanonicalBlock → (seen : ℕ) → BlockNumbers
 canonical_shown block seen =
     record {
@@ -56,7 +55,7 @@ block_shown (PrimaryOf primary check end) =
     }
 block_shown (CanonicalOf block) = canonical_shown block block.data_length
 
--- the block in whose data or check field that many bytes of a bundle end, or no block
+-- the block in whose data or check field the first `count` bytes of a bundle end, or no block
 abbrev pub cut_shown : (count : ℕ) → Option CanonicalBlock → BlockNumbers
 cut_shown count None = no_block
 cut_shown count (Some block) =

@@ -23,6 +23,7 @@ abbrev pub fault_of : Result BundleInfo (BundleFault × ℕ) → Fault
 fault_of (Ok info) = no_fault
 fault_of (Err (fault, offset)) = bundle_fault fault offset
 
+-- the fault of a verdict, and the offset and the number of the payload's bytes, if they are known
 abbrev pub with_span : Fault → Option (ℕ × ℕ) → Verdict
 with_span fault None =
     record { fault = fault; has_payload = 0; payload_offset = 0; payload_seen = 0 }
@@ -64,7 +65,8 @@ abbrev pub name_or_none : Option Eid → List ℕ
 name_or_none None = []
 name_or_none (Some eid) = name_of eid
 
--- the endpoint ID that has these numbers and this name; only one of dtn has a name
+-- The endpoint ID with these numbers, or `None` if no kind of endpoint ID has them. The name is
+-- read only for kind 2, a name of dtn: its length is as the numbers say, and at most 1,024.
 abbrev pub eid_by : EidNumbers → List ℕ → Option Eid
 eid_by eid name =
     if eid.kind == 1 then Some DtnNone
@@ -78,8 +80,8 @@ abbrev pub viewed_option : Option EidView → Option Eid
 viewed_option None = None
 viewed_option (Some view) = Some (viewed_eid view)
 
--- Bytes that are no good bundle: the fields of its primary block up to the first fault. Each field
--- after the fault is 0.
+-- Bytes that are no good bundle, as numbers: the fields of their primary block up to the first
+-- fault. Each field after the fault is 0.
 abbrev pub primary_shown : Verdict → PrimaryFields → Bundle
 primary_shown verdict primary =
     record {

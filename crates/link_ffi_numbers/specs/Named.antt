@@ -9,7 +9,7 @@ use Rattle.link_wire.specs.declared.fault.WireFault.TheVariants as wire
 use Rattle.link_ffi_numbers.specs.declared.named.Named.{Named}
 use Rattle.link_ffi_numbers.specs.declared.named.Named.TheVariants as named
 
--- the fault of a recording that has this code and this number
+-- the fault of a recording with this code, or `None`; only codes 3 to 6 look at the number
 abbrev pub wire_by : ℕ → ℕ → Option WireFault
 wire_by code number =
     if code == 1 then Some wire.Truncated
@@ -22,7 +22,7 @@ wire_by code number =
     else if code == 8 then Some wire.ItemsOverrun
     else None
 
--- the fault of the order of messages that has this code
+-- the fault of the order of messages that has this code, or `None`
 abbrev pub order_by : ℕ → Option OrderFault
 order_by code =
     if code == 51 then Some order.SecondSessInit
@@ -32,7 +32,7 @@ order_by code =
     else if code == 55 then Some order.StartAfterSessTerm
     else None
 
--- the fault of a bundle that has this code
+-- the fault of a bundle with this code, or `None`; `WrongKind` for 105, which three faults share
 abbrev pub bundle_by : ℕ → Option BundleFault
 bundle_by code =
     if code == 101 then Some Cut
@@ -54,7 +54,7 @@ bundle_by code =
     else if code == 117 then Some NoPayloadLast
     else None
 
--- the fault that has this code and this number
+-- the fault that has this code and this number, or `None` if no fault has them
 abbrev pub named_by : ℕ → ℕ → Option Named
 named_by code number =
     if nat_lt code 51 then option_map named.Wire (wire_by code number)

@@ -39,6 +39,7 @@ pub record IsSegment (flags id : ℕ) (it : numbers.Message) : Type 0 where
   pub same_id : it.id ≡ id
   pub byte : flags ≤ 255
 
+-- the message has these numbers, as far as the order depends on them
 abbrev pub HasNumbers : Message → numbers.Message → Type 0
 HasNumbers (message.SessInit interval segment_mru transfer_mru node items) it = IsKind 7 it
 HasNumbers (message.Segment head) it = IsSegment head.flags head.id it
@@ -67,7 +68,7 @@ turn_shown Other = no_turn
 turn_shown (Begin transfer last) = begin_shown transfer last
 turn_shown (Continue last) = record no_turn { turn = 2; last = bit last }
 
--- the open transfer of these numbers
+-- the open transfer of these numbers; `transfer` is read only if `is_open` is 1
 abbrev pub transfer_by : (is_open transfer : ℕ) → Option ℕ
 transfer_by is_open transfer = if is_open == 1 then Some transfer else None
 
@@ -90,7 +91,7 @@ ReturnsTurn (Ok turn) answer status = (status ≡ 0) × (answer ≡ turn_shown t
 ReturnsTurn (Err fault) answer status =
     (status ≡ 4) × (answer ≡ record no_turn { fault = order_code fault })
 
--- what a message does that was taken, as numbers; a stray segment does nothing
+-- what a message does that was taken, as numbers; a stray segment does nothing and has `turn` 3
 abbrev pub effect_shown : Option effect.Turn → Turn
 effect_shown (Some turn) = turn_shown turn
 effect_shown None = record no_turn { turn = 3 }

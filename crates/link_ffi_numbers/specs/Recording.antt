@@ -59,7 +59,7 @@ nothing =
 abbrev pub no_message : Fault → Message
 no_message fault = record nothing { fault = fault }
 
--- the kind and the numbers of a message, without its places; no byte of its data is counted
+-- the kind and the numbers of a message, without where its parts lie and how much data is there
 abbrev pub fields_shown : Fields → Message
 fields_shown (SessInit interval segment_mru transfer_mru) =
     record nothing {
@@ -82,7 +82,7 @@ fields_shown (MsgReject reason header) =
 abbrev pub nowhere : Span
 nowhere = record { offset = 0; length = 0 }
 
--- where the node ID of a message is, and where its items are
+-- where the node ID of a message is, and where its items are; a message without them has `nowhere`
 abbrev pub node_of : Fields → Span → Span
 node_of (SessInit interval segment_mru transfer_mru) node = node
 node_of _ node = nowhere
@@ -101,8 +101,8 @@ abbrev pub data_fault : (size offset : ℕ) → MessageAt → Fault
 data_fault size offset found =
     if nat_le (size_of found) (size - found.end) then no_fault else wire_fault Truncated offset
 
--- A message at this offset among this many bytes, with its places. If its data is cut, the next
--- message begins after all of it, past the bytes. Numbers stop at 2^64 - 1.
+-- The message at `offset` among `size` bytes, with the offsets of its parts. If its data is cut,
+-- the next message begins after all of it, past the bytes. Numbers stop at 2^64 - 1.
 abbrev pub message_shown : (size offset : ℕ) → MessageAt → Message
 message_shown size offset found =
     record (fields_shown found.fields) {
@@ -170,7 +170,7 @@ no_item fault =
       next = 0;
     }
 
--- an item with its places
+-- an item with the offset of its value
 abbrev pub item_shown : ItemAt → Item
 item_shown found =
     record {

@@ -95,7 +95,7 @@ fn canonical_shown(block: &CanonicalBlock, data_seen: u64) -> BlockNumbers
     }
 }
 
-/// The numbers of a block, if there is one.
+/// The numbers of a block, or of no block.
 pub fn block_numbers(block: Option<BlockView<'_>>) -> BlockNumbers
     ensures { result ≡ first_shown (viewed_blocks block.entry) }
 {
@@ -106,7 +106,7 @@ pub fn block_numbers(block: Option<BlockView<'_>>) -> BlockNumbers
     }
 }
 
-/// The numbers of the block in whose data or check field the first `count` bytes of a bundle end.
+/// The numbers of the block, if any, in whose data or check field the first `count` bytes end.
 pub fn cut_numbers(count: u64, block: Option<CanonicalBlock>) -> BlockNumbers
     ensures { result ≡ cut_shown count block }
 {

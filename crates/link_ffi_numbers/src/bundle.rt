@@ -162,7 +162,7 @@ fn eid_shown(eid: &EidView<'_>) -> EidNumbers
     }
 }
 
-/// The kind and the numbers of an endpoint ID, if there is one.
+/// The kind and the numbers of an endpoint ID, or of no endpoint ID.
 fn eid_or_none(eid: &Option<EidView<'_>>) -> EidNumbers
     ensures { result ≡ eid_or_none (option_map viewed_eid eid.now) }
 {
@@ -184,7 +184,8 @@ impl EidNumbers {
     }
 }
 
-/// The endpoint ID that has these numbers and this name; only one of dtn has a name.
+/// The endpoint ID with these numbers, or `None` if no kind of endpoint ID has them. `name` is read
+/// only for kind 2, a name of dtn.
 pub fn eid_by<'a>(eid: &EidNumbers, name: &'a [u8]) -> Option<EidView<'a>>
     ensures view { viewed_option result ≡ eid_by eid.now name.now }
     ensures short { IfSome result (λ view. IsShort (viewed_eid view)) }

@@ -18,7 +18,7 @@ pub enum Named {
     Bundle(BundleFault),
 }
 
-/// The fault of a recording that has this code and this number.
+/// The fault of a recording with this code, or `None`. Only codes 3 to 6 look at the number.
 fn wire_by(code: u64, number: u64) -> Option<WireFault>
     ensures { result ≡ wire_by code number }
 {
@@ -35,7 +35,7 @@ fn wire_by(code: u64, number: u64) -> Option<WireFault>
     }
 }
 
-/// The fault of the order of messages that has this code.
+/// The fault of the order of messages that has this code, or `None`.
 fn order_by(code: u64) -> Option<OrderFault>
     ensures { result ≡ order_by code }
 {
@@ -49,7 +49,7 @@ fn order_by(code: u64) -> Option<OrderFault>
     }
 }
 
-/// The fault of a bundle that has this code.
+/// The fault of a bundle with this code, or `None`: `WrongKind` for 105, which three faults share.
 fn bundle_by(code: u64) -> Option<BundleFault>
     ensures { result ≡ bundle_by code }
 {
@@ -75,7 +75,7 @@ fn bundle_by(code: u64) -> Option<BundleFault>
     }
 }
 
-/// The fault that has this code and this number.
+/// The fault that has this code and this number, or `None` if no fault has them.
 pub fn named_by(code: u64, number: u64) -> Option<Named>
     ensures { result ≡ named_by code number }
 {

@@ -41,7 +41,7 @@ pub struct Turn {
     pub abandoned: u64,
 }
 
-/// The event of a message with these numbers; no other kind is 7, 5 or 1.
+/// The event of a message with these numbers: 7 is SESS_INIT, 5 is SESS_TERM, 1 is XFER_SEGMENT.
 pub fn event_by(message: &recording::Message) -> Event
     requires { message.now.flags ≤ 255 }
     ensures { result ≡ event_by message.now }
@@ -181,7 +181,7 @@ pub fn judge(order: &mut Order, event: Event, answer: &mut Turn) -> u32
     }
 }
 
-/// What a message does that was taken, as numbers; a stray segment does nothing.
+/// What a message does that was taken, as numbers; a stray segment does nothing and has `turn` 3.
 fn effect_shown(effect: Option<Effect>) -> Turn
     ensures { result ≡ effect_shown effect }
 {
@@ -194,7 +194,7 @@ fn effect_shown(effect: Option<Effect>) -> Turn
     }
 }
 
-/// The code of a fault of the order, or 0, and the status.
+/// The code of a fault of the order, or 0, and the status: `FAULT`, or `OK`.
 fn fault_shown(fault: Option<OrderFault>) -> (u64, u32)
     ensures { result ≡ fault_shown fault }
 {
@@ -225,7 +225,7 @@ pub fn take(order: &mut Order, event: Event, answer: &mut Turn) -> u32
     status
 }
 
-/// Whether these are the kind and the flags of a message, and the bits of a session.
+/// Whether the kind and the flags are those of a message, and the bits of `order` are 0 or 1.
 pub fn is_in_range(order: &Order, message: &recording::Message) -> bool
     ensures { result ≡ is_in_range order.now message.now }
 {

@@ -130,7 +130,7 @@ fn of_reason(kind: u64, reason: u8) -> Message
     }
 }
 
-/// The kind and the numbers of a message, without its places; no byte of its data is counted.
+/// The kind and the numbers of a message, without where its parts lie and how much data is there.
 fn fields_shown(fields: Fields) -> Message
     ensures { result ≡ fields_shown fields }
 {
@@ -173,7 +173,7 @@ fn fields_shown(fields: Fields) -> Message
     }
 }
 
-/// The place of what a message does not have.
+/// Where a part lies that the message does not have.
 const NOWHERE: Span = Span {
     offset: 0,
     length: 0,
@@ -191,9 +191,10 @@ fn places_of(found: &MessageAt) -> (Span, Span)
     }
 }
 
-/// A message as numbers, and whether its data is there; `size` is the number of the bytes.
+/// The message at `offset` among `size` bytes as numbers, and the status.
 ///
-/// If the data is cut, the message has the fault of a message at this offset.
+/// The status is `OK`. If the bytes end inside the data, it is `DATA_TRUNCATED`, and the message
+/// has the fault `Truncated`.
 pub fn shown(found: &MessageAt, size: usize, offset: u64) -> (Message, u32)
     requires { found.now.end ≤ size }
     ensures message { result.0 ≡ message_shown size offset found.now }

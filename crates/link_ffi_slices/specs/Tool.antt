@@ -25,8 +25,8 @@ texts_status wants output_fits report_fits =
 
 -- Each slice begins with its text, or has the text's first bytes if it is too small. The bytes
 -- after the text are as they were. The lengths are those of the whole texts; they stop at the
--- greatest number of 64 bits. The exit status is that of the run. No status is returned but
--- TCPCLKIT_OK and TCPCLKIT_TOO_SMALL.
+-- greatest number of 64 bits. The exit status is that of the run. The status that is returned is
+-- TCPCLKIT_OK or TCPCLKIT_TOO_SMALL.
 pub record TextsReturned (whole : Outcome) (wants : Wants)
     (old_output old_report output report : List ℕ)
     (run : Run)

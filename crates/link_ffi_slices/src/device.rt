@@ -90,8 +90,8 @@ impl<'a> SliceWriter<'a> {
 }
 
 impl OutDevice for SliceWriter<'_> {
-    /// What is written begins with a label of the slice. No contract of a run says that a device
-    /// which it returns still has the slice of the one which it was given. The label shows it.
+    /// What is written begins with a label of the slice. A run returns its devices, but no contract
+    /// says that they still have the same slices. The label shows it.
     ghost state = { λ w. record {
       written = Some (labelled w.room.ghost_name w.history.before w.history.text);
       failed = false;

@@ -115,7 +115,7 @@ fn switch_fits(is_set: u64, number: u64) -> bool
     is_set == 1 || (is_set == 0 && number == 0)
 }
 
-/// The options of `unpack` that these words are.
+/// The options of `unpack` that these words encode.
 fn unpack_numbers(words: &[u64]) -> UnpackNumbers
     ensures { result ≡ unpack_numbers words.now }
 {
@@ -147,7 +147,7 @@ fn wanted_of(numbers: &UnpackNumbers) -> Wanted
     }
 }
 
-/// The `Wanted` that the words encode, if each option is in its range.
+/// The `Wanted` that the words encode, or `None` if an option is out of its range.
 pub fn wanted_in(words: &[u64]) -> Option<Wanted>
     ensures { result ≡ wanted_in words.now }
 {
@@ -159,7 +159,7 @@ pub fn wanted_in(words: &[u64]) -> Option<Wanted>
     }
 }
 
-/// The options of `blocks` that these words are.
+/// The options of `blocks` that these words encode.
 fn blocks_numbers(words: &[u64]) -> BlocksNumbers
     ensures { result ≡ blocks_numbers words.now }
 {
@@ -173,7 +173,7 @@ fn blocks_numbers(words: &[u64]) -> BlocksNumbers
 
 /// Whether the options of `blocks` are in their ranges.
 ///
-/// Bundles that are no recording have neither transfers nor an order of messages.
+/// With `bundles`, the options for a recording have to be 0.
 fn blocks_numbers_fit(numbers: &BlocksNumbers) -> bool
     ensures { result ≡ blocks_numbers_fit numbers.now }
 {
@@ -196,7 +196,7 @@ fn blocks_of(numbers: &BlocksNumbers) -> Reading
     })
 }
 
-/// `blocks` with the options that the words encode, if each is in its range.
+/// `blocks` with the options that the words encode, or `None` if one is out of its range.
 pub fn blocks_in(words: &[u64]) -> Option<Reading>
     ensures { result ≡ blocks_in words.now }
 {
@@ -208,7 +208,7 @@ pub fn blocks_in(words: &[u64]) -> Option<Reading>
     }
 }
 
-/// The options of `check` that these words are.
+/// The options of `check` that these words encode.
 fn check_numbers(words: &[u64]) -> CheckNumbers
     ensures { result ≡ check_numbers words.now }
 {
@@ -224,7 +224,7 @@ fn check_numbers(words: &[u64]) -> CheckNumbers
 
 /// Whether the options of `check` are in their ranges.
 ///
-/// Bundles that are no recording have no peer.
+/// With `bundles`, no limit of the peer may be set.
 fn check_numbers_fit(numbers: &CheckNumbers) -> bool
     ensures { result ≡ check_numbers_fit numbers.now }
 {
@@ -260,7 +260,7 @@ fn check_of(numbers: &CheckNumbers) -> Reading
     Reading::Check(check_options_of(numbers))
 }
 
-/// `check` with the options that the words encode, if each is in its range.
+/// `check` with the options that the words encode, or `None` if one is out of its range.
 pub fn check_in(words: &[u64]) -> Option<Reading>
     ensures { result ≡ check_in words.now }
 {
@@ -272,7 +272,7 @@ pub fn check_in(words: &[u64]) -> Option<Reading>
     }
 }
 
-/// The options of `pack` that these words are.
+/// The options of `pack` that these words encode.
 pub fn pack_numbers(words: &[u64]) -> PackNumbers
     ensures { result ≡ pack_numbers words.now }
 {

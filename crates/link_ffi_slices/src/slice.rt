@@ -25,7 +25,7 @@ fn copy_at(slice: &mut [u8], at: usize, bytes: &[u8])
     copy_front(&mut slice[at..], bytes);
 }
 
-/// Copies the bytes of a text that follow its first `count` ones, as far as there is room.
+/// Copies the bytes of a text that come after its first `count` bytes, as far as there is room.
 #[tactic(auto, using(crate::proofs::Overlays::after_piece))]
 pub fn copy_after(slice: &mut [u8], count: u64, bytes: &[u8])
     ensures { (before text : List ℕ) → slice.old ≡ overlaid before text

@@ -14,7 +14,7 @@ use crate::reading::Reading;
 use crate::running::{Run, Wants, run_into};
 use link_ffi_numbers::status::RANGE;
 
-/// `list`.
+/// Runs `list` over the bytes. Returns `OK` or `TOO_SMALL`.
 pub fn list_into(
     bytes: &[u8],
     wants: Wants,
@@ -30,7 +30,7 @@ pub fn list_into(
     run_into(Reading::List, bytes, wants, output, report, answer)
 }
 
-/// `unpack`.
+/// Runs `unpack` over the bytes. Returns `OK`, `TOO_SMALL`, or `RANGE` for bad options.
 pub fn unpack_into(
     bytes: &[u8],
     options: &[u64],
@@ -59,7 +59,7 @@ pub fn unpack_into(
     )
 }
 
-/// `blocks`.
+/// Runs `blocks` over the bytes. Returns `OK`, `TOO_SMALL`, or `RANGE` for bad options.
 #[tactic(auto, using(crate::proofs::Runs::in_range))]
 pub fn blocks_into(
     bytes: &[u8],
@@ -82,7 +82,7 @@ pub fn blocks_into(
     run_into(reading, bytes, wants, output, report, answer)
 }
 
-/// `check`.
+/// Runs `check` over the bytes. Returns `OK`, `TOO_SMALL`, or `RANGE` for bad options.
 #[tactic(auto, using(crate::proofs::Runs::in_range))]
 pub fn check_into(
     bytes: &[u8],

@@ -9,7 +9,7 @@ pub record Input : Type 0 where
   pub held : List ℕ
 
 -- an output device: the bytes written, `None` if they are not known, whether it has failed, and
--- those of the bytes written that it no longer holds back
+-- the written bytes that it has handed on, `None` if they are not known
 pub record Output : Type 0 where
   pub written : Option (List ℕ)
   pub failed : Bool

@@ -30,8 +30,8 @@ IsLiveBy flow.Open left start end = Unit {0}
 IsLiveBy flow.Ended left start end = IsAtEnd left × (start ≡ end)
 IsLiveBy (flow.Failed fault) left start end = ⊥
 
--- The next bytes, if the window is empty: those that the reader holds, up to the limit of an input.
--- None comes after the end or a fault.
+-- The front, if the window is empty: the bytes that the reader holds, at most `most`, which is what
+-- the limit of an input leaves. It is empty after the end or a fault.
 abbrev pub held_from : Flow → (most : ℕ) → List ℕ → List ℕ
 held_from flow.Open most held = take most held
 held_from flow.Ended most held = []
@@ -104,14 +104,14 @@ module _ {R : Type 0} where
     pub ended : HasEnded source
     pub empty : IsAtEnd (look source.reader).left
 
-  -- The window after these bytes were given. Only an empty window is read into. So if a byte was
-  -- given, less than a whole window is left. If none was given, the window has not changed.
+  -- What the window is after the source gave these bytes. Only an empty window is read into. So if
+  -- a byte was given, the window is not full. If none was given, the window has not changed.
   pub record ShiftsWindow (old new : Source R) (bytes : List ℕ) : Type 0 where
     pub kept : length bytes ≡ 0 → window_of new ≡ window_of old
     pub less : 0 < length bytes → length (window_of new) < window_size
 
-  -- The caller takes bytes: from `old` to `new` these, the next of the input, were given to it, and
-  -- the reader did not fail.
+  -- From `old` to `new`, the source gave its caller these bytes, which are the next of the input,
+  -- and the reader did not fail.
   pub record Takes (look : R → Input) (old new : Source R) (bytes : List ℕ) : Type 0 where
     pub bytes_fit : AreBytes bytes
     pub next : Consumes (ahead look old) (ahead look new) bytes
@@ -136,8 +136,8 @@ module _ {R : Type 0} where
   HasCause look new io.Write past = ⊥
   HasCause look new io.Memory past = ⊥
 
-  -- from `old` to `new` these bytes, the next of the input, were given; then the source stopped at
-  -- this fault
+  -- From `old` to `new`, the source gave these bytes, the next of the input, and then stopped at
+  -- this fault. The bytes `past` were taken and not given, if the input is too long (`HasCause`).
   pub record TakesThenStops (look : R → Input) (old new : Source R) (bytes : List ℕ)
       (fault : IoFault) : Type 0 where
     pub bytes_fit : AreBytes bytes
@@ -149,7 +149,7 @@ module _ {R : Type 0} where
     pub device : fault ≡ io.InputTooLong → (look new.reader).failed ≡ (look old.reader).failed
     pub failed : HasFailed new fault
 
-  -- The result of `ready`: the window has some bytes, or the input is over.
+  -- `ready` returned `n`: the window has `n` bytes; if `n` is 0, the input is over.
   pub record ReadyWindow (look : R → Input) (old new : Source R) (n : ℕ) : Type 0 where
     pub readies : Readies look old new
     pub live : IsLive look new
@@ -160,7 +160,7 @@ module _ {R : Type 0} where
   AfterReady look old new (Ok n) = ReadyWindow look old new n
   AfterReady look old new (Err fault) = TakesThenStops look old new [] fault
 
-  -- The result of `ready_front`: some bytes are at hand, or the input is over.
+  -- `ready_front` returned `n`: the front has `n` bytes; if `n` is 0, the input is over.
   pub record ReadyFront (look : R → Input) (old new : Source R) (n : ℕ) : Type 0 where
     pub readies : Readies look old new
     pub live : IsLive look new
@@ -171,7 +171,8 @@ module _ {R : Type 0} where
   AfterReadyFront look old new (Ok n) = ReadyFront look old new n
   AfterReadyFront look old new (Err fault) = TakesThenStops look old new [] fault
 
-  -- The result of one call of `some`.
+  -- `some` returned `n`: it gave the first `n` bytes of the buffer, as it is after the call. If the
+  -- buffer has room and `n` is 0, the input is over.
   pub record SomeBytes (look : R → Input) (old new : Source R)
       (buffer : List ℕ) (n : ℕ) : Type 0 where
     pub room : n ≤ length buffer
@@ -183,8 +184,8 @@ module _ {R : Type 0} where
   AfterSome look old new buffer (Ok n) = SomeBytes look old new buffer n
   AfterSome look old new buffer (Err fault) = TakesThenStops look old new [] fault
 
-  -- The result of a `fill`: the whole slice, what the input still had, or what was given before a
-  -- fault.
+  -- The cases of a `fill`: the source filled the whole slice; the input ended after `n` bytes; or
+  -- the source stopped at a fault after `count` bytes.
   pub record WholeSlice (look : R → Input) (old new : Source R) (buffer : List ℕ) : Type 0 where
     pub takes : Takes look old new buffer
     pub live : IsLive look new
@@ -206,7 +207,7 @@ module _ {R : Type 0} where
   AfterFill look old new buffer (Ok (filled.Ended n)) = EndedSlice look old new buffer n
   AfterFill look old new buffer (Err fault) = StoppedSlice look old new buffer fault
 
-  -- What each call that fills a slice ensures. The slice has `before`, and then `after`.
+  -- What each call that fills a slice ensures; `before` and `after` are the slice at its two ends.
   pub record FillsSlice (look : R → Input) (old new : Source R) (before after : List ℕ)
       (result : Result Filled IoFault) : Type 0 where
     pub gives : IsLive look old → AfterFill look old new after result

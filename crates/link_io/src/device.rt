@@ -242,7 +242,7 @@ impl<R: Read> InDevice for BufferedReader<R> {
 
 /// An output device made of a writer of std.
 ///
-/// Each error of the writer is a fault. So is a write that takes no byte of a nonempty slice.
+/// Each error of the writer is a fault. So is a write that returns 0 for a nonempty slice.
 #[derive(Drop)]
 pub struct Writer<W: Write> {
     inner: W,
@@ -271,7 +271,7 @@ impl<W: Write> Writer<W> {
 }
 
 impl<W: Write> OutDevice for Writer<W> {
-    // All that std's writer was given counts as handed on: nothing says what it holds back.
+    // All that std's writer was given counts as handed on: std does not say what it holds back.
     ghost state = { λ w. record {
       written = W.contents w.inner;
       failed = w.failed;

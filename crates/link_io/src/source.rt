@@ -111,7 +111,8 @@ impl<R: InDevice> Source<R> {
         self.given + (self.end - self.start) as u64
     }
 
-    /// Whether a call that needs more bytes than the window has may have to wait for the reader.
+    /// Whether a call that needs more bytes than the window has may have to wait for the reader. It
+    /// need not wait if the reader holds bytes, or if the window is full.
     #[inline(always)]
     pub fn may_wait(&self) -> bool
         ensures few { IsTrue result → length (window_of self.now) < window_size }
@@ -155,7 +156,7 @@ impl<R: InDevice> Source<R> {
         part(&self.window, self.start, self.end)
     }
 
-    /// The bytes of the window. If the window is empty, the bytes that the reader holds.
+    /// The bytes of the window, or, if the window is empty, the bytes that the reader holds.
     ///
     /// They come next, and lie in one piece. What the reader holds is not taken yet.
     #[inline(always)]

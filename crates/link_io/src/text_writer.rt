@@ -132,6 +132,7 @@ impl<D: OutDevice> TextWriter<D> {
     }
 
     /// Appends a text that was made elsewhere, because the page had less room than [`TEXT_MAX`].
+    /// What waits is handed on first.
     #[cold]
     #[inline(never)]
     fn write_made(&mut self, text: &[u8]) -> Result<(), IoFault>

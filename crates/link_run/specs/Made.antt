@@ -49,6 +49,7 @@ IsLasting made =
     (bytes more : List ℕ) → shows_fault (made bytes).stop ≡ true
     → shows_fault (made (bytes ++ more)).stop ≡ true
 
+-- a tool by what it makes of some bytes: its texts and its status
 abbrev pub tool_of : (List ℕ → Made) → Tool
 tool_of made = record {
   whole = λ bytes. whole_by (made bytes).stop (made bytes);

@@ -37,7 +37,8 @@ module _ {W E : Type 0} (out_look : W → Output) (report_look : E → Output) w
     pub output_sound : (out_look new.output).failed ≡ (out_look old.output).failed
     pub report_sound : (report_look new.report).failed ≡ (report_look old.report).failed
 
-  -- the output failed before all of its text was written, and nothing was written to the report
+  -- the output failed before all of its text was written, and nothing was written to the report;
+  -- the counts are the numbers of bytes that were written
   pub record LostOutput (old new : Writers W E) (texts : Texts)
       (output_count report_count : ℕ) : Type 0 where
     pub failed : (out_look new.output).failed ≡ true

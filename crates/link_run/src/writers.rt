@@ -100,7 +100,7 @@ impl<W: OutDevice, E: OutDevice> Writers<W, E> {
         write_whole(&mut self.report, &self.line)
     }
 
-    /// Writes a text to the report, in which it is made if the device has room for it.
+    /// Writes a text to the report. It is made in the report's own memory if that has room for it.
     #[inline(always)]
     pub fn report_text<T: Text>(&mut self, text: &T) -> Result<(), IoFault>
         ensures gives { AfterWrite W.state E.state self.old self.new
@@ -111,8 +111,8 @@ impl<W: OutDevice, E: OutDevice> Writers<W, E> {
         self.report.write_text(text, &mut self.page)
     }
 
-    /// Hands on what was written and is still held back, first by the output and then by the
-    /// report.
+    /// Hands on what the output still holds back, and then what the report does. If the output
+    /// fails, the report is left as it is.
     pub fn settle(&mut self) -> Result<(), IoFault>
         ensures gives { AfterSettle W.state E.state self.old self.new result }
         ensures output { OnOk result ((W.state self.new.output).handed

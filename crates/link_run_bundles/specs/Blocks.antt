@@ -9,7 +9,7 @@ abbrev pub HasReadData : DataReader → (seen : List ℕ) → Block → Type 0
 HasReadData reader seen (PrimaryOf primary check end) = Unit {0}
 HasReadData reader seen (CanonicalOf block) = IsDataReaderIn reader seen block
 
--- the bytes `seen` of a bundle were read, and end with this block
+-- the reader has read the bytes `seen` of a bundle, which end with this block
 pub record HasReadTo (reader : DataReader) (seen : List ℕ) (block : Block) : Type 0 where
   pub reading : IsDataReaderAt reader seen
   pub whole : HasReadData reader seen block

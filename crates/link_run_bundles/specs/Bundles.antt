@@ -37,7 +37,7 @@ pub record Divided : Type 0 where
 abbrev pub bundle_prefix : List ℕ → List ℕ
 bundle_prefix bytes = taken bundle_goes [] bytes
 
--- the bytes begin a bundle that goes on, and that the peer takes so far
+-- the bytes are the start of a bundle that is not whole yet, and that the peer takes so far
 pub record IsOpen (limit : ℕ) (begun : List ℕ) : Type 0 where
   pub front : bundle_prefix begun ≡ begun
   pub goes : bundle_goes begun ≡ true
@@ -47,12 +47,13 @@ abbrev pub refused_by : Result BundleInfo (BundleFault × ℕ) → Result Bundle
 refused_by (Ok info) = Ok info
 refused_by (Err (fault, offset)) = Err (Faulty fault offset)
 
--- whether they are a bundle that the peer takes, of at most `limit` bytes (RFC 9174 section 4.6)
+-- what the bundle `front` says, or why the peer does not take it (RFC 9174 section 4.6)
 abbrev pub judged_front : (limit : ℕ) → (front : List ℕ) → Result BundleInfo Refusal
 judged_front limit front =
     if nat_lt limit (length front) then Err (Longer limit) else refused_by (verdict front)
 
--- the bytes that are accepted; the byte that shows a fault is not one of them
+-- the bytes of a refused `front` that are accepted: none past the limit, and not the byte that
+-- shows a fault that lasts
 abbrev pub accepted_by : Refusal → (front : List ℕ) → List ℕ
 accepted_by (Longer limit) front = take limit front
 accepted_by (Faulty fault offset) front =
@@ -61,7 +62,7 @@ accepted_by (Faulty fault offset) front =
 abbrev pub with_bundle : Packed → Divided → Divided
 with_bundle bundle more = record { bundles = bundle ∷ more.bundles; rest = more.rest }
 
--- `next` divides the bytes after the bundle
+-- the bundle `front`, and the bytes after it as `next` divides them; or the end at a refusal
 abbrev pub divided_by : (next : List ℕ → Divided) → (front bytes : List ℕ)
     → Result BundleInfo Refusal → Divided
 divided_by next front bytes (Ok info) =

@@ -81,11 +81,11 @@ abbrev pub whole_info : Option WholeView → Option BundleInfo
 whole_info None = None
 whole_info (Some whole) = Some (viewed_info whole.info)
 
--- after these bytes, with which the bundle goes on
+-- what has come with these bytes too, after which the bundle goes on
 abbrev pub with_bytes : SoFar → (bytes : List ℕ) → SoFar
 with_bytes before bytes = record { bundles = before.bundles; begun = before.begun ++ bytes }
 
--- after these bytes, with which the bundle goes on or is whole
+-- what has come with the bytes `run` too, after which the bundle goes on or is whole
 abbrev pub with_run : SoFar → (run : List ℕ) → Option BundleInfo → SoFar
 with_run before run None = with_bytes before run
 with_run before run (Some info) = record {
@@ -96,12 +96,12 @@ with_run before run (Some info) = record {
 abbrev pub come_with : SoFar → RunView → SoFar
 come_with before run = with_run before run.bytes.now (whole_info run.whole)
 
--- what is shown of a bundle that is whole
+-- the bytes are a whole bundle, and the view has its fields and its length
 abbrev pub IsViewOf : (bundle : List ℕ) → WholeView → Type 0
 IsViewOf bundle whole =
     (verdict bundle ≡ Ok (viewed_info whole.info)) × (whole.length ≡ length bundle)
 
--- with these bytes the bundle goes on or is whole
+-- with the bytes `run` after `begun`, the bundle goes on, or is whole and has this view
 abbrev pub IsAccepted : (limit : ℕ) → (begun run : List ℕ) → Option WholeView → Type 0
 IsAccepted limit begun run None = IsOpen limit (begun ++ run)
 IsAccepted limit begun run (Some whole) = IsViewOf (begun ++ run) whole
@@ -144,8 +144,8 @@ read_by (Some whole) size = 0
 abbrev pub size_after : RunView → ℕ
 size_after run = read_by run.whole (run.before + length run.bytes.now)
 
--- Of the texts `due`, the part `had` was written before. The rest was written, and `stands` holds;
--- or a writer failed while writing it.
+-- Of the texts `due`, the part `had` was written before. Now the rest was written, and `stands`
+-- holds; or a writer failed while writing the rest.
 pub record WritesRest {W E : Type 0} (out_look : W → Output) (report_look : E → Output)
     (had due : Texts) (stands : Type 0) (old new : Writers W E)
     (result : Result (Unit {0}) IoFault) : Type 0 where

@@ -21,10 +21,11 @@ pub trait BlockConsumer {
     /// with this number.
     ghost says: { ℕ → List ℕ → List ℕ };
 
-    /// The tool's fields have what follows from the whole blocks in these bytes of a bundle.
+    /// The tool's fields agree with the whole blocks in these bytes of a bundle.
     ghost knows: { Self → List ℕ → Type 0 };
 
-    /// Writes what the tool says of a block, which has ended. Its data was read.
+    /// Writes what the tool says of a block. It has ended with the bytes `run`, which follow the
+    /// bytes `before`, and its data was read.
     fn block<W: OutDevice, E: OutDevice>(
         &mut self,
         number: u64,
@@ -53,7 +54,8 @@ pub trait BlockConsumer {
 }
 
 /// Reads the data in a run of a bundle, and tells the consumer of the block that ends with it, if
-/// one does. No block ends before. The scan has seen the run, which follows `before` bytes.
+/// one does. No block ends before. The scan has seen the run, which follows `before` bytes of the
+/// bundle (`seen`).
 #[inline(always)]
 pub fn tell_run<C: BlockConsumer, W: OutDevice, E: OutDevice>(
     number: u64,
@@ -123,7 +125,8 @@ fn tell_ended<C: BlockConsumer, W: OutDevice, E: OutDevice>(
 
 /// Scans the next piece of a bundle, and tells the consumer of each block that ends in it.
 ///
-/// The piece comes after the first `before` bytes of the bundle. The scan may need no more bytes.
+/// The piece comes after the first `before` bytes of the bundle (`seen`). If the scan needs no more
+/// bytes, no block ends in it.
 pub fn tell_piece<C: BlockConsumer, W: OutDevice, E: OutDevice>(
     number: u64,
     before: u64,

@@ -46,7 +46,7 @@ pub trait BundleConsumer: Sized {
     /// What the tool says of bundles.
     ghost telling: { Self.Options → BundleTelling };
 
-    /// Exactly this has come, and the tool's fields have what follows from it.
+    /// Exactly this has come, and the tool's fields agree with it.
     ghost knows: { Self.Options → Self → SoFar → Type 0 };
 
     /// Whether the tool may be called.
@@ -89,8 +89,8 @@ pub trait BundleConsumer: Sized {
             → WritesRest W.state E.state no_texts ((telling options.now).texts none_yet)
             (knows options.now self.new none_yet) writers.old writers.new result };
 
-    /// These bytes of the bundle with this number were accepted, and with them it goes on, or is
-    /// whole.
+    /// Takes a run of accepted bytes, with which the bundle goes on or is whole. Writes what the
+    /// tool says of them.
     fn run<W: OutDevice, E: OutDevice>(
         &mut self,
         options: &Self::Options,
@@ -111,8 +111,8 @@ pub trait BundleConsumer: Sized {
             (knows options.now self.new (come_with before run.now))
             writers.old writers.new result };
 
-    /// These bytes of the bundle with this number were accepted, and the byte after them shows a
-    /// fault. There may be none. No block ends in them if the tool is told of each block by itself.
+    /// Takes the last accepted bytes of the bundle with this number, perhaps none: the byte after
+    /// them shows a fault. No block ends in them if the tool is told of each block by itself.
     fn stop<W: OutDevice, E: OutDevice>(
         &mut self,
         options: &Self::Options,
@@ -128,7 +128,7 @@ pub trait BundleConsumer: Sized {
             ((telling options.now).texts (with_bytes before bytes.now)) (Unit {0})
             writers.old writers.new result };
 
-    /// The input has ended between two bundles.
+    /// Writes what comes after the last bundle, if the input ends between two bundles.
     fn end<W: OutDevice, E: OutDevice>(
         &mut self,
         options: &Self::Options,

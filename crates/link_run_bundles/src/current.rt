@@ -38,7 +38,7 @@ impl Current {
     ghost use Rattle.link_run_bundles.specs.Bundles.{IsOpen};
     ghost use Rattle.link_run_bundles.specs.BundleRun.{AddsSeen, IsCutFault, IsCurrentAt, AfterJudge, HasScannedPart, IsSomeViewOf, found_by};
 
-    /// Nothing of the first bundle has come.
+    /// Makes the state before the first byte of the first bundle.
     #[inline(always)]
     pub fn new() -> Current
         ensures scanned { HasScanned result.scan [] }

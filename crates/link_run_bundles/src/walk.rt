@@ -181,6 +181,7 @@ fn go_on<W: OutDevice, E: OutDevice, C: BundleConsumer>(
         }
         Found::Whole => {
             let Some(whole) = current.whole() else {
+                // This never happens: a bundle that was found whole has a view.
                 return Ok(Progress::More);
             };
             let run = RunView {

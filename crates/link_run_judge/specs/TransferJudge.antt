@@ -15,7 +15,7 @@ abbrev pub grown : Transfer → List ℕ → Bool → Transfer
 grown transfer content closed =
     record { first = transfer.first; content = transfer.content ++ content; closed = closed }
 
--- the judge is at this transfer
+-- the judge has taken this transfer's data so far; whether it is closed makes no difference
 pub record IsTransferJudgeAt (now : TransferJudge) (transfer : Transfer) : Type 0 where
   pub id : now.id ≡ transfer.first.id
   pub announced : now.announced ≡ announced_of transfer.first.items.items

@@ -17,7 +17,8 @@ pub record Transfer : Type 0 where
 abbrev pub closes : SegmentHead → List ℕ → Bool
 closes head content = is_end head.flags && (length content == head.length)
 
--- the transfers, with the data of a segment added to the latest
+-- The transfers, with the data of a segment added to the latest. There always is one, since a
+-- segment that continues no transfer is refused or stray.
 abbrev pub continued : List Transfer → List ℕ → Bool → List Transfer
 continued [] content closed = []
 continued (latest ∷ earlier) content closed =

@@ -89,12 +89,13 @@ pub record Told : Type 0 where
 abbrev pub none_told : Told
 none_told = record { transfers = []; report = []; good = true }
 
--- the line of the latest transfer if it is due, and whether that transfer is good
+-- the line of the latest transfer if it is due, and else no text
 abbrev pub line_due : Wanted → (due : Bool) → List Transfer → List ℕ
 line_due wanted false transfers = []
 line_due wanted true [] = []
 line_due wanted true (latest ∷ earlier) = line_of wanted latest earlier
 
+-- whether the latest transfer is good; a transfer whose line is not due does not count
 abbrev pub good_due : (due : Bool) → List Transfer → Bool
 good_due false transfers = true
 good_due true [] = true
@@ -114,7 +115,7 @@ abbrev pub transfers_at : Option Turn → List Transfer → Message → List Tra
 transfers_at None transfers message = transfers
 transfers_at (Some turn) transfers message = after_message transfers message []
 
--- the fault of a head has its line
+-- if the head has a fault, its line is written, and not all is good
 abbrev pub with_order : Head → Told → Told
 with_order head told = record {
   transfers = told.transfers;
@@ -126,14 +127,14 @@ abbrev pub with_transfers : Head → Told → Told
 with_transfers head told =
     record told { transfers = transfers_at head.turn told.transfers head.message }
 
--- First comes the line of its fault, then that of the transfer that it abandons, and then that of
--- the transfer that it ends.
+-- One more head: first the line of its fault, then the line of the transfer that it abandons, and
+-- then the line of the transfer that it ends.
 abbrev pub told_head : Wanted → Told → Head → Told
 told_head wanted told head =
     with_line wanted (closes head)
     (with_transfers head (with_line wanted (abandons head.turn) (with_order head told)))
 
--- the latest transfer has more data, and is closed or not
+-- the latest transfer has more data, and `closed` is whether it is closed now
 abbrev pub told_more : Told → List ℕ → (closed : Bool) → Told
 told_more told content closed =
     record told { transfers = continued told.transfers content closed }

@@ -25,7 +25,7 @@ pub struct TransferJudge {
     ghost limit: { size < 2 ^ 63 },
 }
 
-/// Whether a bundle was judged good.
+/// Whether the transfer was judged to be a good bundle, and was not abandoned.
 #[inline(always)]
 pub fn is_bundle(judgement: &JudgementView<'_>) -> bool
     ensures { result ≡ is_good (viewed_judgement judgement.now) }
@@ -55,7 +55,7 @@ impl TransferJudge {
         }
     }
 
-    /// Begins the transfer whose first segment has this head.
+    /// Begins the transfer whose first segment has this head. `closed` does not matter.
     pub fn begin(&mut self, message: &MessageBuffer)
         requires { SegmentHasTotals message.now }
         ensures follows { (head : SegmentHead) (closed : _) → message_of message.now
@@ -71,7 +71,7 @@ impl TransferJudge {
         }
     }
 
-    /// Judges the next piece of the transfer's data.
+    /// Judges the next piece of the transfer's data. `closed` does not matter.
     #[inline(always)]
     pub fn take(&mut self, piece: &[u8])
         requires { self.old.size + length piece.now < 2 ^ 63 }
@@ -95,7 +95,7 @@ impl TransferJudge {
         }
     }
 
-    /// The judgement on the transfer. A transfer that was not abandoned is closed.
+    /// The judgement on the transfer, which was `abandoned`, or else is closed.
     #[inline(always)]
     pub fn judgement(&self, abandoned: bool) -> JudgementView<'_>
         ensures judged { (transfer : Transfer) → IsTransferJudgeAt self.now transfer

@@ -10,7 +10,7 @@ use link_run::Writers;
 use link_transfer::OrderFault;
 use link_wire::{IoFault, OutDevice};
 
-/// Writes the line of a head's fault to the report, if it has one. Then `good` becomes false.
+/// If a head has a fault of the order, writes its line to the report, and sets `good` to false.
 #[inline(always)]
 pub fn tell_order<W: OutDevice, E: OutDevice>(
     offset: u64,

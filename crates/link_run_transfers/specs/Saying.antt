@@ -50,7 +50,8 @@ module _ {S : Type 0} (keeping : Keeping S) where
       ∙ ap (λ (texts : Texts). keeping.says kept event then texts)
       (said_from-append now first second)
 
-  -- A tool that has exactly what is kept says of more events what follows from it.
+  -- Let a tool have what is kept of the events before. If it writes what is said of the events
+  -- added, and then has what is kept after them, `Tells` holds.
   pub keeps_telling : (manner : Manner) {W E : Type 0} (out_look : W → Output)
       (report_look : E → Output) (before added : List WalkEvent) (old new : Writers W E)
       (now later : S) (texts : Texts) (result : Result (Unit {0}) IoFault)

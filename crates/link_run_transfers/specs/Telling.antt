@@ -22,8 +22,8 @@ viewed_head head = record {
   turn = head.turn;
 }
 
--- The head may come after these events: it is judged after the messages that were taken, and the
--- same transfer is open after both.
+-- The head may come after these events: it is judged after the messages that were taken, and a
+-- transfer is open after these if and only if one is open after the events.
 pub record HeadComes (before : List WalkEvent) (head : Head) : Type 0 where
   pub taken : List Message
   pub is : head ≡ head_at taken head.offset head.message
@@ -83,8 +83,8 @@ EventHasTotals event = Unit {0}
 module _ {W E : Type 0} (out_look : W → Output) (report_look : E → Output)
     (telling : Telling) (knows : List WalkEvent → Type 0) (before added : List WalkEvent)
     (old new : Writers W E) where
-  -- The events `added` follow the events `before`. What is said of them was written, or a writer
-  -- failed while writing it.
+  -- The events `added` follow the events `before`. What is said of them was written, and the tool
+  -- `knows` all these events; or a writer failed while writing it.
   pub record Tells (result : Result (Unit {0}) IoFault) : Type 0 where
     pub texts : Texts
     pub said : telling.texts before then texts ≡ telling.texts (before ++ added)

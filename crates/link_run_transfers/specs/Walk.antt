@@ -80,12 +80,14 @@ data_size_of _ = 0
 unfoldable pub data_size : List WalkEvent → ℕ
 data_size events = fold (λ size event. size + data_size_of event) 0 events
 
--- whether a transfer is open after an event
+-- whether a transfer is open after a head with this effect, which ends its transfer if `closing`;
+-- `was` is whether one was open before
 abbrev pub open_with : Option Turn → (closing was : Bool) → Bool
 open_with None closing was = was
 open_with (Some turn.Other) closing was = was
 open_with (Some _) closing was = not closing
 
+-- whether a transfer is open after an event; `was` is whether one was open before
 abbrev pub open_after_event : Bool → WalkEvent → Bool
 open_after_event was (ContactHeader contact) = was
 open_after_event was (MessageHead head) = open_with head.turn (closes head) was
@@ -99,15 +101,15 @@ has_open events = fold open_after_event false events
 
 -- ---- the events of a stream
 
--- what the heads so far have told
+-- the events of the heads so far, and what the walk needs for the next head
 pub record Walked : Type 0 where
-  -- the messages on which the order of the next head depends: all but stray segments
+  -- the messages on which the order of the next head depends: stray segments are left out
   pub taken : List Message
   pub events : List WalkEvent
   -- the offset and the fault of the head at which the run ends
   pub refused : Option (ℕ × OrderFault)
 
--- the event of a head
+-- the event of a head; a tool that is not told of all heads is not told of a plain one
 abbrev pub head_events : (all_heads : Bool) → Head → List WalkEvent
 head_events all_heads head =
     if all_heads || not (is_plain head) then MessageHead head ∷ [] else []
@@ -135,7 +137,7 @@ taken_with manner before entry =
       refused = None;
     }
 
--- the run ends at this head, or takes it
+-- a head without a fault is taken; at one with a fault, the run ends or goes on
 abbrev pub with_judged : Option OrderFault → Manner → Walked → Entry → Walked
 with_judged None manner before entry = taken_with manner before entry
 with_judged (Some fault) manner before entry =
@@ -159,7 +161,7 @@ contact_events (Some contact) = ContactHeader contact ∷ []
 abbrev pub none_walked : Option Contact → Walked
 none_walked contact = record { taken = []; events = contact_events contact; refused = None }
 
--- what the heads of a reading tell
+-- the events of the heads of a reading
 unfoldable pub walked_of : Manner → Option Contact → List Entry → Walked
 walked_of manner contact heads = fold (with_next manner) (none_walked contact) heads
 

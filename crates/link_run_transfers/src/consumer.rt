@@ -43,7 +43,7 @@ pub trait Consumer: Sized {
     /// What the tool says of a list of events.
     ghost telling: { Self.Options → Telling };
 
-    /// Exactly these events have come, and the tool's fields have what follows from it.
+    /// Exactly these events have come, and the tool's fields agree with them.
     ghost knows: { Self.Options → Self → List WalkEvent → Type 0 };
 
     /// How the tool goes about a stream.

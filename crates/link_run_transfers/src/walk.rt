@@ -101,8 +101,8 @@ impl<R: InDevice, W: OutDevice, E: OutDevice, C: Consumer> Stages<Session<R>, W,
 
 impl<C: Consumer> Walker<C> {
     /// Takes a message. If it is a segment with data at hand, this data is taken too, and so are
-    /// the inner segments after it. Otherwise the quiet messages after it are passed over, if it
-    /// has no data to come.
+    /// the inner segments after it. If it has no data, and the tool is not told of all heads, the
+    /// quiet messages after it are passed over.
     #[inline(always)]
     fn stride_message<R: InDevice, W: OutDevice, E: OutDevice>(
         &mut self,
@@ -209,7 +209,8 @@ impl<C: Consumer> Walker<C> {
         }
     }
 
-    /// Takes a message that is not in order, or ends the run there.
+    /// Takes a message that is not in order, or ends the run there, as the tool's manner says. The
+    /// messages that count before it are `taken`, and their events are `events`.
     #[cold]
     #[inline(never)]
     fn take_refused<R: InDevice, W: OutDevice, E: OutDevice>(
@@ -243,8 +244,9 @@ impl<C: Consumer> Walker<C> {
         self.tell_head(offset, Some(fault), taken.turn, options, input, writers)
     }
 
-    /// Tells the consumer of the head of the message, if it wants to know of it. Returns what comes
-    /// next.
+    /// Tells the consumer of the head of the message, unless the head is plain and the consumer is
+    /// not told of all heads. Returns the next stage, or the end of the run if a writer failed. The
+    /// messages that count before it are `taken`, and their events are `events`.
     #[inline(always)]
     fn tell_head<R: InDevice, W: OutDevice, E: OutDevice>(
         &mut self,
@@ -284,7 +286,8 @@ impl<C: Consumer> Walker<C> {
         }
     }
 
-    /// Passes over a piece of a stray segment's data, of at most `piece` bytes.
+    /// Passes over a piece of a stray segment's data, of at most `piece` bytes. The consumer is
+    /// told nothing, so `gives` holds for any options and any walker.
     #[cold]
     #[inline(never)]
     fn pass_stray<R: InDevice, W: OutDevice, E: OutDevice>(
@@ -400,7 +403,7 @@ impl<C: Consumer> Walker<C> {
     }
 
     /// Tells the consumer of an inner segment of the open transfer: of its head, if it is told of
-    /// every head, and of its data. The message may be any without items.
+    /// every head, and of its data. The message may be any without items, and may be overwritten.
     #[inline(always)]
     fn tell_inner<W: OutDevice, E: OutDevice>(
         &mut self,
@@ -506,8 +509,8 @@ fn stage_by(turn: Option<Turn>, left: u64) -> Stage
     }
 }
 
-/// Whether `size` bytes of data are the last of the open transfer, if `left` bytes of the segment's
-/// data are to come.
+/// Whether the next `size` bytes of data are the last of the open transfer. `last` is whether their
+/// segment is its last, and `left` bytes of the segment's data are to come.
 #[inline(always)]
 fn is_last_data(last: bool, size: usize, left: u64) -> bool
     ensures { result ≡ (last && (size == left)) }

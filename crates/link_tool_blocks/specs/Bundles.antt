@@ -9,19 +9,19 @@ use Rattle.link_run_bundles.specs.Bundles.{Packed, bundle_limit}
 use Rattle.link_run_bundles.specs.Telling.{BundleTelling, told_of}
 use Rattle.link_tool_blocks.specs.BlockLines.{block_lines}
 
--- the lines of a whole bundle: those of its blocks, and that of its end
+-- the lines of a whole bundle: the lines of its blocks, and the line of its end
 abbrev pub whole_lines : (number : ℕ) → Packed → List ℕ
 whole_lines number bundle =
     block_lines number bundle.bytes ++ end_text number (length bundle.bytes) (Good bundle.info)
 
--- the lines of whole bundles; `number` is that of the first
+-- the lines of whole bundles; `number` is the number of the first bundle
 unfoldable pub bundle_lines : (number : ℕ) → List Packed → List ℕ
 bundle_lines number [] = []
 bundle_lines number (bundle ∷ more) = whole_lines number bundle ++ bundle_lines (suc number) more
 
 -- What `blocks --bundles` says of bundles, and of the bytes `begun` of the next one. For the bytes
 -- `begun`, the output has the lines of the blocks that are whole in them, even if a fault follows
--- these blocks. The report has no line but that of the fault that stops the run.
+-- these blocks. The only line of the report is the line of the fault that stops the run.
 abbrev pub bundle_blocks_telling : BundleTelling
 bundle_blocks_telling = record {
   limit = bundle_limit;

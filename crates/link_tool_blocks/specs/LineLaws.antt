@@ -63,7 +63,7 @@ lines_grow id content more =
       is = lines_more id content more grows.0 grows.1;
     }
 
--- no block ends with these bytes
+-- bytes with which no block ends add no line
 pub lines_same : (id : ℕ) (content more : List ℕ) → blocks_in (content ++ more) ≡ blocks_in content
     → block_lines id (content ++ more) ≡ block_lines id content
 lines_same id content more same =
@@ -76,7 +76,7 @@ no_lines id = ap (lines_from id 0 []) no_blocks
 
 -- ---- one more block
 
--- the reader has the flags that come with the block
+-- a block adds its line, with the flags of the bundle after all of its blocks
 pub line_more : (id flags : ℕ) (content more : List ℕ) (block : Block)
     → flags ≡ fold flags_after 0 (blocks_in (content ++ more))
     → blocks_in (content ++ more) ≡ blocks_in content ++ block ∷ []

@@ -16,7 +16,7 @@ end_due only true [] = []
 end_due only true (latest ∷ earlier) =
     if is_selected only latest.first.id then end_line latest else []
 
--- the judge is at the latest transfer, which is open or not
+-- the latest of these transfers was judged so far, and `is_open` is whether it is open
 pub record IsTransferBlocksAtLatest (only : Option ℕ) (latest : TransferBlocks) (is_open : Bool)
     (transfers : List Transfer) : Type 0 where
   pub transfer : Transfer
@@ -25,7 +25,7 @@ pub record IsTransferBlocksAtLatest (only : Option ℕ) (latest : TransferBlocks
   pub opened : is_open ≡ not transfer.closed
   pub shows : IsTransferBlocksAt only latest transfer
 
--- the state after these events; a transfer that is not open needs no judge
+-- the lister has had exactly these events; while no transfer is open, its judge does not matter
 pub record IsBlockListerAt (options : BlockOptions) (now : BlockLister) (events : List WalkEvent)
     : Type 0 where
   pub size : now.latest.judge.size ≤ data_size events

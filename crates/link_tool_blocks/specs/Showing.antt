@@ -17,8 +17,8 @@ use Rattle.link_tool_options.specs.declared.blocks.BlockOptions.{BlockOptions}
 abbrev pub end_line : Transfer → List ℕ
 end_line transfer = end_text transfer.first.id (length transfer.content) (judgement_of transfer)
 
--- The lines of a transfer, if it is selected: those of its blocks, and that of its end unless it is
--- open.
+-- The lines of a transfer, if it is selected: the lines of its blocks, and the line of its end
+-- unless it is open.
 abbrev pub transfer_lines : (only : Option ℕ) → (is_open : Bool) → Transfer → List ℕ
 transfer_lines only is_open transfer =
     if is_selected only transfer.first.id

@@ -6,7 +6,7 @@ use Rattle.link_run_judge.specs.Unpacking.{is_selected}
 use Rattle.link_bundle_reader.specs.DataReader.{IsDataReaderAt}
 use Rattle.link_tool_blocks.specs.declared.transfer.TransferBlocks.{TransferBlocks}
 
--- the judge is at this transfer, and its data is read if it is selected
+-- the judge has taken this transfer's data so far, and so has the reader, if it is selected
 pub record IsTransferBlocksAt (only : Option ℕ) (now : TransferBlocks)
     (transfer : Transfer) : Type 0 where
   pub judging : IsTransferJudgeAt now.judge transfer

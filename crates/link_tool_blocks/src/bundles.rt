@@ -28,7 +28,7 @@ pub struct BundleLister {
 }
 
 impl BundleLister {
-    /// What is kept before the first bundle.
+    /// Makes a lister for the first bundle.
     pub fn new() -> BundleLister
         ensures reads { IsDataReaderAt result.reader [] }
         ensures read { read_size result.reader ≡ 0 }

@@ -31,7 +31,7 @@ pub struct BlockLister {
 }
 
 impl BlockLister {
-    /// What is known before a stream has begun.
+    /// Makes a lister that has had no event, for any options.
     pub fn new() -> BlockLister
         ensures { (options : BlockOptions) → IsBlockListerAt options result [] }
     {
@@ -98,8 +98,8 @@ impl Consumer for BlockLister {
     }
 }
 
-/// Writes the line of the end of the latest transfer, if it is due. That transfer was abandoned, or
-/// is closed.
+/// If the line of the latest transfer's end is `due`, writes it, and sets `good` to false if the
+/// transfer is not good. The transfer was `abandoned`, or else is closed.
 #[inline(always)]
 fn show_end<W: OutDevice, E: OutDevice>(
     options: &BlockOptions,
@@ -124,7 +124,8 @@ fn show_end<W: OutDevice, E: OutDevice>(
     }
 }
 
-/// Writes the line of the end of the latest transfer, if it is selected.
+/// Writes the line of the end of the latest transfer, if it is selected. If the transfer is not
+/// good, `good` becomes false, whether or not it is selected.
 #[inline(never)]
 fn show_end_line<W: OutDevice, E: OutDevice>(
     options: &BlockOptions,

@@ -8,7 +8,7 @@ use Rattle.link_tool_check.specs.Bundles.{broken_bundles}
 use Rattle.link_tool_check.specs.Lines.{none_counts}
 use Rattle.link_tool_check.specs.declared.bundles.BundleChecker.{BundleChecker}
 
--- exactly this has come
+-- the checker has had exactly these bundles, and then these bytes of the next one
 pub record IsBundleCheckerAt (must : Bool) (now : BundleChecker) (so_far : SoFar) : Type 0 where
   pub offset : now.offset ≡ size_of so_far.bundles
   pub reading : IsBundleReaderAt now.bundle so_far.begun

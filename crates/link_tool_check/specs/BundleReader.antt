@@ -18,7 +18,7 @@ pub record IsBundleHistoryAt (history : BundleHistory) (bundle : ReadBundle) (co
   pub flags : bundle.primary.flags ≡ fold flags_after 0 (blocks_in content)
   pub few : suc (length bundle.blocks) ≤ length (blocks_in content)
 
--- the history has begun once the primary block is whole
+-- once its primary block is whole, the history has `begun` and is that of the bundle
 abbrev pub HasHistory : (begun : Bool) → BundleHistory → Option ReadBundle → (content : List ℕ)
     → Type 0
 HasHistory false history None content = Unit {0}

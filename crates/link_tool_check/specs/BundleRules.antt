@@ -9,7 +9,7 @@ use Rattle.link_bundle_rules.specs.BundleRules.{broken_bundle_rules}
 use Rattle.link_bundle_rules.specs.ReadBundle.{ReadBundle, begun, with_block}
 use Rattle.link_bundle_rules.specs.declared.rule.BundleRule.{BundleRule}
 
--- A bundle with one more block, if the content has it whole. The primary block begins it.
+-- the bundle with one more block, whose data lies in the content; the primary block begins it
 abbrev pub with_next : (content : List ℕ) → Option ReadBundle → Block → Option ReadBundle
 with_next content before (PrimaryOf primary check end) = Some (begun primary check)
 with_next content before (CanonicalOf block) = option_map
@@ -21,6 +21,7 @@ with_next content before (CanonicalOf block) = option_map
 unfoldable pub read_bundle : (content : List ℕ) → Option ReadBundle
 read_bundle content = fold (with_next content) None (blocks_in content)
 
+-- the rules that these blocks break; without a primary block, none
 abbrev pub rules_of : (content : List ℕ) → (payload_length : ℕ) → Option ReadBundle
     → List BundleRule
 rules_of content payload_length None = []

@@ -24,8 +24,8 @@ broken_bundles number offset (bundle ∷ more) =
     broken_in number offset bundle
     ++ broken_bundles (suc number) (offset + length bundle.bytes) more
 
--- What `check --bundles` says of bundles. A bundle has its lines once it is whole. The report has
--- no line but that of the fault that stops the run.
+-- What `check --bundles` says of bundles. A bundle has its lines once it is whole. The only line of
+-- the report is the line of the fault that stops the run.
 abbrev pub bundle_check_telling : (must : Bool) → BundleTelling
 bundle_check_telling must = record {
   limit = bundle_limit;

@@ -23,7 +23,7 @@ pub record IsCheckedTransferAt (now : CheckedTransfer) (begun : Begun) : Type 0 
   pub judging : IsTransferJudgeAt now.judge (transfer_of begun)
   pub reading : IsBundleReaderAt now.bundle begun.content
 
--- the transfer that began last was read
+-- a transfer has begun, and the latest was read so far
 pub record IsCheckedTransferAtLatest (now : CheckedTransfer) (latest : Option Begun) : Type 0 where
   pub begun : Begun
   pub is : latest ≡ Some begun
@@ -32,7 +32,7 @@ pub record IsCheckedTransferAtLatest (now : CheckedTransfer) (latest : Option Be
 abbrev pub kept_of : CheckOptions → List WalkEvent → Kept
 kept_of options events = kept_after (checking options) none_kept events
 
--- the state after these events; a transfer that is not open is not read
+-- the checker has had exactly these events; while no transfer is open, `latest` does not matter
 pub record IsCheckerAt (options : CheckOptions) (now : Checker) (events : List WalkEvent)
     : Type 0 where
   pub size : now.latest.judge.size ≤ data_size events
@@ -41,6 +41,6 @@ pub record IsCheckerAt (options : CheckOptions) (now : Checker) (events : List W
   pub at_open : has_open events ≡ true
       → IsCheckedTransferAtLatest now.latest (kept_of options events).latest
 
--- the rules of the latest transfer that are due once it is closed
+-- the rules that the latest transfer breaks, if it is closed now (`due`), and else none
 abbrev pub closed_due : (due : Bool) → Option Begun → List RuleText
 closed_due due latest = if due then rules_at closed_rules latest else []

@@ -55,7 +55,7 @@ closed_rules begun =
 abbrev pub open_rules : Begun → List BrokenRule
 open_rules begun = Transfer begun.first.id (Unfinished (length begun.content)) ∷ []
 
--- the rules of the latest transfer are broken at the offset of its first segment
+-- the rules that the latest transfer breaks, at the offset of its first segment
 abbrev pub rules_at : (Begun → List BrokenRule) → Option Begun → List RuleText
 rules_at rules None = []
 rules_at rules (Some begun) = at_offset begun.offset (rules begun)
@@ -93,8 +93,8 @@ head_rules options before head =
     at_offset head.offset
     (map (λ rule. Message rule) (broken_rules options.peer before (judged head)))
 
--- The rules that are broken with one more event. A head breaks its own, and may close a transfer
--- that has no more data.
+-- The rules that are broken with one more event. A head may break rules of messages, and it may
+-- close a transfer, if its segment is the last and has no data.
 abbrev pub broken_by : CheckOptions → Kept → WalkEvent → List RuleText
 broken_by options kept (ContactHeader contact) =
     at_offset 0 (map (λ rule. Message rule) (optional (contact_flags contact)))

@@ -15,6 +15,7 @@ is_must Should = false
 abbrev pub counts : (must : Bool) → RuleText → Bool
 counts must broken = not must || is_must (rule_level broken.rule)
 
+-- the line of a broken rule, if it counts
 abbrev pub line_of : (must : Bool) → RuleText → List ℕ
 line_of must broken = if counts must broken then rule_line broken.offset broken.rule else []
 

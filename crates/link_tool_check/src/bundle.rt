@@ -129,7 +129,7 @@ impl BundleReader {
         self.prefix.restart();
     }
 
-    /// Scans and reads the next piece of a bundle, which comes after its first `before` bytes.
+    /// Scans and reads the next piece of a bundle, after its first `before` bytes. Writes nothing.
     pub(crate) fn take<W: OutDevice, E: OutDevice>(
         &mut self,
         before: u64,
@@ -161,7 +161,7 @@ impl BundleReader {
         )
     }
 
-    /// Reads a run of a bundle that the scan has seen.
+    /// Reads a run of a bundle that the scan has seen. Writes nothing. `limit` does not matter.
     #[inline(always)]
     pub(crate) fn take_run<W: OutDevice, E: OutDevice>(
         &mut self,

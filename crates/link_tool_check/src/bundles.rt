@@ -31,7 +31,7 @@ impl BundleChecker {
     ghost use Rattle.link_tool_check.specs.BundleChecker.{IsBundleCheckerAt, with_end};
     ghost use Rattle.link_tool_check.specs.Bundles.{bundle_check_telling};
 
-    /// What is kept before the first bundle.
+    /// Makes a checker for the first bundle, for either value of `must`.
     pub fn new() -> BundleChecker
         ensures knows { (must : _) → IsBundleCheckerAt must result none_yet }
         ensures read { data_size result.bundle ≡ 0 }
@@ -43,8 +43,8 @@ impl BundleChecker {
         }
     }
 
-    /// Writes the lines of the rules that the current bundle breaks, which is whole, and begins the
-    /// next one.
+    /// Writes the lines of the rules that the current bundle, which is whole, breaks. Then begins
+    /// the next one.
     #[inline(never)]
     fn end_bundle<W: OutDevice, E: OutDevice>(
         &mut self,

@@ -35,7 +35,7 @@ pub struct Checker {
 }
 
 impl Checker {
-    /// What is known before a stream has begun.
+    /// Makes a checker that has had no event, for any options.
     pub fn new() -> Checker
         ensures { (options : CheckOptions) → IsCheckerAt options result [] }
     {
@@ -132,8 +132,8 @@ fn write_contact<W: OutDevice, E: OutDevice>(
     }
 }
 
-/// Writes the lines of the rules that a head breaks after those of the history. Then the history
-/// has this head too.
+/// Writes the lines of the rules that a head breaks after the heads of the history. Then it adds
+/// the head to the history.
 #[inline(always)]
 fn judge<W: OutDevice, E: OutDevice>(
     options: &CheckOptions,
@@ -159,7 +159,7 @@ fn judge<W: OutDevice, E: OutDevice>(
     written
 }
 
-/// Judges the head of an inner segment with `length` bytes of data. Most break no rule.
+/// [`judge`] for the head of an inner segment with `length` bytes of data. Most break no rule.
 #[inline(always)]
 fn judge_inner<W: OutDevice, E: OutDevice>(
     options: &CheckOptions,
@@ -206,8 +206,8 @@ fn judge_apart<W: OutDevice, E: OutDevice>(
     judge(options, &head, history, writers, good)
 }
 
-/// Writes the lines of the rules that a head breaks after those of the history. Most heads break
-/// none.
+/// Writes the lines of the rules that a head breaks after the heads of the history. Most heads
+/// break none.
 #[inline(always)]
 fn write_head<W: OutDevice, E: OutDevice>(
     options: &CheckOptions,
@@ -249,7 +249,7 @@ fn write_broken<W: OutDevice, E: OutDevice>(
     write_rules(options.must, offset, (), rules.as_slice(), writers, good)
 }
 
-/// Writes the lines of the latest transfer, if they are due since it is closed.
+/// Writes the lines of the latest transfer, if they are `due`: the transfer is closed now.
 #[inline(always)]
 fn close<W: OutDevice, E: OutDevice>(
     must: bool,

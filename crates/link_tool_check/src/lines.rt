@@ -72,7 +72,7 @@ fn counts(must: bool, broken: &RuleText) -> bool
     !must || matches!(broken.rule.level(), Level::Must)
 }
 
-/// Writes the line of a broken rule, if it counts. Then `good` becomes false.
+/// If a broken rule counts, writes its line, and sets `good` to false. If not, does nothing.
 ///
 /// `must` is whether only rules of level `must` count.
 #[inline(always)]
@@ -93,8 +93,8 @@ fn write_line<W: OutDevice, E: OutDevice>(
     writers.write_text(broken)
 }
 
-/// Writes the lines of rules that are broken at an offset, if they count. Then `good` becomes
-/// false.
+/// Writes the lines of those rules that count, which `owner` breaks at `offset`. If one counts,
+/// sets `good` to false.
 ///
 /// `must` is whether only rules of level `must` count.
 #[inline(never)]

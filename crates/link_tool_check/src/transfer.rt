@@ -29,7 +29,7 @@ pub(crate) struct CheckedTransfer {
     ghost read: { data_size bundle ≤ judge.size },
 }
 
-/// What is kept of no segment.
+/// What `opening` is before the first transfer.
 const NO_OPENING: Opening = Opening {
     announced: Announced::Absent,
     single: false,
@@ -114,8 +114,8 @@ impl CheckedTransfer {
             .take(before, bytes, &mut self.judge.scan, writers)
     }
 
-    /// Writes the lines of the rules that the transfer breaks, if it is closed and they count. Then
-    /// `good` becomes false.
+    /// Writes the lines of those rules that the closed transfer breaks and that count. If there is
+    /// one, sets `good` to false.
     #[inline(never)]
     pub(crate) fn write_closed<W: OutDevice, E: OutDevice>(
         &self,

@@ -130,7 +130,7 @@ fn step<R: InDevice, W: OutDevice, E: OutDevice>(
     }
 }
 
-/// Reads the contact header, and writes its line.
+/// Reads the contact header, and writes its line. No message was read yet, so `line` may be any.
 #[cold]
 #[inline(never)]
 fn list_contact<R: InDevice, W: OutDevice, E: OutDevice>(
@@ -189,7 +189,7 @@ fn advance<R: InDevice, W: OutDevice, E: OutDevice>(
     }
 }
 
-/// Reads the head of a message.
+/// Reads the head of a message. A head is read whole, so `piece` may be any.
 #[inline(always)]
 fn read_message<R: InDevice, W: OutDevice, E: OutDevice>(
     input: &mut Input<Session<R>, W, E>,
@@ -218,7 +218,7 @@ fn read_message<R: InDevice, W: OutDevice, E: OutDevice>(
     }
 }
 
-/// Passes over a piece of a segment's data, of at most `piece` bytes.
+/// Passes over a piece of a segment's data, of at most `piece` bytes. `line` is the segment's line.
 #[inline(always)]
 fn pass_data<R: InDevice, W: OutDevice, E: OutDevice>(
     piece: usize,
@@ -263,7 +263,8 @@ fn go_on<R: InDevice, W: OutDevice, E: OutDevice>(input: &Input<Session<R>, W, E
 /// Writes the line of the message that was read last. If `far` is true, it does the same for each
 /// message that lies whole in the window.
 ///
-/// Only one place writes the line of a message, so the code for that is inlined once.
+/// Only one place writes the line of a message, so the code for that is inlined once. In `gives`,
+/// `first` are the texts that were written before.
 #[inline(always)]
 fn write_lines<R: InDevice, W: OutDevice, E: OutDevice>(
     far: bool,

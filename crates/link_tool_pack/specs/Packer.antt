@@ -18,7 +18,8 @@ IsCutterFor options cutter =
     IsCutterAt cutter (beginning (segment_size options) options.announce)
     × (cut_waits cutter ≡ false)
 
--- exactly the bytes `begun` of the current bundle have come
+-- The cutter of a run with these options has had exactly the bytes `begun` of the current bundle,
+-- and has cut all chunks that are due.
 pub record IsCutterIn (options : PackOptions) (cutter : Cutter) (begun : List ℕ) : Type 0 where
   pub cut : IsCutterAt cutter (cutting options begun)
   -- the cutter keeps less than a segment, or a bundle whose length may still be announced

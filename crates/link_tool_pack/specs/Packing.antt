@@ -32,7 +32,7 @@ sending options whole bundle =
       whole = whole;
     }
 
--- each bundle is a transfer (section 5.2.2), whose ID is the bundle's number
+-- the transfers of these bundles (section 5.2.2), whose IDs are their numbers, from `number` on
 unfoldable pub transfer_bytes : PackOptions → (number : ℕ) → List Packed → List ℕ
 transfer_bytes options number [] = []
 transfer_bytes options number (bundle ∷ more) =

@@ -14,7 +14,8 @@ abbrev pub segment_bytes : (id : ℕ) → Cut → (chunk : List ℕ) → List �
 segment_bytes id cut chunk =
     segment_head_bytes (flags_of cut.first cut.last) id (length chunk) cut.announce ++ chunk
 
--- the bytes of a bundle that have come, and the sizes by which they are cut
+-- The bytes of a bundle that have come, and the sizes by which they are cut: `segment` is the most
+-- bytes of data in a segment, and `hold` is the greatest length that is announced.
 pub record Sending : Type 0 where
   pub segment : ℕ
   pub hold : ℕ

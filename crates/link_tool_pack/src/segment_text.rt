@@ -85,7 +85,8 @@ fn put_number(page: &mut [u8], at: usize, number: u64) -> usize
     copy_into(page, at, &number.to_be_bytes())
 }
 
-/// Writes the extension list, which only a first segment has. It announces the length, or is empty.
+/// Writes the extension list of a first segment, which announces the length or is empty. Any other
+/// segment has no list.
 #[inline(always)]
 #[tactic(auto, unfolding(link_wire::specs::Spelling::announce_bytes))]
 fn put_list(page: &mut [u8], at: usize, first: bool, announce: Option<u64>) -> usize

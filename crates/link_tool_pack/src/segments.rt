@@ -44,7 +44,7 @@ fn write_long<W: OutDevice, E: OutDevice>(
     writers.write_output(head.chunk)
 }
 
-/// Writes each waiting chunk as a segment of the transfer with this ID.
+/// Writes each chunk that is ready as a segment of the transfer with this ID.
 #[inline(never)]
 fn write_segments<W: OutDevice, E: OutDevice>(
     id: u64,

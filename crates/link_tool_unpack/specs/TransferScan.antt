@@ -6,7 +6,7 @@ use Rattle.link_run_judge.specs.Unpacking.{part_of, parts_of}
 use Rattle.link_tool_unpack.specs.declared.transfer.TransferScan.{TransferScan}
 use Rattle.link_tool_options.specs.declared.wanted.Wanted.{Wanted}
 
--- the scan is at the transfer `transfer`, which comes after those of `earlier`
+-- the scan has taken the data of `transfer` so far, which comes after the transfers `earlier`
 pub record IsTransferScanAt (wanted : Wanted) (now : TransferScan) (transfer : Transfer)
     (earlier : List Transfer) : Type 0 where
   pub judging : IsTransferJudgeAt now.judge transfer

@@ -8,7 +8,7 @@ use Rattle.link_tool_unpack.specs.declared.transfer.TransferScan.{TransferScan}
 use Rattle.link_tool_unpack.specs.declared.unpacker.Unpacker.{Unpacker}
 use Rattle.link_tool_options.specs.declared.wanted.Wanted.{Wanted}
 
--- the scan is at the latest transfer, which is open or not
+-- the scan has taken the latest of these transfers so far, and `is_open` is whether it is open
 pub record IsTransferScanAtLatest (wanted : Wanted) (latest : TransferScan) (is_open : Bool)
     (transfers : List Transfer) : Type 0 where
   pub transfer : Transfer
@@ -17,7 +17,7 @@ pub record IsTransferScanAtLatest (wanted : Wanted) (latest : TransferScan) (is_
   pub opened : is_open ≡ not transfer.closed
   pub follows : IsTransferScanAt wanted latest transfer earlier
 
--- the state after these events; a transfer that is not open needs no scan
+-- the unpacker has had exactly these events; while no transfer is open, its judge does not matter
 pub record IsUnpackerAt (wanted : Wanted) (now : Unpacker) (events : List WalkEvent) : Type 0 where
   pub sum : now.latest.start + now.latest.written
       ≡ length (parts_of wanted (told_after wanted events).transfers)

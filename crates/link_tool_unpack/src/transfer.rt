@@ -53,7 +53,7 @@ impl TransferScan {
     }
 
     /// Begins the transfer whose first segment has this head. Its bytes in the output come after
-    /// those of the transfer before it.
+    /// those of the transfer before it. Neither `wanted` nor `closed` makes a difference.
     pub fn begin(&mut self, message: &MessageBuffer)
         requires { SegmentHasTotals message.now }
         ensures follows { (wanted : Wanted) (head : SegmentHead) (closed : _)
@@ -95,7 +95,7 @@ impl TransferScan {
         part
     }
 
-    /// Returns the bytes of the latest piece to be written. The judge has seen the piece.
+    /// The bytes to be written of a piece that the judge has seen. `closed` does not matter.
     fn part<'a>(&self, wanted: &Wanted, piece: &'a [u8]) -> &'a [u8]
         requires { length piece.now ≤ self.now.judge.size }
         ensures part { (transfer : Transfer) (closed : _)
@@ -118,7 +118,7 @@ impl TransferScan {
         }
     }
 
-    /// The line of the transfer. A transfer that was not abandoned is closed.
+    /// The line of the transfer, which was `abandoned`, or else is closed.
     #[inline(always)]
     pub fn line(&self, abandoned: bool) -> TransferText<'_>
         ensures text { (wanted : Wanted) (transfer : Transfer) (earlier : List Transfer)

@@ -27,7 +27,7 @@ pub struct Unpacker {
 }
 
 impl Unpacker {
-    /// What is known before a stream has begun.
+    /// Makes an unpacker that has had no event, for any options.
     pub fn new() -> Unpacker
         ensures { (wanted : Wanted) → IsUnpackerAt wanted result [] }
     {
@@ -94,7 +94,8 @@ impl Consumer for Unpacker {
     }
 }
 
-/// Writes the line of the latest transfer, if it is due. That transfer was abandoned, or is closed.
+/// If the line of the latest transfer is `due`, writes it, and sets `good` to false if the transfer
+/// is not good. The transfer was `abandoned`, or else is closed.
 #[inline(always)]
 fn report<W: OutDevice, E: OutDevice>(
     wanted: &Wanted,
@@ -119,7 +120,8 @@ fn report<W: OutDevice, E: OutDevice>(
     }
 }
 
-/// Writes the line of the latest transfer, which was abandoned or is closed.
+/// Writes the line of the latest transfer, which was `abandoned`, or else is closed. If the
+/// transfer is not good, `good` becomes false.
 #[inline(never)]
 fn report_line<W: OutDevice, E: OutDevice>(
     abandoned: bool,

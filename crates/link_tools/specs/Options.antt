@@ -51,7 +51,7 @@ AfterTool look (Some tool) start end = AfterRun look tool start end
 AfterTool look None start end = LacksMemory start end
 
 -- What a whole run of the job did (`AfterRun`). If the memory of `pack` was refused, nothing was
--- read or written, and the answer is that fault.
+-- read or written, and the answer is `Memory`.
 abbrev pub AfterJob : {R W E : Type 0} → Looks R W E → Job → (start : Devices R W E)
     → RunEnd R W E → Type 0
 AfterJob look job start end = AfterTool look (job_tool job) start end

@@ -40,7 +40,7 @@ pub record HasOnlyAllowed (bytes : List ℕ) : Type 0 where
   -- where a fault of the order ends the run
   pub stop : MayStop (stream_stop bytes)
   pub transfers : All IsAllowed (reported bytes)
-  -- where it does not
+  -- where a fault of the order does not end the run
   pub unstopped : stop_of (reading_of bytes).end ≡ None
   pub faults : All IsSecondInit (faults_after [] (heads_of (reading_of bytes)))
   pub transfers_on : (wanted : Wanted) → All IsAllowed (reported_on wanted bytes)

@@ -19,11 +19,12 @@ use Rattle.link_tools_laws.specs.Transfers.{Ordered, ordered, transfers_of, sett
 use Rattle.link_run_judge.specs.Unpacking.{parts_of, entry_of, unpacking_of, unpack_tool}
 use Rattle.link_tools_laws.specs.RoundTrip.{all}
 
--- the same of the transfers is wanted, and a fault of the order does not end the run
+-- the same options, with which a fault of the order does not end the run
 abbrev pub going_on : Wanted → Wanted
 going_on wanted =
     record { only = wanted.only; payload = wanted.payload; keep_going = true }
 
+-- the same options, with which it ends the run
 abbrev pub stopping : Wanted → Wanted
 stopping wanted =
     record { only = wanted.only; payload = wanted.payload; keep_going = false }
@@ -44,7 +45,7 @@ abbrev pub HasEveryByte : List ℕ → Type 0
 HasEveryByte bytes =
     ((unpack_tool all).whole bytes).texts.output ≡ flat_map data_of (order_of bytes).heads
 
--- the heads that are not stray, from those that come after these messages
+-- the heads that are not stray, of those that come after the messages `before`
 abbrev pub prepended_unless : (stray : Bool) → Entry → List Entry → List Entry
 prepended_unless true head rest = rest
 prepended_unless false head rest = head ∷ rest
@@ -109,8 +110,8 @@ pub record Divides (wanted : Wanted) (output : List ℕ) (transfers : List Trans
   pub whole : output ≡ parts_of wanted (left ++ transfers)
   pub size : length (parts_of wanted transfers) ≡ total_written (entries_of wanted transfers)
 
--- The report is the lines of these transfers, and then the line of the fault. The lines cut the
--- output.
+-- The report is the lines of the transfers that have one, and then the line of the fault. The lines
+-- cut the output.
 pub record CutsOutput (wanted : Wanted) (bytes : List ℕ) : Type 0 where
   pub lines : ((unpack_tool wanted).whole bytes).texts.report
       ≡ flat_map transfer_text (entries_of wanted (reported bytes))
@@ -136,7 +137,7 @@ abbrev pub fault_in : ReportLine → List (ℕ × OrderFault)
 fault_in (OfHead offset fault) = (offset, fault) ∷ []
 fault_in (OfTransfer entry) = []
 
--- each head that is not in order, and its fault, from the heads that come after these messages
+-- each head that is not in order, and its fault, of the heads that come after the messages `before`
 abbrev pub fault_at : (offset : ℕ) → Option OrderFault → List (ℕ × OrderFault)
 fault_at offset None = []
 fault_at offset (Some fault) = (offset, fault) ∷ []
@@ -154,7 +155,7 @@ reported_on wanted bytes =
     lined (stop_of reading.end) (unpacked_of wanted (heads_of reading)).transfers
 
 -- As `CutsOutput`, where a fault of the order does not end the run. The report has a line for each
--- head that is not in order. Without these lines it cuts the output.
+-- head that is not in order. Its lines of transfers cut the output.
 pub record CutsOutputOn (wanted : Wanted) (bytes : List ℕ) : Type 0 where
   pub lines : List ReportLine
   pub report : ((unpack_tool wanted).whole bytes).texts.report
@@ -166,7 +167,7 @@ pub record CutsOutputOn (wanted : Wanted) (bytes : List ℕ) : Type 0 where
 
 -- ---- heads that are all in order
 
--- if no head is refused, it changes nothing whether a fault of the order ends the run
+-- if no head is refused, `keep_going` changes nothing of what `unpack` makes of the stream
 abbrev pub IsSameIfInOrder : Wanted → List ℕ → Type 0
 IsSameIfInOrder wanted bytes =
     (order_of bytes).refused ≡ None

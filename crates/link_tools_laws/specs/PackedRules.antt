@@ -21,7 +21,7 @@ pub record KeepsInitRules (init : Message) : Type 0 where
   pub name : node_name init ≡ None
   pub interval : keepalive_interval init ≡ None
 
--- the SESS_INIT of the stream keeps them
+-- the SESS_INIT that `pack` writes with these options keeps those rules
 abbrev pub KeepsRules : PackOptions → Type 0
 KeepsRules options =
     KeepsInitRules (sess_init_with options.keepalive options.segment_mru options.transfer_mru

@@ -75,9 +75,9 @@ unpacking_by wanted end order =
 
 -- ---- a stream that goes on after a fault of the order
 
--- what the heads so far have made
+-- what `unpack` makes of the heads so far, and what it needs for the next head
 pub record Unpacked : Type 0 where
-  -- the messages on which the order of the next head depends: all but stray segments
+  -- the messages on which the order of the next head depends: stray segments are left out
   pub taken : List Message
   -- the transfers, the latest first
   pub transfers : List Transfer
@@ -89,7 +89,7 @@ pub record Unpacked : Type 0 where
 abbrev pub none_unpacked : Unpacked
 none_unpacked = record { taken = []; transfers = []; report = []; in_order = true }
 
--- the line of the latest transfer if it is abandoned now, since it is open
+-- the line of the latest transfer, if it is not closed, and so is abandoned now
 abbrev pub abandoned_line : Wanted → List Transfer → List ℕ
 abandoned_line wanted [] = []
 abandoned_line wanted (latest ∷ earlier) =
@@ -114,7 +114,7 @@ transfer_lines false wanted event before after =
     (if begins event then abandoned_line wanted before else [])
     ++ (if is_segment event then closed_line wanted after else [])
 
--- One more head. Its fault has the first line, and then come the lines of transfers.
+-- one more head: first the line of its fault, then the lines of transfers
 abbrev pub with_head : Wanted → Unpacked → Entry → Unpacked
 with_head wanted before head =
     let event = event_of head.message in

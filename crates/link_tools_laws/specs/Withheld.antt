@@ -9,8 +9,8 @@ use Rattle.link_tools_laws.specs.Prefix.{IsPrefixOf}
 abbrev pub AreLines : List ℕ → Type 0
 AreLines text = (text ≡ []) ⊎ ((before : List ℕ) × (text ≡ before ++ newline))
 
--- The texts of each input that begins with the bytes, as `text_of` selects one of the two texts,
--- begin with `common`. Bytes of any number may follow, and none.
+-- In each input that begins with the bytes, the text that `text_of` selects begins with `common`.
+-- Any number of bytes may follow, also none.
 abbrev pub IsShared : (text_of : Texts → List ℕ) → Tool → (bytes common : List ℕ) → Type 0
 IsShared text_of tool bytes common =
     (more : List ℕ) → AreBytes more
@@ -22,9 +22,9 @@ output_of texts = texts.output
 abbrev pub report_of : Texts → List ℕ
 report_of texts = texts.report
 
--- `so_far` has each byte of output, and each whole line of the report, that all these inputs share.
--- Of the report, whole lines alone: after the one byte 0, all reports begin with
--- `tcpclkit: byte 0: `, and the rest of the line depends on the bytes that follow.
+-- `so_far` has each byte of output, and each whole line of the report, that is shared by all inputs
+-- that begin with the bytes. A part of a line does not count: if the input begins with the byte 0,
+-- the report begins with `tcpclkit: byte 0: `, and the rest of the line depends on what follows.
 pub record WithholdsNothing (tool : Tool) (bytes : List ℕ) : Type 0 where
   pub output : (common : List ℕ) → IsShared output_of tool bytes common
       → IsPrefixOf common (tool.so_far bytes).output

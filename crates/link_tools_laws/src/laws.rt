@@ -82,7 +82,7 @@ pub fn unpack_of_pack(options: &PackOptions, bytes: &[u8])
     exactly_one_reading();
 }
 
-/// A packed stream breaks no rule but those that its bundles break.
+/// A packed stream breaks no rules except those that its bundles break.
 ///
 /// Let the input be packed without a fault, and let the limits of the peer be no less than those of
 /// packing. Let the node ID keep `node-id` and `node-name`, and the interval `keepalive-interval`.
@@ -114,8 +114,8 @@ pub fn list_of_pack(options: &PackOptions, bytes: &[u8])
     exactly_one_reading();
 }
 
-/// The bundles that `unpack` joins have the same lines as in the recording, but for the
-/// first word of each.
+/// The bundles that `unpack` joins have the same lines as in the recording. Only the first word of
+/// each differs.
 ///
 /// Let every transfer of a recording be over and good, and let there be no fault: `unpack` without
 /// options has status 0. Then its output is the bundles of the transfers, one after another.
@@ -170,7 +170,7 @@ pub fn every_byte_once()
 /// The report of `unpack` says how the output divides into transfers.
 ///
 /// The transfer of each line begins in the output where the transfers before it end. The output
-/// after the last of them is that of a transfer that a fault left open. If a fault of the order
+/// after the last of them belongs to a transfer that a fault left open. If a fault of the order
 /// does not end the run, the same holds of the lines of transfers. Beside them, the report has a
 /// line for each head that is not in order.
 pub fn report_cuts_output()
@@ -180,8 +180,8 @@ pub fn report_cuts_output()
         → CutsOutputOn (going_on wanted) bytes }
 {}
 
-/// If all messages are in order, `unpack` makes the same of a stream, whether or not a fault of the
-/// order would end the run.
+/// If all messages of a stream are in order, `--keep-going` changes nothing of what `unpack` makes
+/// of the stream.
 #[tactic(auto, using(crate::proofs::Same::same))]
 pub fn same_in_order()
     ensures { (wanted : Wanted) (bytes : List ℕ) → IsSameIfInOrder wanted bytes }

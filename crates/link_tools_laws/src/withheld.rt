@@ -13,8 +13,8 @@ ghost use Rattle.link_tools_laws.specs.Withheld.{SaysLess, WithholdsNothing};
 
 use link_wire::laws::exactly_one_reading;
 
-/// The texts that some bytes determine leave nothing out that all inputs share which begin with
-/// these bytes.
+/// The texts that some bytes determine have all that the texts of the inputs that begin with these
+/// bytes share.
 ///
 /// Let all these inputs have the same bytes at the beginning of their outputs. Then the determined
 /// output has these bytes. Let all of them have the same whole lines at the beginning of their

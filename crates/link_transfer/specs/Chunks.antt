@@ -4,7 +4,7 @@ use Rattle.std.specs.List.{flat_map}
 
 -- `segment` is the greatest number of data bytes in a segment
 
--- chunk number k, from 0: the bytes after k segments, and at most one segment of them
+-- chunk number k, from 0: the bytes after k segments, at most as many as a segment has
 abbrev pub chunk_at : (segment k : ℕ) → List ℕ → List ℕ
 chunk_at segment k bundle = take segment (drop (k * segment) bundle)
 
@@ -30,7 +30,8 @@ AreSegments segment (chunk ∷ []) = (0 < length chunk) × (length chunk ≤ seg
 AreSegments segment (chunk ∷ next ∷ more) =
     (length chunk ≡ segment) × AreSegments segment (next ∷ more)
 
--- The chunks by their properties: joined they are the bundle, and they have these sizes.
+-- The list has the properties of a bundle's chunks: joined they are the bundle, and their sizes are
+-- as `AreSegments` says.
 pub record AreChunks (segment : ℕ) (bundle : List ℕ) (list : List (List ℕ)) : Type 0 where
   pub joined : flat_map (λ chunk. chunk) list ≡ bundle
   pub sizes : AreSegments segment list

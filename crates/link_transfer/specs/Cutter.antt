@@ -23,7 +23,7 @@ held_size cutter = length cutter.held.bytes
 abbrev pub kept_size : Cutter → ℕ
 kept_size cutter = length cutter.held.given + length cutter.held.bytes
 
--- the chunk of the last cut is this and has a byte, or there is none
+-- `given` is the chunk of the last cut, which has a byte, or it is empty if there is none
 abbrev pub IsLastChunk : Option (List ℕ) → List ℕ → Type 0
 IsLastChunk None given = given ≡ []
 IsLastChunk (Some chunk) given = (given ≡ chunk) × (0 < length chunk)

@@ -21,7 +21,8 @@ abbrev pub beginning : (segment hold : ℕ) → Cutting
 beginning segment hold =
     record { segment = segment; hold = hold; bundle = []; whole = false; given = []; chunk = None }
 
--- These bytes were pushed; `last` is whether they end with the bundle's last byte.
+-- These bytes were pushed; `last` is whether they end with the bundle's last byte. Without bytes
+-- nothing changes.
 abbrev pub with_bytes : List ℕ → (last : Bool) → Cutting → Cutting
 with_bytes [] last so_far = so_far
 with_bytes (byte ∷ bytes) last so_far =
@@ -52,7 +53,7 @@ announcement so_far =
 abbrev pub next_chunk : Cutting → List ℕ
 next_chunk so_far = chunk_at so_far.segment (length so_far.given) so_far.bundle
 
--- whether it is the last
+-- whether the next chunk is the bundle's last
 abbrev pub is_last : Cutting → Bool
 is_last so_far =
     so_far.whole && (length so_far.given + 1 == chunk_count so_far.segment (length so_far.bundle))
@@ -81,7 +82,7 @@ with_chunk so_far =
       chunk = Some (next_chunk so_far);
     }
 
--- `cut` was called
+-- `cut` was called; if no chunk was ready, it only ends the showing of the last one
 unfoldable pub after_cut : Cutting → Cutting
 after_cut so_far =
     if is_some (next_cut so_far) then with_chunk so_far else record so_far { chunk = None }

@@ -2,6 +2,9 @@
 use Rattle.std.specs.Prelude.{ℕ, ◌+◌, ◌-◌, max, Bool, not, ◌||◌, ◌&&◌, ◌==◌, nat_lt, nat_le, List, Option, Some, None, if◌then◌else◌}
 use Rattle.link_transfer.specs.declared.cut.Cut.{Cut}
 
+-- `begun` is whether a chunk of the bundle was cut, and `ended` whether its last byte was pushed.
+-- `hold` is the greatest length that may be announced. `size` is the number of bytes not cut.
+
 -- the size of the buffer, the bytes that were given last, and the bytes that were not given
 pub record HeldBytes : Type 0 where
   pub room : ℕ
@@ -28,12 +31,13 @@ is_chunk begun last segment hold size =
 abbrev pub is_last_of : (ended : Bool) (segment size : ℕ) → Bool
 is_last_of ended segment size = ended && nat_le size segment
 
--- the length that the next cut announces
+-- the length that the next cut announces: only the first cut of a whole bundle of more than one
+-- segment and at most `hold` bytes announces one
 abbrev pub announcement_of : (begun ended : Bool) (segment hold size : ℕ) → Option ℕ
 announcement_of begun ended segment hold size =
     if not begun && (ended && (nat_lt segment size && nat_le size hold)) then Some size else None
 
--- the description of the next chunk, if one is ready
+-- the description of the next chunk; it has no meaning if none is ready
 abbrev pub cut_of : (begun ended : Bool) (segment hold size : ℕ) → Cut
 cut_of begun ended segment hold size =
     record {

@@ -141,8 +141,8 @@ effect_by false done = Some done
 unfoldable pub effect_of : List Message → Event → Option Turn
 effect_of before event = effect_by (is_stray before event) (turn_of before event)
 
--- The messages that the order of the next one depends on, if all are taken: all but the stray
--- segments.
+-- The messages that the order of the next one depends on, if every message is taken. Only stray
+-- segments are left out.
 abbrev pub appended_unless : (stray : Bool) → List Message → Message → List Message
 appended_unless true before message = before
 appended_unless false before message = before ++ message ∷ []

@@ -15,8 +15,11 @@ use std::alloc::{AllocError, Global};
 /// bundle.
 #[derive(Drop)]
 pub struct Cutter {
+    /// The bytes that were not cut, and the chunk of the last cut.
     held: Held,
+    /// The greatest length of a chunk.
     segment: usize,
+    /// The greatest length of a bundle that is announced.
     hold: usize,
     /// Whether a chunk of the current bundle was cut.
     begun: bool,
@@ -34,7 +37,7 @@ impl Cutter {
     ghost use Rattle.link_transfer.specs.Cutter.{IsCutterAt, cut_waits, wanted_by, held_size};
     ghost use Rattle.link_transfer.specs.Held.{cut_of, is_chunk, is_last_of, announcement_of};
 
-    /// A cutter for segments of at most `segment` bytes, that announces up to `hold` bytes.
+    /// A cutter for segments of at most `segment` bytes. It announces lengths up to `hold` bytes.
     ///
     /// `segment` is 1 to 65,536, and `hold` is 0 to 1,048,576. This call requests memory once, for
     /// the greater of `segment` and `hold + 1` bytes, and no later call requests any. `AllocError`
@@ -159,7 +162,8 @@ impl Cutter {
     /// `last` is whether the last byte of the slice is the bundle's last. The bytes are a whole
     /// chunk if the cutter holds nothing and a chunk is ready after them, but not before the last
     /// of them and not after the cut. The effect is that of pushing the bytes and of two calls of
-    /// `cut`. In all other cases nothing changes. It may be called only if no chunk is ready.
+    /// `cut`. In all other cases it returns `None`, and nothing changes. It may be called only if
+    /// no chunk is ready.
     #[inline(always)]
     pub fn cut_slice(&mut self, bytes: &[u8], last: bool) -> Option<Cut>
         requires { cut_waits self.old ≡ false }
@@ -271,7 +275,8 @@ impl Cutter {
         self.ended && self.held.len() <= self.segment
     }
 
-    /// The length that the next chunk announces.
+    /// The length of the bundle, if the next chunk announces it: the chunk is the first, and the
+    /// bundle has ended, with more bytes than a segment and at most `hold`.
     fn announcement(&self) -> Option<u64>
         ensures { result
             ≡ announcement_of self.now.begun self.now.ended self.now.segment self.now.hold

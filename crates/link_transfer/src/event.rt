@@ -42,7 +42,7 @@ impl Event {
         }
     }
 
-    /// The event of a message with these fields.
+    /// The event of a message with these fields, whatever its node ID and its items are.
     pub fn of_fields(fields: Fields) -> Event
         ensures { (node : ArrayVec ℕ) (items : ArrayVec Item)
             → result ≡ event_of (message_with fields node items) }

@@ -92,7 +92,7 @@ impl Joiner {
         if self.initiated { self.open() } else { None }
     }
 
-    /// The first reason why the event may not come now.
+    /// The first reason why the event may not come now, or `None` if it may come.
     fn refusal(&self, event: Event) -> Option<OrderFault>
         ensures { result ≡ refusal_by self.now.initiated self.now.terminated
             self.now.transfer event }
@@ -106,7 +106,7 @@ impl Joiner {
         }
     }
 
-    /// The reason why a segment without START may not come now, after a SESS_INIT.
+    /// Why a segment with this ID and without START may not come after a SESS_INIT, or `None`.
     fn continuation_refusal(&self, id: u64) -> Option<OrderFault>
         ensures { result ≡ (if option_eq ◌==◌ self.now.transfer (Some id) then None
             else Some OrderFault.NoSuchOpenTransfer) }
@@ -118,7 +118,7 @@ impl Joiner {
         }
     }
 
-    /// The reason why a segment with START may not come now, after a SESS_INIT.
+    /// Why a segment with this ID and with START may not come after a SESS_INIT, or `None`.
     fn start_refusal(&self, id: u64) -> Option<OrderFault>
         ensures { result ≡ (if option_eq ◌==◌ self.now.transfer (Some id)
             then Some OrderFault.StartRepeatsOpenId
@@ -224,7 +224,7 @@ impl Joiner {
         }
     }
 
-    /// Takes an event that may not come, and returns its effect on the transfers.
+    /// Takes an event that may not come, and returns its effect, or `None` for a stray segment.
     #[cold]
     fn take_refused(&mut self, event: Event) -> Option<Turn>
         ensures turn { (before : List Message) → IsJoinerAt self.old before

@@ -60,18 +60,19 @@ module _ {R A : Type 0} where
   AfterPart look part old new (Err (halt.Wire fault)) = MetFault look part old new fault
   AfterPart look part old new (Err (halt.Io fault)) = MetStop look part old new fault
 
-  -- the outcome of a function that reads the part
+  -- A function that reads the part has this outcome. It is a record only for the prover, which
+  -- would otherwise take `AfterPart` apart into its cases.
   pub record ReadsPart (look : R → Input) (part : List ℕ → Part A) (old new : Source R)
       (outcome : Result A Halt) : Type 0 where
     pub by : AfterPart look part old new outcome
 
--- the outcome of a function that writes a value into its caller's variable, together with that
--- value
+-- the same result with this value in place of `()`: the function has written the value into its
+-- caller's variable
 abbrev pub with_value : {A : Type 0} → A → Result (Unit {0}) Halt → Result A Halt
 with_value value (Ok done) = Ok value
 with_value value (Err stop) = Err stop
 
--- The result of reading the type byte: the byte, or nothing if the input has ended.
+-- The cases of reading a type byte: none, since the input has ended before it; or this one.
 module _ {R : Type 0} where
   pub record NoKind (look : R → Input) (old new : Source R) : Type 0 where
     pub takes : Takes look old new []

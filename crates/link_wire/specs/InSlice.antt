@@ -14,7 +14,7 @@ use Rattle.link_wire.specs.declared.message.ListOf.TheVariants.{Session, Transfe
 use Rattle.link_wire.specs.declared.{message.Message.Message, slices.ItemAt.ItemAt}
 use Rattle.link_wire.specs.declared.slices.{Span.Span, MessageAt.MessageAt}
 
--- a part that was read, with the offset after it
+-- the result as a `Part`: the bytes after the part, in place of the offset after it
 abbrev pub read_part : {A : Type 0} → List ℕ → Result (A × ℕ) WireFault → Part A
 read_part bytes (Ok (value, next)) = Ok (value, drop next bytes)
 read_part bytes (Err fault) = Err fault
@@ -23,21 +23,22 @@ read_part bytes (Err fault) = Err fault
 abbrev pub span_bytes : List ℕ → Span → List ℕ
 span_bytes bytes span = take span.length (drop span.offset bytes)
 
--- a node ID that was read where it lies
+-- the same for a node ID: its bytes, in place of where they lie
 abbrev pub read_node : List ℕ → Result (Span × ℕ) WireFault → Part (ArrayVec ℕ)
 read_node bytes (Ok (span, next)) = Ok (record { items = span_bytes bytes span }, drop next bytes)
 read_node bytes (Err fault) = Err fault
 
--- the head of an item, which was read as an item whose total is not known
+-- the head of an item: the item without its total
 abbrev pub head_of : Item → ItemHead
 head_of item = record { flags = item.flags; kind = item.kind; length = item.length }
 
+-- `read_part` for an item's head
 abbrev pub read_head : List ℕ → Result (Item × ℕ) WireFault → Part ItemHead
 read_head bytes (Ok (item, next)) = Ok (head_of item, drop next bytes)
 read_head bytes (Err fault) = Err fault
 
--- The head of the item is read at the offset, and its value after the head. The list has `left`
--- more bytes.
+-- An item is read at the offset: its head, and then its value. `left` is the number of bytes that
+-- its list has from the offset on.
 pub record ItemLies (owner : ListOf) (bytes : List ℕ) (left offset : ℕ)
     (found : ItemAt) : Type 0 where
   pub head : item_head_at left (drop offset bytes) ≡ Ok (head_of found.item, drop found.value bytes)
@@ -45,6 +46,7 @@ pub record ItemLies (owner : ListOf) (bytes : List ℕ) (left offset : ℕ)
       ≡ Ok (found.item.total, drop (found.value + found.item.length) bytes)
   pub within : found.value + found.item.length ≤ length bytes
 
+-- the result of reading the item at the offset: where it lies, or its fault
 abbrev pub LocatesItem : ListOf → List ℕ → (left offset : ℕ) → Result ItemAt WireFault → Type 0
 LocatesItem owner bytes left offset (Ok found) = ItemLies owner bytes left offset found
 LocatesItem owner bytes left offset (Err fault) =
@@ -52,19 +54,19 @@ LocatesItem owner bytes left offset (Err fault) =
     >>= λ (head, rest). total_at owner head.kind head.length rest)
     ≡ Err fault
 
--- the items end before the offset `end`, and nothing else is read
+-- the part is some items, after which the bytes from `next` on follow, and `next` is `end`
 pub record EndsBefore (bytes : List ℕ) (end : ℕ) (part : Part (ArrayVec Item)) (next : ℕ) : Type 0 where
   pub items : ArrayVec Item
   pub is : part ≡ Ok (items, drop next bytes)
   pub within : next ≤ length bytes
   pub ends : next ≡ end
 
--- the items end before the offset `end`, or there is a fault
+-- the result of reading a list of items: the offset `end`, at which they end, or the part's fault
 abbrev pub LocatesEnd : List ℕ → (end : ℕ) → Part (ArrayVec Item) → Result ℕ WireFault → Type 0
 LocatesEnd bytes end part (Ok next) = EndsBefore bytes end part next
 LocatesEnd bytes end part (Err fault) = part ≡ Err fault
 
--- the items of a list whose bytes after its length begin at the span
+-- these items are read from the span, which comes after a list's length, and end at `next`
 pub record ItemsLieAt (owner : ListOf) (bytes : List ℕ) (span : Span) (items : ArrayVec Item)
     (next : ℕ) : Type 0 where
   pub reads : items_of owner span.length (drop span.offset bytes) ≡ Ok (items, drop next bytes)
@@ -78,43 +80,44 @@ pub record ListLies (owner : ListOf) (bytes : List ℕ) (part : Part (ArrayVec I
   pub within : next ≤ length bytes
   pub ends : span.offset + span.length ≡ next
 
+-- the result of reading a list as this part: where its items lie, or the fault
 abbrev pub LocatesList : ListOf → List ℕ → Part (ArrayVec Item) → Result (Span × ℕ) WireFault
     → Type 0
 LocatesList owner bytes part (Ok (span, next)) = ListLies owner bytes part span next
 LocatesList owner bytes part (Err fault) = part ≡ Err fault
 
--- the items of a segment, which have a list only with START
+-- with START, the items of a segment lie at the span; without, it has none and the span is empty
 pub record SegmentList (flags : ℕ) (bytes : List ℕ) (span : Span)
     (items : ArrayVec Item) : Type 0 where
   pub with_start : is_start flags ≡ true → (next : ℕ) × ItemsLieAt Transfer bytes span items next
   pub without_start : is_start flags ≡ false → (items ≡ record { items = [] }) × (span.length ≡ 0)
 
--- the items of a message lie at the span
+-- the items of a message lie at the span, if it is a SESS_INIT or a segment
 abbrev pub HasList : Fields → List ℕ → Span → ArrayVec Item → Type 0
 HasList (fields.SessInit interval segment_mru transfer_mru) bytes span items =
     (next : ℕ) × ItemsLieAt Session bytes span items next
 HasList (fields.Segment flags id size) bytes span items = SegmentList flags bytes span items
 HasList _ bytes span items = Unit {0}
 
--- the list is after the node ID and its own length, and ends where the message ends
+-- in a SESS_INIT, the items begin four bytes after the node ID, and end where the message ends
 pub record SessionSpans (node items : Span) (end : ℕ) : Type 0 where
   pub node_ends : node.offset + node.length + 4 ≡ items.offset
   pub items_end : items.offset + items.length ≡ end
 
--- the list ends before the length of the data, where the head ends
+-- in a segment with START, the head ends eight bytes after the items
 pub record SegmentSpans (flags : ℕ) (items : Span) (end : ℕ) : Type 0 where
   pub with_start : is_start flags ≡ true → items.offset + items.length + 8 ≡ end
   pub without_start : is_start flags ≡ false → items ≡ record { offset = 0; length = 0 }
 
--- the node ID and the items lie within the message
+-- the node ID and the items lie within the message, whose head ends at `end`
 abbrev pub HasSpans : Fields → (node items : Span) → (end : ℕ) → Type 0
 HasSpans (fields.SessInit interval segment_mru transfer_mru) node items end =
     SessionSpans node items end
 HasSpans (fields.Segment flags id size) node items end = SegmentSpans flags items end
 HasSpans _ node items end = Unit {0}
 
--- The part is the message whose numbers, node ID and items the value has: the node ID and the items
--- by where they lie. The bytes after it begin at its end.
+-- The part is the message that `found` describes: its numbers, and where its node ID and its items
+-- lie. The bytes after the message begin at `found.end`.
 pub record LiesAt (bytes : List ℕ) (part : Part Message) (found : MessageAt) : Type 0 where
   pub items : ArrayVec Item
   pub is : part ≡ Ok (

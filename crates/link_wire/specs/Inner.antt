@@ -19,7 +19,7 @@ pub record IsInner (id : ℕ) (window : List ℕ) (size : ℕ) : Type 0 where
   pub within : 18 + size ≤ length window
   pub is : IsPart message_at (take 18 window) (inner_segment id size)
 
--- the data of that segment, which comes after its head
+-- the data of a segment as `IsInner` has it: `size` bytes after the 18 bytes of its head
 abbrev pub inner_bytes : (window : List ℕ) → (size : ℕ) → List ℕ
 inner_bytes window size = take size (drop 18 window)
 

@@ -63,11 +63,11 @@ total_at owner kind size bytes =
       Ok (None, bytes))
 
 -- If an item of a transfer's list has the type and the size of a Transfer Length item, the total in
--- its value was kept. Nothing is said of other items.
+-- its value was kept. `HasTotal` holds of every other item.
 abbrev pub HasTotal : Item → Type 0
 HasTotal item = item.kind ≡ transfer_length → item.length ≡ total_size → IsSome item.total
 
--- the same for each item of a transfer's list
+-- `HasTotal` holds of each item of a transfer's list
 abbrev pub HasTotals : List Item → Type 0
 HasTotals items = All HasTotal items
 

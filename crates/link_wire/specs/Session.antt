@@ -19,7 +19,7 @@ use Rattle.link_wire.specs.declared.session.Phase.TheVariants as phase
 use Rattle.link_wire.specs.declared.session.Session.{Session}
 use Rattle.link_io.specs.declared.source.Source.{Source}
 
--- a reading that goes on with a stream
+-- the reading with the messages of the stream after its own, and with the end of the stream
 abbrev pub joined : Reading → Stream → Reading
 joined reading rest =
     record { contact = reading.contact; entries = reading.entries ++ rest.entries; end = rest.end }
@@ -31,8 +31,8 @@ with_message offset message reading =
     then ended (Cut offset message [])
     else with_entry (record { offset = offset; message = message; content = [] }) (ended Clean))
 
--- the stream after the next bytes, which are data of the open segment; `left` more of that data are
--- to come
+-- What the next bytes, which are data of the open segment, add to a reading with this end. `left`
+-- more bytes of that data are to come. Only `Cut` has an open segment: other ends stay as they are.
 abbrev pub data_after : ℕ → List ℕ → End → Stream
 data_after left bytes Clean = ended Clean
 data_after left bytes (Cut offset message content) =
@@ -62,8 +62,8 @@ rest_after next left (Cut offset message content) bytes =
     }) (stream_at (next + left) (drop left bytes))
 rest_after next left (Fault offset fault) bytes = ended (Fault offset fault)
 
--- between two messages no data is to come; inside the segment at `offset`, its last `left` bytes
--- are to come
+-- `left` bytes of data are to come after a reading with this end: none between two messages, and
+-- inside the segment at `offset` the rest of its data. It never holds after a fault.
 abbrev pub IsLeft : ℕ → ℕ → End → Type 0
 IsLeft offset left Clean = left ≡ 0
 IsLeft offset left (Cut from message content) =
@@ -110,7 +110,7 @@ past_opening phase.Unopened = false
 past_opening phase.Reading = true
 past_opening (phase.Stopped why) = true
 
--- in this phase, with `left` bytes of data to come, the next message may be read
+-- `may_read`, by the phase of a session and the number of bytes of data that are to come
 abbrev pub reads_next : Phase → ℕ → Bool
 reads_next phase.Unopened left = false
 reads_next phase.Reading left = left == 0
@@ -130,7 +130,7 @@ module _ {R : Type 0} where
   may_open session = is_unopened session.phase && (session.left == 0 && is_fresh session.source)
 
   -- The next message may be read: the contact header was read and no data is to come, or the
-  -- session has stopped. In the second case that stop is returned again.
+  -- session has stopped. In the second case, `next` returns that stop again.
   abbrev pub may_read : Session R → Bool
   may_read session = reads_next session.phase session.left
 
@@ -180,7 +180,7 @@ module _ {R : Type 0} where
     pub over : fault ≡ wire.Truncated → IsOver look source
     pub all : (more : List ℕ) → MayFollow fault more → reading_of (history ++ more) ≡ reading
 
--- the result of a call that writes the message into its caller's buffer, together with that message
+-- the result, with the message that the call wrote into its caller's buffer beside the offset
 abbrev pub with_message_read : Message → Result (Option ℕ) Stop → Result (Option (ℕ × Message)) Stop
 with_message_read message (Ok None) = Ok None
 with_message_read message (Ok (Some offset)) = Ok (Some (offset, message))

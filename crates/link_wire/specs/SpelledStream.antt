@@ -7,7 +7,7 @@ use Rattle.link_wire.specs.Stream.{Entry, End, Clean, Cut, Fault, Reading}
 use Rattle.link_wire.specs.declared.{fault.WireFault.WireFault, message.Contact.Contact}
 use Rattle.link_wire.specs.declared.message.Message.{Message}
 
--- the bytes begin with no such spelling
+-- no prefix of the bytes is such a spelling
 abbrev pub NoneBegins : Spelling → List ℕ → Type 0
 NoneBegins spelled bytes = (first more : List ℕ) → spelled first → bytes ≢ first ++ more
 
@@ -38,7 +38,8 @@ abbrev pub IsStream : List Entry → End → ℕ → Spelling
 IsStream [] end = IsEnd end
 IsStream (entry ∷ entries) end = EntrySpelled entry (IsStream entries end)
 
--- the contact header's six bytes and what follows them, or a contact header that is refused
+-- The bytes are a contact header, which has six bytes, and a stream. Or the bytes begin with no
+-- contact header: there are no messages, and the end is the fault of the contact header.
 abbrev pub IsReadingBy : Option Contact → List Entry → End → Spelling
 IsReadingBy (Some contact) entries end bytes =
     (ContactSpelled contact ⨾ IsStream entries end 6) bytes

@@ -51,7 +51,7 @@ list_size false announce = 0
 abbrev pub segment_head_size : (flags : ℕ) (announce : Option ℕ) → ℕ
 segment_head_size flags announce = 18 + list_size (is_start flags) announce
 
--- the messages that these bytes spell
+-- the items, and the messages, that these bytes spell
 abbrev pub announced : Option ℕ → List Item
 announced None = []
 announced (Some total) =

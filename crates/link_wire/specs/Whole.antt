@@ -33,7 +33,7 @@ is_quiet _ = false
 abbrev pub IsQuiet : Entry → Type 0
 IsQuiet entry = is_quiet entry.message ≡ true
 
--- these bytes are quiet messages, one after another
+-- these bytes, which begin at the offset, are quiet messages, one after another
 pub record AreQuiet (offset : ℕ) (bytes : List ℕ) : Type 0 where
   pub entries : List Entry
   pub quiet : All IsQuiet entries
@@ -58,14 +58,14 @@ pub record IsQuietHead (window : List ℕ) (size : ℕ) : Type 0 where
   pub is : IsPart message_at (take size window) message
 
 module _ {R : Type 0} (look : R → Input) (old new : Session R) (history : List ℕ) where
-  -- these bytes were given, which are these whole messages
+  -- the session gave these bytes, and they are these whole messages
   pub record PassedMessages (given : List ℕ) (entries : List Entry) : Type 0 where
     pub takes : Takes look (source_of old) (source_of new) given
     pub reading : reading_of (history ++ given)
         ≡ joined (reading_of history) (record { entries = entries; end = Clean })
     pub at : IsSessionAt look new (history ++ given)
 
-  -- a whole message was given, with its data
+  -- The session gave this whole message with its data. All of it lay in the window.
   pub record GivenWhole (offset : ℕ) (message : Message) : Type 0 where
     pub given : List ℕ
     pub content : List ℕ
@@ -75,7 +75,7 @@ module _ {R : Type 0} (look : R → Input) (old new : Session R) (history : List
     pub passed : PassedMessages given
         (record { offset = offset; message = message; content = content } ∷ [])
 
-  -- quiet messages of this many bytes were given, none of them if this is 0
+  -- the session gave quiet messages that have `count` bytes together; 0 means none
   pub record PassedQuiet (count : ℕ) : Type 0 where
     pub given : List ℕ
     pub entries : List Entry

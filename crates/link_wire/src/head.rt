@@ -64,7 +64,7 @@ fn node_bytes<R: InDevice>(
     Ok(())
 }
 
-/// Reads the extension list of a segment into `items`; without START there is no list.
+/// Reads the extension list of a segment into `items`; without START, `items` becomes empty.
 #[tactic(auto, unfolding(crate::specs::Message::segment_items_at))]
 #[inline]
 fn segment_items<R: InDevice>(

@@ -162,7 +162,7 @@ impl Fields {
     ghost use Rattle.link_wire.specs.Message.{data_length};
     ghost use Rattle.link_wire.specs.MessageBuffer.{message_with};
 
-    /// The number of data bytes after the head of a message with these numbers.
+    /// The number of data bytes after the head, whatever the message's node ID and items are.
     #[inline(always)]
     pub(crate) fn data_length(self) -> u64
         ensures { (node : _) (items : _) → result ≡ data_length (message_with self node items) }

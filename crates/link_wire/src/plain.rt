@@ -16,7 +16,7 @@ use byteorder::{BigEndian, ByteOrder};
 /// Both have a type, flags, a transfer ID and a length.
 pub const PLAIN_HEAD: usize = 18;
 
-/// The transfer ID and the length in such a head, which begins the window.
+/// The ID and the length of the XFER_ACK, or XFER_SEGMENT without START, that begins the window.
 #[inline(always)]
 pub fn id_and_length(window: &[u8]) -> (u64, u64)
     requires { PLAIN_HEAD ≤ length window.now }
@@ -28,7 +28,8 @@ pub fn id_and_length(window: &[u8]) -> (u64, u64)
     (id, length)
 }
 
-/// XFER_SEGMENT: type, flags, ID, with START an empty list, and the length of the data.
+/// [`plain`] for an XFER_SEGMENT: type, flags, ID, with START an empty list, and the data's length.
+/// `None` if the head is not whole in the window, or its list is not empty.
 #[tactic(auto, using(crate::proofs::Plains::first_head, crate::proofs::Plains::later_head))]
 #[inline(always)]
 fn segment(window: &[u8]) -> Option<(Fields, usize)>
@@ -54,7 +55,7 @@ fn segment(window: &[u8]) -> Option<(Fields, usize)>
     Some((Fields::Segment { flags, id, length }, 22))
 }
 
-/// XFER_ACK: type, flags, ID and length.
+/// [`plain`] for an XFER_ACK: type, flags, ID and length. `None` if it is not whole in the window.
 #[tactic(auto, using(crate::proofs::Plains::ack_head))]
 #[inline(always)]
 fn ack(window: &[u8]) -> Option<(Fields, usize)>
@@ -69,7 +70,7 @@ fn ack(window: &[u8]) -> Option<(Fields, usize)>
     Some((Fields::Ack { flags, id, length }, PLAIN_HEAD))
 }
 
-/// XFER_REFUSE: type, reason and ID.
+/// [`plain`] for an XFER_REFUSE: type, reason and ID. `None` if it is not whole in the window.
 #[tactic(auto, using(crate::proofs::Plains::refuse_head))]
 #[inline(always)]
 fn refuse(window: &[u8]) -> Option<(Fields, usize)>
@@ -84,7 +85,7 @@ fn refuse(window: &[u8]) -> Option<(Fields, usize)>
     Some((Fields::Refuse { reason, id }, 10))
 }
 
-/// SESS_TERM: type, flags and reason.
+/// [`plain`] for a SESS_TERM: type, flags and reason. `None` if it is not whole in the window.
 #[tactic(auto, using(crate::proofs::Plains::sess_term_head))]
 #[inline(always)]
 fn sess_term(window: &[u8]) -> Option<(Fields, usize)>
@@ -99,7 +100,7 @@ fn sess_term(window: &[u8]) -> Option<(Fields, usize)>
     Some((Fields::SessTerm { flags, reason }, 3))
 }
 
-/// MSG_REJECT: type, reason, and the rejected type byte.
+/// [`plain`] for a MSG_REJECT: type, reason and rejected type. `None` if it is not whole there.
 #[tactic(auto, using(crate::proofs::Plains::msg_reject_head))]
 #[inline(always)]
 fn msg_reject(window: &[u8]) -> Option<(Fields, usize)>

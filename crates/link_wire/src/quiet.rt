@@ -58,7 +58,8 @@ pub fn quiet(window: &[u8]) -> usize
 {
     let mut at = 0;
     let mut next = 0;
-    // One test a message: a message that ends with the window ends the loop too.
+    // The loop ends at the end of the window, or past it: after a message that is not whole, and
+    // after a type byte that no quiet message has, since its size is `NONE`.
     while next < window.len() {
         at = next;
         next = at + quiet_size(window[at]);

@@ -56,7 +56,7 @@ const NOWHERE: Span = Span {
     length: 0,
 };
 
-/// Reads that many bytes.
+/// Reads `size` bytes from offset `at` on.
 #[tactic(auto, unfolding(crate::specs::Part::bytes_at))]
 fn bytes_at(bytes: &[u8], at: usize, size: usize) -> Result<(&[u8], usize), WireFault>
     requires { at ≤ length bytes.now }
@@ -146,7 +146,8 @@ pub fn contact_in(bytes: &[u8]) -> Result<(Contact, usize), WireFault>
     Ok((Contact { flags: header[5] }, next))
 }
 
-/// A message without node ID and items, which ends there.
+/// A message with these numbers, without node ID and items, whose head ends at `end`. By `lies`, it
+/// is the right result for any `bytes` and `part` that read as this message.
 fn plain_at(fields: Fields, end: usize) -> MessageAt
     ensures is { result ≡ record {
       fields = fields;
@@ -171,7 +172,7 @@ fn plain_at(fields: Fields, end: usize) -> MessageAt
     }
 }
 
-/// Reads a node ID: its length, and then its bytes (RFC 9174 section 4.6).
+/// Reads a node ID: its length, and then its bytes (RFC 9174 section 4.6). Returns where they lie.
 #[tactic(auto, unfolding(crate::specs::Message::node_at, crate::specs::Message::node_bytes_at))]
 fn node_at(bytes: &[u8], at: usize) -> Result<(Span, usize), WireFault>
     requires { at ≤ length bytes.now }
@@ -230,7 +231,7 @@ fn is_total_length(owner: ListOf, item: &Item) -> bool
     }
 }
 
-/// Reads the value of an item, and returns it if it is a total length.
+/// Reads the value of an item, and returns it if it is a total length, or `None` if it is not.
 #[tactic(auto, unfolding(crate::specs::Message::total_at, crate::specs::Message::skipped_at))]
 fn total_at(
     bytes: &[u8],

@@ -170,7 +170,7 @@ fn put_announce(buffer: &mut HeadBuf, announce: Option<u64>)
     }
 }
 
-/// Appends the fields of a segment before its list.
+/// Appends the type byte, the flags and the transfer ID of a segment.
 fn put_segment(buffer: &mut HeadBuf, flags: u8, id: u64)
     requires { array_vec_len buffer.old + 10 ≤ HEAD_MAX }
     ensures items { buffer.new.items ≡ buffer.old.items ++ (be 1 XFER_SEGMENT ++ be 1 flags

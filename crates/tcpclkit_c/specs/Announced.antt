@@ -19,7 +19,7 @@ announced_shown Absent = record { kind = 0; total = 0 }
 announced_shown (Total total) = record { kind = 1; total = total }
 announced_shown Malformed = record { kind = 2; total = 0 }
 
--- what the items of a list announce, if the bytes are one
+-- what the items of a list announce, or `None` if the bytes are no list
 abbrev pub announced_part : Part (ArrayVec Item) → Option Announced
 announced_part (Ok (items, rest)) = Some (announced_of items.items)
 announced_part (Err fault) = None

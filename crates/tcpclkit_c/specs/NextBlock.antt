@@ -40,7 +40,7 @@ pub record FeedsBlock (seen piece : List ℕ) (scan : MarkedScan) (taken : ℕ) 
   pub gives : block ≡ added_block seen piece
   pub answers : status ≡ fed_block_status seen piece
 
--- the same for memory that may have no scan
+-- `FeedsBlock` for memory that may have no scan; without the mark, the answer is TCPCLKIT_RANGE
 pub record FeedsMarkedBlock (old : MarkedScan) (piece : List ℕ) (new : MarkedScan) (taken : ℕ)
     (block : BlockNumbers) (status : ℕ) : Type 0 where
   pub scan : (seen : List ℕ) → IsMarkedScanAt old seen
@@ -48,8 +48,8 @@ pub record FeedsMarkedBlock (old : MarkedScan) (piece : List ℕ) (new : MarkedS
   pub other : (old.mark ≡ mark → ⊥)
       → (status ≡ 6) × (taken ≡ 0) × (new ≡ old) × (block ≡ no_block)
 
--- The same for a scan without its mark. If bytes were taken, the block that they add ends with the
--- last of them.
+-- A scan that has room for the piece has taken `count` bytes of it, up to the end of a block. If it
+-- took any, the block that they add, if there is one, ends with the last of them.
 pub record TakesBlock (old new : BundleScan) (piece : List ℕ) (count : ℕ) : Type 0 where
   pub within : count ≤ length piece
   pub seen : (seen : List ℕ) → HasScanned old seen

@@ -52,7 +52,8 @@ fed seen piece = if has_room seen piece then taken bundle_goes seen piece else [
 abbrev pub is_late : (seen piece : List ℕ) → Bool
 is_late seen piece = not (bundle_goes seen) && nat_lt 0 (length piece)
 
--- the status after these bytes of the piece, or TCPCLKIT_SCAN_ENDED, or TCPCLKIT_RANGE
+-- The status after the bytes `run` of the piece were taken. It is TCPCLKIT_SCAN_ENDED if the piece
+-- is late, and TCPCLKIT_RANGE if there is no room for it.
 abbrev pub status_after : (seen piece run : List ℕ) → ℕ
 status_after seen piece run =
     if has_room seen piece
@@ -67,8 +68,8 @@ pub record Feeds (seen piece : List ℕ) (scan : MarkedScan) (taken status : ℕ
   pub counts : taken ≡ length (fed seen piece)
   pub answers : status ≡ fed_status seen piece
 
--- Whether the verdict on a number of bytes is known, of which a scan has taken the first: it has
--- taken all, or it needs no more.
+-- Whether a scan that has seen some bytes knows the verdict on `count` bytes that begin with them:
+-- it has seen all, or it needs no more.
 abbrev pub may_end : (seen : List ℕ) → ℕ → Bool
 may_end seen count =
     (count == length seen) || (nat_lt (length seen) count && not (bundle_goes seen))

@@ -39,8 +39,8 @@ data_words primary block content =
     drop 1 (words_text block.data_offset
     (option_map (λ kind. data_of kind content) (kind_of primary.flags block.block_type)))
 
--- The slice begins with the text, or has the text's first bytes. As many bytes as that were
--- written, and the bytes after them are as they were.
+-- The slice begins with the text, or with as much of it as fits. `written` is the number of these
+-- bytes, and the bytes after them are as they were.
 pub record HoldsText (text old slice : List ℕ) (written status : ℕ) : Type 0 where
   pub front : HoldsPrefix slice text
   pub rest : LeavesRest old slice text

@@ -63,7 +63,7 @@ fn may_announce(bytes: &[u8], message: &Message) -> bool
     message.kind == 1 && has_list_at(bytes, message, message.items_offset)
 }
 
-/// Reads the length of the transfer that a segment announces.
+/// Reads the length that a segment announces. Returns `RANGE` if its items are no list there.
 #[unsafe(no_mangle)]
 pub extern "C" fn tcpclkit_raw_read_announced(
     bytes: &[u8],

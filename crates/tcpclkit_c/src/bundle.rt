@@ -26,7 +26,7 @@ fn found(scan: &BundleScan) -> Verdict
     with_span(fault_of(scan.view()), scan.payload_seen())
 }
 
-/// Gives the verdict on the bytes that a scan has judged.
+/// Writes the verdict on the bytes that a scan has judged to `answer`, and returns its status.
 pub(crate) fn give_verdict(scan: &BundleScan, answer: &mut Verdict) -> u32
     ensures { (bytes : List ℕ) → HasJudged scan.now bytes → ReturnsVerdict bytes answer.new result }
 {
@@ -34,7 +34,7 @@ pub(crate) fn give_verdict(scan: &BundleScan, answer: &mut Verdict) -> u32
     state_status(scan.state())
 }
 
-/// Judges the bytes as one bundle.
+/// Judges the bytes as one bundle. Returns `OK`, `TRUNCATED` or `FAULT`.
 #[unsafe(no_mangle)]
 pub extern "C" fn tcpclkit_raw_judge_bundle(bytes: &[u8], answer: &mut Verdict) -> u32
     ensures status { result ≡ state_status (state_of (verdict bytes.now)) }
@@ -45,7 +45,7 @@ pub extern "C" fn tcpclkit_raw_judge_bundle(bytes: &[u8], answer: &mut Verdict) 
     give_verdict(&scan, answer)
 }
 
-/// Copies the names, and returns the status if nothing else is wrong.
+/// Copies the names, as far as they fit. Returns `OK`, or `TOO_SMALL` if one does not fit.
 fn give_names(
     destination: &[u8],
     source: &[u8],
@@ -72,7 +72,7 @@ fn give_names(
     }
 }
 
-/// Gives the fields and the names of a good bundle.
+/// Writes the fields and the names of a good bundle. Returns `OK` or `TOO_SMALL`.
 fn give_good(
     info: &BundleView<'_>,
     verdict: Verdict,
@@ -98,7 +98,7 @@ fn give_good(
     )
 }
 
-/// Gives the fields and the names that a bundle in this state has before its first fault.
+/// Writes the fields and the names before the first fault, and returns the status of this state.
 ///
 /// The length of a name is that of its bytes in the slice: the status does not say that it is cut.
 fn give_bad(
@@ -133,7 +133,7 @@ fn give_bad(
     state_status(state)
 }
 
-/// Gives the verdict on the bytes that a scan has judged, and the fields that were accepted.
+/// Writes the verdict on the bytes that a scan has judged, and the fields that were accepted.
 pub(crate) fn give_info(
     scan: &BundleScan,
     primary: &PrimaryView<'_>,
@@ -171,7 +171,7 @@ pub(crate) fn give_info(
     }
 }
 
-/// Judges the bytes as one bundle, and gives the fields that were accepted.
+/// Judges the bytes as one bundle, and writes the verdict and the fields that were accepted.
 #[unsafe(no_mangle)]
 pub extern "C" fn tcpclkit_raw_describe_bundle(
     bytes: &[u8],

@@ -20,7 +20,8 @@ pub extern "C" fn tcpclkit_raw_start_order(order: &mut Order) -> u32
     OK
 }
 
-/// Judges whether a message may come now. If so, the numbers then describe it too.
+/// Judges whether a message may come now. Returns `OK`, and `order` then counts the message; or
+/// `FAULT` if it may not come; or `RANGE`. Neither of these changes `order`.
 #[unsafe(no_mangle)]
 pub extern "C" fn tcpclkit_raw_judge_message(
     order: &mut Order,
@@ -43,7 +44,7 @@ pub extern "C" fn tcpclkit_raw_judge_message(
     judge(order, event_by(message), answer)
 }
 
-/// Takes a message as `unpack --keep-going` does, whether or not it may come now.
+/// Takes a message as `unpack --keep-going` does. Returns `FAULT` if it may not come, or `RANGE`.
 #[unsafe(no_mangle)]
 pub extern "C" fn tcpclkit_raw_take_message(
     order: &mut Order,

@@ -34,7 +34,7 @@ pub extern "C" fn tcpclkit_raw_read_contact(bytes: &[u8], answer: &mut Contact) 
     }
 }
 
-/// Reads the message that begins at an offset.
+/// Reads the message that begins at an offset, or returns `END` or `RANGE`.
 #[unsafe(no_mangle)]
 pub extern "C" fn tcpclkit_raw_read_message(bytes: &[u8], offset: u64, answer: &mut Message) -> u32
     ensures range { length bytes.now < offset → (result ≡ 6) × (answer.new ≡ answer.old) }
@@ -65,7 +65,7 @@ pub extern "C" fn tcpclkit_raw_read_message(bytes: &[u8], offset: u64, answer: &
     }
 }
 
-/// Reads the extension item at an offset of a message's list.
+/// Reads the extension item at an offset of a message's list, or returns `END` or `RANGE`.
 #[unsafe(no_mangle)]
 pub extern "C" fn tcpclkit_raw_read_item(
     bytes: &[u8],

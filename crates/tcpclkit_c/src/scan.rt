@@ -73,7 +73,7 @@ pub unsafe extern "C" fn tcpclkit_raw_start_scan(memory: *mut u64) -> u32
     OK
 }
 
-/// Whether the memory has a scan, and this may see the piece too.
+/// Whether the memory has a scan, and the piece does not exceed the limit of an input.
 fn may_feed(scan: &MarkedScan, piece: &[u8]) -> bool
     ensures scan { (seen : List ℕ) → IsMarkedScanAt scan.now seen
         → result ≡ has_room seen piece.now }
@@ -91,7 +91,7 @@ fn is_late(scan: &BundleScan, piece: &[u8]) -> bool
     !scan.going() && piece.len() > 0
 }
 
-/// The status after a piece.
+/// The status after a piece: `SCAN_ENDED` if it was `late`, and else the status of the bytes seen.
 #[inline(always)]
 fn piece_status(scan: &BundleScan, late: bool) -> u32
     ensures { (seen : List ℕ) → HasScanned scan.now seen
@@ -104,7 +104,7 @@ fn piece_status(scan: &BundleScan, late: bool) -> u32
     }
 }
 
-/// Takes bytes of the piece while more are needed.
+/// Takes bytes of the piece while more are needed. Returns `RANGE` if [`may_feed`] is false.
 fn feed(scan: &mut MarkedScan, piece: &[u8], taken: &mut u64) -> u32
     ensures { FeedsMarked scan.old piece.now scan.new taken.new result }
 {
@@ -134,7 +134,7 @@ pub unsafe extern "C" fn tcpclkit_raw_feed_scan(
     feed(&mut *(memory as *mut MarkedScan), piece, taken)
 }
 
-/// Takes bytes of the piece while more are needed, up to the end of a block.
+/// Takes bytes of the piece while more are needed, up to the end of a block. Returns how many.
 fn take_block(scan: &mut BundleScan, piece: &[u8]) -> usize
     requires { scan_size scan.old + length piece.now ≤ 2 ^ 63 - 1 }
     ensures { TakesBlock scan.old scan.new piece.now result }
@@ -145,7 +145,7 @@ fn take_block(scan: &mut BundleScan, piece: &[u8]) -> usize
     scan.feed_block(piece)
 }
 
-/// Takes bytes of the piece up to the end of a block, and gives this block.
+/// Takes bytes up to the end of a block, and writes this block or none. `RANGE` if not `may_feed`.
 fn next_block(scan: &mut MarkedScan, piece: &[u8], taken: &mut u64, block: &mut BlockNumbers) -> u32
     ensures { FeedsMarkedBlock scan.old piece.now scan.new taken.new block.new result }
 {
@@ -157,7 +157,7 @@ fn next_block(scan: &mut MarkedScan, piece: &[u8], taken: &mut u64, block: &mut 
     let late = is_late(&scan.scan, piece);
     let count = take_block(&mut scan.scan, piece);
     *taken = count as u64;
-    // A block that ended before this call is not given again.
+    // A block that ended before this call is not written again.
     let ended = if count > 0 {
         scan.scan.ended_block()
     } else {
@@ -167,7 +167,7 @@ fn next_block(scan: &mut MarkedScan, piece: &[u8], taken: &mut u64, block: &mut 
     piece_status(&scan.scan, late)
 }
 
-/// Takes the bytes of the piece up to the end of a block, and gives this block.
+/// Takes the bytes of the piece up to the end of a block, and writes this block, or no block.
 #[unsafe(no_mangle)]
 pub unsafe extern "C" fn tcpclkit_raw_next_block(
     memory: *mut u64,
@@ -185,7 +185,7 @@ pub unsafe extern "C" fn tcpclkit_raw_next_block(
     next_block(&mut *(memory as *mut MarkedScan), piece, taken, block)
 }
 
-/// Gives the verdict on the bytes seen.
+/// Writes the verdict on the bytes seen. Returns its status, or `RANGE` without the mark.
 #[tactic(auto, using(link_bundle::proofs::Pieces::all_judged))]
 fn judge(scan: &MarkedScan, answer: &mut Verdict) -> u32
     ensures { JudgesMarked scan.now answer.old answer.new result }
@@ -196,7 +196,7 @@ fn judge(scan: &MarkedScan, answer: &mut Verdict) -> u32
     give_verdict(&scan.scan, answer)
 }
 
-/// The verdict on the bytes seen.
+/// Writes the verdict on the bytes seen, and returns its status.
 #[unsafe(no_mangle)]
 pub unsafe extern "C" fn tcpclkit_raw_judge_scan(memory: *const u64, answer: &mut Verdict) -> u32
     ghost lent: { Reading }
@@ -215,8 +215,8 @@ fn may_end(scan: &BundleScan, count: u64) -> bool
     count == scan.count() || (count > scan.count() && !scan.going())
 }
 
-/// Gives the verdict on the bytes that the scan has seen, and bytes after them, which it did not
-/// need.
+/// Writes the verdict on the bytes that the scan has seen and more bytes after them (`rest`), which
+/// it did not need.
 fn give_late(scan: &BundleScan, answer: &mut Verdict) -> u32
     ensures { (seen rest : List ℕ) → HasScanned scan.now seen → bundle_goes seen ≡ false
         → 0 < length rest → ReturnsVerdict (seen ++ rest) answer.new result }
@@ -231,7 +231,7 @@ fn give_late(scan: &BundleScan, answer: &mut Verdict) -> u32
     }
 }
 
-/// Gives the verdict on `count` bytes: those that the scan has seen, and those after them.
+/// Writes the verdict on `count` bytes: those that the scan has seen, and those after them.
 fn give_end(scan: &BundleScan, count: u64, answer: &mut Verdict) -> u32
     ensures { (seen rest : List ℕ) → HasScanned scan.now seen → may_end seen count ≡ true
         → length (seen ++ rest) ≡ count → ReturnsVerdict (seen ++ rest) answer.new result }
@@ -242,7 +242,7 @@ fn give_end(scan: &BundleScan, count: u64, answer: &mut Verdict) -> u32
     give_verdict(scan, answer)
 }
 
-/// Gives the verdict on `count` bytes, of which the scan has seen the first.
+/// Writes the verdict on `count` bytes, of which the scan has seen the first, or returns `RANGE`.
 fn end(scan: &MarkedScan, count: u64, answer: &mut Verdict) -> u32
     ensures { EndsMarked scan.now count answer.old answer.new result }
 {
@@ -255,7 +255,7 @@ fn end(scan: &MarkedScan, count: u64, answer: &mut Verdict) -> u32
     give_end(&scan.scan, count, answer)
 }
 
-/// The verdict on `count` bytes as one bundle: those seen, and those that came after them.
+/// Writes the verdict on `count` bytes as one bundle: those seen, and those that came after them.
 #[unsafe(no_mangle)]
 pub unsafe extern "C" fn tcpclkit_raw_end_scan(
     memory: *const u64,
@@ -270,7 +270,7 @@ pub unsafe extern "C" fn tcpclkit_raw_end_scan(
     end(&*(memory as *const MarkedScan), count, answer)
 }
 
-/// Gives the block in whose data or check field the bytes seen end.
+/// Writes the block in whose data or check field the bytes seen end, or returns `END` or `RANGE`.
 fn judge_block(scan: &MarkedScan, block: &mut BlockNumbers) -> u32
     ensures { CutsMarked scan.now block.new result }
 {
@@ -283,7 +283,7 @@ fn judge_block(scan: &MarkedScan, block: &mut BlockNumbers) -> u32
     if cut.is_some() { OK } else { END }
 }
 
-/// The block in whose data or check field the bytes seen end.
+/// Writes the block in whose data or check field the bytes seen end, or returns `END`.
 #[unsafe(no_mangle)]
 pub unsafe extern "C" fn tcpclkit_raw_judge_block(
     memory: *const u64,
@@ -297,7 +297,7 @@ pub unsafe extern "C" fn tcpclkit_raw_judge_block(
     judge_block(&*(memory as *const MarkedScan), block)
 }
 
-/// Gives the verdict on the bytes seen, and the fields that were accepted.
+/// Writes the verdict on the bytes seen, and the accepted fields, or returns `RANGE`.
 fn describe(
     scan: &MarkedScan,
     destination_name: &mut [u8],
@@ -323,7 +323,7 @@ fn describe(
     )
 }
 
-/// The verdict on the bytes seen, and the fields that were accepted.
+/// Writes the verdict on the bytes seen, and the fields that were accepted.
 #[unsafe(no_mangle)]
 pub unsafe extern "C" fn tcpclkit_raw_describe_scan(
     memory: *const u64,

@@ -32,7 +32,7 @@ fn put_named(line: &mut Line, named: Named)
     }
 }
 
-/// Copies a text into the slice, as far as there is room.
+/// Copies a text into the slice, as far as there is room. Returns `OK` or `TOO_SMALL`.
 fn give(text: &[u8], slice: &mut [u8], written: &mut u64) -> u32
     ensures { HoldsText text.now slice.old slice.new written.new result }
 {
@@ -44,7 +44,7 @@ fn give(text: &[u8], slice: &mut [u8], written: &mut u64) -> u32
     }
 }
 
-/// Writes the words of a fault.
+/// Writes the words of the fault with these numbers, or returns `RANGE` if there is none.
 #[unsafe(no_mangle)]
 pub extern "C" fn tcpclkit_raw_write_fault_text(
     code: u64,
@@ -66,7 +66,7 @@ pub extern "C" fn tcpclkit_raw_write_fault_text(
     }
 }
 
-/// Writes an endpoint ID.
+/// Writes the endpoint ID with these numbers and this name, or returns `RANGE` if there is none.
 #[unsafe(no_mangle)]
 pub extern "C" fn tcpclkit_raw_write_eid_text(
     eid: &EidNumbers,
@@ -88,8 +88,8 @@ pub extern "C" fn tcpclkit_raw_write_eid_text(
     }
 }
 
-/// Whether these are a primary block, a whole canonical block or one that is cut, and all of its
-/// data.
+/// Whether these are a primary block, a canonical block, and all of the canonical block's data. The
+/// canonical block may be cut after its data.
 fn is_data_of(primary: &BlockNumbers, block: &BlockNumbers, content: &[u8]) -> bool
     ensures { result ≡ is_data_of primary.now block.now (length content.now) }
 {
@@ -125,7 +125,7 @@ fn without_space(words: &[u8]) -> &[u8]
     &words[1.min(words.len())..]
 }
 
-/// Writes what the data of a block says.
+/// Writes what the data of a block says. Returns `RANGE` if [`is_data_of`] is false.
 #[unsafe(no_mangle)]
 pub extern "C" fn tcpclkit_raw_read_block_data(
     primary: &BlockNumbers,

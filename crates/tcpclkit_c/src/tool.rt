@@ -21,7 +21,7 @@ use link_tools::{PackOptions, RunEnd, cutter_for, pack};
 use link_transfer::Cutter;
 use std::alloc::{AllocError, Global};
 
-/// `list`.
+/// Runs `list` over the bytes. Returns `OK` or `TOO_SMALL`.
 #[unsafe(no_mangle)]
 pub extern "C" fn tcpclkit_raw_list(
     bytes: &[u8],
@@ -44,7 +44,7 @@ pub extern "C" fn tcpclkit_raw_list(
     list_into(bytes, wants, output, report, answer)
 }
 
-/// `unpack`.
+/// Runs `unpack` over the bytes. Returns `OK`, `TOO_SMALL`, or `RANGE` for bad options.
 #[unsafe(no_mangle)]
 pub extern "C" fn tcpclkit_raw_unpack(
     bytes: &[u8],
@@ -70,7 +70,7 @@ pub extern "C" fn tcpclkit_raw_unpack(
     unpack_into(bytes, options, wants, output, report, answer)
 }
 
-/// `blocks`.
+/// Runs `blocks` over the bytes. Returns `OK`, `TOO_SMALL`, or `RANGE` for bad options.
 #[unsafe(no_mangle)]
 pub extern "C" fn tcpclkit_raw_blocks(
     bytes: &[u8],
@@ -96,7 +96,7 @@ pub extern "C" fn tcpclkit_raw_blocks(
     blocks_into(bytes, options, wants, output, report, answer)
 }
 
-/// `check`.
+/// Runs `check` over the bytes. Returns `OK`, `TOO_SMALL`, or `RANGE` for bad options.
 #[unsafe(no_mangle)]
 pub extern "C" fn tcpclkit_raw_check(
     bytes: &[u8],
@@ -144,7 +144,7 @@ impl SliceTool for Packing {
     }
 }
 
-/// `pack`.
+/// Runs `pack` over the bytes. Returns `OK`, `TOO_SMALL`, `RANGE` for bad options, or `MEMORY`.
 #[unsafe(no_mangle)]
 pub extern "C" fn tcpclkit_raw_pack(
     alloc: Global,

@@ -12,7 +12,7 @@ ghost use Rattle.link_ffi_slices.specs.Tool.{ReturnsTexts, ReturnsUnpacked, Retu
 
 use link_ffi_slices::{Run, Wants, blocks_into, check_into, list_into, unpack_into};
 
-/// `list`.
+/// Runs `list` over the bytes. Returns 0, or 5 if a wanted text does not fit.
 #[unsafe(no_mangle)]
 pub extern "C" fn list(
     bytes: &[u8],
@@ -35,7 +35,7 @@ pub extern "C" fn list(
     list_into(bytes, wants, output, report, answer)
 }
 
-/// `unpack`.
+/// Runs `unpack` over the bytes. Returns 0, 5 if a wanted text does not fit, or 6 for bad options.
 #[unsafe(no_mangle)]
 pub extern "C" fn unpack(
     bytes: &[u8],
@@ -61,7 +61,7 @@ pub extern "C" fn unpack(
     unpack_into(bytes, options, wants, output, report, answer)
 }
 
-/// `blocks`.
+/// Runs `blocks` over the bytes. Returns 0, 5 if a wanted text does not fit, or 6 for bad options.
 #[unsafe(no_mangle)]
 pub extern "C" fn blocks(
     bytes: &[u8],
@@ -87,7 +87,7 @@ pub extern "C" fn blocks(
     blocks_into(bytes, options, wants, output, report, answer)
 }
 
-/// `check`.
+/// Runs `check` over the bytes. Returns 0, 5 if a wanted text does not fit, or 6 for bad options.
 #[unsafe(no_mangle)]
 pub extern "C" fn check(
     bytes: &[u8],
