@@ -1,8 +1,8 @@
 -- The sizes of the transfers of a recorded stream.
 use Rattle.std.specs.Prelude.{ℕ, ◌+◌, ◌-◌, ◌^◌, min, Bool, true, List, [], ◌∷◌, ◌++◌, decimal, if◌then◌else◌}
 use Rattle.link_run.specs.Writers.{on_output}
-use Rattle.link_run_transfers.specs.Walk.{WalkEvent, MessageHead, Data, Whole, closes, is_beginning}
-use Rattle.link_run_transfers.specs.Saying.{Keeping}
+use Rattle.link_run_over_transfers.specs.Walk.{WalkEvent, MessageHead, Data, Whole, closes, is_beginning}
+use Rattle.link_run_over_transfers.specs.Saying.{Keeping}
 
 -- How many bytes of the latest transfer's data have come. The count ends at 2^64 - 1.
 abbrev pub size_after : (size : ℕ) → WalkEvent → ℕ

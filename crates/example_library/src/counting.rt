@@ -8,7 +8,7 @@ ghost use Rattle.example_library.specs.Counting.{line_if};
 use arrayvec::ArrayVec;
 use itoa::Buffer;
 use link_run::Writers;
-use link_run_transfers::{Consumer, EventView, Manner};
+use link_run_over_transfers::{Consumer, EventView, Manner};
 use link_wire::{IoFault, OutDevice};
 
 /// A tool over transfers.
@@ -19,7 +19,7 @@ pub struct Counting {
 }
 
 impl Consumer for Counting {
-    ghost use Rattle.link_run_transfers.specs.Saying.{kept_after, telling_of};
+    ghost use Rattle.link_run_over_transfers.specs.Saying.{kept_after, telling_of};
     ghost use Rattle.example_library.specs.Counting.{sizes};
 
     type Options = ();

@@ -6,7 +6,7 @@ use crate::reading::copy_data;
 use crate::scanning::{Found, scan_piece};
 use link_bundle::{BundleFault, BundleScan};
 use link_run::{Run, Status};
-use link_run_transfers::walk_run;
+use link_run_over_transfers::walk_run;
 use link_transfer::Cutter;
 use link_wire::{IoFault, Reader, Stop, WireFault, Writer};
 use std::io::{Read, Write};

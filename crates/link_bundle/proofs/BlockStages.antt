@@ -20,7 +20,7 @@ use Rattle.link_bundle.specs.declared.stage.ScanStage.TheVariants.{BlockHeads, B
 use Rattle.link_bundle.specs.Fits.{same_kind, has_block, stage_fits, hold_fits, part_goes, scan_fits}
 use Rattle.link_bundle.specs.Left.{primary_of, with_known_payload, current, last_block, stage_last, block_end, read_alone, after_block, in_block, stage_left}
 use Rattle.link_bundle.specs.Stages.{stage_after, stage_after_data, stage_in_data, stage_state, takes_bytes}
-use Rattle.link_bundle.specs.Scan.{IsChecked, IsAtStage, IsInData, HasSeen, TakesRun, DraftsPrimary, part_start}
+use Rattle.link_bundle.specs.Scan.{IsChecked, IsAtStage, IsInData, HasScannedBy, TakesRun, HasDraftedPrimary, part_start}
 use Rattle.link_bundle.proofs.Steps.{at_stage, fits_at, fits_stage, grown_reads, all_grown, primary_kept}
 use Rattle.link_bundle.proofs.Taking.{takes_on, ends_here}
 
@@ -203,11 +203,11 @@ in_data_stands false None payload draft cursor seen left some is count at =
 pub entered : {stage : ScanStage} {cursor : Cursor} {draft : Draft} {before : List Block}
     {seen : List ℕ}
     → AreBytes seen → cursor.count ≡ length seen → cursor.hold ≡ []
-    → IsAtStage stage cursor draft seen → DraftsPrimary cursor draft seen
+    → IsAtStage stage cursor draft seen → HasDraftedPrimary cursor draft seen
     → ((more : List ℕ) → judged_bundle (seen ++ more)
     ≡ with_blocks before (with_blocks (stage_last stage draft cursor.count)
     (stage_left stage draft cursor.count (seen ++ more))))
-    → HasSeen stage cursor draft before seen
+    → HasScannedBy stage cursor draft before seen
 entered {stage = stage} {cursor = cursor} {draft = draft} {before = before} {seen = seen} all count
     none stands primary reads = record {
       all_bytes = all;
@@ -222,10 +222,10 @@ entered {stage = stage} {cursor = cursor} {draft = draft} {before = before} {see
 -- in the data of a block, which has `left` bytes left
 pub in_data : {cursor : Cursor} {draft : Draft} {before : List Block} {seen : List ℕ} (left : ℕ)
     → AreBytes seen → cursor.count ≡ length seen → IsTrue (has_block draft)
-    → IsInData left cursor draft.block seen → DraftsPrimary cursor draft seen
+    → IsInData left cursor draft.block seen → HasDraftedPrimary cursor draft seen
     → ((more : List ℕ) → judged_bundle (seen ++ more)
     ≡ with_blocks before (in_block draft (seen ++ more)))
-    → HasSeen (stage_in_data left draft.block.check draft.payload_span) cursor draft before seen
+    → HasScannedBy (stage_in_data left draft.block.check draft.payload_span) cursor draft before seen
 in_data {cursor = cursor} {draft = draft} {before = before} {seen = seen} left all count has at
     primary reads =
     let stage = stage_in_data left draft.block.check draft.payload_span in
@@ -246,11 +246,11 @@ in_data-fits left cursor draft none has =
 
 -- after a whole block
 pub after_block-seen : {cursor : Cursor} {draft : Draft} {before : List Block} {seen : List ℕ}
-    → AreBytes seen → cursor.count ≡ length seen → cursor.hold ≡ [] → DraftsPrimary cursor draft seen
+    → AreBytes seen → cursor.count ≡ length seen → cursor.hold ≡ [] → HasDraftedPrimary cursor draft seen
     → ((more : List ℕ) → judged_bundle (seen ++ more)
     ≡ with_blocks before (with_blocks (last_block draft cursor.count ∷ [])
     (after_block draft (seen ++ more) cursor.count)))
-    → HasSeen (stage_after draft.payload_span) cursor draft before seen
+    → HasScannedBy (stage_after draft.payload_span) cursor draft before seen
 after_block-seen {cursor = cursor} {draft = draft} {before = before} {seen = seen} all count none
     primary reads =
     entered all count none (nothing_held draft.payload_span draft cursor seen none) primary

@@ -24,29 +24,29 @@ use Rattle.link_bundle.specs.declared.stage.ScanStage.{ScanStage}
 use Rattle.link_bundle.specs.declared.stage.ScanStage.TheVariants.{PrimaryBlock, BlockHeads, BlockData, CheckField, Break, Ended, Failed}
 use Rattle.link_bundle.specs.Fits.{is_kind, scan_fits, stage_fits}
 use Rattle.link_bundle.specs.Left.{primary_of, stage_block, stage_last, stage_left, read_alone, with_known_payload}
-use Rattle.link_bundle.specs.Scan.{HasSeen, HoldsPart, IsAtStage, IsPlaced, part_start}
+use Rattle.link_bundle.specs.Scan.{HasScannedBy, IsHoldingPart, IsAtStage, IsPlaced, part_start}
 use Rattle.link_bundle.specs.Stages.{end_of, is_cut, is_part, part_reading}
 use Rattle.link_bundle.proofs.{StageParts.stage_part, Steps.fits_stage}
 
 -- the part begins after the bytes before it
 pub length-front : {stage : ScanStage} {cursor : Cursor} {draft : Draft} {before : List Block}
     {seen : List ℕ} (front : List ℕ)
-    → HasSeen stage cursor draft before seen → front ++ cursor.hold ≡ seen
+    → HasScannedBy stage cursor draft before seen → front ++ cursor.hold ≡ seen
     → length front ≡ part_start cursor
 length-front {cursor = cursor} front come parts =
     omega (arith, come.count, ap length parts, length-append front cursor.hold)
 
 pub has_part : {stage : ScanStage} {cursor : Cursor} {draft : Draft} {before : List Block}
     {seen : List ℕ}
-    → HasSeen stage cursor draft before seen → IsTrue (is_part stage)
-    → HoldsPart stage cursor draft seen
+    → HasScannedBy stage cursor draft before seen → IsTrue (is_part stage)
+    → IsHoldingPart stage cursor draft seen
 has_part {stage = BlockData left} come part = absurd (false≢true part)
 has_part {stage = Ended} come part = absurd (false≢true part)
 has_part {stage = Failed fault offset} come part = absurd (false≢true part)
 has_part come part = come.stands
 
 pub at_part : (stage : ScanStage) {cursor : Cursor} {draft : Draft} {seen : List ℕ}
-    → IsTrue (is_part stage) → HoldsPart stage cursor draft seen
+    → IsTrue (is_part stage) → IsHoldingPart stage cursor draft seen
     → IsAtStage stage cursor draft seen
 at_part (BlockData left) part has = absurd (false≢true part)
 at_part Ended part has = absurd (false≢true part)
@@ -178,8 +178,8 @@ goes-cut payload bytes before stop cut is =
 -- the bytes seen and a run of more bytes, which make a part that stops
 pub part_stopped : {stage : ScanStage} {cursor : Cursor} {draft : Draft} {before : List Block}
     {seen : List ℕ} (run : List ℕ) (fault : BundleFault) (offset : ℕ)
-    → HasSeen stage cursor draft before seen → IsTrue (is_part stage)
-    → IsTrue (scan_fits stage cursor draft) → (has : HoldsPart stage cursor draft seen)
+    → HasScannedBy stage cursor draft before seen → IsTrue (is_part stage)
+    → IsTrue (scan_fits stage cursor draft) → (has : IsHoldingPart stage cursor draft seen)
     → part_reading stage draft.numbers has.covered (cursor.hold ++ run)
     ≡ Err (stopped fault offset)
     → judged_bundle (seen ++ run)
@@ -199,8 +199,8 @@ part_stopped {stage = stage} {cursor = cursor} {draft = draft} {before = before}
 -- more bytes are needed while the part is cut
 pub goes_in_part : {stage : ScanStage} {cursor : Cursor} {draft : Draft} {before : List Block}
     {seen : List ℕ} (run : List ℕ)
-    → HasSeen stage cursor draft before seen → IsTrue (is_part stage)
-    → IsTrue (scan_fits stage cursor draft) → (has : HoldsPart stage cursor draft seen)
+    → HasScannedBy stage cursor draft before seen → IsTrue (is_part stage)
+    → IsTrue (scan_fits stage cursor draft) → (has : IsHoldingPart stage cursor draft seen)
     → is_cut (part_reading stage draft.numbers has.covered (cursor.hold ++ run)) ≡ true
     → bundle_goes (seen ++ run) ≡ true
 goes_in_part {stage = stage} {cursor = cursor} {draft = draft} {before = before} {seen = seen} run

@@ -10,7 +10,7 @@ use Rattle.link_bundle_types.specs.declared.fault.State.TheVariants as state
 use Rattle.link_bundle_types.specs.{declared.info.BundleInfo.BundleInfo, Faults.lasts}
 use Rattle.link_bundle_blocks.specs.Bundle.{judged_bundle, verdict_by, verdict, payload_in, payload_seen, state_of, is_going, bundle_goes}
 use Rattle.link_bundle_blocks.specs.Blocks.{Block}
-use Rattle.link_bundle.specs.{Left.stage_left, Scan.{HasSeen, HasScanned, HasJudged, may_scan}}
+use Rattle.link_bundle.specs.{Left.stage_left, Scan.{HasScannedBy, HasScanned, HasJudged, may_scan}}
 use Rattle.link_bundle.specs.{Stages.{stage_state, takes_bytes}, declared.cursor.Cursor.Cursor}
 use Rattle.link_bundle.specs.declared.{draft.Draft.Draft, scan.BundleScan.BundleScan}
 use Rattle.link_bundle.specs.declared.stage.ScanStage.{ScanStage}
@@ -154,7 +154,7 @@ module _ (scan later : BundleScan) (content piece : List ℕ) (count : ℕ)
 -- what it has seen determines the reading of all bytes
 stuck_reading : (stage : ScanStage) (cursor : Cursor) (draft : Draft) (before : List Block)
     (seen more : List ℕ)
-    → HasSeen stage cursor draft before seen → takes_bytes (stage_state stage) ≡ false
+    → HasScannedBy stage cursor draft before seen → takes_bytes (stage_state stage) ≡ false
     → judged_bundle (seen ++ more) ≡ judged_bundle seen
 unfolding stage_left
 stuck_reading (Failed fault offset) cursor draft before seen more come stuck =

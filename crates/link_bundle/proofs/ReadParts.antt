@@ -12,7 +12,7 @@ use Rattle.link_bundle.specs.declared.{cursor.Cursor.Cursor, draft.Draft.Draft, 
 use Rattle.link_bundle.specs.declared.stage.ScanStage.TheVariants.{PrimaryBlock, BlockHeads, CheckField, Break}
 use Rattle.link_bundle.specs.Fits.{has_block, is_kind, scan_fits}
 use Rattle.link_bundle.specs.{Left.{current, stage_last, stage_left, with_block}, Stages.{is_part, stage_state, takes_bytes}}
-use Rattle.link_bundle.specs.Scan.{HasSeen, PartLeadsTo, Advances, AddsBlock, part_start}
+use Rattle.link_bundle.specs.Scan.{HasScannedBy, PartLeadsTo, Advances, AddsBlock, part_start}
 use Rattle.link_bundle.proofs.HeldPart.{length-front, kind_of, some_of, field_left}
 use Rattle.link_bundle.proofs.Steps.{append-hold, all_held, fits_at, fits_stage, grown_reads, all_grown, primary_kept}
 use Rattle.link_bundle.proofs.TakenPart.{TakesPart, fit, same_start, inside, front}
@@ -41,13 +41,13 @@ reads_on {part = reading} part {bytes = bytes} {value = value} {size = size} hol
 -- the part that the bytes held begin with was taken into the draft
 read_come : (stage : ScanStage) (old : BundleScan) (mid : Cursor) {new : Cursor} {after : Draft}
     {next : ScanStage} {before : List Block} {seen : List ℕ} (run : List ℕ) (size : ℕ)
-    → HasSeen stage old.cursor old.draft before seen → old.stage ≡ stage → AreBytes run
+    → HasScannedBy stage old.cursor old.draft before seen → old.stage ≡ stage → AreBytes run
     → PartLeadsTo stage old.draft mid size next after new.check → IsTrue (is_part stage)
     → take size mid.hold ≡ old.cursor.hold ++ run → part_start mid ≡ part_start old.cursor
     → mid.check ≡ old.cursor.check → size ≡ length old.cursor.hold + length run
     → new.hold ≡ [] → new.count ≡ part_start old.cursor + size
     → new.count ≡ old.cursor.count + length run
-    → HasSeen next new after (before ++ stage_last stage old.draft (part_start old.cursor))
+    → HasScannedBy next new after (before ++ stage_last stage old.draft (part_start old.cursor))
     (seen ++ run)
 unfolding stage_left
 read_come PrimaryBlock old mid {before = before} {seen = seen} run size come at are read part own

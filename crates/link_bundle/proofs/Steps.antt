@@ -17,13 +17,13 @@ use Rattle.link_bundle_blocks.proofs.Blocks.{none_before}
 pub use Rattle.link_bundle_blocks.proofs.Seen.{AreBytes-append as all_grown, AreBytes-one as one_byte, AreBytes-slice as slice_bytes}
 use Rattle.link_bundle.specs.Fits.{hold_fits, part_goes, scan_fits, stage_fits}
 use Rattle.link_bundle.specs.Left.{bundle_of, primary_of, span_of, stage_last, stage_left, with_known_payload}
-use Rattle.link_bundle.specs.Scan.{HasSeen, HasScanned, DraftsPrimary, part_start}
+use Rattle.link_bundle.specs.Scan.{HasScannedBy, HasScanned, HasDraftedPrimary, part_start}
 
 -- ---- a scan whose stage is known
 
 pub at_stage : (scan : BundleScan) {stage : ScanStage} {before : List Block} {seen : List ℕ}
-    → scan.stage ≡ stage → HasSeen scan.stage scan.cursor scan.draft before seen
-    → HasSeen stage scan.cursor scan.draft before seen
+    → scan.stage ≡ stage → HasScannedBy scan.stage scan.cursor scan.draft before seen
+    → HasScannedBy stage scan.cursor scan.draft before seen
 at_stage scan is come = rw is at come
 
 pub fits_at : (scan : BundleScan) (stage : ScanStage) → scan.stage ≡ stage
@@ -40,14 +40,14 @@ fits_stage stage cursor draft fits =
 
 -- the bytes of the primary block are the first that were seen
 pub all_held : {cursor : Cursor} {draft : Draft} {before : List Block} {seen : List ℕ}
-    → HasSeen PrimaryBlock cursor draft before seen → cursor.hold ≡ seen
+    → HasScannedBy PrimaryBlock cursor draft before seen → cursor.hold ≡ seen
 all_held come = rw come.stands.placed at come.stands.parts
 
 -- ---- more bytes
 
 -- the rest, after a run of more bytes
 pub grown_reads : {stage : ScanStage} {cursor : Cursor} {draft : Draft} {before : List Block}
-    {seen : List ℕ} → HasSeen stage cursor draft before seen → (run more : List ℕ)
+    {seen : List ℕ} → HasScannedBy stage cursor draft before seen → (run more : List ℕ)
     → judged_bundle ((seen ++ run) ++ more)
     ≡ with_blocks (before ++ stage_last stage draft (part_start cursor))
     (stage_left stage draft (part_start cursor) ((seen ++ run) ++ more))
@@ -65,14 +65,14 @@ front_bytes count piece each = All-take (λ (b : ℕ). b < 256) count piece (sli
 
 -- a draft that has the primary block keeps it
 pub primary_kept : (old new : Cursor) (draft : Draft) (seen run : List ℕ) → draft.whole ≡ true
-    → DraftsPrimary old draft seen → DraftsPrimary new draft (seen ++ run)
+    → HasDraftedPrimary old draft seen → HasDraftedPrimary new draft (seen ++ run)
 primary_kept old new draft seen run whole keeps =
     let kept = rw whole at keeps in
     rw whole (λ more. rw (append_assoc seen run more) (kept (run ++ more)))
 
 -- the fields of a primary block that is whole
 pub fields_whole : (cursor : Cursor) (draft : Draft) (seen : List ℕ) → draft.whole ≡ true
-    → DraftsPrimary cursor draft seen → primary_fields seen ≡ all_fields (primary_of draft)
+    → HasDraftedPrimary cursor draft seen → primary_fields seen ≡ all_fields (primary_of draft)
 fields_whole cursor draft seen whole keeps =
     let kept = rw whole at keeps in
     ap primary_fields (sym (append-nil seen)) ∙ kept []
@@ -80,7 +80,7 @@ fields_whole cursor draft seen whole keeps =
 -- no byte was seen
 pub nothing_seen : {cursor : Cursor} {draft : Draft}
     → cursor.count ≡ 0 → cursor.hold ≡ [] → IsTrue (stage_fits PrimaryBlock draft)
-    → HasSeen PrimaryBlock cursor draft [] []
+    → HasScannedBy PrimaryBlock cursor draft [] []
 unfolding stage_left whole_primary opening_at
 nothing_seen {draft = draft} count hold fits = record {
   all_bytes = All-nil (λ (b : ℕ). b < 256);
@@ -128,9 +128,9 @@ alone-trailing (Some payload) info offset bytes outcome short =
     ≡ false = ne_eqb offset (length bytes) (λ same. omega arith) in rw other refl
 
 pub trailing : {old new : Cursor} {draft : Draft} {before : List Block} {seen : List ℕ} (byte : ℕ)
-    → HasSeen Ended old draft before seen → byte < 256 → IsTrue (scan_fits Ended old draft)
+    → HasScannedBy Ended old draft before seen → byte < 256 → IsTrue (scan_fits Ended old draft)
     → new.count ≡ old.count + 1
-    → HasSeen (Failed Trailing old.count) new draft before (seen ++ byte ∷ [])
+    → HasScannedBy (Failed Trailing old.count) new draft before (seen ++ byte ∷ [])
 unfolding stage_left
 trailing {old = old} {new = new} {draft = draft} {before = before} {seen = seen} byte come small fits
     counts =

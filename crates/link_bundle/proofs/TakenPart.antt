@@ -19,8 +19,8 @@ use Rattle.link_bundle.specs.declared.{scan.BundleScan.BundleScan, stage.ScanSta
 use Rattle.link_bundle.specs.declared.stage.ScanStage.TheVariants.{Failed}
 use Rattle.link_bundle.specs.Fits.{hold_fits, part_goes, scan_fits, stage_fits}
 use Rattle.link_bundle.specs.Left.{primary_of, stage_last, stage_left}
-use Rattle.link_bundle.specs.Scan.{HasSeen, HasScanned, TakesRun, HoldsPart, IsAtStage, Advances, AddsBlock, part_start}
-use Rattle.link_bundle.specs.Stages.{limit, Covers, ShowsFirst, is_cut, is_part, any_reading, part_reading, stage_state, takes_bytes}
+use Rattle.link_bundle.specs.Scan.{HasScannedBy, HasScanned, TakesRun, IsHoldingPart, IsAtStage, Advances, AddsBlock, part_start}
+use Rattle.link_bundle.specs.Stages.{limit, HasCovered, IsLeastShown, is_cut, is_part, any_reading, part_reading, stage_state, takes_bytes}
 use Rattle.link_bundle.proofs.HeldPart.{has_part, at_part, part_stopped, goes_in_part}
 use Rattle.link_bundle.proofs.StageParts.{any_part, stage_part, cut_front, same_front, same_more, ends_within, ends_after}
 use Rattle.link_bundle.proofs.Steps.{at_stage, fits_at, all_grown, grown_reads}
@@ -40,13 +40,13 @@ kept false primary old new seen run is keeps = is ∙ ap (λ (bytes : List ℕ).
 -- a run of more bytes of the part
 grown : {stage : ScanStage} {old new : Cursor} {draft : Draft} {before : List Block} {seen : List ℕ}
     (next : ScanStage) (after : List Block) (run : List ℕ)
-    → HasSeen stage old draft before seen → AreBytes run
+    → HasScannedBy stage old draft before seen → AreBytes run
     → new.hold ≡ old.hold ++ run → new.count ≡ old.count + length run
     → ((more : List ℕ) → judged_bundle ((seen ++ run) ++ more)
     ≡ with_blocks (after ++ stage_last next draft (part_start new))
     (stage_left next draft (part_start new) ((seen ++ run) ++ more)))
     → IsAtStage next new draft (seen ++ run)
-    → HasSeen next new draft after (seen ++ run)
+    → HasScannedBy next new draft after (seen ++ run)
 grown {old = old} {new = new} {draft = draft} {seen = seen} next after run come are hold count reads
     stands = record {
       all_bytes = all_grown seen run come.all_bytes are;
@@ -187,7 +187,7 @@ cut_fits {stage = stage} {old = old} {mid = mid} holds cut =
 pub cut_part : {stage : ScanStage} (old after : BundleScan) {piece : List ℕ} (offset : ℕ)
     → HoldsMore stage old piece after.cursor → 0 < length piece → AreBytes piece
     → after.stage ≡ stage → after.draft ≡ old.draft
-    → ((covered : List ℕ) → Covers stage after.cursor.check covered
+    → ((covered : List ℕ) → HasCovered stage after.cursor.check covered
     → part_reading stage old.draft.numbers covered after.cursor.hold ≡ Err (stopped Cut offset))
     → Advances old after piece (length after.cursor.hold - length old.cursor.hold)
     × AddsBlock old after piece (length after.cursor.hold - length old.cursor.hold)
@@ -233,18 +233,18 @@ module _ {stage : ScanStage} (old after : BundleScan) {piece : List ℕ} {mid : 
     (is : TakesPart stage old piece mid size) (draft_is : after.draft ≡ old.draft)
     (are : AreBytes piece)
     {fault : BundleFault} {offset : ℕ} (lasting : lasts fault ≡ true)
-    (fails : (covered : List ℕ) → Covers stage mid.check covered
+    (fails : (covered : List ℕ) → HasCovered stage mid.check covered
     → part_reading stage old.draft.numbers covered mid.hold ≡ Err (stopped fault offset))
-    (first : (covered : List ℕ) → Covers stage mid.check covered
-    → ShowsFirst (part_reading stage old.draft.numbers covered) (length old.cursor.hold) size
+    (first : (covered : List ℕ) → HasCovered stage mid.check covered
+    → IsLeastShown (part_reading stage old.draft.numbers covered) (length old.cursor.hold) size
     mid.hold) where
-  fault_shown : {seen : List ℕ} (has : HoldsPart stage old.cursor old.draft seen)
+  fault_shown : {seen : List ℕ} (has : IsHoldingPart stage old.cursor old.draft seen)
       → let reading = part_reading stage old.draft.numbers has.covered in
       (reading (take size mid.hold) ≡ Err (stopped fault offset))
       × (is_cut (reading (take (size - 1) mid.hold)) ≡ true)
   fault_shown has =
       let part = stage_part stage old.draft.numbers has.covered is.holds.part in
-      let covers : Covers stage mid.check has.covered = rw (is.holds.check) has.covers in
+      let covers : HasCovered stage mid.check has.covered = rw (is.holds.check) has.covers in
       let there = fails has.covered covers in
       let begins : take (length old.cursor.hold) mid.hold ≡ old.cursor.hold =
       ap (λ (bytes : List ℕ). take (length old.cursor.hold) bytes) is.holds.hold

@@ -10,7 +10,7 @@ use Rattle.link_bundle.specs.declared.{scan.BundleScan.BundleScan, stage.ScanSta
 use Rattle.link_bundle.specs.declared.stage.ScanStage.TheVariants.{BlockHeads, Break}
 use Rattle.link_bundle_blocks.specs.{Blocks.Block, Bundle.{blocks_in, bundle_goes, is_going, state_of, verdict}}
 use Rattle.link_bundle.specs.{Left.stage_last, Stages.{follows_block, takes_bytes}}
-use Rattle.link_bundle.specs.Scan.{HasSeen, HasScanned, TakesRun, MayAdvance, Advances, AddsBlock, ending_at, ending, may_scan, part_start, scan_size}
+use Rattle.link_bundle.specs.Scan.{HasScannedBy, HasScanned, TakesRun, MayAdvance, Advances, AddsBlock, ending_at, ending, may_scan, part_start, scan_size}
 use Rattle.link_cbor.proofs.Joins.{joined_run}
 use Rattle.link_bundle.proofs.{Steps.at_stage, Verdicts.{blocks_of-seen, state_of-seen}}
 
@@ -20,7 +20,7 @@ last_of scan = stage_last scan.stage scan.draft (part_start scan.cursor)
 
 -- exactly these bytes were seen, after these blocks and the last one
 abbrev pub IsAfter : BundleScan → List Block → List ℕ → Type 0
-IsAfter scan before seen = HasSeen scan.stage scan.cursor scan.draft before seen
+IsAfter scan before seen = HasScannedBy scan.stage scan.cursor scan.draft before seen
 
 takes : {old new : BundleScan} {run : List ℕ} (after : List Block → List Block)
     → scan_size new ≡ scan_size old + length run
@@ -142,7 +142,7 @@ advances_by {new = new} {piece = piece} {count = count} some within may taken = 
 pub ends_part : {old new : BundleScan} {stage : ScanStage} {piece : List ℕ} {count : ℕ}
     → old.stage ≡ stage → 0 < count → count ≤ length piece → new.cursor.hold ≡ []
     → scan_size new ≡ scan_size old + count → may_scan new ≡ true
-    → ((before : List Block) (seen : List ℕ) → HasSeen stage old.cursor old.draft before seen
+    → ((before : List Block) (seen : List ℕ) → HasScannedBy stage old.cursor old.draft before seen
     → IsAfter new (before ++ stage_last stage old.draft (part_start old.cursor))
     (seen ++ take count piece))
     → Advances old new piece count × AddsBlock old new piece count

@@ -17,13 +17,13 @@ use Rattle.link_bundle_blocks.specs.Bundle.{Bundle, with_blocks, judged_bundle, 
 use Rattle.link_bundle.specs.Left.{bundle_of, current, span_of, with_known_payload, stage_block, stage_last, stage_left}
 use Rattle.link_bundle_blocks.proofs.Blocks.{verdict_by-blocks, payload_of-blocks, blocks_of-blocks, cut_block_of-blocks}
 use Rattle.link_bundle_blocks.proofs.Runs.{content_at-cut}
-use Rattle.link_bundle.specs.Scan.{HasSeen, HasScanned, MayAdvance, ending, part_start, scan_size}
+use Rattle.link_bundle.specs.Scan.{HasScannedBy, HasScanned, MayAdvance, ending, part_start, scan_size}
 use Rattle.link_bundle.specs.Stages.{is_part, stage_state, takes_bytes}
 use Rattle.link_bundle.proofs.{HeldPart.{has_part, part_stopped, read_alone-stopped}, Steps.fits_stage}
 
 -- the reading of the bytes seen, if no more follow
 read_now : {stage : ScanStage} {cursor : Cursor} {draft : Draft} {before : List Block} {seen : List ℕ}
-    → HasSeen stage cursor draft before seen
+    → HasScannedBy stage cursor draft before seen
     → judged_bundle seen
     ≡ with_blocks (before ++ stage_last stage draft (part_start cursor))
     (stage_left stage draft (part_start cursor) seen)
@@ -43,7 +43,7 @@ known_stop (Some payload) fault at cut = refl
 
 -- the bytes end inside a part
 cut_part : (stage : ScanStage) (cursor : Cursor) (draft : Draft) (before : List Block) (seen : List ℕ)
-    → HasSeen stage cursor draft before seen
+    → HasScannedBy stage cursor draft before seen
     → IsTrue (scan_fits stage cursor draft) → IsTrue (is_part stage)
     → judged_bundle seen
     ≡ with_blocks (before ++ stage_last stage draft (part_start cursor))
@@ -57,7 +57,7 @@ cut_part stage cursor draft before seen come fits part =
 
 -- the bytes end inside the data of a block
 cut_data : (left : ℕ) (cursor : Cursor) (draft : Draft) (before : List Block) (seen : List ℕ)
-    → HasSeen (BlockData left) cursor draft before seen
+    → HasScannedBy (BlockData left) cursor draft before seen
     → IsTrue (scan_fits (BlockData left) cursor draft)
     → stage_left (BlockData left) draft (part_start cursor) seen
     ≡ Err (stop_of draft Cut cursor.count (Some (current draft)))
@@ -88,7 +88,7 @@ ended_now cursor draft seen count nothing =
     rw (start, eq-eqb cursor.count (length seen) count) refl
 
 seen_is : (stage : ScanStage) (cursor : Cursor) (draft : Draft) (before : List Block) (seen : List ℕ)
-    → HasSeen stage cursor draft before seen → IsTrue (scan_fits stage cursor draft)
+    → HasScannedBy stage cursor draft before seen → IsTrue (scan_fits stage cursor draft)
     → judged_bundle seen
     ≡ with_blocks (before ++ stage_last stage draft (part_start cursor))
     (seen_reading stage cursor.count draft)

@@ -20,7 +20,7 @@ use Rattle.link_bundle.specs.declared.{cursor.Cursor.Cursor, draft.Draft.Draft, 
 use Rattle.link_bundle.specs.declared.stage.ScanStage.TheVariants.{PrimaryBlock, BlockHeads, Ended}
 use Rattle.link_bundle.specs.Fits.{has_block, scan_fits}
 use Rattle.link_bundle.specs.Left.{HasPrimary, primary_of, bundle_of, with_block, stage_last, last_block, block_end, read_alone, with_known_payload, after_block, in_block, stage_left}
-use Rattle.link_bundle.specs.Scan.{HasSeen, HasScanned, Advances, IsChecked, DraftsPrimary, part_start}
+use Rattle.link_bundle.specs.Scan.{HasScannedBy, HasScanned, Advances, IsChecked, HasDraftedPrimary, part_start}
 use Rattle.link_bundle.specs.Stages.{stage_after, stage_in_data}
 use Rattle.link_bundle.proofs.Steps.{all_held, at_stage, fits_at, fits_stage, all_grown, grown_reads, primary_kept}
 use Rattle.link_bundle.proofs.{HeldPart.none_of, Taking.bundle_goes-take, Steps.append-hold}
@@ -79,19 +79,19 @@ known_primary after bytes next none blank whole =
 
 pub primary_come : {old new : Cursor} {draft after : Draft} {before : List Block} {seen : List ℕ}
     (run : List ℕ)
-    → HasSeen PrimaryBlock old draft before seen → AreBytes run
+    → HasScannedBy PrimaryBlock old draft before seen → AreBytes run
     → whole_primary (seen ++ run) ≡ Ok ((primary_of after, after.check), length (seen ++ run))
     → after.payload_span ≡ None → after.numbers ≡ [] → after.whole ≡ true
     → new.count ≡ old.count + length run → new.hold ≡ []
-    → HasSeen BlockHeads new after before (seen ++ run)
+    → HasScannedBy BlockHeads new after before (seen ++ run)
 unfolding stage_left
 primary_come {old = old} {new = new} {after = after} {before = before} {seen = seen} run come are whole
     none no_numbers now counts nothing =
     let bytes = seen ++ run in
     let size : new.count ≡ length bytes = omega (arith, counts, come.count, length-append seen run) in
-    let keeps : DraftsPrimary new after bytes =
+    let keeps : HasDraftedPrimary new after bytes =
     rw now (λ more. primary_fields-whole bytes more (primary_of after) after.check (length bytes) whole) in
-    subst (λ (payload : Option (ℕ × ℕ)). HasSeen (stage_after payload) new after before bytes) none
+    subst (λ (payload : Option (ℕ × ℕ)). HasScannedBy (stage_after payload) new after before bytes) none
     (after_block-seen (all_grown seen run come.all_bytes are) size nothing keeps
     (λ more.
     grown_reads come run more
@@ -140,14 +140,14 @@ has_new draft block whole =
 -- the heads of the next block, which begin with the bytes held
 pub heads_come : {old new : Cursor} {draft : Draft} {before : List Block} {seen : List ℕ}
     (run : List ℕ) (block : CanonicalBlock) (size : ℕ)
-    → HasSeen BlockHeads old draft before seen → draft.payload_span ≡ None → draft.whole ≡ true
+    → HasScannedBy BlockHeads old draft before seen → draft.payload_span ≡ None → draft.whole ≡ true
     → AreBytes run
     → ((more : List ℕ) → next_block_at draft.numbers (old.hold ++ (run ++ more)) 0 ≡ Ok (block, size))
     → block.end ≡ None → block.start ≡ 0 → block.data_start ≡ size
     → size ≡ length old.hold + length run → new.hold ≡ [] → new.count ≡ part_start old + size
     → IsChecked block.check new.check (old.hold ++ run)
     → let after = with_block draft (moved (part_start old) block) in
-    HasSeen (stage_in_data block.data_length after.block.check after.payload_span) new after
+    HasScannedBy (stage_in_data block.data_length after.block.check after.payload_span) new after
     (before ++ stage_last BlockHeads draft (part_start old)) (seen ++ run)
 unfolding stage_left
 heads_come {old = old} {new = new} {draft = draft} {before = before} {seen = seen} run block size come
@@ -219,12 +219,12 @@ known_block draft bytes start block next none whole room is =
 
 pub canonical_come : {old new : Cursor} {draft : Draft} {before : List Block} {seen : List ℕ}
     (run : List ℕ) (block : CanonicalBlock)
-    → HasSeen BlockHeads old draft before seen → draft.payload_span ≡ None → draft.whole ≡ true
+    → HasScannedBy BlockHeads old draft before seen → draft.payload_span ≡ None → draft.whole ≡ true
     → old.hold ≡ [] → length draft.numbers < 64 → AreBytes run
     → whole_canonical draft.numbers run 0 ≡ Ok (block, length run)
     → new.count ≡ old.count + length run → new.hold ≡ []
     → let after = with_block draft (moved old.count block) in
-    HasSeen (stage_after after.payload_span) new after
+    HasScannedBy (stage_after after.payload_span) new after
     (before ++ stage_last BlockHeads draft (part_start old)) (seen ++ run)
 unfolding stage_left
 canonical_come {old = old} {new = new} {draft = draft} {before = before} {seen = seen} run block come

@@ -19,7 +19,7 @@ use Rattle.link_bundle.specs.declared.{cursor.Cursor.Cursor, draft.Draft.Draft}
 use Rattle.link_bundle.specs.declared.{scan.BundleScan.BundleScan, stage.ScanStage.ScanStage}
 use Rattle.link_bundle.specs.declared.stage.ScanStage.TheVariants.{PrimaryBlock, BlockHeads, BlockData, CheckField, Break, Ended, Failed}
 use Rattle.link_bundle.specs.Left.{primary_of, stage_last, stage_left, with_block}
-use Rattle.link_bundle.specs.Stages.{stage_state, takes_bytes, stage_after, stage_in_data, Covers, part_reading}
+use Rattle.link_bundle.specs.Stages.{stage_state, takes_bytes, stage_after, stage_in_data, HasCovered, part_reading}
 
 -- where the part of a stage begins: after the bytes `front`; `covered` are the bytes of its block
 -- before a check field
@@ -31,13 +31,13 @@ IsPlaced (CheckField kind) draft front covered =
 IsPlaced _ draft front covered = Unit {0}
 
 -- The scan holds the bytes seen of its part, which end inside it. `front` are those before it.
-pub record HoldsPart (stage : ScanStage) (cursor : Cursor) (draft : Draft)
+pub record IsHoldingPart (stage : ScanStage) (cursor : Cursor) (draft : Draft)
     (seen : List ℕ) : Type 0 where
   pub front : List ℕ
   pub covered : List ℕ
   pub parts : front ++ cursor.hold ≡ seen
   pub placed : IsPlaced stage draft front covered
-  pub covers : Covers stage cursor.check covered
+  pub covers : HasCovered stage cursor.check covered
   pub cut : part_reading stage draft.numbers covered cursor.hold ≡ cut_short cursor.hold
 
 -- the check of a block, if it has one, covers these bytes
@@ -58,12 +58,12 @@ abbrev pub IsAtStage : ScanStage → Cursor → Draft → List ℕ → Type 0
 IsAtStage (BlockData left) cursor draft seen = IsInData left cursor draft.block seen
 IsAtStage Ended cursor draft seen = cursor.hold ≡ []
 IsAtStage (Failed fault offset) cursor draft seen = Unit {0}
-IsAtStage stage cursor draft seen = HoldsPart stage cursor draft seen
+IsAtStage stage cursor draft seen = IsHoldingPart stage cursor draft seen
 
 -- The draft has the fields of the primary block if that is whole, whatever bytes follow. Otherwise
 -- all bytes seen are held.
-abbrev pub DraftsPrimary : Cursor → Draft → List ℕ → Type 0
-DraftsPrimary cursor draft seen = MatchBool draft.whole
+abbrev pub HasDraftedPrimary : Cursor → Draft → List ℕ → Type 0
+HasDraftedPrimary cursor draft seen = MatchBool draft.whole
     ((more : List ℕ) → primary_fields (seen ++ more) ≡ all_fields (primary_of draft))
     (cursor.hold ≡ seen)
 
@@ -95,7 +95,7 @@ PartLeadsTo _ old cursor size next new check = Unit {0}
 -- These are the parts of a scan that has seen exactly these bytes. Whatever bytes follow, the
 -- reading of all bytes has the blocks that ended, and then what is read from this stage on. A block
 -- that ended just before the current part is in `stage_last`, and the others are in `before`.
-pub record HasSeen (stage : ScanStage) (cursor : Cursor) (draft : Draft) (before : List Block)
+pub record HasScannedBy (stage : ScanStage) (cursor : Cursor) (draft : Draft) (before : List Block)
     (seen : List ℕ) : Type 0 where
   pub all_bytes : AreBytes seen
   pub count : cursor.count ≡ length seen
@@ -104,7 +104,7 @@ pub record HasSeen (stage : ScanStage) (cursor : Cursor) (draft : Draft) (before
       ≡ with_blocks (before ++ stage_last stage draft (part_start cursor))
       (stage_left stage draft (part_start cursor) (seen ++ more))
   pub stands : IsAtStage stage cursor draft seen
-  pub primary : DraftsPrimary cursor draft seen
+  pub primary : HasDraftedPrimary cursor draft seen
 
 -- the block that ends with the bytes seen, if one does
 abbrev pub ending_at : ScanStage → Draft → Cursor → List Block
@@ -118,7 +118,7 @@ ending scan = ending_at scan.stage scan.draft scan.cursor
 pub record HasScanned (scan : BundleScan) (seen : List ℕ) : Type 0 where
   -- the blocks that ended before the last one
   pub before : List Block
-  pub come : HasSeen scan.stage scan.cursor scan.draft before seen
+  pub come : HasScannedBy scan.stage scan.cursor scan.draft before seen
 
 -- the number of bytes seen
 abbrev pub scan_size : BundleScan → ℕ

@@ -50,9 +50,9 @@ limit Break = 9
 limit _ = 1
 
 -- at a check field, `covered` was pushed to the check: the bytes of the block before the field
-abbrev pub Covers : ScanStage → Check → List ℕ → Type 0
-Covers (CheckField kind) check covered = HasPushed kind check covered
-Covers _ check covered = Unit {0}
+abbrev pub HasCovered : ScanStage → Check → List ℕ → Type 0
+HasCovered (CheckField kind) check covered = HasPushed kind check covered
+HasCovered _ check covered = Unit {0}
 
 -- the offset after a part, or its stop
 abbrev pub end_of : {A : Type 0} → ReadAt A → Result ℕ Stop
@@ -101,8 +101,8 @@ stage_in_data left check payload =
 
 -- If the first `held` bytes end inside a part, and all bytes do not, then `shown` is the least
 -- number of bytes that do not.
-abbrev pub ShowsFirst : (List ℕ → Result ℕ Stop) → (held shown : ℕ) → List ℕ → Type 0
-ShowsFirst reading held shown bytes =
+abbrev pub IsLeastShown : (List ℕ → Result ℕ Stop) → (held shown : ℕ) → List ℕ → Type 0
+IsLeastShown reading held shown bytes =
     is_cut (reading (take held bytes)) ≡ true → is_cut (reading bytes) ≡ false
     → (is_cut (reading (take shown bytes)) ≡ false)
     × (is_cut (reading (take (shown - 1) bytes)) ≡ true)

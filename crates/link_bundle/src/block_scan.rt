@@ -7,7 +7,7 @@ use link_bundle_blocks::{BlockView, CanonicalBlock, whole_canonical};
 use link_cbor::Piecewise;
 
 impl BundleScan {
-    ghost use Rattle.link_bundle_blocks.specs.Blocks.{viewed_blocks, viewed_block, HasShortBlock};
+    ghost use Rattle.link_bundle_blocks.specs.Blocks.{viewed_blocks, viewed_block, IsShortBlock};
     ghost use Rattle.link_bundle.specs.Stages.{follows_block};
     ghost use Rattle.link_bundle_blocks.specs.Bundle.{cut_block_in, bundle_goes};
     ghost use Rattle.link_bundle.specs.Scan.{HasScanned, MayAdvance, Advances, AddsBlock, ending, may_scan};
@@ -105,7 +105,7 @@ impl BundleScan {
     #[inline(always)]
     pub fn ended_block(&self) -> Option<BlockView<'_>>
         ensures block { viewed_blocks result ≡ ending self.now }
-        ensures short { IfSome result (λ block. HasShortBlock (viewed_block block)) }
+        ensures short { IfSome result (λ block. IsShortBlock (viewed_block block)) }
     {
         if !self.ends_block() {
             return None;

@@ -36,7 +36,7 @@ impl Draft {
     ghost use Rattle.link_bundle_blocks.specs.Bundle.{info_of};
     ghost use Rattle.link_bundle_types.specs.BundleView.{viewed_info};
     ghost use Rattle.link_bundle_types.specs.ShortNames.{HasShortNames};
-    ghost use Rattle.link_bundle_blocks.specs.Blocks.{PrimaryOf, viewed_block, viewed_primary, HasShortBlock, HasShortEids};
+    ghost use Rattle.link_bundle_blocks.specs.Blocks.{PrimaryOf, viewed_block, viewed_primary, IsShortBlock, HasShortEids};
     ghost use Rattle.link_bundle.specs.Left.{primary_of, span_of, last_block, stage_block, with_primary};
 
     /// The draft of a bundle before its first byte.
@@ -129,7 +129,7 @@ impl Draft {
     #[inline(always)]
     pub fn last_block(&self, end: u64) -> BlockView<'_>
         ensures block { viewed_block result ≡ last_block self.now end }
-        ensures short { HasShortBlock (viewed_block result) }
+        ensures short { IsShortBlock (viewed_block result) }
     {
         if self.numbers.as_slice().is_empty() {
             return BlockView::Primary(self.primary_block(end));

@@ -3,7 +3,7 @@
 //! A part is read from all bytes that are held. If that is a fault, fewer of them may show it. The
 //! scan takes only as many as do, so that a caller has the rest.
 ghost use Rattle.std.specs.Prelude.{◌≡◌, ℕ, ◌+◌, ◌<◌, ◌≤◌, ◌^◌, IsTrue, List, length, Ok, Err, false, MatchResult};
-ghost use Rattle.link_bundle.specs.Stages.{is_part, is_cut, any_reading, part_end, part_reading, Covers, ShowsFirst};
+ghost use Rattle.link_bundle.specs.Stages.{is_part, is_cut, any_reading, part_end, part_reading, HasCovered, IsLeastShown};
 ghost use Rattle.link_bundle_types.specs.Faults.{lasts};
 ghost use Rattle.link_bundle_blocks.specs.Reading.{stopped};
 ghost use Rattle.link_bundle.specs.Scan.{PartLeadsTo};
@@ -31,7 +31,7 @@ pub(crate) fn read_part(
     requires small { cursor.old.count < 2 ^ 63 }
     ensures count { cursor.new.count ≡ cursor.old.count }
     ensures hold { cursor.new.hold ≡ cursor.old.hold }
-    ensures ends { (covered : List ℕ) → Covers stage cursor.old.check covered
+    ensures ends { (covered : List ℕ) → HasCovered stage cursor.old.check covered
         → part_reading stage draft.old.numbers covered cursor.old.hold ≡ part_end result }
     ensures any { MatchResult result
         (λ read. any_reading stage draft.old.numbers cursor.old.hold ≡ Ok read.0)
@@ -69,7 +69,7 @@ pub(crate) fn read_part(
 /// Whether the bytes end inside the part of this stage.
 fn is_cut(stage: ScanStage, numbers: &BlockNumbers, check: Check, bytes: &[u8]) -> bool
     requires { IsTrue (is_part stage) }
-    ensures { (covered : List ℕ) → Covers stage check covered
+    ensures { (covered : List ℕ) → HasCovered stage check covered
         → result ≡ is_cut (part_reading stage numbers.now covered bytes.now) }
 {
     let stop = match stage {
@@ -104,8 +104,8 @@ pub(crate) fn shown(
     requires some { held < length bytes.now }
     ensures more { held < result }
     ensures within { result ≤ length bytes.now }
-    ensures shown { (covered : List ℕ) → Covers stage check covered
-        → ShowsFirst (part_reading stage numbers.now covered) held result bytes.now }
+    ensures shown { (covered : List ℕ) → HasCovered stage check covered
+        → IsLeastShown (part_reading stage numbers.now covered) held result bytes.now }
 {
     let mut cut = held;
     let mut shown = bytes.len();

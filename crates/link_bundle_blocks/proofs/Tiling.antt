@@ -15,7 +15,7 @@ use Rattle.link_bundle_blocks.specs.Reading.{Stop, ReadAt, head_by, outcome_at, 
 use Rattle.link_bundle_blocks.specs.Whole.{whole_primary}
 use Rattle.link_bundle_blocks.specs.Canonical.{heads_at, content_at}
 use Rattle.link_bundle_blocks.specs.Bundle.{Bundle, with_payload, with_blocks, inside, info_of, rest_of, payload_at, blocks_at, bundle_at, if_alone, judged_bundle, verdict_by, verdict, blocks_in, blocks_of}
-use Rattle.link_bundle_blocks.specs.Laws.{IsBlockBetween, Tiles, IsTiled, GoodBlocksTile}
+use Rattle.link_bundle_blocks.specs.Laws.{IsBlockBetween, AreBlocksBetween, IsTiled, GoodBlocksTile}
 use Rattle.link_bundle_blocks.proofs.Showing.{blocks_judged}
 use Rattle.link_bundle_blocks.proofs.{Steady.{FrontSpans, front-spans, on_by, heads_at-reads, data_before}, Keeping.{IsBegun, heads_begin}}
 use Rattle.link_bundle_blocks.proofs.{Beginnings.begins_primary, Readings.{then_read, was_read, bundle_parts}}
@@ -81,7 +81,7 @@ record IsRestOfBundle (primary : Primary) (count start : ℕ) (bundle : Bundle) 
   pub payload_type : payload.block_type ≡ 1
   pub other_types : All (λ block. block.block_type ≢ 1) others
   pub last : ℕ
-  pub tiles : Tiles start bundle.blocks last
+  pub tiles : AreBlocksBetween start bundle.blocks last
   pub size : bundle.length ≡ last + 1
 
 kept_payload : (span : ℕ × ℕ) (holds : Bundle → Type 0) (reading : Result Bundle Stop)

@@ -62,9 +62,9 @@ pub record HasShortEids (primary : Primary) : Type 0 where
   pub report_to : IsShort primary.report_to
 
 -- if this is a primary block, its dtn names have at most 1,024 bytes each
-abbrev pub HasShortBlock : Block → Type 0
-HasShortBlock (PrimaryOf primary check end) = HasShortEids primary
-HasShortBlock (CanonicalOf block) = Unit {0}
+abbrev pub IsShortBlock : Block → Type 0
+IsShortBlock (PrimaryOf primary check end) = HasShortEids primary
+IsShortBlock (CanonicalOf block) = Unit {0}
 
 -- The canonical block that comes next: the first of these, or if there are none, `cut`, the block
 -- that the bytes cut short. The result is `None` if the primary block comes next.

@@ -79,9 +79,10 @@ IsBlockBetween (CanonicalOf block) from to =
     × (block.data_start + block.data_length ≤ to) × (block.end ≡ Some to)
 
 -- whole blocks from one offset to another: each begins where the one before it ends
-abbrev pub Tiles : (from : ℕ) → List Block → (to : ℕ) → Type 0
-Tiles from [] to = from ≡ to
-Tiles from (block ∷ rest) to = (end : ℕ) × (IsBlockBetween block from end) × (Tiles end rest to)
+abbrev pub AreBlocksBetween : (from : ℕ) → List Block → (to : ℕ) → Type 0
+AreBlocksBetween from [] to = from ≡ to
+AreBlocksBetween from (block ∷ rest) to = (end : ℕ) × (IsBlockBetween block from end)
+    × (AreBlocksBetween end rest to)
 
 -- A good bundle has a primary block, and then canonical blocks. Only the last of these is a payload
 -- block (type 1). The blocks have all bytes between the first of the bundle, which opens it, and
@@ -98,7 +99,7 @@ pub record IsTiled (bytes : List ℕ) (info : BundleInfo) : Type 0 where
   pub payload_type : payload.block_type ≡ 1
   pub other_types : All (λ block. block.block_type ≢ 1) others
   pub last : ℕ
-  pub tiles : Tiles 1 (blocks_in bytes) last
+  pub tiles : AreBlocksBetween 1 (blocks_in bytes) last
   pub size : length bytes ≡ last + 1
 
 abbrev pub GoodBlocksTile : Type 0

@@ -12,7 +12,7 @@ use Rattle.link_bundle_data.specs.declared.due.DataStage.TheVariants.{Head, Name
 use Rattle.link_bundle_data.specs.declared.{draft.Draft.Draft, values.DataFault.DataFault}
 use Rattle.link_bundle_data.specs.BlockData.{BlockData, alone, fault_at, located, data_of}
 use Rattle.link_bundle_data.specs.{EidLeft.name_left, Left.{data_from, may_follow, stage_left}}
-use Rattle.link_bundle_data.specs.Scan.{HasSeen}
+use Rattle.link_bundle_data.specs.Scan.{HasScannedBy}
 use Rattle.link_bundle_data.proofs.Stops.{due_left-stopped}
 
 ended_there : (follow : Bool) (found : BlockData) (bytes : List ℕ) (offset : ℕ)
@@ -24,21 +24,21 @@ ended_there false found bytes offset stands = rw stands refl
 
 module _ {kind : DataKind} {draft : Draft} {head : HeadScan} {offset count : ℕ} {seen : List ℕ} where
   -- the reading of the bytes seen, if no more follow
-  read_now : {stage : DataStage} → HasSeen kind stage draft head offset count seen
+  read_now : {stage : DataStage} → HasScannedBy kind stage draft head offset count seen
       → data_of kind seen ≡ stage_left stage draft seen offset (length seen)
   read_now come = rw append-nil at (come.reads [])
 
   pub lasts_failed : {at : DataFault} (more : List ℕ)
-      → HasSeen kind (Failed at) draft head offset count seen → data_of kind (seen ++ more) ≡ Err at
+      → HasScannedBy kind (Failed at) draft head offset count seen → data_of kind (seen ++ more) ≡ Err at
   unfolding stage_left
   lasts_failed more come = come.reads more
 
-  pub result_failed : {at : DataFault} → HasSeen kind (Failed at) draft head offset count seen
+  pub result_failed : {at : DataFault} → HasScannedBy kind (Failed at) draft head offset count seen
       → data_of kind seen ≡ Err at
   unfolding stage_left
   result_failed come = read_now come
 
-  pub result_head : {which : Due} → HasSeen kind (Head which) draft head offset count seen
+  pub result_head : {which : Due} → HasScannedBy kind (Head which) draft head offset count seen
       → data_of kind seen ≡ Err (record { offset = count; is_limit = false })
   unfolding stage_left
   result_head {which = which} come =
@@ -48,7 +48,7 @@ module _ {kind : DataKind} {draft : Draft} {head : HeadScan} {offset count : ℕ
       ∙ ap (λ (at : ℕ). Err (fault_at seen Cut at)) (sym come.counted)
 
   pub result_name : {owner : Owner} {left : ℕ}
-      → HasSeen kind (Name owner left) draft head offset count seen → 0 < left
+      → HasScannedBy kind (Name owner left) draft head offset count seen → 0 < left
       → data_of kind seen ≡ Err (record { offset = count; is_limit = false })
   unfolding stage_left name_left
   result_name {left = left} come some =
@@ -56,7 +56,7 @@ module _ {kind : DataKind} {draft : Draft} {head : HeadScan} {offset count : ℕ
       ∙ rw (bytes_at-cut left seen (length seen) (omega arith))
       (ap (λ (at : ℕ). Err (fault_at seen Cut at)) (sym come.counted))
 
-  pub result_read : {found : Found} → HasSeen kind (Read found) draft head offset count seen
+  pub result_read : {found : Found} → HasScannedBy kind (Read found) draft head offset count seen
       → data_of kind seen ≡ Ok (data_from found draft offset)
   unfolding stage_left
   result_read {found = found} come =

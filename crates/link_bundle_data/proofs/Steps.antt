@@ -19,7 +19,7 @@ use Rattle.link_bundle_data.specs.{declared.draft.Draft.Draft, BlockData.{alone,
 use Rattle.link_bundle_data.specs.Turns.{first_due, took_run, judged}
 use Rattle.link_bundle_data.specs.Left.{may_follow, stage_left, goes_on}
 use Rattle.link_bundle_data.specs.{declared.scan.DataScan.DataScan, Fits.scan_fits}
-use Rattle.link_bundle_data.specs.Scan.{HasSeen, HasScanned, HasSeenHead, TakesRun, IsAtStage}
+use Rattle.link_bundle_data.specs.Scan.{HasScannedBy, HasScanned, HasScannedToHead, TakesRun, IsAtStage}
 use Rattle.link_bundle_data.proofs.{Heads.head_turn, Names.name_goes_on, Starts.starts}
 use Rattle.link_bundle_data.proofs.Stops.{due_left-stopped}
 
@@ -27,7 +27,7 @@ use Rattle.link_bundle_data.proofs.Stops.{due_left-stopped}
 
 pub at_stage : {kind : DataKind} (scan : DataScan) {stage : DataStage} {seen : List ℕ}
     → scan.stage ≡ stage → HasScanned kind scan seen
-    → HasSeen kind stage scan.draft scan.head scan.offset scan.count seen
+    → HasScannedBy kind stage scan.draft scan.head scan.offset scan.count seen
 at_stage scan is come = rw is at come.state
 
 pub fits_at : (scan : DataScan) (stage : DataStage) → scan.stage ≡ stage
@@ -38,7 +38,7 @@ fits_at scan stage is = rw is at scan.fits
 
 -- the rest, after a run of more bytes
 grown_reads : {kind : DataKind} {stage : DataStage} {draft : Draft} {head : HeadScan} {offset count : ℕ}
-    {seen : List ℕ} → HasSeen kind stage draft head offset count seen → (run more : List ℕ)
+    {seen : List ℕ} → HasScannedBy kind stage draft head offset count seen → (run more : List ℕ)
     → data_of kind ((seen ++ run) ++ more)
     ≡ stage_left stage draft ((seen ++ run) ++ more) offset (length seen)
 grown_reads {seen = seen} come run more = rw (append_assoc seen run more) (come.reads (run ++ more))
@@ -62,7 +62,7 @@ module _ {kind : DataKind} {stage : DataStage} {draft : Draft} {head : HeadScan}
       → AreBytes seen → count ≡ length seen → offset ≡ length seen → HasScannedHead head []
       → ((more : List ℕ) → data_of kind (seen ++ more)
       ≡ stage_left stage draft (seen ++ more) (length seen) (length seen))
-      → HasSeen kind stage draft head offset count seen
+      → HasScannedBy kind stage draft head offset count seen
   entered {offset = offset} {seen = seen} all counted here fresh reads = record {
     all_bytes = all;
     counted = counted;
@@ -73,7 +73,7 @@ module _ {kind : DataKind} {stage : DataStage} {draft : Draft} {head : HeadScan}
 -- the first head
 pub begun : {kind : DataKind} {which : Due} (draft : Draft) {head : HeadScan}
     → which ≡ first_due kind → HasScannedHead head []
-    → HasSeen kind (Head which) draft head 0 0 []
+    → HasScannedBy kind (Head which) draft head 0 0 []
 unfolding stage_left data_of
 begun {kind = kind} draft first fresh =
     entered (All-nil (λ (b : ℕ). b < 256)) refl refl fresh
@@ -82,9 +82,9 @@ begun {kind = kind} draft first fresh =
 -- ---- heads
 
 module _ {kind : DataKind} {which : Due} {draft : Draft} {head : HeadScan} {offset count : ℕ}
-    {seen : List ℕ} (come : HasSeen kind (Head which) draft head offset count seen) where
+    {seen : List ℕ} (come : HasScannedBy kind (Head which) draft head offset count seen) where
   pub grown_head : {new : ℕ} (run : List ℕ) → AreBytes run → new ≡ count + length run
-      → HasSeenHead kind which draft offset new (seen ++ run)
+      → HasScannedToHead kind which draft offset new (seen ++ run)
   unfolding stage_left
   grown_head run are grows = record {
     all_bytes = AreBytes-append seen run come.all_bytes are;
@@ -109,17 +109,17 @@ module _ {kind : DataKind} {which : Due} {draft : Draft} {head : HeadScan} {offs
 failed : {kind : DataKind} {at : DataFault} {draft : Draft} {head : HeadScan} {offset count : ℕ}
     {seen : List ℕ} → AreBytes seen → count ≡ length seen
     → ((more : List ℕ) → data_of kind (seen ++ more) ≡ Err at)
-    → HasSeen kind (Failed at) draft head offset count seen
+    → HasScannedBy kind (Failed at) draft head offset count seen
 unfolding stage_left
 failed all counted reads = record { all_bytes = all; counted = counted; reads = reads; stands = tt }
 
 -- bytes of a head that is not judged yet
 module _ {kind : DataKind} {which : Due} {draft : Draft} {offset count : ℕ} {seen : List ℕ}
-    (come : HasSeenHead kind which draft offset count seen) where
+    (come : HasScannedToHead kind which draft offset count seen) where
   -- the head is not whole
   pub more_head : {head : HeadScan} → HasScannedHead head (drop offset seen)
       → head_front (drop offset seen) ≡ CutHead
-      → HasSeen kind (Head which) draft head offset count seen
+      → HasScannedBy kind (Head which) draft head offset count seen
   unfolding stage_left
   more_head scanned outcome = record {
     all_bytes = come.all_bytes;
@@ -131,7 +131,7 @@ module _ {kind : DataKind} {which : Due} {draft : Draft} {offset count : ℕ} {s
   -- the head is ill-formed
   pub bad_head : {at : DataFault} {head : HeadScan} → head_front (drop offset seen) ≡ IllFormed
       → at ≡ record { offset = offset; is_limit = false }
-      → HasSeen kind (Failed at) draft head offset count seen
+      → HasScannedBy kind (Failed at) draft head offset count seen
   bad_head outcome there =
       failed come.all_bytes come.counted
       (λ more. come.reads more
@@ -158,13 +158,13 @@ module _ {kind : DataKind} {which : Due} {draft : Draft} {offset count : ℕ} {s
 
     pub went_on : {stage : DataStage} {new : Draft} {head : HeadScan}
         → Ok (stage, new) ≡ judged which size item draft → HasScannedHead head []
-        → HasSeen kind stage new head count count seen
+        → HasScannedBy kind stage new head count count seen
     went_on is fresh = entered come.all_bytes come.counted come.counted fresh (turned_head is)
 
     pub refused : {fault : BundleFault} {limit : Bool} {new : Draft} {head : HeadScan}
         → Err fault ≡ judged which size item draft
         → ((size : ℕ) → limit ≡ is_limit fault (Whole item size))
-        → HasSeen kind (Failed (record { offset = offset; is_limit = limit })) new head offset count
+        → HasScannedBy kind (Failed (record { offset = offset; is_limit = limit })) new head offset count
         seen
     refused {fault = fault} is limits =
         failed come.all_bytes come.counted
@@ -181,10 +181,10 @@ module _ {kind : DataKind} {which : Due} {draft : Draft} {offset count : ℕ} {s
 
 pub grown_name : {kind : DataKind} {owner : Owner} {left : ℕ} {draft new : Draft} {stage : DataStage}
     {old_head head : HeadScan} {offset old count : ℕ} {seen : List ℕ} (run : List ℕ)
-    → HasSeen kind (Name owner left) draft old_head offset old seen → AreBytes run
+    → HasScannedBy kind (Name owner left) draft old_head offset old seen → AreBytes run
     → 0 < length run → length run ≤ left → (stage, new) ≡ took_run owner left run draft
     → count ≡ old + length run → HasScannedHead head []
-    → HasSeen kind stage new head count count (seen ++ run)
+    → HasScannedBy kind stage new head count count (seen ++ run)
 grown_name {owner = owner} {left = left} {draft = draft} {count = count} {seen = seen} run come are
     some fits is grows fresh =
     let counted : count ≡ length (seen ++ run) =
@@ -202,17 +202,17 @@ grown_name {owner = owner} {left = left} {draft = draft} {count = count} {seen =
 
 module _ {kind : DataKind} {draft : Draft} {head : HeadScan} {offset old count : ℕ}
     {seen : List ℕ} (run : List ℕ) (are : AreBytes run) (grows : count ≡ old + length run) where
-  pub grown_failed : {at : DataFault} → HasSeen kind (Failed at) draft head offset old seen
-      → HasSeen kind (Failed at) draft head offset count (seen ++ run)
+  pub grown_failed : {at : DataFault} → HasScannedBy kind (Failed at) draft head offset old seen
+      → HasScannedBy kind (Failed at) draft head offset count (seen ++ run)
   unfolding stage_left
   grown_failed {at = at} come =
       failed (AreBytes-append seen run come.all_bytes are)
       (omega (arith, length-append seen run, come.counted)) (grown_reads come run)
 
-  module _ {found : Found} (come : HasSeen kind (Read found) draft head offset old seen) where
+  module _ {found : Found} (come : HasScannedBy kind (Read found) draft head offset old seen) where
     -- bytes that may follow the item
     pub grown_open : may_follow found ≡ true
-        → HasSeen kind (Read found) draft head offset count (seen ++ run)
+        → HasScannedBy kind (Read found) draft head offset count (seen ++ run)
     unfolding stage_left
     grown_open follow = record {
       all_bytes = AreBytes-append seen run come.all_bytes are;
@@ -224,7 +224,7 @@ module _ {kind : DataKind} {draft : Draft} {head : HeadScan} {offset old count :
     -- bytes that may not follow it
     pub grown_closed : {at : DataFault} → 0 < length run → may_follow found ≡ false
         → at ≡ record { offset = offset; is_limit = false }
-        → HasSeen kind (Failed at) draft head offset count (seen ++ run)
+        → HasScannedBy kind (Failed at) draft head offset count (seen ++ run)
     unfolding stage_left alone
     grown_closed some closed there =
         let here = eqb-true offset (length seen) (rw closed at come.stands) in

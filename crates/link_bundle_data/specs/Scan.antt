@@ -40,7 +40,7 @@ IsFirstLong (Failed fault) long offset seen = Unit {0}
 -- These are the parts of a scan that has seen exactly these bytes of data of this kind. Whatever
 -- bytes follow, reading on from this stage gives what all the bytes say. `offset` is where the
 -- current head begins, or the item ended.
-pub record HasSeen (kind : DataKind) (stage : DataStage) (draft : Draft) (head : HeadScan)
+pub record HasScannedBy (kind : DataKind) (stage : DataStage) (draft : Draft) (head : HeadScan)
     (offset count : ℕ) (seen : List ℕ) : Type 0 where
   pub all_bytes : AreBytes seen
   pub counted : count ≡ length seen
@@ -49,7 +49,7 @@ pub record HasSeen (kind : DataKind) (stage : DataStage) (draft : Draft) (head :
   pub stands : IsAtStage stage head offset seen
 
 -- exactly these bytes were seen; the head at `offset` is not judged yet, and may be complete
-pub record HasSeenHead (kind : DataKind) (which : Due) (draft : Draft) (offset count : ℕ)
+pub record HasScannedToHead (kind : DataKind) (which : Due) (draft : Draft) (offset count : ℕ)
     (seen : List ℕ) : Type 0 where
   pub all_bytes : AreBytes seen
   pub counted : count ≡ length seen
@@ -60,7 +60,7 @@ pub record HasSeenHead (kind : DataKind) (which : Due) (draft : Draft) (offset c
 
 -- the scan is of data of this kind and has seen exactly these bytes
 pub record HasScanned (kind : DataKind) (scan : DataScan) (seen : List ℕ) : Type 0 where
-  pub state : HasSeen kind scan.stage scan.draft scan.head scan.offset scan.count seen
+  pub state : HasScannedBy kind scan.stage scan.draft scan.head scan.offset scan.count seen
   pub long : IsFirstLong scan.stage scan.long scan.offset seen
 
 -- the number of bytes seen

@@ -86,7 +86,7 @@ impl DataScan {
     ghost use Rattle.link_bundle_data.specs.BlockData.{data_of};
     ghost use Rattle.link_bundle_data.specs.LongHeads.{long_head};
     ghost use Rattle.link_bundle_data.specs.DataView.{viewed_data, viewed_result, HasShortName};
-    ghost use Rattle.link_bundle_data.specs.Scan.{HasScanned, HasSeenHead, TakesRun, IsFirstLong, scan_size};
+    ghost use Rattle.link_bundle_data.specs.Scan.{HasScanned, HasScannedToHead, TakesRun, IsFirstLong, scan_size};
     ghost use Rattle.link_bundle_data.specs.declared.kind.DataKind.{DataKind};
 
     /// A scan of data of this kind that has seen no byte.
@@ -246,7 +246,7 @@ impl DataScan {
         requires stage { self.old.stage ≡ DataStage.Head due }
         ensures size { scan_size self.new ≡ scan_size self.old }
         ensures seen { (kind : DataKind) (seen : List ℕ)
-            → HasSeenHead kind due self.old.draft self.old.offset self.old.count seen
+            → HasScannedToHead kind due self.old.draft self.old.offset self.old.count seen
             → IsFirstLong (DataStage.Head due) self.old.long self.old.offset seen
             → head_front (drop self.old.offset seen) ≡ Whole head (length (drop self.old.offset seen))
             → size ≡ length (drop self.old.offset seen)

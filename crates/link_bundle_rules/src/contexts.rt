@@ -13,8 +13,8 @@ impl BundleHistory {
     /// The rule of the primary block's check, if it is broken.
     #[tactic(auto, unfolding(crate::specs::Security::primary_check))]
     pub(crate) fn primary_check(&self) -> Option<BundleRule>
-        ensures { (byte : Option ℕ) (size : ℕ)
-            → result ≡ primary_check (bundle_of self.now byte size) }
+        ensures { (long_head : Option ℕ) (payload_length : ℕ)
+            → result ≡ primary_check (bundle_of self.now long_head payload_length) }
     {
         if self.primary.has_check || self.is_protected() {
             return None;
@@ -36,8 +36,8 @@ impl BundleHistory {
     /// The rule of encrypted primary blocks, if it is broken.
     #[tactic(auto, unfolding(crate::specs::Security::confidential_primary))]
     pub(crate) fn confidential_primary(&self) -> Option<BundleRule>
-        ensures { (byte : Option ℕ) (size : ℕ)
-            → result ≡ confidential_primary (bundle_of self.now byte size) }
+        ensures { (long_head : Option ℕ) (payload_length : ℕ)
+            → result ≡ confidential_primary (bundle_of self.now long_head payload_length) }
     {
         first_found(
             self.security.as_slice(),
@@ -48,8 +48,8 @@ impl BundleHistory {
     /// The rule of the flags of security contexts, if it is broken.
     #[tactic(auto, unfolding(crate::specs::Security::security_flags))]
     pub(crate) fn security_flags(&self) -> Option<BundleRule>
-        ensures { (byte : Option ℕ) (size : ℕ)
-            → result ≡ security_flags (bundle_of self.now byte size) }
+        ensures { (long_head : Option ℕ) (payload_length : ℕ)
+            → result ≡ security_flags (bundle_of self.now long_head payload_length) }
     {
         first_found(
             self.security.as_slice(),
@@ -60,8 +60,8 @@ impl BundleHistory {
     /// The rule of security contexts, if it is broken.
     #[tactic(auto, unfolding(crate::specs::Security::security_context))]
     pub(crate) fn security_context(&self) -> Option<BundleRule>
-        ensures { (byte : Option ℕ) (size : ℕ)
-            → result ≡ security_context (bundle_of self.now byte size) }
+        ensures { (long_head : Option ℕ) (payload_length : ℕ)
+            → result ≡ security_context (bundle_of self.now long_head payload_length) }
     {
         first_found(
             self.security.as_slice(),
@@ -72,8 +72,8 @@ impl BundleHistory {
     /// The rule of the flags of block confidentiality blocks, if it is broken.
     #[tactic(auto, unfolding(crate::specs::Security::confidential_flags))]
     pub(crate) fn confidential_flags(&self) -> Option<BundleRule>
-        ensures { (byte : Option ℕ) (size : ℕ)
-            → result ≡ confidential_flags (bundle_of self.now byte size) }
+        ensures { (long_head : Option ℕ) (payload_length : ℕ)
+            → result ≡ confidential_flags (bundle_of self.now long_head payload_length) }
     {
         first_found(
             self.security.as_slice(),
@@ -84,8 +84,8 @@ impl BundleHistory {
     /// The rule of the contexts of block confidentiality blocks, if it is broken.
     #[tactic(auto, unfolding(crate::specs::Security::confidential_context))]
     pub(crate) fn confidential_context(&self) -> Option<BundleRule>
-        ensures { (byte : Option ℕ) (size : ℕ)
-            → result ≡ confidential_context (bundle_of self.now byte size) }
+        ensures { (long_head : Option ℕ) (payload_length : ℕ)
+            → result ≡ confidential_context (bundle_of self.now long_head payload_length) }
     {
         first_found(
             self.security.as_slice(),

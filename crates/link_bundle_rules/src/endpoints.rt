@@ -49,8 +49,8 @@ impl BundleHistory {
     /// The rule of dtn names, if it is broken.
     #[tactic(auto, unfolding(crate::specs::Endpoints::dtn_name))]
     pub(crate) fn dtn_name(&self) -> Option<BundleRule>
-        ensures { (byte : Option ℕ) (size : ℕ)
-            → result ≡ dtn_name (bundle_of self.now byte size) }
+        ensures { (long_head : Option ℕ) (payload_length : ℕ)
+            → result ≡ dtn_name (bundle_of self.now long_head payload_length) }
     {
         let of = self.first_bad_name()?;
         Some(BundleRule::DtnName { of })
@@ -59,8 +59,8 @@ impl BundleHistory {
     /// The rule of sources that are no singletons, if it is broken.
     #[tactic(auto, unfolding(crate::specs::Endpoints::source_node))]
     pub(crate) fn source_node(&self) -> Option<BundleRule>
-        ensures { (byte : Option ℕ) (size : ℕ)
-            → result ≡ source_node (bundle_of self.now byte size) }
+        ensures { (long_head : Option ℕ) (payload_length : ℕ)
+            → result ≡ source_node (bundle_of self.now long_head payload_length) }
     {
         self.primary
             .has_group_source

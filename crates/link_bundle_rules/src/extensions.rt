@@ -153,9 +153,9 @@ impl BundleHistory {
     /// The rule of bundle age blocks, if it is broken.
     #[tactic(auto, unfolding(crate::specs::Extensions::age))]
     pub(crate) fn age(&self, counts: Counts) -> Option<BundleRule>
-        ensures { (byte : Option ℕ) (size : ℕ)
+        ensures { (long_head : Option ℕ) (payload_length : ℕ)
             → counts ≡ counts_of self.now.blocks.items
-            → result ≡ age (bundle_of self.now byte size) }
+            → result ≡ age (bundle_of self.now long_head payload_length) }
     {
         let blocks = counts.ages;
         if blocks > 1 {
@@ -172,9 +172,9 @@ impl BundleHistory {
     /// The rule of previous node blocks, if it is broken.
     #[tactic(auto, unfolding(crate::specs::Extensions::previous_node))]
     pub(crate) fn previous_node(&self, counts: Counts) -> Option<BundleRule>
-        ensures { (byte : Option ℕ) (size : ℕ)
+        ensures { (long_head : Option ℕ) (payload_length : ℕ)
             → counts ≡ counts_of self.now.blocks.items
-            → result ≡ previous_node (bundle_of self.now byte size) }
+            → result ≡ previous_node (bundle_of self.now long_head payload_length) }
     {
         let blocks = counts.previous_nodes;
         (blocks > 1).then_some(BundleRule::PreviousNode { blocks })
@@ -183,8 +183,8 @@ impl BundleHistory {
     /// The rule of the node of the first previous node block, if it is broken.
     #[tactic(auto, unfolding(crate::specs::Extensions::previous_node_id))]
     pub(crate) fn previous_node_id(&self) -> Option<BundleRule>
-        ensures { (byte : Option ℕ) (size : ℕ)
-            → result ≡ previous_node_id (bundle_of self.now byte size) }
+        ensures { (long_head : Option ℕ) (payload_length : ℕ)
+            → result ≡ previous_node_id (bundle_of self.now long_head payload_length) }
     {
         if_no_node_id(&self.first_readable(PREVIOUS_NODE)?)
     }
@@ -192,8 +192,8 @@ impl BundleHistory {
     /// The rule of the age of the first bundle age block, if it is broken.
     #[tactic(auto, unfolding(crate::specs::Extensions::expired))]
     pub(crate) fn expired(&self) -> Option<BundleRule>
-        ensures { (byte : Option ℕ) (size : ℕ)
-            → result ≡ expired (bundle_of self.now byte size) }
+        ensures { (long_head : Option ℕ) (payload_length : ℕ)
+            → result ≡ expired (bundle_of self.now long_head payload_length) }
     {
         if_expired(self.primary.lifetime, &self.first_readable(BUNDLE_AGE)?)
     }
@@ -201,8 +201,8 @@ impl BundleHistory {
     /// What the first hop count block says, unless it is malformed or may be ciphertext.
     #[tactic(auto, unfolding(crate::specs::Extensions::first_hops))]
     fn first_hops(&self) -> Option<Hops>
-        ensures { (byte : Option ℕ) (size : ℕ)
-            → result ≡ first_hops (bundle_of self.now byte size) }
+        ensures { (long_head : Option ℕ) (payload_length : ℕ)
+            → result ≡ first_hops (bundle_of self.now long_head payload_length) }
     {
         Hops::of(self.first_readable(HOP_COUNT)?.data)
     }
@@ -210,10 +210,10 @@ impl BundleHistory {
     /// The rule of hop count blocks, if it is broken. `plain` is whether all blocks are plain.
     #[tactic(auto, unfolding(crate::specs::Extensions::hop_count))]
     pub(crate) fn hop_count(&self, plain: bool, counts: Counts) -> Option<BundleRule>
-        ensures { (byte : Option ℕ) (size : ℕ)
+        ensures { (long_head : Option ℕ) (payload_length : ℕ)
             → plain ≡ list_all (is_plain_block self.now.primary.lifetime) self.now.blocks.items
             → counts ≡ counts_of self.now.blocks.items
-            → result ≡ hop_count (bundle_of self.now byte size) }
+            → result ≡ hop_count (bundle_of self.now long_head payload_length) }
     {
         let blocks = counts.hop_counts;
         if plain && blocks <= 1 {
@@ -228,9 +228,9 @@ impl BundleHistory {
     /// The rule of the first hop count, if it is broken: never if all are `plain`.
     #[tactic(auto, unfolding(crate::specs::Extensions::hops))]
     pub(crate) fn hops(&self, plain: bool) -> Option<BundleRule>
-        ensures { (byte : Option ℕ) (size : ℕ)
+        ensures { (long_head : Option ℕ) (payload_length : ℕ)
             → plain ≡ list_all (is_plain_block self.now.primary.lifetime) self.now.blocks.items
-            → result ≡ hops (bundle_of self.now byte size) }
+            → result ≡ hops (bundle_of self.now long_head payload_length) }
     {
         if plain {
             return None;
@@ -241,8 +241,8 @@ impl BundleHistory {
     /// The rule of block types, if it is broken.
     #[tactic(auto, unfolding(crate::specs::Extensions::block_type))]
     pub(crate) fn block_type(&self) -> Option<BundleRule>
-        ensures { (byte : Option ℕ) (size : ℕ)
-            → result ≡ block_type (bundle_of self.now byte size) }
+        ensures { (long_head : Option ℕ) (payload_length : ℕ)
+            → result ≡ block_type (bundle_of self.now long_head payload_length) }
     {
         first_found(self.blocks.as_slice(), |block| if_reserved(block))
     }
@@ -250,9 +250,9 @@ impl BundleHistory {
     /// The rule of the data of extension blocks, if it is broken: never if all are `plain`.
     #[tactic(auto, unfolding(crate::specs::Extensions::block_data))]
     pub(crate) fn block_data(&self, plain: bool) -> Option<BundleRule>
-        ensures { (byte : Option ℕ) (size : ℕ)
+        ensures { (long_head : Option ℕ) (payload_length : ℕ)
             → plain ≡ list_all (is_plain_block self.now.primary.lifetime) self.now.blocks.items
-            → result ≡ block_data (bundle_of self.now byte size) }
+            → result ≡ block_data (bundle_of self.now long_head payload_length) }
     {
         if plain {
             return None;
@@ -266,9 +266,9 @@ impl BundleHistory {
     /// The rule of data that this toolkit does not read, if it is broken: never if all are `plain`.
     #[tactic(auto, unfolding(crate::specs::Extensions::data_not_read))]
     pub(crate) fn data_not_read(&self, plain: bool) -> Option<BundleRule>
-        ensures { (byte : Option ℕ) (size : ℕ)
+        ensures { (long_head : Option ℕ) (payload_length : ℕ)
             → plain ≡ list_all (is_plain_block self.now.primary.lifetime) self.now.blocks.items
-            → result ≡ data_not_read (bundle_of self.now byte size) }
+            → result ≡ data_not_read (bundle_of self.now long_head payload_length) }
     {
         if plain {
             return None;

@@ -24,7 +24,7 @@ impl BundleHistory {
     /// The rule of fragments, if it is broken. The payload has `size` bytes; no long head matters.
     #[tactic(auto, unfolding(crate::specs::Fragments::fragment))]
     pub(crate) fn fragment(&self, size: u64) -> Option<BundleRule>
-        ensures { (byte : Option ℕ) → result ≡ fragment (bundle_of self.now byte size) }
+        ensures { (long_head : Option ℕ) → result ≡ fragment (bundle_of self.now long_head size) }
     {
         let part = self.primary.fragment?;
         self.if_no_part(part, size)
@@ -49,7 +49,7 @@ impl BundleHistory {
     /// The rule of fragments with the whole payload, of `size` bytes, if it is broken.
     #[tactic(auto, unfolding(crate::specs::Fragments::whole_fragment))]
     pub(crate) fn whole_fragment(&self, size: u64) -> Option<BundleRule>
-        ensures { (byte : Option ℕ) → result ≡ whole_fragment (bundle_of self.now byte size) }
+        ensures { (long_head : Option ℕ) → result ≡ whole_fragment (bundle_of self.now long_head size) }
     {
         let part = self.primary.fragment?;
         self.if_all(part, size)

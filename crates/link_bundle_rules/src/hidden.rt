@@ -48,8 +48,8 @@ impl BundleHistory {
     /// The first block of a type, or `None` if there is none or its data may be ciphertext.
     #[tactic(auto, unfolding(crate::specs::Hidden::first_readable))]
     pub(crate) fn first_readable(&self, block_type: u64) -> Option<BlockFacts>
-        ensures { (byte : Option ℕ) (size : ℕ)
-            → result ≡ first_readable block_type (bundle_of self.now byte size) }
+        ensures { (long_head : Option ℕ) (payload_length : ℕ)
+            → result ≡ first_readable block_type (bundle_of self.now long_head payload_length) }
     {
         let first = first_of_type(block_type, self.blocks.as_slice())?;
         self.unless_hidden(first)

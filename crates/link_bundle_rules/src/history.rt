@@ -12,8 +12,8 @@ use link_bundle_types::BLOCK_LIMIT;
 
 /// The blocks of a bundle so far, as far as the rules for it need them.
 ///
-/// In a contract about every `byte` and every `size`, the rule looks neither at the first long head
-/// outside the data of blocks nor at the length of the payload (`bundle_of`).
+/// In a contract about every `long_head` and `payload_length`, the rule looks neither at the first
+/// long head outside the data of blocks nor at the length of the payload (`bundle_of`).
 #[derive(Drop)]
 pub struct BundleHistory {
     pub(crate) primary: PrimaryFacts,

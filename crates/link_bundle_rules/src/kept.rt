@@ -81,7 +81,7 @@ impl BundleHistory {
     /// Whether only the rule of long heads outside the data of blocks can be broken.
     #[inline(always)]
     fn is_plain(&self) -> bool
-        ensures { (byte : Option ℕ) (size : ℕ) → result ≡ is_plain (bundle_of self.now byte size) }
+        ensures { (long_head : Option ℕ) (payload_length : ℕ) → result ≡ is_plain (bundle_of self.now long_head payload_length) }
     {
         is_plain_primary(&self.primary)
             && self.has_plain_blocks()

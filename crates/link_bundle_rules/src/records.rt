@@ -26,8 +26,8 @@ impl BundleHistory {
 
     /// The payload block, unless its data may be ciphertext.
     fn record_of(&self) -> Option<BlockFacts>
-        ensures { (byte : Option ℕ) (size : ℕ)
-            → result ≡ record_of (bundle_of self.now byte size) }
+        ensures { (long_head : Option ℕ) (payload_length : ℕ)
+            → result ≡ record_of (bundle_of self.now long_head payload_length) }
     {
         self.first_readable(PAYLOAD)
     }
@@ -35,8 +35,8 @@ impl BundleHistory {
     /// The rule of malformed administrative records, if it is broken.
     #[tactic(auto, unfolding(crate::specs::Records::administrative_record))]
     pub(crate) fn administrative_record(&self) -> Option<BundleRule>
-        ensures { (byte : Option ℕ) (size : ℕ)
-            → result ≡ administrative_record (bundle_of self.now byte size) }
+        ensures { (long_head : Option ℕ) (payload_length : ℕ)
+            → result ≡ administrative_record (bundle_of self.now long_head payload_length) }
     {
         match self.record_of()?.data {
             DataFacts::Malformed(byte) => Some(BundleRule::Record { byte }),
@@ -47,8 +47,8 @@ impl BundleHistory {
     /// The rule of the types of administrative records, if it is broken.
     #[tactic(auto, unfolding(crate::specs::Records::record_type))]
     pub(crate) fn record_type(&self) -> Option<BundleRule>
-        ensures { (byte : Option ℕ) (size : ℕ)
-            → result ≡ record_type (bundle_of self.now byte size) }
+        ensures { (long_head : Option ℕ) (payload_length : ℕ)
+            → result ≡ record_type (bundle_of self.now long_head payload_length) }
     {
         match self.record_of()?.data {
             DataFacts::OtherRecord(record_type) => Some(BundleRule::RecordType { record_type }),
@@ -59,8 +59,8 @@ impl BundleHistory {
     /// What a status report says, unless it may be ciphertext.
     #[tactic(auto, unfolding(crate::specs::Records::report_of))]
     fn report_of(&self) -> Option<ReportFacts>
-        ensures { (byte : Option ℕ) (size : ℕ)
-            → result ≡ report_of (bundle_of self.now byte size) }
+        ensures { (long_head : Option ℕ) (payload_length : ℕ)
+            → result ≡ report_of (bundle_of self.now long_head payload_length) }
     {
         report_in(self.record_of()?.data)
     }
@@ -68,8 +68,8 @@ impl BundleHistory {
     /// The rule of the times of a status report, if it is broken.
     #[tactic(auto, unfolding(crate::specs::Records::report_times))]
     pub(crate) fn report_times(&self) -> Option<BundleRule>
-        ensures { (byte : Option ℕ) (size : ℕ)
-            → result ≡ report_times (bundle_of self.now byte size) }
+        ensures { (long_head : Option ℕ) (payload_length : ℕ)
+            → result ≡ report_times (bundle_of self.now long_head payload_length) }
     {
         let report = self.report_of()?;
         (report.timed && report.untimed).then_some(BundleRule::ReportTimes)
@@ -78,8 +78,8 @@ impl BundleHistory {
     /// The rule of status reports that assert nothing, if it is broken.
     #[tactic(auto, unfolding(crate::specs::Records::report_empty))]
     pub(crate) fn report_empty(&self) -> Option<BundleRule>
-        ensures { (byte : Option ℕ) (size : ℕ)
-            → result ≡ report_empty (bundle_of self.now byte size) }
+        ensures { (long_head : Option ℕ) (payload_length : ℕ)
+            → result ≡ report_empty (bundle_of self.now long_head payload_length) }
     {
         let report = self.report_of()?;
         (!report.timed && !report.untimed).then_some(BundleRule::ReportEmpty)
@@ -88,8 +88,8 @@ impl BundleHistory {
     /// The rule of the reasons of status reports, if it is broken.
     #[tactic(auto, unfolding(crate::specs::Records::report_reason))]
     pub(crate) fn report_reason(&self) -> Option<BundleRule>
-        ensures { (byte : Option ℕ) (size : ℕ)
-            → result ≡ report_reason (bundle_of self.now byte size) }
+        ensures { (long_head : Option ℕ) (payload_length : ℕ)
+            → result ≡ report_reason (bundle_of self.now long_head payload_length) }
     {
         let reason = self.report_of()?.reason;
         (reason > LAST_REASON).then_some(BundleRule::ReportReason { reason })
@@ -98,8 +98,8 @@ impl BundleHistory {
     /// The rule of status reports about bundles without a source, if it is broken.
     #[tactic(auto, unfolding(crate::specs::Records::report_source))]
     pub(crate) fn report_source(&self) -> Option<BundleRule>
-        ensures { (byte : Option ℕ) (size : ℕ)
-            → result ≡ report_source (bundle_of self.now byte size) }
+        ensures { (long_head : Option ℕ) (payload_length : ℕ)
+            → result ≡ report_source (bundle_of self.now long_head payload_length) }
     {
         let report = self.report_of()?;
         report.has_no_source.then_some(BundleRule::ReportSource)

@@ -98,8 +98,8 @@ impl BundleHistory {
     /// The rule of the bundle's flags, if it is broken.
     #[tactic(auto, unfolding(crate::specs::Flags::bundle_flags))]
     fn bundle_flags(&self) -> Option<BundleRule>
-        ensures { (byte : Option ℕ) (size : ℕ)
-            → result ≡ bundle_flags (bundle_of self.now byte size) }
+        ensures { (long_head : Option ℕ) (payload_length : ℕ)
+            → result ≡ bundle_flags (bundle_of self.now long_head payload_length) }
     {
         let flags = self.primary.flags;
         has_other_flags(BUNDLE_FLAGS, flags).then_some(BundleRule::BundleFlags { flags })
@@ -108,8 +108,8 @@ impl BundleHistory {
     /// The rule of bundles without a source, if it is broken.
     #[tactic(auto, unfolding(crate::specs::Flags::anonymous))]
     fn anonymous(&self) -> Option<BundleRule>
-        ensures { (byte : Option ℕ) (size : ℕ)
-            → result ≡ anonymous (bundle_of self.now byte size) }
+        ensures { (long_head : Option ℕ) (payload_length : ℕ)
+            → result ≡ anonymous (bundle_of self.now long_head payload_length) }
     {
         let flags = self.primary.flags;
         let is_wrong = !is_set(NO_FRAGMENTS, flags) || requests_reports(flags);
@@ -119,8 +119,8 @@ impl BundleHistory {
     /// The rule of the reports that an administrative record requests, if it is broken.
     #[tactic(auto, unfolding(crate::specs::Flags::record_reports))]
     fn record_reports(&self) -> Option<BundleRule>
-        ensures { (byte : Option ℕ) (size : ℕ)
-            → result ≡ record_reports (bundle_of self.now byte size) }
+        ensures { (long_head : Option ℕ) (payload_length : ℕ)
+            → result ≡ record_reports (bundle_of self.now long_head payload_length) }
     {
         let flags = self.primary.flags;
         let is_wrong = is_set(RECORD, flags) && requests_reports(flags);
@@ -130,9 +130,9 @@ impl BundleHistory {
     /// The rule of blocks that request a status report, if it is broken: never if all are `plain`.
     #[tactic(auto, unfolding(crate::specs::Flags::block_reports))]
     fn block_reports(&self, plain: bool) -> Option<BundleRule>
-        ensures { (byte : Option ℕ) (size : ℕ)
+        ensures { (long_head : Option ℕ) (payload_length : ℕ)
             → plain ≡ list_all (is_plain_block self.now.primary.lifetime) self.now.blocks.items
-            → result ≡ block_reports (bundle_of self.now byte size) }
+            → result ≡ block_reports (bundle_of self.now long_head payload_length) }
     {
         if plain {
             return None;
@@ -146,9 +146,9 @@ impl BundleHistory {
     /// The rule of the flags of blocks, if it is broken: never if all are `plain`.
     #[tactic(auto, unfolding(crate::specs::Flags::block_flags))]
     fn block_flags(&self, plain: bool) -> Option<BundleRule>
-        ensures { (byte : Option ℕ) (size : ℕ)
+        ensures { (long_head : Option ℕ) (payload_length : ℕ)
             → plain ≡ list_all (is_plain_block self.now.primary.lifetime) self.now.blocks.items
-            → result ≡ block_flags (bundle_of self.now byte size) }
+            → result ≡ block_flags (bundle_of self.now long_head payload_length) }
     {
         if plain {
             return None;

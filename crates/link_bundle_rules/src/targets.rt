@@ -212,8 +212,8 @@ impl BundleHistory {
     /// The rule of the targets of single security blocks, if it is broken.
     #[tactic(auto, unfolding(crate::specs::Targets::security_targets))]
     pub(crate) fn security_targets(&self) -> Option<BundleRule>
-        ensures { (byte : Option ℕ) (size : ℕ)
-            → result ≡ security_targets (bundle_of self.now byte size) }
+        ensures { (long_head : Option ℕ) (payload_length : ℕ)
+            → result ≡ security_targets (bundle_of self.now long_head payload_length) }
     {
         let bad = self.bad_targets();
         if bad.is_some() {
@@ -225,8 +225,8 @@ impl BundleHistory {
     /// The rule of targets that two blocks of a type have, if it is broken.
     #[tactic(auto, unfolding(crate::specs::Targets::security_twice))]
     pub(crate) fn security_twice(&self) -> Option<BundleRule>
-        ensures { (byte : Option ℕ) (size : ℕ)
-            → result ≡ security_twice (bundle_of self.now byte size) }
+        ensures { (long_head : Option ℕ) (payload_length : ℕ)
+            → result ≡ security_twice (bundle_of self.now long_head payload_length) }
     {
         let (block, target) = self.first_asked(Asked::Taken)?;
         Some(BundleRule::SecurityTwice { block, target })
@@ -235,8 +235,8 @@ impl BundleHistory {
     /// The rule of targets that blocks of both types have, if it is broken.
     #[tactic(auto, unfolding(crate::specs::Targets::shared_target))]
     pub(crate) fn shared_target(&self) -> Option<BundleRule>
-        ensures { (byte : Option ℕ) (size : ℕ)
-            → result ≡ shared_target (bundle_of self.now byte size) }
+        ensures { (long_head : Option ℕ) (payload_length : ℕ)
+            → result ≡ shared_target (bundle_of self.now long_head payload_length) }
     {
         let (block, target) = self.first_asked(Asked::Shared)?;
         Some(BundleRule::SharedTarget { block, target })
@@ -245,8 +245,8 @@ impl BundleHistory {
     /// The rule of security blocks that are targets of block integrity blocks, if it is broken.
     #[tactic(auto, unfolding(crate::specs::Targets::integrity_target))]
     pub(crate) fn integrity_target(&self) -> Option<BundleRule>
-        ensures { (byte : Option ℕ) (size : ℕ)
-            → result ≡ integrity_target (bundle_of self.now byte size) }
+        ensures { (long_head : Option ℕ) (payload_length : ℕ)
+            → result ≡ integrity_target (bundle_of self.now long_head payload_length) }
     {
         let (block, target) = self.first_asked(Asked::Protected)?;
         Some(BundleRule::IntegrityTarget { block, target })
@@ -255,8 +255,8 @@ impl BundleHistory {
     /// The rule of block confidentiality blocks that are targets of one, if it is broken.
     #[tactic(auto, unfolding(crate::specs::Targets::confidential_target))]
     pub(crate) fn confidential_target(&self) -> Option<BundleRule>
-        ensures { (byte : Option ℕ) (size : ℕ)
-            → result ≡ confidential_target (bundle_of self.now byte size) }
+        ensures { (long_head : Option ℕ) (payload_length : ℕ)
+            → result ≡ confidential_target (bundle_of self.now long_head payload_length) }
     {
         let (block, target) = self.first_asked(Asked::Encrypted)?;
         Some(BundleRule::ConfidentialTarget { block, target })

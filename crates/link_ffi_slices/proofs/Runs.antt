@@ -1,6 +1,6 @@
 -- A run over slices: it never fails, and what it has written is in its slices.
 use Rattle.std.proofs.Common.{◌≡◌, ◌≤◌, ◌⊎◌, ◌==◌, Bool, if◌then◌else◌, ℕ, true, false, List, [], ◌++◌, length, Option, Some, None, Result, Ok, Err, refl, ap, sym, ◌∙◌, inl, inr, ⊎_elim, append-nil, append_assoc, length-append, arith}
-use Rattle.link_run.specs.Run.{Tool, Texts, Looks, Devices, ReturnedDevices, FinishedRun, EndedRun}
+use Rattle.link_run.specs.Run.{Tool, Texts, Looks, Devices, HasWrittenAtEnd, FinishedRun, EndedRun}
 use Rattle.link_run.specs.WholeRun.{devices_of}
 use Rattle.link_run.specs.declared.run.{RunEnd.RunEnd, Status.Status}
 use Rattle.link_tools.specs.Options.{AfterTool}
@@ -40,7 +40,7 @@ module _ {R W E : Type 0} (look : Looks R W E)
     (sound_report : (look.report end.report).failed ≡ false)
     (short : length bytes ≤ longest_input) where
   module _ (tool : Tool) where
-    bytes_are : (given : List ℕ) (texts : Texts) → ReturnedDevices look start (devices_of end) given texts
+    bytes_are : (given : List ℕ) (texts : Texts) → HasWrittenAtEnd look start (devices_of end) given texts
         → bytes ≡ given ++ left
     bytes_are given texts back = rw (full, rest) at back.takes
 

@@ -15,13 +15,13 @@ use Rattle.link_ffi_slices.specs.declared.running.Written.{Written}
 -- ---- how the run has gone
 
 -- the texts are those of this outcome, and the run ended with its status
-pub record WholeTexts (whole : Outcome) (output report : List ℕ) (status : Status) : Type 0 where
+pub record FinishedTexts (whole : Outcome) (output report : List ℕ) (status : Status) : Type 0 where
   pub output_is : output ≡ whole.texts.output
   pub report_is : report ≡ whole.texts.report
   pub ends : status.0 ≡ whole.status
 
 -- no text was written, since the request for memory was refused
-pub record NoTexts (output report : List ℕ) (fault : IoFault) : Type 0 where
+pub record RefusedTexts (output report : List ℕ) (fault : IoFault) : Type 0 where
   pub no_output : output ≡ []
   pub no_report : report ≡ []
   pub lacks : fault ≡ io.Memory
@@ -31,10 +31,10 @@ pub record NoTexts (output report : List ℕ) (fault : IoFault) : Type 0 where
 abbrev pub AfterSliceRun : Option Tool → (bytes output report : List ℕ) → Result Status IoFault
     → Type 0
 AfterSliceRun (Some tool) bytes output report (Ok status) =
-    WholeTexts (tool.whole bytes) output report status
+    FinishedTexts (tool.whole bytes) output report status
 AfterSliceRun (Some tool) bytes output report (Err fault) = ⊥
 AfterSliceRun None bytes output report (Ok status) = ⊥
-AfterSliceRun None bytes output report (Err fault) = NoTexts output report fault
+AfterSliceRun None bytes output report (Err fault) = RefusedTexts output report fault
 
 -- The slice was `before`, and now is `slice`: the text was written to its start, as far as it fits.
 -- `written` has the length of the whole text, up to 2^64 - 1, and whether all of it fits.

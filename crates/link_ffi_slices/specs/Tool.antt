@@ -27,7 +27,7 @@ texts_status wants output_fits report_fits =
 -- after the text are as they were. The lengths are those of the whole texts; they stop at the
 -- greatest number of 64 bits. The exit status is that of the run. The status that is returned is
 -- TCPCLKIT_OK or TCPCLKIT_TOO_SMALL.
-pub record TextsReturned (whole : Outcome) (wants : Wants)
+pub record ReturnsTextsBy (whole : Outcome) (wants : Wants)
     (old_output old_report output report : List ℕ)
     (run : Run)
     (status : ℕ) : Type 0 where
@@ -45,7 +45,7 @@ pub record TextsReturned (whole : Outcome) (wants : Wants)
 -- what a run has returned in its slices
 abbrev pub ReturnsTexts : Outcome → Wants → (old new : Slices) → Run → ℕ → Type 0
 ReturnsTexts whole wants old new run status =
-    TextsReturned whole wants old.output old.report new.output new.report run status
+    ReturnsTextsBy whole wants old.output old.report new.output new.report run status
 
 -- TCPCLKIT_MEMORY: nothing was written, and the numbers are 0
 pub record ReturnsNothing (old new : Slices) (run : Run) (status : ℕ) : Type 0 where

@@ -150,30 +150,30 @@ module _ {R : Type 0} where
     pub failed : HasFailed new fault
 
   -- `ready` returned `n`: the window has `n` bytes; if `n` is 0, the input is over.
-  pub record ReadyWindow (look : R → Input) (old new : Source R) (n : ℕ) : Type 0 where
+  pub record ReadiedWindow (look : R → Input) (old new : Source R) (n : ℕ) : Type 0 where
     pub readies : Readies look old new
     pub live : IsLive look new
     pub size : n ≡ length (window_of new)
     pub over : n ≡ 0 → IsOver look new
 
   abbrev pub AfterReady : (R → Input) → Source R → Source R → Result ℕ IoFault → Type 0
-  AfterReady look old new (Ok n) = ReadyWindow look old new n
+  AfterReady look old new (Ok n) = ReadiedWindow look old new n
   AfterReady look old new (Err fault) = TakesThenStops look old new [] fault
 
   -- `ready_front` returned `n`: the front has `n` bytes; if `n` is 0, the input is over.
-  pub record ReadyFront (look : R → Input) (old new : Source R) (n : ℕ) : Type 0 where
+  pub record ReadiedFront (look : R → Input) (old new : Source R) (n : ℕ) : Type 0 where
     pub readies : Readies look old new
     pub live : IsLive look new
     pub size : n ≡ length (front_of look new)
     pub over : n ≡ 0 → IsOver look new
 
   abbrev pub AfterReadyFront : (R → Input) → Source R → Source R → Result ℕ IoFault → Type 0
-  AfterReadyFront look old new (Ok n) = ReadyFront look old new n
+  AfterReadyFront look old new (Ok n) = ReadiedFront look old new n
   AfterReadyFront look old new (Err fault) = TakesThenStops look old new [] fault
 
   -- `some` returned `n`: it gave the first `n` bytes of the buffer, as it is after the call. If the
   -- buffer has room and `n` is 0, the input is over.
-  pub record SomeBytes (look : R → Input) (old new : Source R)
+  pub record GivenBytes (look : R → Input) (old new : Source R)
       (buffer : List ℕ) (n : ℕ) : Type 0 where
     pub room : n ≤ length buffer
     pub takes : Takes look old new (take n buffer)
@@ -181,12 +181,12 @@ module _ {R : Type 0} where
     pub over : n ≡ 0 → 0 < length buffer → IsOver look new
 
   abbrev pub AfterSome : (R → Input) → Source R → Source R → List ℕ → Result ℕ IoFault → Type 0
-  AfterSome look old new buffer (Ok n) = SomeBytes look old new buffer n
+  AfterSome look old new buffer (Ok n) = GivenBytes look old new buffer n
   AfterSome look old new buffer (Err fault) = TakesThenStops look old new [] fault
 
   -- The cases of a `fill`: the source filled the whole slice; the input ended after `n` bytes; or
   -- the source stopped at a fault after `count` bytes.
-  pub record WholeSlice (look : R → Input) (old new : Source R) (buffer : List ℕ) : Type 0 where
+  pub record FilledSlice (look : R → Input) (old new : Source R) (buffer : List ℕ) : Type 0 where
     pub takes : Takes look old new buffer
     pub live : IsLive look new
 
@@ -203,7 +203,7 @@ module _ {R : Type 0} where
     pub stops : TakesThenStops look old new (take count buffer) fault
 
   abbrev pub AfterFill : (R → Input) → Source R → Source R → List ℕ → Result Filled IoFault → Type 0
-  AfterFill look old new buffer (Ok filled.Whole) = WholeSlice look old new buffer
+  AfterFill look old new buffer (Ok filled.Whole) = FilledSlice look old new buffer
   AfterFill look old new buffer (Ok (filled.Ended n)) = EndedSlice look old new buffer n
   AfterFill look old new buffer (Err fault) = StoppedSlice look old new buffer fault
 

@@ -10,10 +10,10 @@ use Rattle.link_bundle_data.specs.DataView.{HasShortName}
 use Rattle.link_report.specs.ShortNames.{IsShort-prop}
 
 -- if data is read, its dtn name has at most 1,024 bytes, or the offset of its fault is below 2^64
-abbrev pub HasFittingWords : ℕ → Option (Result BlockData DataFault) → Type 0
-HasFittingWords data_start None = Unit {0}
-HasFittingWords data_start (Some (Ok found)) = HasShortName found
-HasFittingWords data_start (Some (Err fault)) = data_start + fault.offset < 2 ^ 64
+abbrev pub WordsFit : ℕ → Option (Result BlockData DataFault) → Type 0
+WordsFit data_start None = Unit {0}
+WordsFit data_start (Some (Ok found)) = HasShortName found
+WordsFit data_start (Some (Err fault)) = data_start + fault.offset < 2 ^ 64
 
 pub ruleset short_names = (IsShort-prop)
 
@@ -26,8 +26,8 @@ HasShortName-prop (Security block targets source) = IsShort-prop source
 HasShortName-prop (StatusReport report source) = IsShort-prop source
 HasShortName-prop others = Unit-prop
 
-pub HasFittingWords-prop : (data_start : ℕ) (found : Option (Result BlockData DataFault))
-    → IsProp (HasFittingWords data_start found)
-HasFittingWords-prop data_start None = Unit-prop
-HasFittingWords-prop data_start (Some (Ok found)) = HasShortName-prop found
-HasFittingWords-prop data_start (Some (Err fault)) = le_prop
+pub WordsFit-prop : (data_start : ℕ) (found : Option (Result BlockData DataFault))
+    → IsProp (WordsFit data_start found)
+WordsFit-prop data_start None = Unit-prop
+WordsFit-prop data_start (Some (Ok found)) = HasShortName-prop found
+WordsFit-prop data_start (Some (Err fault)) = le_prop

@@ -6,7 +6,7 @@ ghost use Rattle.link_bundle_data.specs.DataView.{viewed_result};
 ghost use Rattle.link_report.specs.Judgement.{viewed_judgement};
 ghost use Rattle.link_report.specs.Written.{PutsText};
 ghost use Rattle.link_report_blocks.specs.Blocks.{primary_start_text, primary_rest_text, fields_text, block_text, end_text};
-ghost use Rattle.link_report_blocks.specs.Fits.{HasShortEids-prop, HasFittingWords, HasFittingWords-prop};
+ghost use Rattle.link_report_blocks.specs.Fits.{HasShortEids-prop, WordsFit, WordsFit-prop};
 
 use crate::fields::{CONTROL_MAX, TYPE_MAX, length_to, write_control, write_type};
 use crate::words::write_words;
@@ -52,7 +52,7 @@ pub struct BlockText<'a> {
     ///
     /// For malformed data it is the fault.
     pub found: Option<Result<DataView<'a>, DataFault>>,
-    ghost fits: { HasFittingWords block.now.data_start (option_map viewed_result found) } by { HasFittingWords-prop block.now.data_start (option_map viewed_result found) },
+    ghost fits: { WordsFit block.now.data_start (option_map viewed_result found) } by { WordsFit-prop block.now.data_start (option_map viewed_result found) },
 }
 
 /// The line of the end of a transfer or of a good bundle, as a text.

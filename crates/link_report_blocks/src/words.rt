@@ -9,7 +9,7 @@ ghost use Rattle.link_report.specs.Reason.{name_in};
 ghost use Rattle.link_report.specs.Text.{number_text};
 ghost use Rattle.link_report.specs.Written.{PutsText};
 ghost use Rattle.link_report_blocks.specs.Fields.{flags_text};
-ghost use Rattle.link_report_blocks.specs.Fits.{HasFittingWords};
+ghost use Rattle.link_report_blocks.specs.Fits.{WordsFit};
 ghost use Rattle.link_report_blocks.specs.Words.{report_names, integer_text, context_text, assertion_text, statuses_text, subject_fragment, subject_text, data_text, words_text};
 
 use crate::fields::write_flags;
@@ -241,7 +241,7 @@ pub fn write_words(
     data_start: u64,
     found: &Option<Result<DataView<'_>, DataFault>>,
 ) -> usize
-    requires fits { HasFittingWords data_start (option_map viewed_result found.now) }
+    requires fits { WordsFit data_start (option_map viewed_result found.now) }
     requires room { at + WORDS_MAX ≤ length page.old }
     ensures { PutsText page.old page.new at result WORDS_MAX
         (words_text data_start (option_map viewed_result found.now)) }

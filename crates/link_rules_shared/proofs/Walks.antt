@@ -11,7 +11,7 @@ use Rattle.link_cbor.proofs.{HeadLaws.{head_alone, whole_stays, ill_formed_stays
 use Rattle.link_rules_shared.specs.declared.heads.{WalkStage.WalkStage, WalkStage.TheVariants.{Inside, Head, Ended}}
 use Rattle.link_rules_shared.specs.declared.heads.{Found.Found, HeadWalk.HeadWalk}
 use Rattle.link_rules_shared.specs.Heads.{content_size, is_long, is_open_string, is_open_item, is_encoded, first_from}
-use Rattle.link_rules_shared.specs.HeadWalk.{first_left, HasSought, HasFound, NotesHead, IsAtStage, HasSeen, HasWalked, TakesRun}
+use Rattle.link_rules_shared.specs.HeadWalk.{first_left, HasSought, HasFound, NotesHead, IsAtStage, HasWalkedBy, HasWalked, TakesRun}
 
 -- ---- the definition, step by step
 
@@ -161,9 +161,9 @@ found_next old new offset seen run head size come here whole sized noted =
 
 -- a walk whose stage is known
 pub at_stage : (walk : HeadWalk) (stage : WalkStage) (seen : List ℕ) → walk.stage ≡ stage
-    → HasWalked walk seen → HasSeen stage walk.found walk.head walk.count seen
+    → HasWalked walk seen → HasWalkedBy stage walk.found walk.head walk.count seen
 at_stage walk stage seen is come =
-    subst (λ (stage : WalkStage). HasSeen stage walk.found walk.head walk.count seen) is come
+    subst (λ (stage : WalkStage). HasWalkedBy stage walk.found walk.head walk.count seen) is come
 
 -- a count that does not wrap
 counted_more : (count size : ℕ) (seen run : List ℕ) → count ≡ length seen → size ≡ length run
@@ -172,9 +172,9 @@ counted_more count size seen run counted sized small =
     omega (arith, length-append seen run)
 
 pub taken_inside : (left size : ℕ) (found : Found) (head : HeadScan) (count : ℕ)
-    (seen run : List ℕ) → HasSeen (Inside left) found head count seen → size ≡ length run
+    (seen run : List ℕ) → HasWalkedBy (Inside left) found head count seen → size ≡ length run
     → size ≤ left → length (seen ++ run) < 2 ^ 63
-    → HasSeen (Inside (left - size)) found head ((count + size) % 2 ^ 64) (seen ++ run)
+    → HasWalkedBy (Inside (left - size)) found head ((count + size) % 2 ^ 64) (seen ++ run)
 taken_inside left size found head count seen run come sized within small = record {
   counted = counted_more count size seen run come.counted sized small;
   sought = rw sized (found_inside found left seen run come.sought (omega arith));
@@ -235,7 +235,7 @@ first_byte (byte ∷ bytes) some = refl
 
 -- a head before its first byte
 pub head_begun : (found : Found) (head : HeadScan) (count : ℕ) (seen : List ℕ)
-    → HasSeen (Inside 0) found head count seen → HasSeen (Head count) found head count seen
+    → HasWalkedBy (Inside 0) found head count seen → HasWalkedBy (Head count) found head count seen
 unfolding head_front
 head_begun found head count seen come =
     let none : drop count seen ≡ [] =
@@ -252,7 +252,7 @@ head_begun found head count seen come =
 
 -- the bytes seen of a head, with one more
 pub one_more : (offset : ℕ) (found : Found) (old new : HeadScan) (count : ℕ) (seen run : List ℕ)
-    → HasSeen (Head offset) found old count seen
+    → HasWalkedBy (Head offset) found old count seen
     → ((head : List ℕ) → HasScannedHead old head → HasScannedHead new (head ++ run))
     → HasScannedHead new (drop offset (seen ++ run))
 one_more offset found old new count seen run come heads =
@@ -260,9 +260,9 @@ one_more offset found old new count seen run come heads =
     (heads (drop offset seen) come.stands.scanned)
 
 pub head_ill_formed : (offset : ℕ) (found : Found) (old new : HeadScan) (count : ℕ)
-    (seen run : List ℕ) → HasSeen (Head offset) found old count seen → 1 ≡ length run
+    (seen run : List ℕ) → HasWalkedBy (Head offset) found old count seen → 1 ≡ length run
     → length (seen ++ run) < 2 ^ 63 → head_front (drop offset (seen ++ run)) ≡ IllFormed
-    → HasSeen Ended found new ((count + 1) % 2 ^ 64) (seen ++ run)
+    → HasWalkedBy Ended found new ((count + 1) % 2 ^ 64) (seen ++ run)
 head_ill_formed offset found old new count seen run come one small wrong = record {
   counted = counted_more count 1 seen run come.counted one small;
   sought = each (found_more found offset seen run come.sought come.stands.in_bytes)
@@ -275,12 +275,12 @@ head_ill_formed offset found old new count seen run come one small wrong = recor
 }
 
 pub head_whole : (offset : ℕ) (found noted : Found) (old new : HeadScan) (count : ℕ)
-    (seen run : List ℕ) (head : HeadItem) (size : ℕ) → HasSeen (Head offset) found old count seen
+    (seen run : List ℕ) (head : HeadItem) (size : ℕ) → HasWalkedBy (Head offset) found old count seen
     → 1 ≡ length run → length (seen ++ run) < 2 ^ 63
     → head_front (drop offset (seen ++ run)) ≡ Whole head (length (drop offset (seen ++ run)))
     → size ≡ length (drop offset (seen ++ run)) → NotesHead found noted offset head size
     → HasScannedHead new []
-    → HasSeen (Inside (content_size head)) noted new ((count + 1) % 2 ^ 64) (seen ++ run)
+    → HasWalkedBy (Inside (content_size head)) noted new ((count + 1) % 2 ^ 64) (seen ++ run)
 head_whole offset found noted old new count seen run head size come one small whole sized with_it
     fresh = record {
       counted = counted_more count 1 seen run come.counted one small;

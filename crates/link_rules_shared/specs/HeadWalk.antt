@@ -55,7 +55,7 @@ IsAtStage (Head offset) head seen = IsInHead head offset seen
 IsAtStage Ended head seen = Unit {0}
 
 -- these are the parts of a walk that has seen exactly these bytes
-pub record HasSeen (stage : WalkStage) (found : Found) (head : HeadScan) (count : ℕ)
+pub record HasWalkedBy (stage : WalkStage) (found : Found) (head : HeadScan) (count : ℕ)
     (seen : List ℕ) : Type 0 where
   pub counted : count ≡ length seen
   pub sought : HasFound found stage seen
@@ -63,7 +63,7 @@ pub record HasSeen (stage : WalkStage) (found : Found) (head : HeadScan) (count 
 
 -- the walk has seen exactly these bytes
 abbrev pub HasWalked : HeadWalk → List ℕ → Type 0
-HasWalked walk seen = HasSeen walk.stage walk.found walk.head walk.count seen
+HasWalked walk seen = HasWalkedBy walk.stage walk.found walk.head walk.count seen
 
 -- the walk has taken exactly these bytes
 pub record TakesRun (old new : HeadWalk) (run : List ℕ) : Type 0 where

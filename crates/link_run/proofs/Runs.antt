@@ -10,7 +10,7 @@ use Rattle.link_wire.specs.Source.{reader_of, window_of, ahead, Takes, TakesThen
 use Rattle.link_wire.specs.declared.IoFault.{IoFault}
 use Rattle.link_wire.specs.declared.IoFault.TheVariants as io
 use Rattle.link_wire.specs.declared.Source.{Source}
-use Rattle.link_run.specs.Run.{Texts, no_texts, ◌then◌, Tool, Looks, Devices, Place, devices_at, NoneFailed, HasWritten, ReturnedDevices, AllGiven, FinishedRun, AreDue, IsBehind, EndedRun}
+use Rattle.link_run.specs.Run.{Texts, no_texts, ◌then◌, Tool, Looks, Devices, Place, devices_at, NoneFailed, HasWritten, HasWrittenAtEnd, IsAllGiven, FinishedRun, AreDue, IsBehind, EndedRun}
 use Rattle.link_run.specs.Writers.{place_of, on_output, Writes, WritesPart, AfterWrite, FailedSettle}
 use Rattle.link_run.specs.declared.{run.Status.Status, writers.Writers.Writers}
 
@@ -46,7 +46,7 @@ module _ {R W E : Type 0} (look : Looks R W E) where
   -- the devices as the run returns them; the bytes taken include those that were not given
   pub written_left : (start : Devices R W E) (now : Place R W E) (bytes : List ℕ) (texts : Texts)
       → HasWritten look start now bytes texts
-      → ReturnedDevices look start (devices_at now) (bytes
+      → HasWrittenAtEnd look start (devices_at now) (bytes
       ++ window_of now.source) texts
   written_left start now bytes texts written = record {
     takes = Consumes-trans (look.input start.reader).left (ahead look.input now.source) (look.input (reader_of now.source)).left bytes (window_of now.source) written.takes (Consumes-ahead (window_of now.source) (look.input (reader_of now.source)).left);
@@ -123,7 +123,7 @@ module _ {R W E : Type 0} (look : Looks R W E) where
 
   -- all of the input was given
   pub all_given : (s : Source R) (w : Writers W E) → IsOver look.input s
-      → AllGiven look (devices_at (place_of s w)) (window_of s)
+      → IsAllGiven look (devices_at (place_of s w)) (window_of s)
   all_given s w over = (range_none s.window s.start s.end over.ended.1, over.empty)
 
   -- the run has written the texts of the whole input
@@ -132,7 +132,7 @@ module _ {R W E : Type 0} (look : Looks R W E) where
       → HasWritten look start (place_of s w) given (tool.whole given).texts
       → NoneFailed look (devices_at (place_of s w))
       → status.0 ≡ (tool.whole given).status
-      → AllGiven look (devices_at (place_of s w)) (window_of s)
+      → IsAllGiven look (devices_at (place_of s w)) (window_of s)
       ⊎ ((more : List ℕ) → tool.whole (given ++ more) ≡ tool.whole given)
       → length (window_of s) < window_size
       → FinishedRun look tool start (devices_at (place_of s w)) given status

@@ -3,7 +3,7 @@ use Rattle.std.proofs.Common.{◌≡◌, ℕ, ◌<◌, ◌≤◌, inl, inr, true
 use Rattle.link_wire.specs.Limits.{window_size, longest_head}
 use Rattle.link_wire.specs.Source.{window_of, Takes, TakesThenStops}
 use Rattle.link_wire.specs.Stream.{End, Clean, Cut, Fault, Reading, reading_of, ended}
-use Rattle.link_wire.specs.Session.{source_of, joined, IsSessionAt, IsRead, IsUndecided, SameMessages, OnlyLastShows, AfterOpen, AfterNext, AfterLoad}
+use Rattle.link_wire.specs.Session.{source_of, joined, IsSessionAt, IsRead, IsUndecided, HaveSameMessages, OnlyLastShows, AfterOpen, AfterNext, AfterLoad}
 use Rattle.link_wire.specs.declared.{IoFault.IoFault, Source.Source, fault.Stop.Stop}
 use Rattle.link_wire.specs.declared.fault.Stop.TheVariants as stop
 use Rattle.link_wire.specs.declared.{fault.WireFault.WireFault, session.Session.Session}
@@ -32,7 +32,7 @@ undecided_uncut end is = grind arith
 -- reading ends.
 abbrev pub SameTexts : (Reading → Made) → Reading → Type 0
 SameTexts of first =
-    (other : Reading) → SameMessages first other → IsUncut other.end
+    (other : Reading) → HaveSameMessages first other → IsUncut other.end
     → ((of other).texts ≡ (of first).texts) × ((of other).stop ≡ stop_of other.end)
 
 -- the texts, followed by the line of a fault

@@ -3,7 +3,7 @@
 use Rattle.std.specs.Prelude.{◌≡◌, ℕ, ◌<◌, ◌⊎◌, true, List, [], length, Option, Result, Ok, Err, IfOk, IfErr, IfSome, IsTrue}
 use Rattle.link_wire.specs.Device.{Input as Seen}
 use Rattle.link_wire.specs.Limits.{window_size}
-use Rattle.link_wire.specs.MessageBuffer.{message_of, SegmentHasTotals}
+use Rattle.link_wire.specs.MessageBuffer.{message_of, SegmentTotalsFit}
 use Rattle.link_wire.specs.Session.{source_of, left_of, may_open, is_opened, data_in, HasStopped, IsSessionAt, HasEnoughForNext, with_message_read, AfterNext, AfterLoad}
 use Rattle.link_wire.specs.Source.{window_of, at_hand, front_of, reach, IsLive, HasEnded, HasFailed, AfterReadyFront}
 use Rattle.link_wire.specs.declared.IoFault.{IoFault}
@@ -105,7 +105,7 @@ pub record FetchesMessage {R W E : Type 0} (look : Looks R W E)
   pub waits : (history : List ℕ) → IsSessionAt look.input (feed_of old) history
       → SessionWaits look old new before
   -- the items of a segment have their totals
-  pub totals : IfOk result (λ got. IfSome got (λ offset. SegmentHasTotals message))
+  pub totals : IfOk result (λ got. IfSome got (λ offset. SegmentTotalsFit message))
   pub left : IfErr result (λ why. left_of (feed_of new) ≡ left_of (feed_of old))
   pub line : next_line after ≡ next_line before
   pub stopped : (why : Stop) → HasStopped (feed_of old) why

@@ -205,7 +205,7 @@ module _ {R W E : Type 0} (look : Looks R W E) where
         (look.report now.report).written texts.report
 
   -- as `HasWritten`, for the devices that a run has returned: these bytes were taken
-  pub record ReturnedDevices (start now : Devices R W E) (bytes : List ℕ)
+  pub record HasWrittenAtEnd (start now : Devices R W E) (bytes : List ℕ)
       (texts : Texts) : Type 0 where
     pub takes : Consumes (look.input start.reader).left (look.input now.reader).left bytes
     pub writes : Appends (look.output start.output).written (look.output now.output).written texts.output
@@ -213,8 +213,8 @@ module _ {R W E : Type 0} (look : Looks R W E) where
         (look.report now.report).written texts.report
 
   -- all of the input was given
-  abbrev pub AllGiven : Devices R W E → (unread : List ℕ) → Type 0
-  AllGiven now unread = (unread ≡ []) × IsAtEnd (look.input now.reader).left
+  abbrev pub IsAllGiven : Devices R W E → (unread : List ℕ) → Type 0
+  IsAllGiven now unread = (unread ≡ []) × IsAtEnd (look.input now.reader).left
 
   -- The run has written the texts of the bytes that it was given, and no device failed. These bytes
   -- are the whole input, or no further bytes change their outcome. Less than a window of bytes was
@@ -223,17 +223,17 @@ module _ {R W E : Type 0} (look : Looks R W E) where
       (status : Status) : Type 0 where
     pub unread : List ℕ
     pub few : length unread < window_size
-    pub written : ReturnedDevices start now (given ++ unread) (tool.whole given).texts
+    pub written : HasWrittenAtEnd start now (given ++ unread) (tool.whole given).texts
     pub sound : NoneFailed now
     pub ends : status.0 ≡ (tool.whole given).status
-    pub settled : AllGiven now unread
+    pub settled : IsAllGiven now unread
         ⊎ ((more : List ℕ) → tool.whole (given ++ more) ≡ tool.whole given)
 
   -- The reader failed, and no writer did. All bytes that were read were given. They show no fault,
   -- and the texts are those that they determine.
   pub record LostReader (tool : Tool) (start now : Devices R W E) (given : List ℕ) : Type 0 where
     pub unshown : tool.shows given ≡ false
-    pub written : ReturnedDevices start now given (tool.so_far given)
+    pub written : HasWrittenAtEnd start now given (tool.so_far given)
     pub failed : (look.input now.reader).failed ≡ true
     pub output : (look.output now.output).failed ≡ false
     pub report : (look.report now.report).failed ≡ false
@@ -246,7 +246,7 @@ module _ {R W E : Type 0} (look : Looks R W E) where
     pub past : List ℕ
     pub few : length past ≤ window_size
     pub limit : longest_input < length given + length past
-    pub written : ReturnedDevices start now (given ++ past) (tool.so_far given)
+    pub written : HasWrittenAtEnd start now (given ++ past) (tool.so_far given)
     pub reader : (look.input now.reader).failed ≡ false
     pub output : (look.output now.output).failed ≡ false
     pub report : (look.report now.report).failed ≡ false
@@ -255,7 +255,7 @@ module _ {R W E : Type 0} (look : Looks R W E) where
   -- of the whole input may be due instead.
   abbrev pub AreDue : Tool → Devices R W E → (given unread : List ℕ) → Texts → Type 0
   AreDue tool now given unread texts =
-      (texts ≡ tool.so_far given) ⊎ (AllGiven now unread × (texts ≡ (tool.whole given).texts))
+      (texts ≡ tool.so_far given) ⊎ (IsAllGiven now unread × (texts ≡ (tool.whole given).texts))
 
   -- Exactly one writer failed. If it is the output, no line of the report is about bytes that the
   -- output lacks. If it is the report, the output is whole.
@@ -279,14 +279,14 @@ module _ {R W E : Type 0} (look : Looks R W E) where
     pub are_due : AreDue tool now given unread due
     pub output_count : ℕ
     pub report_count : ℕ
-    pub written : ReturnedDevices start now (given ++ unread)
+    pub written : HasWrittenAtEnd start now (given ++ unread)
         (record { output = take output_count due.output; report = take report_count due.report })
     pub reader : (look.input now.reader).failed ≡ false
     pub failed : IsLost tool now given due output_count report_count
     pub unended : tool.shows given ≡ true
         → (output_count < length due.output)
         ⊎ (((look.report now.report).failed ≡ true) × (report_count < length due.report))
-    pub unreported : AllGiven now unread → (tool.whole given).status ≡ 3
+    pub unreported : IsAllGiven now unread → (tool.whole given).status ≡ 3
         → (output_count < length (tool.whole given).texts.output)
         ⊎ (report_count < length (tool.whole given).texts.report)
 

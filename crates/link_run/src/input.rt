@@ -5,7 +5,7 @@
 //! and the report sees the texts that the bytes so far determine.
 
 ghost use Rattle.std.specs.Prelude.{◌≡◌, ◌<◌, ◌⊎◌, ℕ, List, [], length, Err, IfErr, IfOk, IfSome, IsOk, IsTrue, OnOk, MatchResult};
-ghost use Rattle.link_wire.specs.MessageBuffer.{message_of, SegmentHasTotals};
+ghost use Rattle.link_wire.specs.MessageBuffer.{message_of, SegmentTotalsFit};
 ghost use Rattle.link_wire.specs.Session.{source_of, may_read, is_opened, data_in, left_of, IsSessionAt, HasStopped};
 ghost use Rattle.link_wire.specs.Limits.{window_size};
 ghost use Rattle.link_wire.specs.Source.{window_of, at_hand, front_of, IsLive};
@@ -99,7 +99,7 @@ impl<S, W, E> Input<S, W, E> {
 impl<R: InDevice, W: OutDevice, E: OutDevice> Input<Session<R>, W, E> {
     ghost use Rattle.std.specs.Prelude.{◌≤◌, None, take};
     ghost use Rattle.link_wire.specs.Session.{may_open, PassedBytes, AfterOpen};
-    ghost use Rattle.link_wire.specs.Whole.{GivenWhole, PassedQuiet};
+    ghost use Rattle.link_wire.specs.Whole.{GivenWholeMessage, PassedQuietMessages};
 
     /// Reads the contact header, as [`Session::open`] does.
     ///
@@ -150,9 +150,10 @@ impl<R: InDevice, W: OutDevice, E: OutDevice> Input<Session<R>, W, E> {
         ensures none { result ≡ None → (self.new ≡ self.old) × (message.new ≡ message.old) }
         ensures may_read { IsTrue (may_read (feed_of self.new)) }
         ensures gives { (history : List ℕ) → IsSessionAt R.state (feed_of self.old) history
-            → IfSome result (λ offset. GivenWhole R.state (feed_of self.old) (feed_of self.new)
+            → IfSome result
+            (λ offset. GivenWholeMessage R.state (feed_of self.old) (feed_of self.new)
             history offset (message_of message.new)) }
-        ensures totals { IfSome result (λ offset. SegmentHasTotals message.new) }
+        ensures totals { IfSome result (λ offset. SegmentTotalsFit message.new) }
         ensures opened { IsTrue (is_opened (feed_of self.new)) }
         ensures stopped { (stop : _) → HasStopped (feed_of self.old) stop → result ≡ None }
         ensures shrinks { IfSome result (λ offset.
@@ -173,7 +174,7 @@ impl<R: InDevice, W: OutDevice, E: OutDevice> Input<Session<R>, W, E> {
         ensures none { result ≡ 0 → self.new ≡ self.old }
         ensures may_read { IsTrue (may_read (feed_of self.new)) }
         ensures gives { (history : List ℕ) → IsSessionAt R.state (feed_of self.old) history
-            → PassedQuiet R.state (feed_of self.old) (feed_of self.new) history result }
+            → PassedQuietMessages R.state (feed_of self.old) (feed_of self.new) history result }
         ensures opened { IsTrue (is_opened (feed_of self.new)) }
         ensures stopped { (stop : _) → HasStopped (feed_of self.old) stop → result ≡ 0 }
         ensures unread { ReadsNothing R.state source_of self.old self.new }

@@ -3,9 +3,9 @@ use Rattle.std.proofs.Common.{◌≡◌, ℕ, ◌+◌, Bool, true, false, not, �
 use Rattle.std.specs.List.{fold}
 use Rattle.std.proofs.lemmas.Grind.{fold-append}
 use Rattle.link_wire.specs.declared.IoFault.{IoFault}
-use Rattle.link_run_transfers.specs.Walk.{WalkEvent, open_after_event, data_size_of, data_size, has_open}
-use Rattle.link_run_transfers.specs.Telling.{data_ends}
-use Rattle.link_run_transfers.proofs.Heads.{has_open-append}
+use Rattle.link_run_over_transfers.specs.Walk.{WalkEvent, open_after_event, data_size_of, data_size, has_open}
+use Rattle.link_run_over_transfers.specs.Telling.{data_ends}
+use Rattle.link_run_over_transfers.proofs.Heads.{has_open-append}
 
 pub on_ok : {P : Type 0} → (result : Result (Unit {0}) IoFault) → P → OnOk result P
 on_ok (Ok done) holds = holds

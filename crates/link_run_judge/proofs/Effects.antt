@@ -10,8 +10,8 @@ use Rattle.link_transfer.specs.declared.event.Event.{Event}
 use Rattle.link_transfer.specs.declared.event.Event.TheVariants as event
 use Rattle.link_transfer.specs.declared.joiner.Turn.{Turn}
 use Rattle.link_transfer.specs.declared.joiner.Turn.TheVariants as turn
-use Rattle.link_run_transfers.specs.{Walk.{Head, WalkEvent, has_open, abandons}, Telling.HeadComes}
-use Rattle.link_run_transfers.proofs.Heads.{continues_some}
+use Rattle.link_run_over_transfers.specs.{Walk.{Head, WalkEvent, has_open, abandons}, Telling.HeadComes}
+use Rattle.link_run_over_transfers.proofs.Heads.{continues_some}
 use Rattle.link_run_judge.proofs.Heads.{kind_of}
 
 -- ---- the effect of a head

@@ -3,7 +3,7 @@ use Rattle.std.proofs.Common.{◌≡◌, ℕ, Bool, true, false, not, List, [], 
 use Rattle.std.specs.List.{fold}
 use Rattle.std.proofs.{Math.Bool.and-true, lemmas.Grind.fold-append}
 use Rattle.link_wire.specs.declared.message.SegmentHead.{SegmentHead}
-use Rattle.link_run_transfers.specs.{Walk.{WalkEvent, Whole, data_events}, Telling.data_ends}
+use Rattle.link_run_over_transfers.specs.{Walk.{WalkEvent, Whole, data_events}, Telling.data_ends}
 use Rattle.link_run_judge.specs.{Transfers.{Transfer, continued}, TransferJudge.grown}
 use Rattle.link_run_judge.specs.Unpacking.{Told, none_told, told_event, told_after, with_line}
 use Rattle.link_tool_options.specs.declared.wanted.Wanted.{Wanted}

@@ -35,7 +35,7 @@ pub fn is_bundle(judgement: &JudgementView<'_>) -> bool
 
 impl TransferJudge {
     ghost use Rattle.link_wire.specs.Codes.{is_start};
-    ghost use Rattle.link_wire.specs.MessageBuffer.{SegmentHasTotals, message_of};
+    ghost use Rattle.link_wire.specs.MessageBuffer.{SegmentTotalsFit, message_of};
     ghost use Rattle.link_wire.specs.declared.message.Message.{Message};
     ghost use Rattle.link_wire.specs.declared.message.SegmentHead.{SegmentHead};
     ghost use Rattle.link_report.specs.Judgement.{IsShortJudgement};
@@ -57,7 +57,7 @@ impl TransferJudge {
 
     /// Begins the transfer whose first segment has this head. `closed` does not matter.
     pub fn begin(&mut self, message: &MessageBuffer)
-        requires { SegmentHasTotals message.now }
+        requires { SegmentTotalsFit message.now }
         ensures follows { (head : SegmentHead) (closed : _) → message_of message.now
             ≡ Message.Segment head → is_start head.flags ≡ true
             → IsTransferJudgeAt self.new (begun head closed) }

@@ -8,7 +8,7 @@ use Rattle.link_session_rules.specs.Flags.{item_flags, segment_flags}
 use Rattle.link_session_rules.specs.{Heads.{JudgedHead, newest}, Endings.rejects_type, Kept.inner_head}
 use Rattle.link_session_rules.specs.Lengths.{peer_segment, peer_transfer, segments_of}
 use Rattle.link_session_rules.specs.MessageRules.{broken_rules}
-use Rattle.link_session_rules.specs.Remembered.{Remembers, RemembersEndings, next_since, so_far_of}
+use Rattle.link_session_rules.specs.Remembered.{IsMessageHistoryAt, AreEndingsAt, next_since, so_far_of}
 use Rattle.link_session_rules.specs.TransferIds.{interleaved, transfer_id, transfer_id_order}
 use Rattle.link_session_rules.specs.declared.{history.MessageHistory.MessageHistory, endings.Endings.Endings}
 use Rattle.link_session_rules.specs.declared.lengths.TransferSoFar.{TransferSoFar}
@@ -23,7 +23,7 @@ inner id size = record { flags = 0; id = id; items = record { items = [] }; leng
 
 module _ (id size : ℕ) (before : List JudgedHead) where
   pub inner_kept : (limits : PeerLimits) (endings : Endings) → limits.segment ≡ None
-      → limits.transfer ≡ None → RemembersEndings endings (newest before)
+      → limits.transfer ≡ None → AreEndingsAt endings (newest before)
       → endings.rejected ≡ false → broken_rules limits before (inner_head id size) ≡ []
   unfolding segment_flags interleaved transfer_id peer_segment peer_transfer item_flags item_type transfer_id_order
   inner_kept limits endings no_segment no_transfer at none =
@@ -51,13 +51,13 @@ module _ (id size : ℕ) (before : List JudgedHead) where
   so_far_of-inner transfer (previous ∷ earlier) is now adds = adds previous earlier is
 
   pub inner_taken : (old new : MessageHistory) (transfer now : TransferSoFar) (session : Since)
-      → Remembers old before → old.transfer ≡ Some transfer → old.endings.rejected ≡ false
+      → IsMessageHistoryAt old before → old.transfer ≡ Some transfer → old.endings.rejected ≡ false
       → ((previous : SegmentHead) (earlier : List SegmentHead)
       → Some transfer ≡ so_far_of (previous ∷ earlier)
       → Some now ≡ so_far_of (inner id size ∷ previous ∷ earlier))
       → session ≡ next_since old.session false true
       → new ≡ record old { transfer = Some now; session = session }
-      → Remembers new (before ++ inner_head id size ∷ [])
+      → IsMessageHistoryAt new (before ++ inner_head id size ∷ [])
   inner_taken old new transfer now session at was none adds since is =
       let head = inner_head id size in
       let none_came : list_any rejects_type (newest before) ≡ false = sym at.endings.rejected ∙ none in

@@ -12,12 +12,12 @@ use Rattle.link_session_rules.specs.Endings.{rejects_type, after_reject, term_or
 use Rattle.link_session_rules.specs.Assigned.{item_type, reject_known, reason}
 use Rattle.link_session_rules.specs.Flags.{item_flags, segment_flags, term_flags}
 use Rattle.link_session_rules.specs.Heads.{JudgedHead, newest, segment_of}
-use Rattle.link_session_rules.specs.Kept.{KeepsAnswerRules, KeepsSegmentRules}
+use Rattle.link_session_rules.specs.Kept.{AreAnswerRulesKept, AreSegmentRulesKept}
 use Rattle.link_session_rules.specs.Lengths.{peer_segment, peer_transfer}
 use Rattle.link_session_rules.specs.{MessageRules.broken_rules, NodeIds.{node_id, node_name}}
 use Rattle.link_session_rules.specs.Session.{order, before_session, keepalive, keepalive_interval}
 use Rattle.link_session_rules.specs.TransferIds.{interleaved, transfer_id, transfer_id_order}
-use Rattle.link_session_rules.specs.{Remembered.RemembersEndings, declared.endings.Endings.Endings}
+use Rattle.link_session_rules.specs.{Remembered.AreEndingsAt, declared.endings.Endings.Endings}
 use Rattle.link_tool_options.specs.declared.limits.PeerLimits.{PeerLimits}
 use Rattle.link_session_rules.specs.declared.rule.MessageRule.{MessageRule}
 
@@ -50,7 +50,7 @@ module _ (limits : PeerLimits) (before : List JudgedHead) (turn : Option Turn) w
   unlimited_transfer message is (Some limit) = rw is refl
 
   -- no type was rejected
-  pub unrejected_by : (endings : Endings) → RemembersEndings endings (newest before)
+  pub unrejected_by : (endings : Endings) → AreEndingsAt endings (newest before)
       → endings.rejected ≡ false → (message : Message) → after_reject before message ≡ None
   unfolding after_reject
   unrejected_by endings at none message =
@@ -65,7 +65,7 @@ module _ (limits : PeerLimits) (before : List JudgedHead) (turn : Option Turn) w
       ∷ keepalive before message ∷ answer_order before message
       ∷ after_reject before message ∷ reason message ∷ []
 
-  all_none : (message : Message) → segment_of message ≡ None → KeepsAnswerRules before message
+  all_none : (message : Message) → segment_of message ≡ None → AreAnswerRulesKept before message
       → after_reject before message ≡ None → filter_map (λ judged. judged) (answer_rules message) ≡ []
   all_none message none keeps unrejected =
       rw (
@@ -80,7 +80,7 @@ module _ (limits : PeerLimits) (before : List JudgedHead) (turn : Option Turn) w
       ) refl
 
   pub segment_kept : (segment : SegmentHead)
-      → KeepsSegmentRules limits before (head_of (Segment segment))
+      → AreSegmentRulesKept limits before (head_of (Segment segment))
       → ((message : Message) → after_reject before message ≡ None) → IsKept (Segment segment)
   unfolding broken_rules node_id order before_session ack_length keepalive term_flags node_name keepalive_interval answer_order reject_known reason term_order
   segment_kept segment keeps unrejected =
@@ -103,7 +103,7 @@ module _ (limits : PeerLimits) (before : List JudgedHead) (turn : Option Turn) w
         → ((flags : ℕ) × (id : ℕ) × (size : ℕ) × numbers ≡ fields.Ack flags id size)
         ⊎ (((reason : ℕ) × (id : ℕ) × numbers ≡ fields.Refuse reason id)
         ⊎ (numbers ≡ fields.Keepalive))
-        → KeepsAnswerRules before (message_with numbers node items)
+        → AreAnswerRulesKept before (message_with numbers node items)
         → ((message : Message) → after_reject before message ≡ None)
         → IsKept (message_with numbers node items)
     unfolding broken_rules node_id item_flags order interleaved segment_flags transfer_id term_flags node_name keepalive_interval item_type transfer_id_order reject_known term_order

@@ -3,7 +3,7 @@ use Rattle.std.proofs.Common.{◌≡◌, ℕ, zero, suc, ◌+◌, ◌≤◌, Boo
 use Rattle.std.{specs.List.list_any, proofs.Math.Seq.take-nil}
 use Rattle.link_wire.specs.declared.message.Message.{Message}
 use Rattle.link_session_rules.specs.TransferIds.{ids_of, is_in, last_runs, runs_of, skips, with_id}
-use Rattle.link_session_rules.specs.Remembered.{RemembersIds, between, contains, end_of, ends_of, kept_runs, kept_with}
+use Rattle.link_session_rules.specs.Remembered.{AreTransferIdsAt, between, contains, end_of, ends_of, kept_runs, kept_with}
 use Rattle.link_session_rules.specs.declared.transfer_ids.{IdRun.IdRun, TransferIds.TransferIds}
 
 -- ---- the IDs of a run are those between its ends
@@ -68,7 +68,7 @@ any_by id (one ∷ kept) ((last ∷ older) ∷ runs) is are =
     let rest : map Some kept ≡ map ends_of runs = cc in
     rw (same_one, are.0.is_in, any_by id kept runs rest are.1) refl
 
-pub contains_by : (ids : TransferIds) (older : List Message) (id : ℕ) → RemembersIds ids older
+pub contains_by : (ids : TransferIds) (older : List Message) (id : ℕ) → AreTransferIdsAt ids older
     → list_any (contains id) (kept_runs ids) ≡ is_in (last_runs older) id
 contains_by ids older id at =
     let all = runs_of (ids_of older) in
@@ -114,7 +114,7 @@ skips_first id count kept (last ∷ older) is = by_first kept (rw begins_so at i
         let same_run : run ≡ record { first = end_of last found.0; last = last } = cc in
         rw same_run refl
 
-pub skips_by : (ids : TransferIds) (older : List Message) (id : ℕ) → RemembersIds ids older
+pub skips_by : (ids : TransferIds) (older : List Message) (id : ℕ) → AreTransferIdsAt ids older
     → skips_runs (kept_runs ids) id ≡ skips (ids_of older) id
 skips_by ids older id at = skips_first id 63 (kept_runs ids) (ids_of older) at.runs
 

@@ -13,7 +13,7 @@ use Rattle.link_session_rules.specs.TransferIds.{interleaved, transfer_id, trans
 use Rattle.link_tool_options.specs.declared.limits.PeerLimits.{PeerLimits}
 
 -- after these heads, the message breaks no rule of XFER_ACKs, XFER_REFUSEs and KEEPALIVEs
-pub record KeepsAnswerRules (before : List JudgedHead) (message : Message) : Type 0 where
+pub record AreAnswerRulesKept (before : List JudgedHead) (message : Message) : Type 0 where
   pub in_session : before_session before message ≡ None
   pub acknowledged : ack_length before message ≡ None
   pub in_turn : answer_order before message ≡ None
@@ -21,7 +21,7 @@ pub record KeepsAnswerRules (before : List JudgedHead) (message : Message) : Typ
   pub reason : reason message ≡ None
 
 -- after the heads `before`, the segment breaks no rule of segments
-pub record KeepsSegmentRules (limits : PeerLimits) (before : List JudgedHead) (head : JudgedHead)
+pub record AreSegmentRulesKept (limits : PeerLimits) (before : List JudgedHead) (head : JudgedHead)
     : Type 0 where
   pub flags : segment_flags head.message ≡ None
   pub alone : interleaved head ≡ None

@@ -47,20 +47,20 @@ kept_with id count (run ∷ kept) =
 
 -- Exactly these messages came. Their list has the newest first. There are no earlier runs without a
 -- last one.
-pub record RemembersIds (ids : TransferIds) (older : List Message) : Type 0 where
+pub record AreTransferIdsAt (ids : TransferIds) (older : List Message) : Type 0 where
   pub runs : map Some (kept_runs ids) ≡ map ends_of (last_runs older)
   pub none : ids.last ≡ None → ids.earlier.items ≡ []
   pub jumped : ids.jumped ≡ held jumps older
 
 -- The answers are the last of exactly these messages, the newest first. `acked_since` is read only
 -- after an XFER_REFUSE.
-pub record RemembersAnswers (answers : Answers) (older : List Message) : Type 0 where
+pub record AreAnswersAt (answers : Answers) (older : List Message) : Type 0 where
   pub ack : answers.ack ≡ last_ack older
   pub refused : answers.refused ≡ last_refused older
   pub acked_since : (id : ℕ) → answers.refused ≡ Some id
       → answers.acked_since ≡ is_acked_since id older
 
-pub record RemembersEndings (endings : Endings) (older : List Message) : Type 0 where
+pub record AreEndingsAt (endings : Endings) (older : List Message) : Type 0 where
   pub terminated : endings.terminated ≡ list_any is_sess_term older
   pub rejected : endings.rejected ≡ list_any rejects_type older
   pub followed : endings.followed ≡ held follows older
@@ -100,11 +100,11 @@ so_far_of (segment ∷ earlier) = Some (record {
 })
 
 -- the history keeps what the rules need of exactly these heads
-pub record Remembers (history : MessageHistory) (heads : List JudgedHead) : Type 0 where
+pub record IsMessageHistoryAt (history : MessageHistory) (heads : List JudgedHead) : Type 0 where
   pub parameters : history.parameters ≡ first_parameters (messages_of heads)
   pub session : history.session ≡ session_of (messages_of heads)
   pub keepalives : history.keepalives ≡ keepalives_of (messages_of heads)
-  pub ids : RemembersIds history.ids (newest heads)
-  pub answers : RemembersAnswers history.answers (newest heads)
+  pub ids : AreTransferIdsAt history.ids (newest heads)
+  pub answers : AreAnswersAt history.answers (newest heads)
   pub transfer : history.transfer ≡ so_far_of (segments_of heads)
-  pub endings : RemembersEndings history.endings (newest heads)
+  pub endings : AreEndingsAt history.endings (newest heads)

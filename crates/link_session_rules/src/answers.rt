@@ -38,11 +38,11 @@ impl Answers {
     ghost use Rattle.link_wire.specs.MessageBuffer.{message_of};
     ghost use Rattle.link_session_rules.specs.Heads.{JudgedHead, newest, is_sess_init};
     ghost use Rattle.link_session_rules.specs.Answers.{is_acked, is_refused, has_ended, fault_of_later, answer_fault, answer_order, ack_length};
-    ghost use Rattle.link_session_rules.specs.Remembered.{RemembersAnswers};
+    ghost use Rattle.link_session_rules.specs.Remembered.{AreAnswersAt};
 
     /// The answers before the first message.
     pub(crate) fn none() -> Answers
-        ensures { RemembersAnswers result [] }
+        ensures { AreAnswersAt result [] }
     {
         Answers {
             ack: None,
@@ -54,8 +54,8 @@ impl Answers {
     /// Takes the next message.
     #[inline(always)]
     pub(crate) fn take(&mut self, message: &MessageBuffer)
-        ensures { (older : List Message) → RemembersAnswers self.old older
-            → RemembersAnswers self.new (message_of message.now ∷ older) }
+        ensures { (older : List Message) → AreAnswersAt self.old older
+            → AreAnswersAt self.new (message_of message.now ∷ older) }
     {
         match message.fields {
             Fields::Ack { flags, id, length } => {
@@ -125,7 +125,7 @@ impl Answers {
     #[tactic(auto, using(crate::proofs::Later::same_fault))]
     #[inline(always)]
     fn fault(&self, message: &MessageBuffer) -> Option<AnswerFault>
-        ensures { (older : List Message) → RemembersAnswers self.now older
+        ensures { (older : List Message) → AreAnswersAt self.now older
             → result ≡ answer_fault older (message_of message.now) }
     {
         match message.fields {
@@ -149,7 +149,7 @@ impl Answers {
         message: &MessageBuffer,
     ) -> Option<MessageRule>
         ensures { (before : List JudgedHead) → initiated ≡ list_any is_sess_init (newest before)
-            → RemembersAnswers self.now (newest before)
+            → AreAnswersAt self.now (newest before)
             → result ≡ answer_order before (message_of message.now) }
     {
         if !initiated {
@@ -164,7 +164,7 @@ impl Answers {
     #[tactic(auto, unfolding(crate::specs::Answers::ack_length))]
     #[inline(always)]
     pub(crate) fn ack_length(&self, message: &MessageBuffer) -> Option<MessageRule>
-        ensures { (before : List JudgedHead) → RemembersAnswers self.now (newest before)
+        ensures { (before : List JudgedHead) → AreAnswersAt self.now (newest before)
             → result ≡ ack_length before (message_of message.now) }
     {
         let Fields::Ack { flags, id, length } = message.fields else {

@@ -43,11 +43,11 @@ impl Endings {
     ghost use Rattle.link_wire.specs.MessageBuffer.{message_of};
     ghost use Rattle.link_session_rules.specs.Heads.{JudgedHead, newest, is_sess_init};
     ghost use Rattle.link_session_rules.specs.Endings.{after_reject, term_order};
-    ghost use Rattle.link_session_rules.specs.Remembered.{RemembersEndings};
+    ghost use Rattle.link_session_rules.specs.Remembered.{AreEndingsAt};
 
     /// The endings before the first message.
     pub(crate) fn none() -> Endings
-        ensures { RemembersEndings result [] }
+        ensures { AreEndingsAt result [] }
     {
         Endings {
             terminated: false,
@@ -60,8 +60,8 @@ impl Endings {
     /// Takes the next message.
     #[inline(always)]
     pub(crate) fn take(&mut self, message: &MessageBuffer)
-        ensures { (older : List Message) → RemembersEndings self.old older
-            → RemembersEndings self.new (message_of message.now ∷ older) }
+        ensures { (older : List Message) → AreEndingsAt self.old older
+            → AreEndingsAt self.new (message_of message.now ∷ older) }
     {
         if self.rejected {
             self.followed = true;
@@ -85,7 +85,7 @@ impl Endings {
     /// The rule of messages after a MSG_REJECT that says that a type is unknown, if it is broken.
     #[tactic(auto, unfolding(crate::specs::Endings::after_reject))]
     pub(crate) fn after_reject(&self, message: &MessageBuffer) -> Option<MessageRule>
-        ensures { (before : List JudgedHead) → RemembersEndings self.now (newest before)
+        ensures { (before : List JudgedHead) → AreEndingsAt self.now (newest before)
             → result ≡ after_reject before (message_of message.now) }
     {
         if !self.rejected {
@@ -107,7 +107,7 @@ impl Endings {
     #[tactic(auto, unfolding(crate::specs::Endings::term_order))]
     pub(crate) fn term_order(&self, initiated: bool, message: &MessageBuffer) -> Option<MessageRule>
         ensures { (before : List JudgedHead) → initiated ≡ list_any is_sess_init (newest before)
-            → RemembersEndings self.now (newest before)
+            → AreEndingsAt self.now (newest before)
             → result ≡ term_order before (message_of message.now) }
     {
         if !self.terminated {

@@ -2,7 +2,7 @@
 
 ghost use Rattle.std.specs.Prelude.{◌≡◌};
 ghost use Rattle.link_wire.specs.Codes.{is_start, is_end};
-ghost use Rattle.link_wire.specs.Message.{HasTotals};
+ghost use Rattle.link_wire.specs.Message.{TotalsFit};
 ghost use Rattle.link_wire.specs.MessageBuffer.{message_of, segment_items};
 ghost use Rattle.link_transfer.specs.Announced.{announced_of};
 ghost use Rattle.link_session_rules.specs.Heads.{items_of, type_of};
@@ -66,7 +66,7 @@ pub(crate) fn is_end(flags: u8) -> bool
 /// The length that a segment announces. Without START in its `flags`, it announces none.
 #[tactic(auto, unfolding(link_transfer::specs::Announced::announced_of))]
 pub(crate) fn announcement(message: &MessageBuffer, flags: u8) -> Announced
-    requires { HasTotals message.now.items.items }
+    requires { TotalsFit message.now.items.items }
     ensures { result ≡ announced_of (segment_items flags message.now.items).items }
 {
     if is_start(flags) {

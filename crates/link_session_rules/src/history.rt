@@ -46,16 +46,16 @@ pub struct MessageHistory {
 
 impl MessageHistory {
     ghost use Rattle.std.specs.Prelude.{◌≡◌, ℕ, true, false, List, [], ◌∷◌, ◌++◌};
-    ghost use Rattle.link_wire.specs.MessageBuffer.{SegmentHasTotals, message_of};
+    ghost use Rattle.link_wire.specs.MessageBuffer.{SegmentTotalsFit, message_of};
     ghost use Rattle.std.specs.List.{list_any};
     ghost use Rattle.link_session_rules.specs.Heads.{JudgedHead, viewed_head, newest, is_sess_init};
     ghost use Rattle.link_session_rules.specs.MessageRules.{broken_rules};
-    ghost use Rattle.link_session_rules.specs.Kept.{KeepsAnswerRules, KeepsSegmentRules, inner_head};
-    ghost use Rattle.link_session_rules.specs.Remembered.{Remembers};
+    ghost use Rattle.link_session_rules.specs.Kept.{AreAnswerRulesKept, AreSegmentRulesKept, inner_head};
+    ghost use Rattle.link_session_rules.specs.Remembered.{IsMessageHistoryAt};
 
     /// The history before the first message.
     pub fn new() -> MessageHistory
-        ensures { Remembers result [] }
+        ensures { IsMessageHistoryAt result [] }
     {
         MessageHistory {
             parameters: None,
@@ -73,8 +73,8 @@ impl MessageHistory {
     /// False means not known. It is false for each SESS_INIT, SESS_TERM and MSG_REJECT, all rare.
     #[inline(always)]
     pub fn keeps_rules(&self, limits: &PeerLimits, head: &JudgedHeadView<'_>) -> bool
-        requires { SegmentHasTotals head.now.message.now }
-        ensures { (before : List JudgedHead) → Remembers self.now before → result ≡ true
+        requires { SegmentTotalsFit head.now.message.now }
+        ensures { (before : List JudgedHead) → IsMessageHistoryAt self.now before → result ≡ true
             → broken_rules limits.now before (viewed_head head.now) ≡ [] }
     {
         if head.fault.is_some() {
@@ -96,7 +96,7 @@ impl MessageHistory {
     #[tactic(auto, using(crate::proofs::Pushes::initiated_by))]
     #[inline(always)]
     fn is_initiated(&self) -> bool
-        ensures { (before : List JudgedHead) → Remembers self.now before
+        ensures { (before : List JudgedHead) → IsMessageHistoryAt self.now before
             → result ≡ list_any is_sess_init (newest before) }
     {
         self.parameters.is_some()
@@ -106,8 +106,8 @@ impl MessageHistory {
     /// messages.
     #[inline(always)]
     fn keeps_answer_rules(&self, message: &MessageBuffer) -> bool
-        ensures { (before : List JudgedHead) → Remembers self.now before → result ≡ true
-            → KeepsAnswerRules before (message_of message.now) }
+        ensures { (before : List JudgedHead) → IsMessageHistoryAt self.now before → result ≡ true
+            → AreAnswerRulesKept before (message_of message.now) }
     {
         let initiated = self.is_initiated();
         if before_session(&self.parameters, message).is_some() {
@@ -128,9 +128,9 @@ impl MessageHistory {
     /// Whether the next message breaks no rule of segments and of extension items.
     #[inline(always)]
     fn keeps_segment_rules(&self, limits: &PeerLimits, head: &JudgedHeadView<'_>) -> bool
-        requires { SegmentHasTotals head.now.message.now }
-        ensures { (before : List JudgedHead) → Remembers self.now before → result ≡ true
-            → KeepsSegmentRules limits.now before (viewed_head head.now) }
+        requires { SegmentTotalsFit head.now.message.now }
+        ensures { (before : List JudgedHead) → IsMessageHistoryAt self.now before → result ≡ true
+            → AreSegmentRulesKept limits.now before (viewed_head head.now) }
     {
         let message = head.message;
         let initiated = self.is_initiated();
@@ -162,8 +162,8 @@ impl MessageHistory {
     #[tactic(auto, unfolding(crate::specs::MessageRules::broken_rules))]
     #[inline(never)]
     pub fn rules(&self, limits: &PeerLimits, head: &JudgedHeadView<'_>) -> BrokenRules
-        requires { SegmentHasTotals head.now.message.now }
-        ensures { (before : List JudgedHead) → Remembers self.now before
+        requires { SegmentTotalsFit head.now.message.now }
+        ensures { (before : List JudgedHead) → IsMessageHistoryAt self.now before
             → result.items ≡ broken_rules limits.now before (viewed_head head.now) }
     {
         let message = head.message;
@@ -200,10 +200,10 @@ impl MessageHistory {
     #[tactic(auto, using(crate::proofs::Kept::none_if, crate::proofs::Inner::inner_kept))]
     #[inline(always)]
     pub fn take_inner(&mut self, limits: &PeerLimits, length: u64) -> bool
-        ensures kept { (id : ℕ) (before : List JudgedHead) → Remembers self.old before
+        ensures kept { (id : ℕ) (before : List JudgedHead) → IsMessageHistoryAt self.old before
             → result ≡ true → broken_rules limits.now before (inner_head id length) ≡ [] }
-        ensures taken { (id : ℕ) (before : List JudgedHead) → Remembers self.old before
-            → result ≡ true → Remembers self.new (before ++ inner_head id length ∷ []) }
+        ensures taken { (id : ℕ) (before : List JudgedHead) → IsMessageHistoryAt self.old before
+            → result ≡ true → IsMessageHistoryAt self.new (before ++ inner_head id length ∷ []) }
         ensures same { result ≡ false → self.new ≡ self.old }
     {
         if limits.segment.is_some() {
@@ -228,9 +228,9 @@ impl MessageHistory {
     /// Takes the next message.
     #[inline(always)]
     pub fn take(&mut self, head: &JudgedHeadView<'_>)
-        requires { SegmentHasTotals head.now.message.now }
-        ensures { (before : List JudgedHead) → Remembers self.old before
-            → Remembers self.new (before ++ viewed_head head.now ∷ []) }
+        requires { SegmentTotalsFit head.now.message.now }
+        ensures { (before : List JudgedHead) → IsMessageHistoryAt self.old before
+            → IsMessageHistoryAt self.new (before ++ viewed_head head.now ∷ []) }
     {
         let message = head.message;
         let initiated = self.is_initiated();

@@ -1,7 +1,7 @@
 //! Rules of the lengths of segments and transfers.
 
 ghost use Rattle.std.specs.Prelude.{◌≡◌, ℕ, ◌+◌, List, [], ◌∷◌, ◌++◌, option_map};
-ghost use Rattle.link_wire.specs.MessageBuffer.{message_of, SegmentHasTotals};
+ghost use Rattle.link_wire.specs.MessageBuffer.{message_of, SegmentTotalsFit};
 ghost use Rattle.link_wire.specs.declared.message.SegmentHead.{SegmentHead};
 ghost use Rattle.link_session_rules.specs.Heads.{JudgedHead, viewed_head};
 ghost use Rattle.link_session_rules.specs.Lengths.{peer_segment, if_passed, if_exceeded, earlier_of, segments_of, peer_transfer};
@@ -50,7 +50,7 @@ fn passed(limit: u64, before: Option<u64>, length: u64) -> Option<MessageRule>
 
 impl TransferSoFar {
     ghost use Rattle.std.specs.Prelude.{◌≡◌, List, [], ◌∷◌, Some};
-    ghost use Rattle.link_wire.specs.Message.{HasTotals};
+    ghost use Rattle.link_wire.specs.Message.{TotalsFit};
     ghost use Rattle.link_wire.specs.MessageBuffer.{segment_items};
     ghost use Rattle.link_wire.specs.declared.message.SegmentHead.{SegmentHead};
     ghost use Rattle.link_transfer.specs.Announced.{announced_of};
@@ -59,7 +59,7 @@ impl TransferSoFar {
 
     /// A transfer that begins with this segment.
     fn first(message: &MessageBuffer, flags: u8, length: u64) -> TransferSoFar
-        requires { HasTotals message.now.items.items }
+        requires { TotalsFit message.now.items.items }
         ensures { (segment : SegmentHead) → segment.flags ≡ flags → segment.length ≡ length
             → segment.items ≡ segment_items flags message.now.items
             → Some result ≡ so_far_of (segment ∷ []) }
@@ -142,7 +142,7 @@ pub(crate) fn peer_transfer(
     so_far: Option<TransferSoFar>,
     head: &JudgedHeadView<'_>,
 ) -> Option<MessageRule>
-    requires { SegmentHasTotals head.now.message.now }
+    requires { SegmentTotalsFit head.now.message.now }
     ensures { (before : List JudgedHead) → so_far ≡ so_far_of (segments_of before)
         → result ≡ peer_transfer limit before (viewed_head head.now) }
 {
@@ -162,7 +162,7 @@ pub(crate) fn so_far_after(
     so_far: Option<TransferSoFar>,
     head: &JudgedHeadView<'_>,
 ) -> Option<TransferSoFar>
-    requires { SegmentHasTotals head.now.message.now }
+    requires { SegmentTotalsFit head.now.message.now }
     ensures { (before : List JudgedHead) → so_far ≡ so_far_of (segments_of before)
         → result ≡ so_far_of (segments_of (before ++ viewed_head head.now ∷ [])) }
 {

@@ -23,14 +23,14 @@ pub struct Opening {
 
 impl Opening {
     ghost use Rattle.std.specs.Prelude.{◌≡◌};
-    ghost use Rattle.link_wire.specs.Message.{HasTotals};
+    ghost use Rattle.link_wire.specs.Message.{TotalsFit};
     ghost use Rattle.link_wire.specs.MessageBuffer.{segment_items};
     ghost use Rattle.link_wire.specs.declared.message.SegmentHead.{SegmentHead};
     ghost use Rattle.link_session_rules.specs.TransferRules.{opening_of, length_item, length_differs, length_of_one_segment, broken_transfer_rules};
 
     /// What the rules need of a first segment with these flags.
     pub fn of(message: &MessageBuffer, flags: u8) -> Opening
-        requires { HasTotals message.now.items.items }
+        requires { TotalsFit message.now.items.items }
         ensures { (first : SegmentHead) → first.flags ≡ flags
             → first.items ≡ segment_items flags message.now.items
             → result ≡ opening_of first }

@@ -87,11 +87,11 @@ impl TransferIds {
     ghost use Rattle.link_wire.specs.MessageBuffer.{message_of};
     ghost use Rattle.link_session_rules.specs.Heads.{JudgedHead, newest, held, is_sess_init};
     ghost use Rattle.link_session_rules.specs.TransferIds.{is_in, last_runs, ids_of, skips, jumps, jumps_to, transfer_id, transfer_id_order};
-    ghost use Rattle.link_session_rules.specs.Remembered.{RemembersIds, kept_runs, kept_with};
+    ghost use Rattle.link_session_rules.specs.Remembered.{AreTransferIdsAt, kept_runs, kept_with};
 
     /// The IDs before the first message.
     pub(crate) fn none() -> TransferIds
-        ensures { RemembersIds result [] }
+        ensures { AreTransferIdsAt result [] }
     {
         TransferIds {
             last: None,
@@ -104,7 +104,7 @@ impl TransferIds {
     #[tactic(auto, using(crate::proofs::Runs::contains_by))]
     #[inline(always)]
     fn contains(&self, id: u64) -> bool
-        ensures { (older : List Message) → RemembersIds self.now older
+        ensures { (older : List Message) → AreTransferIdsAt self.now older
             → result ≡ is_in (last_runs older) id }
     {
         match self.last {
@@ -117,7 +117,7 @@ impl TransferIds {
     #[tactic(auto, using(crate::proofs::Runs::skips_by))]
     #[inline(always)]
     fn skips(&self, id: u64) -> bool
-        ensures { (older : List Message) → RemembersIds self.now older
+        ensures { (older : List Message) → AreTransferIdsAt self.now older
             → result ≡ skips (ids_of older) id }
     {
         match self.last {
@@ -130,7 +130,7 @@ impl TransferIds {
     #[inline(always)]
     fn jumps_to(&self, initiated: bool, id: u64) -> bool
         ensures { (older : List Message) → initiated ≡ list_any is_sess_init older
-            → RemembersIds self.now older → result ≡ jumps_to older (Some id) }
+            → AreTransferIdsAt self.now older → result ≡ jumps_to older (Some id) }
     {
         initiated && self.skips(id) && !self.contains(id)
     }
@@ -139,8 +139,8 @@ impl TransferIds {
     #[inline(always)]
     pub(crate) fn take(&mut self, initiated: bool, message: &MessageBuffer)
         ensures { (older : List Message) → initiated ≡ list_any is_sess_init older
-            → RemembersIds self.old older
-            → RemembersIds self.new (message_of message.now ∷ older) }
+            → AreTransferIdsAt self.old older
+            → AreTransferIdsAt self.new (message_of message.now ∷ older) }
     {
         let Some(id) = start_id(message) else {
             return;
@@ -154,7 +154,7 @@ impl TransferIds {
     #[inline(always)]
     fn has_jumped(&self, initiated: bool, id: u64) -> bool
         ensures { (older : List Message) → initiated ≡ list_any is_sess_init older
-            → RemembersIds self.now older
+            → AreTransferIdsAt self.now older
             → result ≡ (jumps_to older (Some id) || held jumps older) }
     {
         self.jumped || self.jumps_to(initiated, id)
@@ -186,7 +186,7 @@ impl TransferIds {
     #[tactic(auto, unfolding(crate::specs::TransferIds::transfer_id))]
     #[inline(always)]
     pub(crate) fn transfer_id(&self, message: &MessageBuffer) -> Option<MessageRule>
-        ensures { (before : List JudgedHead) → RemembersIds self.now (newest before)
+        ensures { (before : List JudgedHead) → AreTransferIdsAt self.now (newest before)
             → result ≡ transfer_id before (message_of message.now) }
     {
         let id = start_id(message)?;
@@ -202,7 +202,7 @@ impl TransferIds {
         message: &MessageBuffer,
     ) -> Option<MessageRule>
         ensures { (before : List JudgedHead) → initiated ≡ list_any is_sess_init (newest before)
-            → RemembersIds self.now (newest before)
+            → AreTransferIdsAt self.now (newest before)
             → result ≡ transfer_id_order before (message_of message.now) }
     {
         if self.jumped {

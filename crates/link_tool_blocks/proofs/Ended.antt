@@ -3,7 +3,7 @@ use Rattle.std.proofs.Common.{◌≡◌, ℕ, Bool, true, false, not, ◌&&◌, 
 use Rattle.link_wire.specs.{Codes.is_end, Message.data_length, declared.message.Message.Message}
 use Rattle.link_wire.specs.declared.message.SegmentHead.{SegmentHead}
 use Rattle.link_transfer.specs.declared.joiner.Turn.{Turn}
-use Rattle.link_run_transfers.specs.Walk.{abandons, is_last, open_with}
+use Rattle.link_run_over_transfers.specs.Walk.{abandons, is_last, open_with}
 use Rattle.link_run_judge.specs.{Transfers.{Transfer, closes, continued}, TransferJudge.{begun, grown}}
 use Rattle.link_run_judge.specs.Unpacking.{is_selected, transfers_at}
 use Rattle.link_run_judge.proofs.Effects.{Does, Strays, Passes, Begins, Continues}

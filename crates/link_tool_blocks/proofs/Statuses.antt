@@ -2,8 +2,8 @@
 use Rattle.std.proofs.Common.{◌≡◌, false, List, [], ◌∷◌, ◌++◌, Option, Some, None, fold, refl}
 use Rattle.link_wire.specs.Stream.{reading_of}
 use Rattle.link_run.specs.Made.{StreamStop, Made, whole_by}
-use Rattle.link_run_transfers.specs.Walk.{WalkEvent, ContactHeader, end_events, stop_by, walked, told_of}
-use Rattle.link_run_transfers.specs.declared.consumer.Manner.{Manner}
+use Rattle.link_run_over_transfers.specs.Walk.{WalkEvent, ContactHeader, end_events, stop_by, walked, told_of}
+use Rattle.link_run_over_transfers.specs.declared.consumer.Manner.{Manner}
 use Rattle.link_run_judge.specs.Unpacking.{Told, none_told, told_event, told_after}
 use Rattle.link_tool_options.specs.declared.wanted.Wanted.{Wanted}
 use Rattle.link_tool_blocks.specs.{Laws.HasStatusOfUnpack, Showing.unpacking_by}

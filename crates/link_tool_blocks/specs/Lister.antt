@@ -1,6 +1,6 @@
 -- Relations: what is kept of the events of a stream.
 use Rattle.std.specs.Prelude.{◌≡◌, ℕ, ◌≤◌, Bool, true, false, not, List, [], ◌∷◌, Option, if◌then◌else◌}
-use Rattle.link_run_transfers.specs.Walk.{WalkEvent, data_size, has_open}
+use Rattle.link_run_over_transfers.specs.Walk.{WalkEvent, data_size, has_open}
 use Rattle.link_run_judge.specs.Transfers.{Transfer}
 use Rattle.link_run_judge.specs.Unpacking.{is_selected, told_after}
 use Rattle.link_tool_blocks.specs.Showing.{end_line, unpacking_by}

@@ -4,7 +4,7 @@ use Rattle.std.specs.List.{flat_map}
 use Rattle.link_report_blocks.specs.Blocks.{end_text}
 use Rattle.link_run.specs.Made.{Made, tool_of}
 use Rattle.link_run.specs.Run.{Tool}
-use Rattle.link_run_transfers.specs.Walk.{WalkEvent, MessageHead, has_open, Telling, told_of}
+use Rattle.link_run_over_transfers.specs.Walk.{WalkEvent, MessageHead, has_open, Telling, told_of}
 use Rattle.link_run_judge.specs.Transfers.{Transfer}
 use Rattle.link_run_judge.specs.Unpacking.{is_selected, judgement_of, order_line, told_after, unpack_telling}
 use Rattle.link_tool_options.specs.declared.wanted.Wanted.{Wanted}

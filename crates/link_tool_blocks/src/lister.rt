@@ -18,7 +18,7 @@ use link_report::JudgementView;
 use link_report_blocks::EndText;
 use link_run::{Run, RunEnd, Writers};
 use link_run_judge::{TransferJudge, is_bundle, tell_order};
-use link_run_transfers::{Consumer, EventView, Manner, WalkRun, walk_run};
+use link_run_over_transfers::{Consumer, EventView, Manner, WalkRun, walk_run};
 use link_tool_options::BlockOptions;
 use link_wire::{InDevice, IoFault, OutDevice};
 

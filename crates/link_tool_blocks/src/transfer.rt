@@ -1,13 +1,13 @@
 //! The latest transfer of a stream, and the lines of its blocks.
 
 ghost use Rattle.std.specs.Prelude.{◌≡◌, ◌+◌, ◌^◌, ◌≤◌, ◌<◌, true, length};
-ghost use Rattle.link_bundle_reader.specs.DataReader.{read_size};
+ghost use Rattle.link_bundle_data_reader.specs.DataReader.{read_size};
 
 use crate::block_lines::BlockLines;
-use link_bundle_reader::DataReader;
+use link_bundle_data_reader::DataReader;
 use link_run::Writers;
-use link_run_bundles::tell_piece;
 use link_run_judge::TransferJudge;
+use link_run_over_bundles::tell_piece;
 use link_tool_options::BlockOptions;
 use link_wire::{INPUT_LIMIT, IoFault, MessageBuffer, OutDevice};
 
@@ -21,13 +21,13 @@ pub(crate) struct TransferBlocks {
 
 impl TransferBlocks {
     ghost use Rattle.link_wire.specs.Codes.{is_start};
-    ghost use Rattle.link_wire.specs.MessageBuffer.{SegmentHasTotals, message_of};
+    ghost use Rattle.link_wire.specs.MessageBuffer.{SegmentTotalsFit, message_of};
     ghost use Rattle.link_wire.specs.declared.message.Message.{Message};
     ghost use Rattle.link_wire.specs.declared.message.SegmentHead.{SegmentHead};
     ghost use Rattle.link_run_judge.specs.Transfers.{Transfer};
     ghost use Rattle.link_run_judge.specs.TransferJudge.{begun, grown};
     ghost use Rattle.link_run.specs.Writers.{on_output};
-    ghost use Rattle.link_run_bundles.specs.Telling.{WritesRest};
+    ghost use Rattle.link_run_over_bundles.specs.Telling.{WritesRest};
     ghost use Rattle.link_tool_blocks.specs.Showing.{transfer_lines};
     ghost use Rattle.link_tool_blocks.specs.TransferBlocks.{IsTransferBlocksAt};
 
@@ -43,7 +43,7 @@ impl TransferBlocks {
 
     /// Begins the transfer whose first segment has this head. `only` and `closed` do not matter.
     pub(crate) fn begin(&mut self, message: &MessageBuffer)
-        requires { SegmentHasTotals message.now }
+        requires { SegmentTotalsFit message.now }
         ensures follows { (only : _) (head : SegmentHead) (closed : _)
             → message_of message.now ≡ Message.Segment head → is_start head.flags ≡ true
             → IsTransferBlocksAt only self.new (begun head closed) }

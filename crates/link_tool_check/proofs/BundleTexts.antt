@@ -3,9 +3,9 @@ use Rattle.std.proofs.Common.{◌≡◌, ℕ, suc, ◌+◌, Bool, true, ◌&&◌
 use Rattle.std.proofs.lemmas.List.Sums.{sum_by-cons, sum_by_push}
 use Rattle.link_wire.specs.{Device.Output, declared.IoFault.IoFault}
 use Rattle.link_bundle_types.specs.declared.info.BundleInfo.{BundleInfo}
-use Rattle.link_run_bundles.specs.Bundles.{Packed, size_of}
-use Rattle.link_run_bundles.specs.Telling.{SoFar, none_yet, WritesRest}
-use Rattle.link_run_bundles.proofs.Told.{on_ok_by, told_after, told_part}
+use Rattle.link_run_over_bundles.specs.Bundles.{Packed, size_of}
+use Rattle.link_run_over_bundles.specs.Telling.{SoFar, none_yet, WritesRest}
+use Rattle.link_run_over_bundles.proofs.Told.{on_ok_by, told_after, told_part}
 use Rattle.link_run.specs.{Run.no_texts, Writers.on_output}
 use Rattle.link_run.specs.declared.writers.Writers.{Writers}
 use Rattle.link_run.proofs.Runs.{texts_as}

@@ -8,12 +8,12 @@ use Rattle.link_wire.specs.declared.message.SegmentHead.{SegmentHead}
 use Rattle.link_transfer.specs.declared.joiner.Turn.TheVariants.{Continue}
 use Rattle.link_run.specs.{Writers.on_output, declared.writers.Writers.Writers}
 use Rattle.link_run.proofs.Runs.{then_none}
-use Rattle.link_run_transfers.specs.Saying.{kept_after, said_from, keeps_telling}
-use Rattle.link_run_transfers.specs.Telling.{HeadComes, Tells, data_ends}
-use Rattle.link_run_transfers.specs.Walk.{Head, WalkEvent, MessageHead, Data, closes, is_beginning, open_after_event, data_size, has_open}
+use Rattle.link_run_over_transfers.specs.Saying.{kept_after, said_from, keeps_telling}
+use Rattle.link_run_over_transfers.specs.Telling.{HeadComes, Tells, data_ends}
+use Rattle.link_run_over_transfers.specs.Walk.{Head, WalkEvent, MessageHead, Data, closes, is_beginning, open_after_event, data_size, has_open}
 use Rattle.link_run_judge.proofs.Counts.{size_then, open_then, size_with_data}
 use Rattle.link_run_judge.proofs.Effects.{Does, Strays, Passes, Begins, Continues, comes_does}
-use Rattle.link_session_rules.specs.Remembered.{Remembers}
+use Rattle.link_session_rules.specs.Remembered.{IsMessageHistoryAt}
 use Rattle.link_report_rules.specs.declared.line.RuleText.{RuleText}
 use Rattle.link_tool_check.specs.Checker.{IsCheckedTransferAtLatest, IsCheckedTransferAt, IsCheckerAt, closed_due, kept_of}
 use Rattle.link_tool_check.specs.Checking.{Begun, Kept, begun_by, broken_by, check_telling, checking, head_rules, judged, kept_with, none_kept, with_bytes}
@@ -63,7 +63,7 @@ module _ (options : CheckOptions) (before : List WalkEvent) where
 
     pub known_one : (now : Checker) → now.latest.judge.size ≤ data_size before
         → now.good ≡ (kept_with options was event).good
-        → Remembers now.history (kept_with options was event).heads
+        → IsMessageHistoryAt now.history (kept_with options was event).heads
         → (open_after_event (has_open before) event ≡ true
         → IsCheckedTransferAtLatest now.latest (kept_with options was event).latest)
         → IsCheckerAt options now (before ++ event ∷ [])
@@ -125,7 +125,7 @@ module _ (options : CheckOptions) (before : List WalkEvent) where
     pub known_data : (now : Checker) (begun : Begun) → was.latest ≡ Some begun
         → now.latest.judge.size ≤ data_size before + length bytes
         → now.good ≡ (was.good && none_counts options.must (closed_due whole (Some (with_bytes bytes begun))))
-        → Remembers now.history was.heads
+        → IsMessageHistoryAt now.history was.heads
         → IsCheckedTransferAt now.latest (with_bytes bytes begun)
         → IsCheckerAt options now (before ++ data_ends bytes whole)
     known_data now begun is size good history checks =
@@ -163,7 +163,7 @@ module _ (options : CheckOptions) (before : List WalkEvent) where
     pub known_inner : (now : Checker) (begun : Begun) → was.latest ≡ Some begun
         → now.latest.judge.size ≤ data_size before + length bytes
         → now.good ≡ (was.good && none_counts options.must broken)
-        → Remembers now.history (was.heads ++ judged head ∷ [])
+        → IsMessageHistoryAt now.history (was.heads ++ judged head ∷ [])
         → IsCheckedTransferAt now.latest (with_bytes bytes begun)
         → IsCheckerAt options now (before ++ MessageHead head ∷ data_ends bytes false)
     known_inner now begun is size good history checks =
@@ -249,7 +249,7 @@ unfolding has_open
 none_open is = cc
 
 pub knows_nothing : (options : CheckOptions) (now : Checker) → now.latest.judge.size ≡ 0
-    → now.good ≡ true → Remembers now.history [] → IsCheckerAt options now []
+    → now.good ≡ true → IsMessageHistoryAt now.history [] → IsCheckerAt options now []
 knows_nothing options now size good history = record {
   size = omega (arith, size);
   good = good;

@@ -3,8 +3,8 @@ use Rattle.std.specs.Prelude.{ℕ, suc, ◌+◌, Bool, List, [], ◌∷◌, ◌+
 use Rattle.link_run.specs.Made.{Made, tool_of}
 use Rattle.link_run.specs.Run.{Tool}
 use Rattle.link_run.specs.Writers.{on_output}
-use Rattle.link_run_bundles.specs.Bundles.{Packed, bundle_limit}
-use Rattle.link_run_bundles.specs.Telling.{BundleTelling, told_of}
+use Rattle.link_run_over_bundles.specs.Bundles.{Packed, bundle_limit}
+use Rattle.link_run_over_bundles.specs.Telling.{BundleTelling, told_of}
 use Rattle.link_report_rules.specs.declared.line.RuleText.{RuleText}
 use Rattle.link_report_rules.specs.declared.rule.BrokenRule.TheVariants.{Bundle}
 use Rattle.link_report_rules.specs.declared.rule.BundlePlace.TheVariants as place

@@ -1,11 +1,11 @@
 -- Relations: what is kept of the events of a stream.
 use Rattle.std.specs.Prelude.{◌≡◌, ◌≤◌, Bool, true, false, List, [], Option, Some, if◌then◌else◌}
-use Rattle.link_run_transfers.specs.Saying.{kept_after}
-use Rattle.link_run_transfers.specs.Walk.{WalkEvent, data_size, has_open}
+use Rattle.link_run_over_transfers.specs.Saying.{kept_after}
+use Rattle.link_run_over_transfers.specs.Walk.{WalkEvent, data_size, has_open}
 use Rattle.link_run_judge.specs.TransferJudge.{IsTransferJudgeAt}
 use Rattle.link_run_judge.specs.Transfers.{Transfer}
 use Rattle.link_session_rules.specs.TransferRules.{opening_of}
-use Rattle.link_session_rules.specs.Remembered.{Remembers}
+use Rattle.link_session_rules.specs.Remembered.{IsMessageHistoryAt}
 use Rattle.link_report_rules.specs.declared.line.RuleText.{RuleText}
 use Rattle.link_tool_check.specs.BundleReader.{IsBundleReaderAt}
 use Rattle.link_tool_check.specs.Checking.{Begun, Kept, none_kept, checking, rules_at, closed_rules}
@@ -37,7 +37,7 @@ pub record IsCheckerAt (options : CheckOptions) (now : Checker) (events : List W
     : Type 0 where
   pub size : now.latest.judge.size ≤ data_size events
   pub good : now.good ≡ (kept_of options events).good
-  pub history : Remembers now.history (kept_of options events).heads
+  pub history : IsMessageHistoryAt now.history (kept_of options events).heads
   pub at_open : has_open events ≡ true
       → IsCheckedTransferAtLatest now.latest (kept_of options events).latest
 

@@ -8,8 +8,8 @@ use Rattle.link_bundle_blocks.specs.Bundle.{verdict}
 use Rattle.link_run.specs.Made.{Made, tool_of}
 use Rattle.link_run.specs.Run.{Tool}
 use Rattle.link_run.specs.Writers.{on_output}
-use Rattle.link_run_transfers.specs.Saying.{Keeping, telling_of}
-use Rattle.link_run_transfers.specs.Walk.{Head, WalkEvent, ContactHeader, MessageHead, Data, Whole, LeftOpen, closes, is_beginning, Telling, told_of}
+use Rattle.link_run_over_transfers.specs.Saying.{Keeping, telling_of}
+use Rattle.link_run_over_transfers.specs.Walk.{Head, WalkEvent, ContactHeader, MessageHead, Data, Whole, LeftOpen, closes, is_beginning, Telling, told_of}
 use Rattle.link_session_rules.specs.Flags.{contact_flags}
 use Rattle.link_session_rules.specs.Heads.{JudgedHead, segment_of}
 use Rattle.link_session_rules.specs.MessageRules.{broken_rules}

@@ -1,16 +1,16 @@
 //! `check`: the lines of the rules that a recorded stream breaks.
 
 ghost use Rattle.std.specs.Prelude.{◌≡◌, ℕ, true, [], ◌∷◌, ◌++◌, List, Option, map};
-ghost use Rattle.link_wire.specs.MessageBuffer.{SegmentHasTotals};
+ghost use Rattle.link_wire.specs.MessageBuffer.{SegmentTotalsFit};
 ghost use Rattle.link_session_rules.specs.Flags.{contact_flags};
 ghost use Rattle.link_session_rules.specs.Heads.{JudgedHead, viewed_head};
 ghost use Rattle.link_session_rules.specs.MessageRules.{broken_rules};
-ghost use Rattle.link_session_rules.specs.Remembered.{Remembers};
+ghost use Rattle.link_session_rules.specs.Remembered.{IsMessageHistoryAt};
 ghost use Rattle.link_report_rules.specs.declared.rule.BrokenRule.TheVariants.{Message};
 ghost use Rattle.link_run.specs.Run.{devices, looks, NoneFailed};
 ghost use Rattle.link_run.specs.NewRun.{IsNewRun};
 ghost use Rattle.link_run.specs.WholeRun.{AfterRun};
-ghost use Rattle.link_run_transfers.specs.Telling.{viewed_head as told_head, inner_head};
+ghost use Rattle.link_run_over_transfers.specs.Telling.{viewed_head as told_head, inner_head};
 ghost use Rattle.link_tool_check.specs.Checker.{IsCheckedTransferAtLatest, IsCheckerAt, closed_due};
 ghost use Rattle.link_tool_check.specs.Checking.{Begun, check_telling, check_tool, head_rules, judged, optional};
 ghost use Rattle.link_tool_check.specs.Lines.{at_offset};
@@ -20,7 +20,7 @@ ghost use Rattle.link_tool_options.specs.declared.check.CheckOptions.{CheckOptio
 use crate::lines::write_rules;
 use crate::transfer::CheckedTransfer;
 use link_run::{Run, RunEnd, Writers};
-use link_run_transfers::{Consumer, EventView, HeadView, Manner, WalkRun, walk_run};
+use link_run_over_transfers::{Consumer, EventView, HeadView, Manner, WalkRun, walk_run};
 use link_session_rules::{JudgedHeadView, MessageHistory, contact_flags};
 use link_tool_options::CheckOptions;
 use link_wire::{Contact, InDevice, IoFault, OutDevice};
@@ -142,12 +142,12 @@ fn judge<W: OutDevice, E: OutDevice>(
     writers: &mut Writers<W, E>,
     good: &mut bool,
 ) -> Result<(), IoFault>
-    requires { SegmentHasTotals head.now.message.now }
-    ensures gives { (before : List JudgedHead) → Remembers history.old before
+    requires { SegmentTotalsFit head.now.message.now }
+    ensures gives { (before : List JudgedHead) → IsMessageHistoryAt history.old before
         → WritesRules W.state E.state options.now.must writers.old writers.new good.old good.new
         result (head_rules options.now before (told_head head.now)) }
-    ensures history { (before : List JudgedHead) → Remembers history.old before
-        → Remembers history.new (before ++ judged (told_head head.now) ∷ []) }
+    ensures history { (before : List JudgedHead) → IsMessageHistoryAt history.old before
+        → IsMessageHistoryAt history.new (before ++ judged (told_head head.now) ∷ []) }
 {
     let judged = JudgedHeadView {
         message: head.message,
@@ -169,16 +169,16 @@ fn judge_inner<W: OutDevice, E: OutDevice>(
     writers: &mut Writers<W, E>,
     good: &mut bool,
 ) -> Result<(), IoFault>
-    requires { SegmentHasTotals head.now.message.now }
+    requires { SegmentTotalsFit head.now.message.now }
     ensures gives { (id : ℕ) (before : List JudgedHead)
         → told_head head.now ≡ inner_head head.now.offset id length
-        → Remembers history.old before
+        → IsMessageHistoryAt history.old before
         → WritesRules W.state E.state options.now.must writers.old writers.new good.old good.new
         result (head_rules options.now before (told_head head.now)) }
     ensures history { (id : ℕ) (before : List JudgedHead)
         → told_head head.now ≡ inner_head head.now.offset id length
-        → Remembers history.old before
-        → Remembers history.new (before ++ judged (told_head head.now) ∷ []) }
+        → IsMessageHistoryAt history.old before
+        → IsMessageHistoryAt history.new (before ++ judged (told_head head.now) ∷ []) }
 {
     if history.take_inner(&options.peer, length) {
         return Ok(());
@@ -196,12 +196,12 @@ fn judge_apart<W: OutDevice, E: OutDevice>(
     writers: &mut Writers<W, E>,
     good: &mut bool,
 ) -> Result<(), IoFault>
-    requires { SegmentHasTotals head.message.now }
-    ensures gives { (before : List JudgedHead) → Remembers history.old before
+    requires { SegmentTotalsFit head.message.now }
+    ensures gives { (before : List JudgedHead) → IsMessageHistoryAt history.old before
         → WritesRules W.state E.state options.now.must writers.old writers.new good.old good.new
         result (head_rules options.now before (told_head head.entry)) }
-    ensures history { (before : List JudgedHead) → Remembers history.old before
-        → Remembers history.new (before ++ judged (told_head head.entry) ∷ []) }
+    ensures history { (before : List JudgedHead) → IsMessageHistoryAt history.old before
+        → IsMessageHistoryAt history.new (before ++ judged (told_head head.entry) ∷ []) }
 {
     judge(options, &head, history, writers, good)
 }
@@ -217,8 +217,8 @@ fn write_head<W: OutDevice, E: OutDevice>(
     writers: &mut Writers<W, E>,
     good: &mut bool,
 ) -> Result<(), IoFault>
-    requires { SegmentHasTotals head.now.message.now }
-    ensures { (before : List JudgedHead) → Remembers history.now before
+    requires { SegmentTotalsFit head.now.message.now }
+    ensures { (before : List JudgedHead) → IsMessageHistoryAt history.now before
         → WritesRules W.state E.state options.now.must writers.old writers.new good.old good.new
         result (at_offset offset (map (λ rule. Message rule)
         (broken_rules options.now.peer before (viewed_head head.now)))) }
@@ -239,8 +239,8 @@ fn write_broken<W: OutDevice, E: OutDevice>(
     writers: &mut Writers<W, E>,
     good: &mut bool,
 ) -> Result<(), IoFault>
-    requires { SegmentHasTotals head.now.message.now }
-    ensures { (before : List JudgedHead) → Remembers history.now before
+    requires { SegmentTotalsFit head.now.message.now }
+    ensures { (before : List JudgedHead) → IsMessageHistoryAt history.now before
         → WritesRules W.state E.state options.now.must writers.old writers.new good.old good.new
         result (at_offset offset (map (λ rule. Message rule)
         (broken_rules options.now.peer before (viewed_head head.now)))) }

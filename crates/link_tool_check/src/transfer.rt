@@ -1,7 +1,7 @@
 //! The latest transfer of a stream, as far as its rules need it.
 
 ghost use Rattle.std.specs.Prelude.{◌≡◌, ◌+◌, ◌^◌, ◌≤◌, ◌<◌, length};
-ghost use Rattle.link_wire.specs.MessageBuffer.{SegmentHasTotals, message_of};
+ghost use Rattle.link_wire.specs.MessageBuffer.{SegmentTotalsFit, message_of};
 ghost use Rattle.link_wire.specs.declared.message.Message.{Message};
 ghost use Rattle.link_wire.specs.declared.message.SegmentHead.{SegmentHead};
 ghost use Rattle.link_session_rules.specs.TransferRules.{opening_of};
@@ -12,7 +12,7 @@ use crate::lines::write_rules;
 use link_report_rules::BundlePlace;
 use link_run::Writers;
 use link_run_judge::TransferJudge;
-use link_run_transfers::HeadView;
+use link_run_over_transfers::HeadView;
 use link_session_rules::{Opening, TransferRule, data_rule};
 use link_transfer::Announced;
 use link_wire::{Fields, INPUT_LIMIT, IoFault, MessageBuffer, OutDevice};
@@ -37,7 +37,7 @@ const NO_OPENING: Opening = Opening {
 
 /// What the rules of a transfer's length need of its first segment, which has this head.
 fn opening_of(message: &MessageBuffer) -> Opening
-    requires { SegmentHasTotals message.now }
+    requires { SegmentTotalsFit message.now }
     ensures { (first : SegmentHead) → message_of message.now ≡ Message.Segment first
         → result ≡ opening_of first }
 {
@@ -51,11 +51,11 @@ impl CheckedTransfer {
     ghost use Rattle.std.specs.Prelude.{true, []};
     ghost use Rattle.link_bundle_blocks.specs.Bundle.{verdict};
     ghost use Rattle.link_wire.specs.Codes.{is_start};
-    ghost use Rattle.link_wire.specs.MessageBuffer.{SegmentHasTotals, message_of};
+    ghost use Rattle.link_wire.specs.MessageBuffer.{SegmentTotalsFit, message_of};
     ghost use Rattle.link_wire.specs.declared.message.Message.{Message};
     ghost use Rattle.link_wire.specs.declared.message.SegmentHead.{SegmentHead};
     ghost use Rattle.link_run.specs.Run.{no_texts};
-    ghost use Rattle.link_run_bundles.specs.Telling.{WritesRest};
+    ghost use Rattle.link_run_over_bundles.specs.Telling.{WritesRest};
     ghost use Rattle.link_tool_check.specs.Checking.{Begun, closed_rules, data_rules, open_rules, with_bytes};
     ghost use Rattle.link_tool_check.specs.Checker.{IsCheckedTransferAt};
     ghost use Rattle.link_tool_check.specs.Lines.{at_offset};
@@ -75,7 +75,7 @@ impl CheckedTransfer {
 
     /// Begins the transfer whose first segment has this head.
     pub(crate) fn begin(&mut self, head: &HeadView<'_>)
-        requires { SegmentHasTotals head.now.message.now }
+        requires { SegmentTotalsFit head.now.message.now }
         ensures follows { (first : SegmentHead) → message_of head.now.message.now
             ≡ Message.Segment first → is_start first.flags ≡ true
             → IsCheckedTransferAt self.new

@@ -4,8 +4,8 @@ use Rattle.std.proofs.lemmas.{Bool.{lt-ltb, le-ltb}, Grind.flat_map-append}
 use Rattle.link_wire.specs.{Device.Input, Limits.{window_size, longest_head}, Message.data_length}
 use Rattle.link_wire.specs.Source.{window_of, Takes, Readies}
 use Rattle.link_wire.specs.Stream.{Entry, End, Clean, Cut, Fault, Stream, Reading, reading_of}
-use Rattle.link_wire.specs.Whole.{GivenWhole}
-use Rattle.link_wire.specs.Session.{source_of, left_of, joined, GivenContact, GivenMessage, CleanEnd, PassedBytes}
+use Rattle.link_wire.specs.Whole.{GivenWholeMessage}
+use Rattle.link_wire.specs.Session.{source_of, left_of, joined, GivenContact, GivenMessage, ReachedEnd, PassedBytes}
 use Rattle.link_wire.specs.declared.{IoFault.IoFault, message.Contact.Contact}
 use Rattle.link_wire.specs.declared.{message.Message.Message, session.Session.Session}
 use Rattle.link_wire.proofs.Contacts.{reading-none}
@@ -163,7 +163,7 @@ module _ {R W E : Type 0} {look : Looks R W E} {start : Devices R W E} (old new 
     message_read piece others goes = absurd goes
 
   -- the stream has ended between two messages
-  pub clean_ended : (status : Status) → status.0 ≡ 0 → CleanEnd look.input old new history
+  pub clean_ended : (status : Status) → status.0 ≡ 0 → ReachedEnd look.input old new history
       → LastStep look list_tool start (devices_at (place_of (source_of new) w)) longest_head history (Ok status)
   clean_ended status zero got =
       let made_is : listing_of (history ++ []) ≡ listing_by (reading_of history) =
@@ -254,7 +254,7 @@ module _ {R : Type 0} (look : R → Input) (first : Texts) (old : Session R) {hi
   -- one more message was given
   pub listed_more : (mid new : Session R) (lines : List ℕ) (offset : ℕ) (message : Message)
       → (on : ListsOn look first old mid lines history)
-      → GivenWhole look mid new (history ++ on.given) offset message
+      → GivenWholeMessage look mid new (history ++ on.given) offset message
       → ListsOn look first old new (lines ++ message_text offset message) history
   listed_more mid new lines offset message on got =
       let passed = got.passed in

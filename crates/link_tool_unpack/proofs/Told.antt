@@ -9,8 +9,8 @@ use Rattle.link_transfer.specs.declared.joiner.Turn.{Turn}
 use Rattle.link_run.specs.{Run.{no_texts, ◌then◌}, Writers.{on_output, on_report, AfterWrite}}
 use Rattle.link_run.specs.declared.writers.Writers.{Writers}
 use Rattle.link_run.proofs.Runs.{texts_as}
-use Rattle.link_run_transfers.specs.Walk.{Head, WalkEvent, MessageHead, closes as closes_head, is_last, is_beginning, open_with, open_after_event, data_size, has_open, abandons}
-use Rattle.link_run_transfers.specs.Telling.{HeadComes, Tells, data_ends}
+use Rattle.link_run_over_transfers.specs.Walk.{Head, WalkEvent, MessageHead, closes as closes_head, is_last, is_beginning, open_with, open_after_event, data_size, has_open, abandons}
+use Rattle.link_run_over_transfers.specs.Telling.{HeadComes, Tells, data_ends}
 use Rattle.link_run_judge.specs.{Transfers.{Transfer, closes, continued}, TransferJudge.{begun, grown}}
 use Rattle.link_run_judge.specs.Unpacking.{part_of, parts_of, order_line, Told, line_due, good_due, transfers_at, told_event, told_after, unpack_telling}
 use Rattle.link_run_judge.proofs.Counts.{size_then, open_then, size_with_data, open_with_data}

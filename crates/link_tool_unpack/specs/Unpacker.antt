@@ -1,6 +1,6 @@
 -- Relations: what is kept of the events of a stream.
 use Rattle.std.specs.Prelude.{◌≡◌, ◌+◌, ◌≤◌, Bool, true, not, List, ◌∷◌, length}
-use Rattle.link_run_transfers.specs.Walk.{WalkEvent, data_size, has_open}
+use Rattle.link_run_over_transfers.specs.Walk.{WalkEvent, data_size, has_open}
 use Rattle.link_run_judge.specs.Transfers.{Transfer}
 use Rattle.link_run_judge.specs.Unpacking.{parts_of, told_after}
 use Rattle.link_tool_unpack.specs.TransferScan.{IsTransferScanAt}

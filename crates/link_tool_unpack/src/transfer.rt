@@ -28,7 +28,7 @@ impl TransferScan {
     ghost use Rattle.std.specs.Prelude.{true, not, ◌++◌, List, ℕ};
     ghost use Rattle.link_report.specs.Transfer.{transfer_text, viewed_transfer};
     ghost use Rattle.link_wire.specs.Codes.{is_start};
-    ghost use Rattle.link_wire.specs.MessageBuffer.{SegmentHasTotals, message_of};
+    ghost use Rattle.link_wire.specs.MessageBuffer.{SegmentTotalsFit, message_of};
     ghost use Rattle.link_wire.specs.declared.message.Message.{Message};
     ghost use Rattle.link_wire.specs.declared.message.SegmentHead.{SegmentHead};
     ghost use Rattle.link_bundle.specs.Scan.{HasJudged};
@@ -55,7 +55,7 @@ impl TransferScan {
     /// Begins the transfer whose first segment has this head. Its bytes in the output come after
     /// those of the transfer before it. Neither `wanted` nor `closed` makes a difference.
     pub fn begin(&mut self, message: &MessageBuffer)
-        requires { SegmentHasTotals message.now }
+        requires { SegmentTotalsFit message.now }
         ensures follows { (wanted : Wanted) (head : SegmentHead) (closed : _)
             (earlier : List Transfer)
             → message_of message.now ≡ Message.Segment head → is_start head.flags ≡ true

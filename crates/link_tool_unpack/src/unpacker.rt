@@ -14,7 +14,7 @@ ghost use Rattle.link_tool_options.specs.declared.wanted.Wanted.{Wanted};
 use crate::transfer::TransferScan;
 use link_run::{Run, RunEnd, Writers};
 use link_run_judge::{is_bundle, tell_order};
-use link_run_transfers::{Consumer, EventView, Manner, WalkRun, walk_run};
+use link_run_over_transfers::{Consumer, EventView, Manner, WalkRun, walk_run};
 use link_tool_options::Wanted;
 use link_wire::{InDevice, IoFault, OutDevice};
 

@@ -14,7 +14,7 @@ use Rattle.clap.specs.declared.error.{Error.Error, kind.{ErrorKind.ErrorKind, Er
 use Rattle.clap.proofs.WalkLemmas.{both}
 use Rattle.link_tools_command.proofs.Stopped.{StopsElsewhere, first_empty, not_help, walk_stops}
 use Rattle.link_tools_command.specs.Usage.{AreValidWords, IsFaultOf, is_request}
-use Rattle.link_tools_command.specs.Reading.{IsToolFault, IsToolName, NamesTool, IsFaultForKind}
+use Rattle.link_tools_command.specs.Reading.{IsToolFault, IsToolName, HasToolName, IsFaultForKind}
 use Rattle.link_tools_command.specs.declared.usage.UsageFault.{UsageFault}
 use Rattle.link_tools_command.specs.declared.usage.UsageFault.TheVariants.{Help, Words, Memory}
 
@@ -34,7 +34,7 @@ data AreTools (word : Text) : List Shape → Type 0 where
 entered_tool : {word : Text} {subs : List Shape} (rest : List Text) → AreTools word subs
     → is_some (option_map (λ s. rows_at s rest) (find (λ s. answers_to word (label_of s)) subs))
     ≡ true
-    → NamesTool (option_map (λ s. rows_at s rest) (find (λ s. answers_to word (label_of s)) subs))
+    → HasToolName (option_map (λ s. rows_at s rest) (find (λ s. answers_to word (label_of s)) subs))
 entered_tool rest no_others some = absurd (true≢false (sym some))
 entered_tool {word = word} {subs = s ∷ subs} rest (another tool tools) some =
     ⊎_elim (λ yes. rw yes (tool yes)) (λ no. rw no (entered_tool rest tools (rw no at some)))
@@ -42,7 +42,7 @@ entered_tool {word = word} {subs = s ∷ subs} rest (another tool tools) some =
 
 stopped_tool : (app : App) (stop : Option (Text × List Text))
     → ((word : Text) → bytes_eq word (codes "help") ≡ false → AreTools word app.subs)
-    → StopsElsewhere stop → is_some (entered app stop) ≡ true → NamesTool (entered app stop)
+    → StopsElsewhere stop → is_some (entered app stop) ≡ true → HasToolName (entered app stop)
 stopped_tool app None tools elsewhere some = absurd (true≢false (sym some))
 stopped_tool app (Some (word, rest)) tools elsewhere some =
     entered_tool rest (tools word elsewhere) some
@@ -52,7 +52,7 @@ built_names : (app : App) (words : List Text) → app.top.disable_help_subcomman
     → ((word : Text) → bytes_eq word (codes "help") ≡ false → AreTools word app.subs)
     → built_fault app nothing_held words ≡ []
     → is_some (entered app (stop_after app.top.rules (names_of app) words)) ≡ true
-    → NamesTool (entered app (stop_after app.top.rules (names_of app) words))
+    → HasToolName (entered app (stop_after app.top.rules (names_of app) words))
 built_names app words enabled tools none some =
     let names : Names = names_of app in
     stopped_tool app (stop_after app.top.rules names words) tools
@@ -60,7 +60,7 @@ built_names app words enabled tools none some =
     (first_empty (walk_fault app.top names (walk_from nothing_held) words) _ none)) some
 
 taken_names : (words : List Text) → AreValidWords words
-    → is_some (subcommand_of table words) ≡ true → NamesTool (subcommand_of table words)
+    → is_some (subcommand_of table words) ≡ true → HasToolName (subcommand_of table words)
 unfolding table list_words unpack_words blocks_words check_words pack_words
 taken_names words taken some =
     built_names (built table) (argument_words table words) refl
@@ -105,7 +105,7 @@ pub parsed : (command : Command) (words : List Text) (m : ArgMatches) → app_of
     → FailsBy (fault_of (app_of command) words) (Ok m))
     → HasMatchesOf (app_of command) words m → IsParsedFrom command m
     → AreValidWords words × (subcommand_rows_of m ≡ subcommand_of table words)
-    × NamesTool (subcommand_rows_of m)
+    × HasToolName (subcommand_rows_of m)
 parsed command words m is fails has from =
     let taken : AreValidWords words = failed (app_of command) words (Ok m) is fails in
     let same = subcommand_rows_of-table (app_of command) words m is has in

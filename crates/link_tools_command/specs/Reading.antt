@@ -12,9 +12,9 @@ IsToolName name = (name ≡ codes "list")
     ⊎ ((name ≡ codes "blocks") ⊎ ((name ≡ codes "check") ⊎ (name ≡ codes "pack"))))
 
 -- there is a tool, and it is one of the five
-abbrev pub NamesTool : Option (Text × List Row) → Type 0
-NamesTool None = ⊥
-NamesTool (Some tool) = IsToolName tool.0
+abbrev pub HasToolName : Option (Text × List Row) → Type 0
+HasToolName None = ⊥
+HasToolName (Some tool) = IsToolName tool.0
 
 -- whether a fault may be returned for the matches of a tool
 abbrev pub IsToolFault : Option (Text × List Row) → UsageFault → Type 0

@@ -18,8 +18,9 @@ is_request DisplayVersion = true
 is_request _ = false
 
 -- `clap` finds an error in the words for whose kind `is_kind` returns `expected`
-abbrev pub Finds : (is_kind : ErrorKind → Bool) → (expected : Bool) → (words : List Text) → Type 0
-Finds is_kind expected words =
+abbrev pub HasErrorOf : (is_kind : ErrorKind → Bool) → (expected : Bool) → (words : List Text)
+    → Type 0
+HasErrorOf is_kind expected words =
     (kind : ErrorKind) × IsAmong kind (fault_of table words) × (is_kind kind ≡ expected)
 
 -- `clap` finds no error in the words
@@ -40,8 +41,8 @@ limits_bundles_of tool = option_map_or (λ t. limits_bundles t.1) tool false
 
 -- whether a fault may be returned for these words; `Memory` may be returned for any
 abbrev pub IsFaultOf : (words : List Text) → UsageFault → Type 0
-IsFaultOf words (Help text) = Finds is_request true words
-IsFaultOf words (Words text) = Finds is_request false words
+IsFaultOf words (Help text) = HasErrorOf is_request true words
+IsFaultOf words (Words text) = HasErrorOf is_request false words
 IsFaultOf words NodeTooLong =
     AreValidWords words × (1024 < length (node_of (subcommand_of table words)))
 IsFaultOf words MixedInputs =

@@ -5,7 +5,7 @@ ghost use Rattle.clap.specs.Words.{first_of, found_of, kind_of, rows_of, subcomm
 ghost use Rattle.link_tools_command.specs.Table.{table};
 ghost use Rattle.link_tools_command.specs.Invoked.{AreOptions, IsInvoked, IsInvokedBy, IsInvokedByTool, IsPackOptions, IsUnpackOptions, has_peer_limit, is_for_recordings, is_set, limits_bundles, mixes_inputs, number_in, number_of, text_of};
 ghost use Rattle.link_tools_command.specs.Usage.{AreValidWords, IsFaultOf};
-ghost use Rattle.link_tools_command.specs.Reading.{IsToolFault, IsToolName, NamesTool, IsFaultForKind};
+ghost use Rattle.link_tools_command.specs.Reading.{IsToolFault, IsToolName, HasToolName, IsFaultForKind};
 
 use crate::command::tcpclkit;
 use crate::invocation::Invocation;
@@ -48,7 +48,7 @@ pub fn options(alloc: Global, words: &[String]) -> Result<Invocation, UsageFault
 
 /// The invocation that the matches of the program ask for. They always have a tool.
 fn invocation(alloc: Global, matches: &ArgMatches<'_>) -> Result<Invocation, UsageFault>
-    requires { NamesTool (subcommand_rows_of matches.now) }
+    requires { HasToolName (subcommand_rows_of matches.now) }
     ensures ok { IfOk result (IsInvokedByTool (subcommand_rows_of matches.now)) }
     ensures err { IfErr result (IsToolFault (subcommand_rows_of matches.now)) }
 {

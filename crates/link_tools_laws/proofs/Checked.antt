@@ -22,7 +22,7 @@ use Rattle.link_report.specs.Judgement.{judged_length, judged_data}
 use Rattle.link_report.specs.declared.fault.Fault.TheVariants.{Order}
 use Rattle.link_report_rules.specs.{Names.rule_level, declared.line.RuleText.RuleText}
 use Rattle.link_run.specs.Made.{StreamStop, stop_of}
-use Rattle.link_run_transfers.specs.Walk.{head_at, WalkEvent, MessageHead, content_events, Walked, none_walked, with_next, walked_of, end_events, stop_by, told_of}
+use Rattle.link_run_over_transfers.specs.Walk.{head_at, WalkEvent, MessageHead, content_events, Walked, none_walked, with_next, walked_of, end_events, stop_by, told_of}
 use Rattle.link_run_judge.specs.{Transfers.Transfer, Unpacking.Told}
 use Rattle.link_tool_check.specs.Checking.{closed_rules, data_rules, Begun, heads_with, judged, latest_with, check_tool}
 use Rattle.link_tool_check.specs.Lines.{none_counts, at_offset}

@@ -29,12 +29,12 @@ use Rattle.link_session_rules.specs.Session.{order, before_session, keepalive, k
 use Rattle.link_session_rules.specs.TransferIds.{abandoned_by, interleaved, is_in, runs_of, skips, transfer_id, transfer_id_order}
 use Rattle.link_session_rules.proofs.Pushes.{newest_then}
 use Rattle.link_run.proofs.Continued.{entry}
-use Rattle.link_run_transfers.specs.Walk.{head_at}
+use Rattle.link_run_over_transfers.specs.Walk.{head_at}
 use Rattle.link_run_judge.specs.Transfers.{Transfer, after_message}
 use Rattle.link_run_judge.proofs.Heads.{transfer_begins, transfer_continues}
 use Rattle.link_tool_check.specs.Checking.{judged}
 use Rattle.link_tool_pack.specs.Segments.{flags_of, Sending, cut_at}
-use Rattle.link_tools_laws.specs.PackedRules.{KeepsInitRules}
+use Rattle.link_tools_laws.specs.PackedRules.{AreInitRulesKept}
 use Rattle.link_tools_laws.proofs.Entries.{chunk_of, message_of}
 use Rattle.link_wire.specs.declared.message.Message.TheVariants as message
 use Rattle.link_transfer.specs.declared.joiner.Turn.TheVariants as turn
@@ -95,7 +95,7 @@ module _ (peer : PeerLimits) (before : List JudgedHead) where
     abbrev init : Message
     init = sess_init_with interval segment_mru transfer_mru node
 
-    pub init_clear : HasOpenTransfer before → KeepsInitRules init
+    pub init_clear : HasOpenTransfer before → AreInitRulesKept init
         → broken_rules peer before (plain init) ≡ []
     unfolding broken_rules item_flags order before_session interleaved segment_flags transfer_id peer_segment peer_transfer ack_length keepalive term_flags item_type transfer_id_order answer_order reject_known reason
     init_clear is_open keeps =

@@ -10,11 +10,11 @@ use Rattle.link_transfer.specs.{Event.event_of, Order.{is_stray, effect_of, with
 use Rattle.link_transfer.specs.{declared.joiner.Turn.Turn, declared.fault.OrderFault.OrderFault}
 use Rattle.link_report.specs.{declared.transfer.TransferEntry.TransferEntry, Transfer.transfer_text}
 use Rattle.link_run.specs.{Run.Outcome, Made.{StreamStop, Made, whole_by, stop_of}}
-use Rattle.link_run_transfers.proofs.Heads.{other_has_none}
+use Rattle.link_run_over_transfers.proofs.Heads.{other_has_none}
 use Rattle.link_run_judge.specs.{Transfers.Transfer, Unpacking.{parts_of, part_of, entry_of}}
 use Rattle.link_run_judge.proofs.{Effects.Does, Texts.parts_more}
 use Rattle.link_run_judge.proofs.Heads.{transfers_same, transfer_begins, transfer_continues}
-use Rattle.link_tools_laws.specs.Cuts.{data_of, prepended_unless, taken_after, HasEveryByte, HasEveryTakenByte, order_of, entries_of, Follow, total_written, stream_stop, lined, reported, Divides, CutsOutput, stopping, going_on, ReportLine, OfHead, OfTransfer, line_text, entry_in, fault_in, faults_after, CutsOutputOn}
+use Rattle.link_tools_laws.specs.Cuts.{data_of, prepended_unless, taken_after, HasEveryByte, HasEveryTakenByte, order_of, entries_of, AreConsecutive, total_written, stream_stop, lined, reported, Divides, CutsOutput, stopping, going_on, ReportLine, OfHead, OfTransfer, line_text, entry_in, fault_in, faults_after, CutsOutputOn}
 use Rattle.link_tools_laws.specs.RoundTrip.{all}
 use Rattle.link_tools_laws.specs.Transfers.{ordered_after, ordered, transfers_of, Unpacked, transfers_with, with_head, unpacked_of, by_transfers, settled}
 use Rattle.link_tools_laws.proofs.Same.{accepted_in_order, all_kept, AreInOrder, all as in_order, first_may, not_stray, taken_more, unpacked_in_order, whole_is}
@@ -157,9 +157,9 @@ written_push [] last = omega arith
 written_push (entry ∷ more) last = let later = written_push more last in omega arith
 
 follow_push : (start : ℕ) (entries : List TransferEntry) (last : TransferEntry)
-    → Follow start entries → last.start ≡ start + total_written entries
-    → Follow start (entries ++ last ∷ [])
-unfolding Follow total_written
+    → AreConsecutive start entries → last.start ≡ start + total_written entries
+    → AreConsecutive start (entries ++ last ∷ [])
+unfolding AreConsecutive total_written
 follow_push start [] last follow is = (omega arith, tt)
 follow_push start (entry ∷ more) last follow is = (follow.0, follow_push (start + entry.written) more last follow.1 (omega arith))
 
@@ -173,8 +173,8 @@ module _ (wanted : Wanted) where
       let pushed = written_push (entries_of wanted earlier) (entry_of wanted latest (length (parts_of wanted earlier))) in
       omega (arith, length-append (parts_of wanted earlier) (part_of wanted latest))
 
-  follows : (transfers : List Transfer) → Follow 0 (entries_of wanted transfers)
-  unfolding entries_of Follow
+  follows : (transfers : List Transfer) → AreConsecutive 0 (entries_of wanted transfers)
+  unfolding entries_of AreConsecutive
   follows [] = tt
   follows (latest ∷ earlier) =
       let before = all_written earlier in

@@ -17,7 +17,7 @@ use Rattle.link_run.specs.Made.{StreamStop, Made, whole_by, so_far_by, shows_fau
 use Rattle.link_run.specs.Run.{Texts}
 use Rattle.link_run.proofs.Ends.{unshown_sofar, shown_sofar}
 use Rattle.link_tool_list.specs.Listing.{listing_of, listing_by, list_tool}
-use Rattle.link_run_transfers.specs.Walk.{Head, abandons, closes, WalkEvent, ContactHeader, MessageHead, Data, Whole, LeftOpen, Walked, walked, end_events, stop_by, Telling, told_by, told_of}
+use Rattle.link_run_over_transfers.specs.Walk.{Head, abandons, closes, WalkEvent, ContactHeader, MessageHead, Data, Whole, LeftOpen, Walked, walked, end_events, stop_by, Telling, told_by, told_of}
 use Rattle.link_run_judge.specs.Transfers.{Transfer}
 use Rattle.link_run_judge.specs.Unpacking.{parts_of, entry_of, line_due, order_line, Told, with_line, with_order, with_transfers, told_head, told_more, told_event, told_after, unpack_telling, unpack_tool}
 use Rattle.link_run_judge.proofs.Events.{told_push}

@@ -12,8 +12,8 @@ use Rattle.link_transfer.specs.{declared.fault.OrderFault.OrderFault, declared.j
 use Rattle.link_transfer.specs.{Event.event_of, declared.event.Event.Event}
 use Rattle.link_transfer.specs.Order.{is_segment, is_stray, refusal, effect_of, open_of}
 use Rattle.link_report.specs.{Transfer.transfer_text, declared.transfer.TransferEntry.TransferEntry}
-use Rattle.link_run_transfers.specs.Walk.{Head, WalkEvent, Whole, is_plain, content_events, data_events, head_events, is_last, open_with}
-use Rattle.link_run_transfers.proofs.Heads.{open_then}
+use Rattle.link_run_over_transfers.specs.Walk.{Head, WalkEvent, Whole, is_plain, content_events, data_events, head_events, is_last, open_with}
+use Rattle.link_run_over_transfers.proofs.Heads.{open_then}
 use Rattle.link_run_judge.specs.{Transfers.{Transfer, closes}, TransferJudge.grown}
 use Rattle.link_run_judge.specs.Unpacking.{parts_of, entry_of, line_of, is_good, line_due, good_due, Told, transfers_at, told_head, order_line}
 use Rattle.link_run_judge.proofs.Events.{told_then, told_both, data_told, whole_if, whole_told}

@@ -21,9 +21,9 @@ use Rattle.link_report_rules.specs.declared.line.RuleText.{RuleText}
 use Rattle.link_report_rules.specs.declared.rule.BrokenRule.{BrokenRule}
 use Rattle.link_run.specs.Writers.{on_output}
 use Rattle.link_run.proofs.Runs.{texts_as}
-use Rattle.link_run_transfers.specs.Saying.{kept_after, said_from}
-use Rattle.link_run_transfers.specs.Walk.{WalkEvent, Head, open_after_event, has_open, ContactHeader, MessageHead, Data, Whole, LeftOpen}
-use Rattle.link_run_transfers.proofs.Heads.{has_open-append}
+use Rattle.link_run_over_transfers.specs.Saying.{kept_after, said_from}
+use Rattle.link_run_over_transfers.specs.Walk.{WalkEvent, Head, open_after_event, has_open, ContactHeader, MessageHead, Data, Whole, LeftOpen}
+use Rattle.link_run_over_transfers.proofs.Heads.{has_open-append}
 use Rattle.link_run_judge.specs.Transfers.{Transfer, continued}
 use Rattle.link_run_judge.specs.Unpacking.{Told, transfers_at, told_event, told_after, none_told}
 use Rattle.link_run_judge.proofs.Effects.{zero_eq, Does, Strays, Passes, Begins, Continues, comes_does}

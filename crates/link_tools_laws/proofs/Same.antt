@@ -13,8 +13,8 @@ use Rattle.link_transfer.specs.Order.{refusal, is_stray, has_sess_init, has_sess
 use Rattle.link_transfer.proofs.Joining.{not_stray as never_stray}
 use Rattle.link_run.specs.Made.{StreamStop, Made, whole_by, so_far_by, shows_fault, stop_of, tool_of}
 use Rattle.link_run.specs.Run.{Texts, Outcome, Tool}
-use Rattle.link_run_transfers.specs.Walk.{WalkEvent, LeftOpen, Walked, with_next, contact_events, walked_of, end_events, told_by, told_of, stop_by, MessageHead, Whole}
-use Rattle.link_run_transfers.specs.declared.consumer.Manner.{Manner}
+use Rattle.link_run_over_transfers.specs.Walk.{WalkEvent, LeftOpen, Walked, with_next, contact_events, walked_of, end_events, told_by, told_of, stop_by, MessageHead, Whole}
+use Rattle.link_run_over_transfers.specs.declared.consumer.Manner.{Manner}
 use Rattle.link_run_judge.specs.Transfers.{Transfer, after_message}
 use Rattle.link_run_judge.specs.Unpacking.{parts_of, unpack_tool, Told, told_after, unpack_telling, with_line, line_due, told_event}
 use Rattle.link_run_judge.proofs.Events.{told_then, told_push}

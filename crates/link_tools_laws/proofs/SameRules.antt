@@ -19,13 +19,13 @@ use Rattle.link_report_rules.specs.declared.line.RuleText.{RuleText}
 use Rattle.link_run.specs.{Made.{StreamStop, Made, whole_by, stop_of}, Run.Outcome}
 use Rattle.link_run.specs.Writers.{on_output}
 use Rattle.link_run.proofs.Runs.{texts_as}
-use Rattle.link_run_transfers.specs.Walk.{WalkEvent, Walked, with_next, none_walked, walked_of, walked, end_events, has_open, stop_by, told_of}
-use Rattle.link_run_transfers.specs.declared.consumer.Manner.{Manner}
+use Rattle.link_run_over_transfers.specs.Walk.{WalkEvent, Walked, with_next, none_walked, walked_of, walked, end_events, has_open, stop_by, told_of}
+use Rattle.link_run_over_transfers.specs.declared.consumer.Manner.{Manner}
 use Rattle.link_run_judge.specs.Transfers.{Transfer}
 use Rattle.link_run_judge.specs.Unpacking.{parts_of, judgement_of, is_good, Told, told_after, unpack_tool}
-use Rattle.link_run_bundles.specs.Bundles.{Packed, bundle_limit, bundle_prefix, divided}
-use Rattle.link_run_bundles.proofs.{Dividing.{divided_none, divided_whole}, Divisions.stopped_lasts}
-use Rattle.link_run_bundles.proofs.Outcomes.{told_as}
+use Rattle.link_run_over_bundles.specs.Bundles.{Packed, bundle_limit, bundle_prefix, divided}
+use Rattle.link_run_over_bundles.proofs.{Dividing.{divided_none, divided_whole}, Divisions.stopped_lasts}
+use Rattle.link_run_over_bundles.proofs.Outcomes.{told_as}
 use Rattle.link_tool_blocks.specs.Bundles.{whole_lines, bundle_lines, bundle_blocks_telling}
 use Rattle.link_tool_blocks.specs.Showing.{lines_of, order_line_of, blocks_tool}
 use Rattle.link_tool_check.specs.{BundleRules.bundle_rules, Bundles.bundle_check_telling}

@@ -13,15 +13,15 @@ use Rattle.link_transfer.specs.declared.joiner.Turn.{Turn}
 use Rattle.link_report.specs.Message.{message_text}
 use Rattle.link_run.specs.{Run.Texts, Writers.on_output}
 use Rattle.link_run.proofs.Continued.{StreamGoesOn, stream_of, ReadingGoesOn, reading_on}
-use Rattle.link_run_transfers.specs.Walk.{WalkEvent, ContactHeader, MessageHead, Data, Whole, LeftOpen, open_after_event, has_open}
-use Rattle.link_run_transfers.specs.Saying.{Keeping, said_from}
-use Rattle.link_run_transfers.proofs.Heads.{has_open-append}
+use Rattle.link_run_over_transfers.specs.Walk.{WalkEvent, ContactHeader, MessageHead, Data, Whole, LeftOpen, open_after_event, has_open}
+use Rattle.link_run_over_transfers.specs.Saying.{Keeping, said_from}
+use Rattle.link_run_over_transfers.proofs.Heads.{has_open-append}
 use Rattle.link_run_judge.specs.{TransferJudge.grown, Transfers.{Transfer, continued, after_message}}
 use Rattle.link_run_judge.specs.Unpacking.{is_selected, parts_of, Told, transfers_at, told_event, told_after, unpack_telling, unpack_tool}
 use Rattle.link_run_judge.proofs.{Events.told_push, Texts.parts_more, Effects.comes_does}
 use Rattle.link_run_judge.proofs.Heads.{kind_of, transfers_same, transfer_begins, transfer_continues}
 use Rattle.link_tool_list.specs.Listing.{contact_lines, message_lines, listed_lines, listing_of, listing_by, list_tool}
-use Rattle.link_run_bundles.specs.Bundles.{Packed}
+use Rattle.link_run_over_bundles.specs.Bundles.{Packed}
 use Rattle.link_tool_blocks.specs.{BlockLines.block_lines, Lister.end_due, LineLaws.lines_grow}
 use Rattle.link_tool_blocks.specs.Bundles.{whole_lines, bundle_lines, bundle_blocks_telling, bundle_blocks_tool}
 use Rattle.link_tool_blocks.specs.Showing.{transfer_lines, lines_of, order_line_of, unpacking_by, blocks_telling, blocks_tool}

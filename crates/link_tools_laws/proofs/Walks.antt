@@ -12,10 +12,10 @@ use Rattle.link_transfer.specs.{Event.event_of, Order.{refusal, with_taken, open
 use Rattle.link_transfer.specs.{declared.fault.OrderFault.OrderFault, declared.joiner.Turn.Turn}
 use Rattle.link_run.specs.Made.{tool_of}
 use Rattle.link_run.proofs.Continued.{entry, LastGoesOn, ReadingGoesOn, reading_on}
-use Rattle.link_run_transfers.specs.Walk.{head_at, WalkEvent, Data, Whole, data_events, head_events, content_events, Walked, taken_with, with_judged, with_next, contact_events, walked_of, Head, is_last, closes, ContactHeader, MessageHead, open_with, open_after_event, has_open, with_entry_unless, none_walked, walked, end_events, Telling, told_of}
-use Rattle.link_run_transfers.specs.{declared.consumer.Manner.Manner, Telling.HeadComes}
-use Rattle.link_run_transfers.proofs.{Comes.{plain_open, open_if}, Texts.{made_stays, unread}}
-use Rattle.link_run_transfers.proofs.Heads.{continues_some, open_then, has_open-append, data_keeps}
+use Rattle.link_run_over_transfers.specs.Walk.{head_at, WalkEvent, Data, Whole, data_events, head_events, content_events, Walked, taken_with, with_judged, with_next, contact_events, walked_of, Head, is_last, closes, ContactHeader, MessageHead, open_with, open_after_event, has_open, with_entry_unless, none_walked, walked, end_events, Telling, told_of}
+use Rattle.link_run_over_transfers.specs.{declared.consumer.Manner.Manner, Telling.HeadComes}
+use Rattle.link_run_over_transfers.proofs.{Comes.{plain_open, open_if}, Texts.{made_stays, unread}}
+use Rattle.link_run_over_transfers.proofs.Heads.{continues_some, open_then, has_open-append, data_keeps}
 use Rattle.link_tools_laws.specs.Prefix.{HasPrefixTexts}
 use Rattle.link_tools_laws.proofs.Whole.{IsWhole, FitsData, AreWhole, AreRead, ReadingReads, no_content, reading_read}
 use Rattle.link_tools_laws.proofs.Prefixes.{IsFront, AreFronts, front_same, front_first, front_after, front_none, front_trans, fronts_same, fronts_trans, prefixed}

@@ -14,7 +14,7 @@ use Rattle.link_report.specs.Transfer.{transfer_text}
 use Rattle.link_report.specs.declared.transfer.TransferEntry.{TransferEntry}
 use Rattle.link_run.specs.Made.{StreamStop, stop_of}
 use Rattle.link_run_judge.specs.Transfers.{Transfer}
-use Rattle.link_run_transfers.specs.Walk.{stop_by}
+use Rattle.link_run_over_transfers.specs.Walk.{stop_by}
 use Rattle.link_tools_laws.specs.Transfers.{Ordered, ordered, transfers_of, settled, unpacked_of}
 use Rattle.link_run_judge.specs.Unpacking.{parts_of, entry_of, unpacking_of, unpack_tool}
 use Rattle.link_tools_laws.specs.RoundTrip.{all}
@@ -73,9 +73,10 @@ entries_of wanted (latest ∷ earlier) =
     entries_of wanted earlier ++ entry_of wanted latest (length (parts_of wanted earlier)) ∷ []
 
 -- the first entry begins at `start`, and each other where the one before it ends
-unfoldable pub Follow : (start : ℕ) → List TransferEntry → Type 0
-Follow start [] = Unit {0}
-Follow start (entry ∷ more) = (entry.start ≡ start) × Follow (start + entry.written) more
+unfoldable pub AreConsecutive : (start : ℕ) → List TransferEntry → Type 0
+AreConsecutive start [] = Unit {0}
+AreConsecutive start (entry ∷ more) = (entry.start ≡ start)
+    × AreConsecutive (start + entry.written) more
 
 unfoldable pub total_written : List TransferEntry → ℕ
 total_written [] = 0
@@ -103,7 +104,7 @@ stop_line (Some stop) = fault_text stop.fault
 -- The parts of the output that the lines of these transfers describe follow one another from its
 -- beginning. The rest of the output is the part of the transfer that has no line.
 pub record Divides (wanted : Wanted) (output : List ℕ) (transfers : List Transfer) : Type 0 where
-  pub follow : Follow 0 (entries_of wanted transfers)
+  pub follow : AreConsecutive 0 (entries_of wanted transfers)
   -- the transfer that has no line, if there is one: it is the latest, and the last in the output
   pub left : List Transfer
   pub one : length left ≤ 1

@@ -16,7 +16,7 @@ pub record AllowsLimits (options : PackOptions) (peer : PeerLimits) : Type 0 whe
   pub transfer : IfSome peer.transfer (λ limit. options.peer_transfer ≤ limit)
 
 -- a SESS_INIT keeps the rules of its node ID and of its interval
-pub record KeepsInitRules (init : Message) : Type 0 where
+pub record AreInitRulesKept (init : Message) : Type 0 where
   pub id : node_id init ≡ None
   pub name : node_name init ≡ None
   pub interval : keepalive_interval init ≡ None
@@ -24,7 +24,7 @@ pub record KeepsInitRules (init : Message) : Type 0 where
 -- the SESS_INIT that `pack` writes with these options keeps those rules
 abbrev pub KeepsRules : PackOptions → Type 0
 KeepsRules options =
-    KeepsInitRules (sess_init_with options.keepalive options.segment_mru options.transfer_mru
+    AreInitRulesKept (sess_init_with options.keepalive options.segment_mru options.transfer_mru
     options.node.items)
 
 -- The transfers of the stream carry the bundles of the input, one after another. `check` writes the

@@ -6,7 +6,7 @@ use Rattle.link_tool_options.specs.declared.limits.PeerLimits.{PeerLimits}
 use Rattle.link_bundle_blocks.specs.Bundle.{verdict}
 use Rattle.link_run.specs.Run.{Outcome}
 use Rattle.link_run.specs.Writers.{on_output}
-use Rattle.link_run_bundles.specs.Bundles.{Packed}
+use Rattle.link_run_over_bundles.specs.Bundles.{Packed}
 use Rattle.link_report_rules.specs.declared.{line.RuleText.RuleText, rule.BrokenRule.BrokenRule}
 use Rattle.link_report_rules.specs.declared.rule.BrokenRule.TheVariants.{Message, Transfer, Bundle}
 use Rattle.link_report_rules.specs.declared.rule.BundlePlace.TheVariants as place

@@ -9,7 +9,7 @@ use Rattle.link_transfer.specs.Event.{event_of}
 use Rattle.link_transfer.specs.Order.{begins, is_segment, is_stray, refusal, with_taken}
 use Rattle.link_transfer.specs.declared.{event.Event.Event, fault.OrderFault.OrderFault}
 use Rattle.link_run.specs.Made.{Made, stop_of}
-use Rattle.link_run_transfers.specs.Walk.{stop_by}
+use Rattle.link_run_over_transfers.specs.Walk.{stop_by}
 use Rattle.link_run_judge.specs.Transfers.{Transfer, after_message}
 use Rattle.link_run_judge.specs.Unpacking.{parts_of, judgement_of, line_of, is_good, order_line}
 

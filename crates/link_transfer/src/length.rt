@@ -2,7 +2,7 @@
 
 ghost use Rattle.std.specs.Prelude.{◌≡◌};
 ghost use Rattle.link_transfer.specs.Announced.{announced_by, announced_with, announced_of};
-ghost use Rattle.link_wire.specs.Message.{HasTotals};
+ghost use Rattle.link_wire.specs.Message.{TotalsFit};
 
 use crate::announcement::Announced;
 use link_wire::{Item, Items};
@@ -40,7 +40,7 @@ fn announced_with(announced: Announced, item: &Item) -> Announced
 ///
 /// For a Transfer Length item of 8 bytes, `total` has to be the number that they spell.
 pub fn announced(items: &Items) -> Announced
-    requires { HasTotals items.now.items }
+    requires { TotalsFit items.now.items }
     ensures { result ≡ announced_of items.now.items }
 {
     let mut announced = Announced::Absent;

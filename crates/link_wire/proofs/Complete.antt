@@ -10,7 +10,7 @@ use Rattle.byteorder.specs.{Endian.{big_number, big_from}, Numbers.{big_from-con
 use Rattle.link_io.specs.Bytes.{IsByte, AreBytes}
 use Rattle.link_wire.specs.Part.{Part, ◌>>=◌, bytes_at, number_at}
 use Rattle.link_wire.proofs.FieldReads.{bytes_gone, same_part, both_read}
-use Rattle.link_wire.specs.Spelled.{Spelling, be, U8, U16, U64, These, ContactSpelled, NodeSpelled, ItemHeadSpelled, ValueSpelled, ItemSpelled, ItemsSpelled, ListSpelled, SegmentItemsSpelled, HeadSpelled}
+use Rattle.link_wire.specs.Spelled.{BytesProperty, be, U8, U16, U64, These, ContactSpelled, NodeSpelled, ItemHeadSpelled, ValueSpelled, ItemSpelled, ItemsSpelled, ListSpelled, SegmentItemsSpelled, HeadSpelled}
 use Rattle.link_wire.proofs.Sound.{both, last, ItemsFilling, has_total_size, length_item_head}
 use Rattle.link_wire.specs.declared.message.{ListOf.ListOf, ListOf.TheVariants.{Session, Transfer}}
 use Rattle.link_wire.specs.{Codes.is_start, Limits.{longest_node, longest_list, most_items}}
@@ -56,17 +56,17 @@ be-number k xs are size =
     sym (ap (λ n. be n (big_number n xs)) (sym size) ∙ ap (bytes_high_first (length xs)) (sym bare) ∙ bytes_of_number xs 0 are)
 
 -- the bytes begin with this spelling, and the rest follows it
-pub record BeginsWithSpelling (spelled : Spelling) (bytes rest : List ℕ) : Type 0 where
+pub record BeginsWithSpelling (spelled : BytesProperty) (bytes rest : List ℕ) : Type 0 where
   pub before : List ℕ
   pub is : spelled before
   pub parts : bytes ≡ before ++ rest
 
 -- what was read is spelled in a prefix of the bytes, and the rest follows this prefix
-pub record Found {A : Type 0} (part : List ℕ → Part A) (spelled : A → Spelling) : Type 0 where
+pub record Found {A : Type 0} (part : List ℕ → Part A) (spelled : A → BytesProperty) : Type 0 where
   pub by : (bytes : List ℕ) (value : A) (rest : List ℕ) → AreBytes bytes
       → part bytes ≡ Ok (value, rest) → BeginsWithSpelling (spelled value) bytes rest
 
-pub found_pure : {A : Type 0} (value : A) {spelled : A → Spelling} → spelled value []
+pub found_pure : {A : Type 0} (value : A) {spelled : A → BytesProperty} → spelled value []
     → Found (λ bytes. Ok (value, bytes)) spelled
 found_pure {A} value {spelled} is = record {
   by = λ bytes other rest are read.
@@ -74,12 +74,12 @@ found_pure {A} value {spelled} is = record {
       record { before = []; is = rw (← same.0) is; parts = same.1 };
 }
 
-pub found_err : {A : Type 0} (fault : WireFault) {spelled : A → Spelling}
+pub found_err : {A : Type 0} (fault : WireFault) {spelled : A → BytesProperty}
     → Found (λ bytes. let part : Part A = Err fault in part) spelled
 found_err fault = record { by = λ bytes other rest are read. absurd (cc) }
 
-module _ {A B : Type 0} (part : List ℕ → Part A) (next : A × List ℕ → Part B) {first : A → Spelling}
-    {spelled : B → Spelling} where
+module _ {A B : Type 0} (part : List ℕ → Part A) (next : A × List ℕ → Part B) {first : A → BytesProperty}
+    {spelled : B → BytesProperty} where
   pub found_then : Found part first
       → ((value : A) (before : List ℕ) → first value before
       → Found (λ bytes. next (value, bytes)) (λ given after. spelled given (before ++ after)))
@@ -97,7 +97,7 @@ module _ {A B : Type 0} (part : List ℕ → Part A) (next : A × List ℕ → P
         };
   }
 
-module _ {A : Type 0} (part other : List ℕ → Part A) {spelled : A → Spelling} where
+module _ {A : Type 0} (part other : List ℕ → Part A) {spelled : A → BytesProperty} where
   pub found_if : (test : Bool) → (test ≡ true → Found part spelled)
       → (test ≡ false → Found other spelled)
       → Found (λ bytes. if test then part bytes else other bytes) spelled
@@ -105,7 +105,7 @@ module _ {A : Type 0} (part other : List ℕ → Part A) {spelled : A → Spelli
   found_if false first second = second refl
 
 -- these `n` bytes
-abbrev pub ManyBytes : ℕ → List ℕ → Spelling
+abbrev pub ManyBytes : ℕ → List ℕ → BytesProperty
 ManyBytes n content bytes = AreBytes content × (bytes ≡ content) × (length content ≡ n)
 
 pub found_bytes : (n : ℕ) → Found (bytes_at n) (ManyBytes n)
@@ -136,7 +136,7 @@ found_node =
       both first _ (rw two.2 one) (last (These content) second (two.0, two.1)),
     ))))
 
-abbrev HeadWithin : ℕ → ItemHead → Spelling
+abbrev HeadWithin : ℕ → ItemHead → BytesProperty
 HeadWithin left head bytes = ItemHeadSpelled head.flags head.kind head.length bytes × (5 + head.length ≤ left)
 
 found_item_head : (left : ℕ) → Found (item_head_at left) (HeadWithin left)
@@ -151,7 +151,7 @@ found_item_head left =
     (both first _ one (both second _ two (last (U16 size) third three)), omega (arith, ltb-false left 5 room, ltb-false (left - 5) size fits)))))))
 
 -- `n` bytes that this value is made of
-abbrev MadeOf : {A : Type 0} → ℕ → (List ℕ → A) → A → Spelling
+abbrev MadeOf : {A : Type 0} → ℕ → (List ℕ → A) → A → BytesProperty
 MadeOf n make value bytes = AreBytes bytes × (length bytes ≡ n) × (value ≡ make bytes)
 
 found_made : {A : Type 0} (n : ℕ) (make : List ℕ → A)
@@ -174,7 +174,7 @@ module _ (owner : ListOf) (kind size : ℕ) where
       (is.0, is.1, rw known refl))))
 
 -- the items of `left` bytes of a list, at most `room` of them
-abbrev ItemsWithin : ListOf → ℕ → ℕ → List Item → Spelling
+abbrev ItemsWithin : ListOf → ℕ → ℕ → List Item → BytesProperty
 ItemsWithin owner room left items bytes = ItemsFilling owner items left bytes × (length items ≤ room)
 
 module _ (owner : ListOf) where

@@ -9,7 +9,7 @@ use Rattle.link_wire.specs.{Part.{Part, ◌>>=◌, bytes_at, number_at}, Message
 use Rattle.link_wire.proofs.Skips.{skipped_at-there, skipped_at-add}
 use Rattle.link_io.specs.Source.{IsLive}
 use Rattle.link_io.proofs.Sources.{Takes-none, Takes-then, TakesThenStops-then}
-use Rattle.link_wire.specs.Getting.{Needs, IsPart, IsFault, ReadsPart, with_value}
+use Rattle.link_wire.specs.Getting.{AreNeeded, IsPart, IsFault, ReadsPart, with_value}
 use Rattle.link_wire.specs.declared.fault.{WireFault.WireFault, WireFault.TheVariants.Truncated}
 use Rattle.link_wire.specs.declared.halt.Halt.{Halt}
 use Rattle.link_wire.specs.declared.halt.Halt.TheVariants as halt
@@ -19,7 +19,7 @@ use Rattle.link_io.specs.declared.source.Source.{Source}
 
 module _ {A B : Type 0} (part : List ℕ → Part A) (next : A × List ℕ → Part B) where
   -- bytes that a part needs are also needed if more is read after the part
-  needs_exit : (bytes : List ℕ) → Needs part bytes → Needs (λ bytes. part bytes >>= next) bytes
+  needs_exit : (bytes : List ℕ) → AreNeeded part bytes → AreNeeded (λ bytes. part bytes >>= next) bytes
   needs_exit bytes needs count fewer = ap (λ r. r >>= next) (needs count fewer)
 
   -- bytes that show a fault of a part also show it if more would be read after the part
@@ -35,8 +35,8 @@ module _ {A B : Type 0} (part : List ℕ → Part A) (next : A × List ℕ → P
         → part ((first ++ second) ++ more) >>= next ≡ next (value, second ++ more)
     part_then_more more = rw append_assoc (ap (λ r. r >>= next) (is.is_part (second ++ more)))
 
-    needs_then : Needs (λ bytes. next (value, bytes)) second
-        → Needs (λ bytes. part bytes >>= next) (first ++ second)
+    needs_then : AreNeeded (λ bytes. next (value, bytes)) second
+        → AreNeeded (λ bytes. part bytes >>= next) (first ++ second)
     needs_then needs count fewer =
         ⊎_elim
         (λ less.

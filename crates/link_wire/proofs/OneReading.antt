@@ -6,7 +6,7 @@ use Rattle.link_io.specs.Bytes.{IsByte, AreBytes}
 use Rattle.link_wire.specs.Part.{Part}
 use Rattle.link_wire.proofs.Shrinks.{shrinks_message}
 use Rattle.link_wire.specs.Message.{contact_at, message_at, data_length}
-use Rattle.link_wire.specs.Spelled.{Spelling, ContactSpelled, HeadSpelled}
+use Rattle.link_wire.specs.Spelled.{BytesProperty, ContactSpelled, HeadSpelled}
 use Rattle.link_wire.proofs.Sound.{Only, both, only_contact, only_message}
 use Rattle.link_wire.proofs.Complete.{AreBytes-after, found_contact, found_message}
 use Rattle.link_wire.specs.SpelledStream.{NoneBegins, IsStream, IsReadingBy, IsReading}
@@ -58,7 +58,7 @@ pub only_reading : (bytes : List ℕ) (reading : Reading) → IsReading bytes re
 only_reading bytes reading is = sym (only_by reading.contact reading.entries reading.end bytes is)
 
 -- if reading a part gives a fault, the bytes begin with no spelling of the part
-none_begins : {A : Type 0} (part : List ℕ → Part A) (value : A) (spelled : Spelling)
+none_begins : {A : Type 0} (part : List ℕ → Part A) (value : A) (spelled : BytesProperty)
     (bytes : List ℕ) (fault : WireFault) → Only part value spelled → part bytes ≡ Err fault
     → NoneBegins spelled bytes
 none_begins part value spelled bytes fault only is = λ before more spells same.

@@ -7,9 +7,9 @@ use Rattle.link_wire.specs.Part.{Part, number_at}
 use Rattle.link_wire.specs.Message.{contact_at, message_at, fields_at, data_length}
 use Rattle.link_io.specs.Source.{window_of, is_fresh, IsSourceAt, IsLive, IsOver, Takes, Readies}
 use Rattle.link_wire.specs.Limits.{window_size}
-use Rattle.link_wire.specs.Getting.{Needs, IsPart, IsFault, WholePart, ReadsPart, OneKind}
+use Rattle.link_wire.specs.Getting.{AreNeeded, IsPart, IsFault, GivenPart, ReadsPart, GivenKind}
 use Rattle.link_wire.specs.Stream.{Entry, End, Clean, Cut, Fault, Stream, ended, stream_at, Reading, reading_of}
-use Rattle.link_wire.specs.Session.{joined, data_after, rest_after, IsLeft, IsUndecided, SameMessages, OnlyLastShows, is_unopened, reads_next, may_open, may_read, left_of, HasStopped, IsSessionAt, GivenContact, AfterOpen, GivenMessage, AfterNext, PassedBytes, LoadedData, AfterLoad, AfterData}
+use Rattle.link_wire.specs.Session.{joined, data_after, rest_after, IsLeft, IsUndecided, HaveSameMessages, OnlyLastShows, is_unopened, reads_next, may_open, may_read, left_of, HasStopped, IsSessionAt, GivenContact, AfterOpen, GivenMessage, AfterNext, PassedBytes, LoadedData, AfterLoad, AfterData}
 use Rattle.link_io.proofs.Sources.{fresh_at, fresh_live, IsSourceAt-then, Takes-then, Readies-takes, Readies-over, TakesThenStops-then}
 use Rattle.link_wire.proofs.{Gettings.{after, IsFault-then, cut_then}, Plains.IsPart-byte}
 use Rattle.link_wire.proofs.{Shrinks.shrinks_message, Steady.{steady_contact, steady_message, cut_before}}
@@ -17,7 +17,7 @@ use Rattle.link_wire.proofs.Within.{Steady, within_contact, within_message, part
 use Rattle.link_wire.proofs.Streams.{stream_at-head, stream_at-fault}
 use Rattle.link_wire.proofs.Contacts.{contact_taken, reading-contact, reading-refused, reading-none}
 use Rattle.link_wire.proofs.Rests.{appended, begun, begun_by, begun_left, data_by, data_left, clean_end, reading_of-joined, goes_on_from}
-use Rattle.link_wire.specs.{Halt.stop_at, Whole.{AreMessages, PassedMessages, GivenWhole}}
+use Rattle.link_wire.specs.{Halt.stop_at, Whole.{AreMessages, PassedMessages, GivenWholeMessage}}
 use Rattle.link_wire.proofs.Wholes.{one_message}
 use Rattle.link_wire.specs.declared.fault.Stop.{Stop}
 use Rattle.link_wire.specs.declared.fault.Stop.TheVariants as stop
@@ -64,13 +64,13 @@ none_left s reading may = eqb-true s.left 0 (ap (λ p. reads_next p s.left) (sym
 -- ---- the contact header
 
 -- a proper prefix of the bytes that a contact header needs has none, and shows no fault
-contact_shown : (given : List ℕ) → Needs contact_at given → OnlyLastShows [] given
+contact_shown : (given : List ℕ) → AreNeeded contact_at given → OnlyLastShows [] given
 contact_shown given needs = λ count fewer.
     let read = reading-refused (take count given) wire.Truncated (needs count fewer) in
     rw (read, reading-none) (record { contact = refl; entries = refl }, refl)
 
 needs_by : {A : Type 0} (part : List ℕ → Part A) (bytes : List ℕ) → Steady part
-    → part bytes ≡ Err wire.Truncated → Needs part bytes
+    → part bytes ≡ Err wire.Truncated → AreNeeded part bytes
 needs_by part bytes steady cut = λ count fewer.
     cut_before part steady (take count bytes) (drop count bytes)
     (ap part (take-append-drop count bytes) ∙ cut)
@@ -192,7 +192,7 @@ module _ {R : Type 0} {look : R → Input} where
 
     -- bytes that end inside a head do not change the messages, and more bytes may mend the end
     cut_here : (given : List ℕ) → message_at given ≡ Err wire.Truncated
-        → SameMessages (reading_of history) (reading_of (history ++ given))
+        → HaveSameMessages (reading_of history) (reading_of (history ++ given))
         × IsUndecided (reading_of (history ++ given)).end
     cut_here [] is = rw append-nil (record { contact = refl; entries = refl }, rw clean tt)
     cut_here (kind ∷ given) is =
@@ -200,12 +200,12 @@ module _ {R : Type 0} {look : R → Input} where
         (record { contact = refl; entries = append-nil (reading_of history).entries }, refl)
 
     -- a proper prefix of the bytes that a head needs makes no message, and shows no fault
-    head_shown : (given : List ℕ) → Needs message_at given → OnlyLastShows history given
+    head_shown : (given : List ℕ) → AreNeeded message_at given → OnlyLastShows history given
     head_shown given needs = λ count fewer. cut_here (take count given) (needs count fewer)
 
     -- the head of a message was read
     pub came : (new : Session R) (message : Message)
-        → WholePart look message_at old.source new.source message → new.offset ≡ length history
+        → GivenPart look message_at old.source new.source message → new.offset ≡ length history
         → new.left ≡ data_length message → new.phase ≡ phase.Reading
         → GivenMessage look old new history (length history) message
     came new message got offset left going =
@@ -244,7 +244,7 @@ module _ {R : Type 0} {look : R → Input} where
       -- one message, its head and its data
       pub came_whole : (head content : List ℕ) (message : Message) → given ≡ head ++ content
           → length given ≤ window_size → IsPart message_at head message → data_length message ≡ length content
-          → GivenWhole look old new history (length history) message
+          → GivenWholeMessage look old new history (length history) message
       came_whole head content message parts room is size =
           let one : List Entry = record { offset = length history; message = message; content = content } ∷ [] in
           record {
@@ -258,7 +258,7 @@ module _ {R : Type 0} {look : R → Input} where
           }
 
     -- the next message, by its type byte and the fields after it
-    module _ {mid : Source R} {kind : ℕ} (first : OneKind look old.source mid kind) where
+    module _ {mid : Source R} {kind : ℕ} (first : GivenKind look old.source mid kind) where
       typed : ReadsPart look (number_at 1) old.source mid (Ok kind)
       typed = record { by = record { given = kind ∷ []; takes = first.takes; live = first.live; is = IsPart-byte kind } }
 

@@ -6,7 +6,7 @@ use Rattle.byteorder.specs.Endian.{big_number}
 use Rattle.byteorder.specs.Numbers.{big_number-reads_back, length-bytes_high_first}
 use Rattle.link_wire.specs.Part.{Part, ◌>>=◌, bytes_at, number_at}
 use Rattle.link_wire.proofs.FieldReads.{bytes_at-there, same_part}
-use Rattle.link_wire.specs.Spelled.{Spelling, be, U32, These, ◌⨾◌, ContactSpelled, NodeSpelled, ItemHeadSpelled, ValueSpelled, ItemsSpelled, ListSpelled, SegmentItemsSpelled, HeadSpelled, Spelled}
+use Rattle.link_wire.specs.Spelled.{BytesProperty, be, U32, These, ◌⨾◌, ContactSpelled, NodeSpelled, ItemHeadSpelled, ValueSpelled, ItemsSpelled, ListSpelled, SegmentItemsSpelled, HeadSpelled, Spelled}
 use Rattle.link_wire.specs.declared.message.{ListOf.ListOf, ListOf.TheVariants.{Session, Transfer}}
 use Rattle.link_wire.specs.{Codes.is_start, Limits.{longest_node, longest_list, most_items}}
 use Rattle.link_wire.specs.Message.{contact_at, skipped_at, total_at, item_head_at, items_at, items_of, list_at, node_bytes_at, node_at, segment_items_at, segment_at, ack_at, refuse_at, sess_term_at, msg_reject_at, sess_init_at, fields_at, message_at, is_total_length, data_length}
@@ -14,29 +14,29 @@ use Rattle.link_wire.specs.declared.message.{Contact.Contact, Item.Item, Message
 use Rattle.link_wire.specs.declared.message.Message.TheVariants.{SessInit, Segment, Ack, Refuse, Keepalive, SessTerm, MsgReject}
 
 -- the length of a spelling that has two parts
-pub length_parts : {first second : Spelling} (bytes : List ℕ) (is : (first ⨾ second) bytes)
+pub length_parts : {first second : BytesProperty} (bytes : List ℕ) (is : (first ⨾ second) bytes)
     → length bytes ≡ length is.before + length is.after
 length_parts bytes is = ap length is.parts ∙ length-append is.before is.after
 
-module _ {first second : Spelling} where
+module _ {first second : BytesProperty} where
   -- two spellings, one after another
   pub both : (before after : List ℕ) → first before → second after
       → (first ⨾ second) (before ++ after)
   both before after one two = record { before = before; after = after; is_first = one; is_second = two; parts = refl }
 
 -- the last spelling of a part, with nothing after it
-pub last : (spelled : Spelling) (before : List ℕ) → spelled before → spelled (before ++ [])
+pub last : (spelled : BytesProperty) (before : List ℕ) → spelled before → spelled (before ++ [])
 last spelled before is = subst spelled (sym (append-nil before)) is
 
 -- a spelling is read as this value, whatever follows it
 pub record Only {A : Type 0} (part : List ℕ → Part A) (value : A)
-    (spelled : Spelling) : Type 0 where
+    (spelled : BytesProperty) : Type 0 where
   pub by : (bytes : List ℕ) → spelled bytes → (more : List ℕ)
       → part (bytes ++ more) ≡ Ok (value, more)
 
 module _ {A B : Type 0} (part : List ℕ → Part A) (next : A × List ℕ → Part B)
     {value : A} {given : B} where
-  pub only_then : {first second : Spelling} → Only part value first
+  pub only_then : {first second : BytesProperty} → Only part value first
       → Only (λ bytes. next (value, bytes)) given second
       → Only (λ bytes. part bytes >>= next) given (first ⨾ second)
   only_then head rest = record {
@@ -47,12 +47,12 @@ module _ {A B : Type 0} (part : List ℕ → Part A) (next : A × List ℕ → P
         ∙ rest.by is.after is.is_second more;
   }
 
-  pub only_last : {spelled : Spelling} → Only part value spelled
+  pub only_last : {spelled : BytesProperty} → Only part value spelled
       → ((more : List ℕ) → next (value, more) ≡ Ok (given, more))
       → Only (λ bytes. part bytes >>= next) given spelled
   only_last field rest = record { by = λ bytes is more. ap (λ read. read >>= next) (field.by bytes is more) ∙ rest more }
 
-module _ {A : Type 0} (part other : List ℕ → Part A) {value : A} {spelled : Spelling} where
+module _ {A : Type 0} (part other : List ℕ → Part A) {value : A} {spelled : BytesProperty} where
   pub only_if : (test : Bool) → test ≡ true → Only part value spelled
       → Only (λ bytes. if test then part bytes else other bytes) value spelled
   only_if true is only = only
@@ -64,7 +64,7 @@ module _ {A : Type 0} (part other : List ℕ → Part A) {value : A} {spelled : 
   only_else false is only = only
 
 -- a fact, and a spelling that is read as this value if the fact holds
-only_given : {A : Type 0} {part : List ℕ → Part A} {value : A} {fact : Type 0} {spelled : Spelling}
+only_given : {A : Type 0} {part : List ℕ → Part A} {value : A} {fact : Type 0} {spelled : BytesProperty}
     → (fact → Only part value spelled) → Only part value (λ bytes. fact × spelled bytes)
 only_given only = record { by = λ bytes is more. (only is.0).by bytes is.1 more }
 
@@ -146,7 +146,7 @@ length_item_head flags kind size bytes is =
     omega arith
 
 -- items that fill `left` bytes of a list
-abbrev pub ItemsFilling : ListOf → List Item → ℕ → Spelling
+abbrev pub ItemsFilling : ListOf → List Item → ℕ → BytesProperty
 ItemsFilling owner items left bytes = ItemsSpelled owner items bytes × (length bytes ≡ left)
 
 module _ (owner : ListOf) where

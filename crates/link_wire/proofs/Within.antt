@@ -3,7 +3,7 @@
 use Rattle.std.proofs.Common.{◌≡◌, ℕ, zero, suc, ◌+◌, ◌-◌, ◌<◌, ◌≤◌, ◌⊎◌, inl, inr, Bool, true, false, eqb, List, [], ◌++◌, length, drop, take, slice_index, Result, Ok, Err, nat_lt, if◌then◌else◌, arith, refl, ap, sym, ◌∙◌, length-append, length-take, append-nil, ⊎_elim}
 use Rattle.std.proofs.lemmas.{Bool.{cases_lt, ltb-false}, List.{take-append-le, drop-append-le}}
 use Rattle.byteorder.specs.Endian.{big_number}
-use Rattle.link_wire.specs.{Codes.is_start, Getting.{Needs, IsPart}}
+use Rattle.link_wire.specs.{Codes.is_start, Getting.{AreNeeded, IsPart}}
 use Rattle.link_wire.specs.Limits.{longest_node, longest_list, most_items, longest_head}
 use Rattle.link_wire.specs.Part.{Part, ◌>>=◌, bytes_at, number_at}
 use Rattle.link_wire.specs.Message.{contact_at, skipped_at, is_total_length, total_at, item_head_at, items_at, items_of, list_at, node_bytes_at, node_at, segment_items_at, segment_at, ack_at, refuse_at, sess_term_at, msg_reject_at, sess_init_at, fields_at, message_at}
@@ -298,7 +298,7 @@ module _ {A : Type 0} {most : ℕ} {part : List ℕ → Part A}
       let few = (within.read (bytes ++ []) value [] (is.is_part [])).0 in
       omega (arith, few, ap length (append-nil bytes))
 
-  pub needed_size : Needs part bytes → length bytes ≤ most
+  pub needed_size : AreNeeded part bytes → length bytes ≤ most
   needed_size needs =
       ⊎_elim
       (λ over.

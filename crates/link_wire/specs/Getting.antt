@@ -17,22 +17,23 @@ MayFollow fault more = fault ≡ Truncated → more ≡ []
 
 module _ {A : Type 0} where
   -- all of these bytes are needed: in a proper prefix of them a field is missing
-  abbrev pub Needs : (List ℕ → Part A) → List ℕ → Type 0
-  Needs part bytes = (count : ℕ) → count < length bytes → part (take count bytes) ≡ Err Truncated
+  abbrev pub AreNeeded : (List ℕ → Part A) → List ℕ → Type 0
+  AreNeeded part bytes = (count : ℕ) → count < length bytes
+      → part (take count bytes) ≡ Err Truncated
 
   -- these bytes are the part with this value, whatever follows them
   pub record IsPart (part : List ℕ → Part A) (bytes : List ℕ) (value : A) : Type 0 where
     pub is_part : (more : List ℕ) → part (bytes ++ more) ≡ Ok (value, more)
-    pub needs : Needs part bytes
+    pub needs : AreNeeded part bytes
 
   -- these bytes show the fault, and their last byte is the first that shows it
   pub record IsFault (part : List ℕ → Part A) (bytes : List ℕ) (fault : WireFault) : Type 0 where
     pub is_fault : (more : List ℕ) → MayFollow fault more → part (bytes ++ more) ≡ Err fault
-    pub needs : Needs part bytes
+    pub needs : AreNeeded part bytes
 
 module _ {R A : Type 0} where
   -- the bytes given are the part
-  pub record WholePart (look : R → Input) (part : List ℕ → Part A) (old new : Source R)
+  pub record GivenPart (look : R → Input) (part : List ℕ → Part A) (old new : Source R)
       (value : A) : Type 0 where
     pub given : List ℕ
     pub takes : Takes look old new given
@@ -56,7 +57,7 @@ module _ {R A : Type 0} where
 
   abbrev pub AfterPart : (R → Input) → (List ℕ → Part A) → Source R
       → Source R → Result A Halt → Type 0
-  AfterPart look part old new (Ok value) = WholePart look part old new value
+  AfterPart look part old new (Ok value) = GivenPart look part old new value
   AfterPart look part old new (Err (halt.Wire fault)) = MetFault look part old new fault
   AfterPart look part old new (Err (halt.Io fault)) = MetStop look part old new fault
 
@@ -74,16 +75,16 @@ with_value value (Err stop) = Err stop
 
 -- The cases of reading a type byte: none, since the input has ended before it; or this one.
 module _ {R : Type 0} where
-  pub record NoKind (look : R → Input) (old new : Source R) : Type 0 where
+  pub record GivenNoKind (look : R → Input) (old new : Source R) : Type 0 where
     pub takes : Takes look old new []
     pub live : IsLive look new
     pub over : IsOver look new
 
-  pub record OneKind (look : R → Input) (old new : Source R) (kind : ℕ) : Type 0 where
+  pub record GivenKind (look : R → Input) (old new : Source R) (kind : ℕ) : Type 0 where
     pub takes : Takes look old new (kind ∷ [])
     pub live : IsLive look new
 
   abbrev pub AfterKind : (R → Input) → Source R → Source R → Result (Option ℕ) IoFault → Type 0
-  AfterKind look old new (Ok None) = NoKind look old new
-  AfterKind look old new (Ok (Some kind)) = OneKind look old new kind
+  AfterKind look old new (Ok None) = GivenNoKind look old new
+  AfterKind look old new (Ok (Some kind)) = GivenKind look old new kind
   AfterKind look old new (Err fault) = TakesThenStops look old new [] fault

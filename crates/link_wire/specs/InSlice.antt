@@ -87,7 +87,7 @@ LocatesList owner bytes part (Ok (span, next)) = ListLies owner bytes part span 
 LocatesList owner bytes part (Err fault) = part ≡ Err fault
 
 -- with START, the items of a segment lie at the span; without, it has none and the span is empty
-pub record SegmentList (flags : ℕ) (bytes : List ℕ) (span : Span)
+pub record SegmentItemsLie (flags : ℕ) (bytes : List ℕ) (span : Span)
     (items : ArrayVec Item) : Type 0 where
   pub with_start : is_start flags ≡ true → (next : ℕ) × ItemsLieAt Transfer bytes span items next
   pub without_start : is_start flags ≡ false → (items ≡ record { items = [] }) × (span.length ≡ 0)
@@ -96,24 +96,24 @@ pub record SegmentList (flags : ℕ) (bytes : List ℕ) (span : Span)
 abbrev pub HasList : Fields → List ℕ → Span → ArrayVec Item → Type 0
 HasList (fields.SessInit interval segment_mru transfer_mru) bytes span items =
     (next : ℕ) × ItemsLieAt Session bytes span items next
-HasList (fields.Segment flags id size) bytes span items = SegmentList flags bytes span items
+HasList (fields.Segment flags id size) bytes span items = SegmentItemsLie flags bytes span items
 HasList _ bytes span items = Unit {0}
 
 -- in a SESS_INIT, the items begin four bytes after the node ID, and end where the message ends
-pub record SessionSpans (node items : Span) (end : ℕ) : Type 0 where
+pub record SessionSpansFit (node items : Span) (end : ℕ) : Type 0 where
   pub node_ends : node.offset + node.length + 4 ≡ items.offset
   pub items_end : items.offset + items.length ≡ end
 
 -- in a segment with START, the head ends eight bytes after the items
-pub record SegmentSpans (flags : ℕ) (items : Span) (end : ℕ) : Type 0 where
+pub record SegmentSpansFit (flags : ℕ) (items : Span) (end : ℕ) : Type 0 where
   pub with_start : is_start flags ≡ true → items.offset + items.length + 8 ≡ end
   pub without_start : is_start flags ≡ false → items ≡ record { offset = 0; length = 0 }
 
 -- the node ID and the items lie within the message, whose head ends at `end`
 abbrev pub HasSpans : Fields → (node items : Span) → (end : ℕ) → Type 0
 HasSpans (fields.SessInit interval segment_mru transfer_mru) node items end =
-    SessionSpans node items end
-HasSpans (fields.Segment flags id size) node items end = SegmentSpans flags items end
+    SessionSpansFit node items end
+HasSpans (fields.Segment flags id size) node items end = SegmentSpansFit flags items end
 HasSpans _ node items end = Unit {0}
 
 -- The part is the message that `found` describes: its numbers, and where its node ID and its items

@@ -63,13 +63,13 @@ total_at owner kind size bytes =
       Ok (None, bytes))
 
 -- If an item of a transfer's list has the type and the size of a Transfer Length item, the total in
--- its value was kept. `HasTotal` holds of every other item.
-abbrev pub HasTotal : Item → Type 0
-HasTotal item = item.kind ≡ transfer_length → item.length ≡ total_size → IsSome item.total
+-- its value was kept. `TotalFits` holds of every other item.
+abbrev pub TotalFits : Item → Type 0
+TotalFits item = item.kind ≡ transfer_length → item.length ≡ total_size → IsSome item.total
 
--- `HasTotal` holds of each item of a transfer's list
-abbrev pub HasTotals : List Item → Type 0
-HasTotals items = All HasTotal items
+-- `TotalFits` holds of each item of a transfer's list
+abbrev pub TotalsFit : List Item → Type 0
+TotalsFit items = All TotalFits items
 
 -- The head of the next extension item (section 4.8): its flags, type and length. The list has
 -- `left` more bytes, and the item has to end within them.

@@ -2,7 +2,7 @@
 use Rattle.std.specs.Prelude.{ℕ, [], if◌then◌else◌}
 use Rattle.arrayvec.specs.ArrayVec.{ArrayVec}
 use Rattle.link_wire.specs.Codes.{is_start}
-use Rattle.link_wire.specs.Message.{HasTotals}
+use Rattle.link_wire.specs.Message.{TotalsFit}
 use Rattle.link_wire.specs.declared.message.{Item.Item, Fields.Fields}
 use Rattle.link_wire.specs.declared.message.Fields.TheVariants as fields
 use Rattle.link_wire.specs.declared.message.Message.{Message}
@@ -28,11 +28,11 @@ message_with (fields.MsgReject reason header) node items = MsgReject reason head
 abbrev pub message_of : MessageBuffer → Message
 message_of buffer = message_with buffer.fields buffer.node buffer.items
 
--- If the message is a segment, the totals in the items of the buffer were kept (`HasTotals`). This
+-- If the message is a segment, the totals in the items of the buffer were kept (`TotalsFit`). This
 -- holds without START too, where the segment shows no items.
-abbrev pub SegmentHasTotalsWith : Fields → ArrayVec Item → Type 0
-SegmentHasTotalsWith (fields.Segment flags id size) items = HasTotals items.items
-SegmentHasTotalsWith _ items = Unit {0}
+abbrev pub SegmentTotalsFitBy : Fields → ArrayVec Item → Type 0
+SegmentTotalsFitBy (fields.Segment flags id size) items = TotalsFit items.items
+SegmentTotalsFitBy _ items = Unit {0}
 
-abbrev pub SegmentHasTotals : MessageBuffer → Type 0
-SegmentHasTotals buffer = SegmentHasTotalsWith buffer.fields buffer.items
+abbrev pub SegmentTotalsFit : MessageBuffer → Type 0
+SegmentTotalsFit buffer = SegmentTotalsFitBy buffer.fields buffer.items

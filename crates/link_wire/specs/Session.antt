@@ -4,7 +4,7 @@ use Rattle.link_io.specs.Device.{Input}
 use Rattle.link_wire.specs.Getting.{MayFollow}
 use Rattle.link_wire.specs.Limits.{longest_head, window_size}
 use Rattle.link_wire.specs.Message.{data_length, contact_at, message_at}
-use Rattle.link_wire.specs.MessageBuffer.{message_of, SegmentHasTotals}
+use Rattle.link_wire.specs.MessageBuffer.{message_of, SegmentTotalsFit}
 use Rattle.link_wire.specs.Part.{Part}
 use Rattle.link_io.specs.Source.{IsSourceAt, IsLive, IsOver, HasEnded, Takes, Readies, TakesThenStops, is_fresh, window_of, at_hand, front_of}
 use Rattle.link_wire.specs.Stream.{End, Clean, Cut, Fault, Stream, ended, with_entry, stream_at, Reading, reading_of}
@@ -88,7 +88,7 @@ IsEnough zero bytes = IsEnoughFor message_at bytes
 IsEnough (suc left) bytes = 0 < length bytes
 
 -- both readings have the same contact header and messages
-pub record SameMessages (first second : Reading) : Type 0 where
+pub record HaveSameMessages (first second : Reading) : Type 0 where
   pub contact : second.contact ≡ first.contact
   pub entries : second.entries ≡ first.entries
 
@@ -96,7 +96,7 @@ pub record SameMessages (first second : Reading) : Type 0 where
 abbrev pub OnlyLastShows : (history bytes : List ℕ) → Type 0
 OnlyLastShows history bytes =
     (count : ℕ) → count < length bytes
-    → SameMessages (reading_of history) (reading_of (history ++ take count bytes))
+    → HaveSameMessages (reading_of history) (reading_of (history ++ take count bytes))
     × IsUndecided (reading_of (history ++ take count bytes)).end
 
 abbrev pub is_unopened : Phase → Bool
@@ -243,7 +243,7 @@ module _ {R : Type 0} where
     pub at : IsSessionAt look new (history ++ given)
 
   -- no message: the stream ends between two messages
-  pub record CleanEnd (look : R → Input) (old new : Session R) (history : List ℕ) : Type 0 where
+  pub record ReachedEnd (look : R → Input) (old new : Session R) (history : List ℕ) : Type 0 where
     pub takes : Takes look old.source new.source []
     pub over : IsOver look new.source
     pub clean : (reading_of history).end ≡ Clean
@@ -269,13 +269,13 @@ module _ {R : Type 0} where
     pub stops : TakesThenStops look old.source new.source given fault
     pub size : length given < longest_head
     pub shown_last : OnlyLastShows history given
-    pub same : SameMessages (reading_of history) (reading_of (history ++ given))
+    pub same : HaveSameMessages (reading_of history) (reading_of (history ++ given))
     pub undecided : IsUndecided (reading_of (history ++ given)).end
     pub stopped : HasStopped new (stop.Io fault)
 
   abbrev pub AfterNext : (R → Input) → Session R → Session R → List ℕ
       → Result (Option (ℕ × Message)) Stop → Type 0
-  AfterNext look old new history (Ok None) = CleanEnd look old new history
+  AfterNext look old new history (Ok None) = ReachedEnd look old new history
   AfterNext look old new history (Ok (Some (offset, message))) =
       GivenMessage look old new history offset message
   AfterNext look old new history (Err (stop.Wire offset fault)) =
@@ -345,7 +345,7 @@ module _ {R : Type 0} where
     pub gives : (history : List ℕ) → IsSessionAt look old history
         → AfterNext look old new history (with_message_read (message_of message) result)
     -- the items of a segment have their totals
-    pub totals : IfOk result (λ got. IfSome got (λ offset. SegmentHasTotals message))
+    pub totals : IfOk result (λ got. IfSome got (λ offset. SegmentTotalsFit message))
     pub opened : IsTrue (is_opened new)
     pub stopped : (why : Stop) → HasStopped old why → (new ≡ old) × (result ≡ Err why)
 

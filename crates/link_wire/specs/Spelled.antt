@@ -13,11 +13,11 @@ use Rattle.link_wire.specs.declared.message.Message.{Message}
 use Rattle.link_wire.specs.declared.message.Message.TheVariants.{SessInit, Segment, Ack, Refuse, Keepalive, SessTerm, MsgReject}
 
 -- a property of lists of bytes: that they spell something
-abbrev pub Spelling : Type 1
-Spelling = List ℕ → Type 0
+abbrev pub BytesProperty : Type 1
+BytesProperty = List ℕ → Type 0
 
 -- one spelling, followed by another
-pub record FollowedBy (first second : Spelling) (bytes : List ℕ) : Type 0 where
+pub record FollowedBy (first second : BytesProperty) (bytes : List ℕ) : Type 0 where
   pub before : List ℕ
   pub after : List ℕ
   pub is_first : first before
@@ -25,7 +25,7 @@ pub record FollowedBy (first second : Spelling) (bytes : List ℕ) : Type 0 wher
   pub parts : bytes ≡ before ++ after
 
 infixr 30 ◌⨾◌
-abbrev pub ◌⨾◌ : Spelling → Spelling → Spelling
+abbrev pub ◌⨾◌ : BytesProperty → BytesProperty → BytesProperty
 (first ⨾ second) bytes = FollowedBy first second bytes
 
 -- the `k` bytes whose value is `n`, the most significant first
@@ -33,35 +33,35 @@ abbrev pub be : ℕ → ℕ → List ℕ
 be k n = big_bytes k n
 
 -- unsigned numbers of one, two, four and eight bytes
-abbrev pub U8 : ℕ → Spelling
+abbrev pub U8 : ℕ → BytesProperty
 U8 n bytes = (n < 2 ^ 8) × (bytes ≡ be 1 n)
 
-abbrev pub U16 : ℕ → Spelling
+abbrev pub U16 : ℕ → BytesProperty
 U16 n bytes = (n < 2 ^ 16) × (bytes ≡ be 2 n)
 
-abbrev pub U32 : ℕ → Spelling
+abbrev pub U32 : ℕ → BytesProperty
 U32 n bytes = (n < 2 ^ 32) × (bytes ≡ be 4 n)
 
-abbrev pub U64 : ℕ → Spelling
+abbrev pub U64 : ℕ → BytesProperty
 U64 n bytes = (n < 2 ^ 64) × (bytes ≡ be 8 n)
 
 -- exactly these bytes
-abbrev pub These : List ℕ → Spelling
+abbrev pub These : List ℕ → BytesProperty
 These content bytes = AreBytes content × (bytes ≡ content)
 
 -- the contact header (section 4.2): `dtn!`, version 4, and the flags
-abbrev pub ContactSpelled : Contact → Spelling
+abbrev pub ContactSpelled : Contact → BytesProperty
 ContactSpelled contact bytes =
     (contact.flags < 2 ^ 8)
     × (bytes ≡ 0x64 ∷ 0x74 ∷ 0x6e ∷ 0x21 ∷ tcpcl_version ∷ contact.flags ∷ [])
 
 -- a node ID (section 4.6): its length, and its bytes
-abbrev pub NodeSpelled : ArrayVec ℕ → Spelling
+abbrev pub NodeSpelled : ArrayVec ℕ → BytesProperty
 NodeSpelled node bytes =
     (length node.items ≤ longest_node) × (U16 (length node.items) ⨾ These node.items) bytes
 
 -- the fields of an extension item before its value (sections 4.8 and 5.2.5): flags, type and length
-abbrev pub ItemHeadSpelled : (flags kind size : ℕ) → Spelling
+abbrev pub ItemHeadSpelled : (flags kind size : ℕ) → BytesProperty
 ItemHeadSpelled flags kind size = U8 flags ⨾ U16 kind ⨾ U16 size
 
 -- the number in the value of a Transfer Length item (section 5.2.5.1); no other item has one
@@ -70,18 +70,18 @@ total_of owner kind size value =
     if is_total_length owner kind size then Some (big_number total_size value) else None
 
 -- an extension item's value: any bytes, as many as the item's length
-abbrev pub ValueSpelled : (owner : ListOf) (kind size : ℕ) → Option ℕ → Spelling
+abbrev pub ValueSpelled : (owner : ListOf) (kind size : ℕ) → Option ℕ → BytesProperty
 ValueSpelled owner kind size total value =
     AreBytes value × (length value ≡ size) × (total ≡ total_of owner kind size value)
 
 -- an extension item, of a transfer's list or of a session's
-abbrev pub ItemSpelled : (owner : ListOf) → Item → Spelling
+abbrev pub ItemSpelled : (owner : ListOf) → Item → BytesProperty
 ItemSpelled owner item =
     ItemHeadSpelled item.flags item.kind item.length ⨾ ValueSpelled owner
     item.kind item.length item.total
 
 -- items one after another
-abbrev pub ItemsSpelled : (owner : ListOf) → List Item → Spelling
+abbrev pub ItemsSpelled : (owner : ListOf) → List Item → BytesProperty
 ItemsSpelled owner [] bytes = bytes ≡ []
 ItemsSpelled owner (item ∷ items) bytes = (ItemSpelled owner item ⨾ ItemsSpelled owner items) bytes
 
@@ -94,14 +94,14 @@ pub record ListSpelled (owner : ListOf) (items : ArrayVec Item) (bytes : List �
   pub is_list : (U32 (length body) ⨾ These body) bytes
 
 -- the extension list of a segment, which has one only with START
-abbrev pub SegmentItemsSpelled : (start : Bool) → ArrayVec Item → Spelling
+abbrev pub SegmentItemsSpelled : (start : Bool) → ArrayVec Item → BytesProperty
 SegmentItemsSpelled true items bytes = ListSpelled Transfer items bytes
 SegmentItemsSpelled false items bytes = (items.items ≡ []) × (bytes ≡ [])
 
 -- The head of a message: its type byte (section 4.5) and its fields, without the data of a segment.
 -- The cases are XFER_SEGMENT (section 5.2.2), XFER_ACK (5.2.3), XFER_REFUSE (5.2.4), KEEPALIVE
 -- (5.1.1), SESS_TERM (6.1), MSG_REJECT (5.1.2) and SESS_INIT (4.6).
-abbrev pub HeadSpelled : Message → Spelling
+abbrev pub HeadSpelled : Message → BytesProperty
 HeadSpelled (Segment head) =
     U8 xfer_segment ⨾ U8 head.flags ⨾ U64 head.id ⨾ SegmentItemsSpelled (is_start head.flags)
     head.items ⨾ U64 head.length
@@ -116,6 +116,6 @@ HeadSpelled (SessInit interval segment_mru transfer_mru node items) =
 
 -- A message and its data. A segment has as many bytes of data as its head says, and every other
 -- message has none.
-abbrev pub Spelled : Message → (content : List ℕ) → Spelling
+abbrev pub Spelled : Message → (content : List ℕ) → BytesProperty
 Spelled message content bytes =
     (length content ≡ data_length message) × (HeadSpelled message ⨾ These content) bytes

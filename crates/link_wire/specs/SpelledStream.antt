@@ -2,19 +2,19 @@
 -- header, messages one after another, and an end.
 use Rattle.std.specs.Prelude.{◌≡◌, ◌≢◌, ℕ, ◌+◌, ◌<◌, List, [], ◌∷◌, ◌++◌, length, Option, Some, None, Err}
 use Rattle.link_wire.specs.Message.{contact_at, message_at, data_length}
-use Rattle.link_wire.specs.Spelled.{Spelling, These, ◌⨾◌, ContactSpelled, HeadSpelled, Spelled}
+use Rattle.link_wire.specs.Spelled.{BytesProperty, These, ◌⨾◌, ContactSpelled, HeadSpelled, Spelled}
 use Rattle.link_wire.specs.Stream.{Entry, End, Clean, Cut, Fault, Reading}
 use Rattle.link_wire.specs.declared.{fault.WireFault.WireFault, message.Contact.Contact}
 use Rattle.link_wire.specs.declared.message.Message.{Message}
 
 -- no prefix of the bytes is such a spelling
-abbrev pub NoneBegins : Spelling → List ℕ → Type 0
+abbrev pub NoneBegins : BytesProperty → List ℕ → Type 0
 NoneBegins spelled bytes = (first more : List ℕ) → spelled first → bytes ≢ first ++ more
 
 -- The bytes that are left at an offset. There are none at a clean end. At a cut, they are the whole
 -- head of a segment and less data than its length. At a fault, there are some, they begin with no
 -- whole head, and they show the fault.
-abbrev pub IsEnd : End → ℕ → Spelling
+abbrev pub IsEnd : End → ℕ → BytesProperty
 IsEnd Clean offset bytes = bytes ≡ []
 IsEnd (Cut at message content) offset bytes =
     (at ≡ offset) × (length content < data_length message)
@@ -24,7 +24,7 @@ IsEnd (Fault at fault) offset bytes =
     × (message_at bytes ≡ Err fault)
 
 -- a message at an offset with its data, and the rest after it
-pub record EntrySpelled (entry : Entry) (rest : ℕ → Spelling) (offset : ℕ)
+pub record EntrySpelled (entry : Entry) (rest : ℕ → BytesProperty) (offset : ℕ)
     (bytes : List ℕ) : Type 0 where
   pub offset_is : entry.offset ≡ offset
   pub before : List ℕ
@@ -34,13 +34,13 @@ pub record EntrySpelled (entry : Entry) (rest : ℕ → Spelling) (offset : ℕ)
   pub parts : bytes ≡ before ++ after
 
 -- messages from an offset on, one after another, and the end
-abbrev pub IsStream : List Entry → End → ℕ → Spelling
+abbrev pub IsStream : List Entry → End → ℕ → BytesProperty
 IsStream [] end = IsEnd end
 IsStream (entry ∷ entries) end = EntrySpelled entry (IsStream entries end)
 
 -- The bytes are a contact header, which has six bytes, and a stream. Or the bytes begin with no
 -- contact header: there are no messages, and the end is the fault of the contact header.
-abbrev pub IsReadingBy : Option Contact → List Entry → End → Spelling
+abbrev pub IsReadingBy : Option Contact → List Entry → End → BytesProperty
 IsReadingBy (Some contact) entries end bytes =
     (ContactSpelled contact ⨾ IsStream entries end 6) bytes
 IsReadingBy None entries end bytes =

@@ -66,7 +66,7 @@ module _ {R : Type 0} (look : R → Input) (old new : Session R) (history : List
     pub at : IsSessionAt look new (history ++ given)
 
   -- The session gave this whole message with its data. All of it lay in the window.
-  pub record GivenWhole (offset : ℕ) (message : Message) : Type 0 where
+  pub record GivenWholeMessage (offset : ℕ) (message : Message) : Type 0 where
     pub given : List ℕ
     pub content : List ℕ
     pub some : 0 < length given
@@ -76,7 +76,7 @@ module _ {R : Type 0} (look : R → Input) (old new : Session R) (history : List
         (record { offset = offset; message = message; content = content } ∷ [])
 
   -- the session gave quiet messages that have `count` bytes together; 0 means none
-  pub record PassedQuiet (count : ℕ) : Type 0 where
+  pub record PassedQuietMessages (count : ℕ) : Type 0 where
     pub given : List ℕ
     pub entries : List Entry
     pub size : length given ≡ count

@@ -2,7 +2,7 @@
 
 ghost use Rattle.std.specs.Prelude.{◌≡◌, ◌≤◌, ◌<◌, ◌+◌, length, IsSome, IsTrue, IfOk, OnOk};
 ghost use Rattle.link_io.specs.Source.{IsLive};
-ghost use Rattle.link_wire.specs.Message.{is_total_length, HasTotals, skipped_at, total_at, item_head_at, items_of as items_by, list_at};
+ghost use Rattle.link_wire.specs.Message.{is_total_length, TotalsFit, skipped_at, total_at, item_head_at, items_of as items_by, list_at};
 ghost use Rattle.link_wire.specs.Getting.{ReadsPart, with_value};
 
 use crate::codes::{ITEM_HEAD, TOTAL_SIZE, TRANSFER_LENGTH};
@@ -107,7 +107,7 @@ fn items_of<R: InDevice>(
     ensures gets { IsLive R.state source.old
         → ReadsPart R.state (items_by owner length) source.old source.new
         (with_value items.new result) }
-    ensures totals { owner ≡ ListOf.Transfer → HasTotals items.new.items }
+    ensures totals { owner ≡ ListOf.Transfer → TotalsFit items.new.items }
 {
     items.clear();
     let mut left = length;
@@ -136,7 +136,7 @@ pub fn list<R: InDevice>(
 ) -> Result<(), Halt>
     ensures gets { IsLive R.state source.old
         → ReadsPart R.state (list_at owner) source.old source.new (with_value items.new result) }
-    ensures totals { owner ≡ ListOf.Transfer → OnOk result (HasTotals items.new.items) }
+    ensures totals { owner ≡ ListOf.Transfer → OnOk result (TotalsFit items.new.items) }
 {
     let length = number32(source)?;
     if length > MAX_LIST_LENGTH {

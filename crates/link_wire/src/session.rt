@@ -37,7 +37,7 @@ impl<R: InDevice> Session<R> {
     ghost use Rattle.link_io.specs.Limits.{window_size};
     ghost use Rattle.link_io.specs.Source.{is_fresh, reader_of, given_by, window_of, front_of, reach};
     ghost use Rattle.link_wire.specs.Plain.{IsHead};
-    ghost use Rattle.link_wire.specs.MessageBuffer.{message_of, SegmentHasTotals};
+    ghost use Rattle.link_wire.specs.MessageBuffer.{message_of, SegmentTotalsFit};
     ghost use Rattle.link_wire.specs.Session.{source_of, may_open, may_read, is_opened, IsSessionAt, HasEnoughForContact, HasEndedBetween, HasEnoughForNext, HasStopped, left_of, data_in, AfterOpen, GivenMessage, ReadsNext};
     ghost use Rattle.link_wire.specs.declared.session.Phase.TheVariants as phase;
 
@@ -193,7 +193,7 @@ impl<R: InDevice> Session<R> {
         ensures gives { (history : List ℕ) → IsSessionAt R.state self.old history
             → IfSome result (λ offset.
             GivenMessage R.state self.old self.new history offset (message_of message.new)) }
-        ensures totals { IfSome result (λ offset. SegmentHasTotals message.new) }
+        ensures totals { IfSome result (λ offset. SegmentTotalsFit message.new) }
         ensures opened { IsTrue (is_opened self.new) }
         ensures again { HasEndedBetween self.old → result ≡ None }
         ensures stopped { (stop : _) → HasStopped self.old stop → result ≡ None }
@@ -226,7 +226,7 @@ impl<R: InDevice> Session<R> {
         ensures gives { (history : List ℕ) → IsSessionAt R.state self.old history
             → IfSome result (λ offset.
             GivenMessage R.state self.old self.new history offset (message_of message.new)) }
-        ensures totals { IfSome result (λ offset. SegmentHasTotals message.new) }
+        ensures totals { IfSome result (λ offset. SegmentTotalsFit message.new) }
         ensures opened { IsTrue (is_opened self.new) }
         ensures again { HasEndedBetween self.old → result ≡ None }
         ensures stopped { (stop : _) → HasStopped self.old stop → result ≡ None }
@@ -295,10 +295,10 @@ impl<R: InDevice> Session<R> {
     ghost use Rattle.std.specs.Prelude.{◌≡◌, ◌+◌, ◌<◌, ◌≤◌, ℕ, List, length, IfSome, None, IsTrue};
     ghost use Rattle.link_io.specs.Source.{reader_of, window_of, reach};
     ghost use Rattle.link_wire.specs.Message.{data_length};
-    ghost use Rattle.link_wire.specs.MessageBuffer.{message_of, message_with, SegmentHasTotals};
+    ghost use Rattle.link_wire.specs.MessageBuffer.{message_of, message_with, SegmentTotalsFit};
     ghost use Rattle.link_wire.specs.Plain.{IsHead};
     ghost use Rattle.link_wire.specs.Session.{source_of, may_read, is_opened, HasEndedBetween, HasStopped, IsSessionAt};
-    ghost use Rattle.link_wire.specs.Whole.{GivenWhole, PassedQuiet};
+    ghost use Rattle.link_wire.specs.Whole.{GivenWholeMessage, PassedQuietMessages};
 
     /// Gives the next message with its data, if all of it is in the window and its head is
     /// frequent.
@@ -313,8 +313,8 @@ impl<R: InDevice> Session<R> {
         ensures may_read { IsTrue (may_read self.new) }
         ensures gives { (history : List ℕ) → IsSessionAt R.state self.old history
             → IfSome result (λ offset.
-            GivenWhole R.state self.old self.new history offset (message_of message.new)) }
-        ensures totals { IfSome result (λ offset. SegmentHasTotals message.new) }
+            GivenWholeMessage R.state self.old self.new history offset (message_of message.new)) }
+        ensures totals { IfSome result (λ offset. SegmentTotalsFit message.new) }
         ensures opened { IsTrue (is_opened self.new) }
         ensures again { HasEndedBetween self.old → result ≡ None }
         ensures stopped { (stop : _) → HasStopped self.old stop → result ≡ None }
@@ -349,7 +349,7 @@ impl<R: InDevice> Session<R> {
         ensures reader { reader_of (source_of self.new) ≡ reader_of (source_of self.old) }
         ensures may_read { IsTrue (may_read self.new) }
         ensures gives { (history : List ℕ) → IsSessionAt R.state self.old history
-            → PassedQuiet R.state self.old self.new history result }
+            → PassedQuietMessages R.state self.old self.new history result }
         ensures opened { IsTrue (is_opened self.new) }
         ensures again { HasEndedBetween self.old → result ≡ 0 }
         ensures stopped { (stop : _) → HasStopped self.old stop → result ≡ 0 }

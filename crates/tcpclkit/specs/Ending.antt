@@ -46,8 +46,8 @@ names_a_file None = false
 names_a_file (Some name) = not (bytes_eq name (codes "-"))
 
 -- The words ask for this tool, and for its input: a file if `is_file`, or else standard input.
-abbrev pub AskFor : (words : List (List ℕ)) → Job → (is_file : Bool) → Type 0
-AskFor words job is_file =
+abbrev pub AreWordsFor : (words : List (List ℕ)) → Job → (is_file : Bool) → Type 0
+AreWordsFor words job is_file =
     (invocation : Invocation) × IsInvoked words invocation × (options_of job ≡ invocation.options)
     × (is_file ≡ names_a_file (option_map string_bytes invocation.file))
 

@@ -16,7 +16,7 @@ mod streams;
 ghost use Rattle.std.specs.Prelude.{◌≡◌, map, option_map, string_bytes, IfErr, IfOk, IsTrue};
 ghost use Rattle.either.specs.Either.{is_left};
 ghost use Rattle.link_tools.specs.Options.{IsReady};
-ghost use Rattle.tcpclkit.specs.Ending.{AskFor, MayEnd, names_a_file};
+ghost use Rattle.tcpclkit.specs.Ending.{AreWordsFor, MayEnd, names_a_file};
 
 use either::{Either, Left, Right};
 use ending::{Ending, ending_exit, exit_status};
@@ -65,7 +65,8 @@ fn run(rt: &HostRuntime) -> Ending {
 // Out of line, so that its locals are gone when the tool runs: its stack has to fit beside them.
 #[inline(never)]
 fn request(rt: &HostRuntime, words: &[String]) -> Result<(Job, Either<File, Stdin>), Ending>
-    ensures ok { IfOk result (λ request. AskFor (map string_bytes words.now) request.0 (is_left request.1)) }
+    ensures ok { IfOk result
+        (λ request. AreWordsFor (map string_bytes words.now) request.0 (is_left request.1)) }
     ensures ready { IfOk result (λ request. IsReady request.0) }
     ensures err { IfErr result (MayEnd (map string_bytes words.now)) }
 {

@@ -69,7 +69,7 @@ cut_primary verdict primary slices =
     }
 
 -- the bytes are no good bundle: the numbers and the names are those up to the first fault
-pub record ReturnsStop (verdict : Verdict) (state : State) (primary : PrimaryFields)
+pub record ReturnsBadBundle (verdict : Verdict) (state : State) (primary : PrimaryFields)
     (old new : Names) (bundle : Bundle) (status : ℕ) : Type 0 where
   pub numbers : bundle ≡ cut_primary verdict primary new
   pub names : ReturnsNames (primary_names primary) old new
@@ -81,4 +81,5 @@ abbrev pub ReturnsInfo : Result BundleInfo (BundleFault × ℕ) → Option (ℕ 
 ReturnsInfo (Ok info) span primary old new bundle status =
     ReturnsBundle info (verdict_shown (Ok info) span) primary old new bundle status
 ReturnsInfo (Err stop) span primary old new bundle status =
-    ReturnsStop (verdict_shown (Err stop) span) (state_of (Err stop)) primary old new bundle status
+    ReturnsBadBundle (verdict_shown (Err stop) span)
+    (state_of (Err stop)) primary old new bundle status

@@ -36,7 +36,7 @@ abbrev pub HoldsScan : Ptr → List ℕ → Fml
 HoldsScan at seen = ReadsScan full_share at seen
 
 -- what a call that only reads a scan is lent: a share of the scan, which has seen these bytes
-pub record Reading : Type 0 where
+pub record LentScan : Type 0 where
   pub share : Share
   pub seen : List ℕ
 
@@ -101,7 +101,7 @@ pub record EndsMarked (held : MarkedScan) (count : ℕ) (old new : Verdict) (sta
   pub scan : (seen : List ℕ) → IsMarkedScanAt held seen → EndsScan seen count old new status
   pub other : (held.mark ≡ mark → ⊥) → (status ≡ 6) × (new ≡ old)
 
-pub record CutsMarked (held : MarkedScan) (block : BlockNumbers) (status : ℕ) : Type 0 where
+pub record JudgesMarkedBlock (held : MarkedScan) (block : BlockNumbers) (status : ℕ) : Type 0 where
   pub scan : (seen : List ℕ) → IsMarkedScanAt held seen → ReturnsCut seen block status
   pub other : (held.mark ≡ mark → ⊥) → (status ≡ 6) × (block ≡ no_block)
 

@@ -7,7 +7,7 @@ ghost use Rattle.link_bundle.specs.Scan.{HasJudged};
 ghost use Rattle.link_bundle_blocks.specs.PrimaryFields.{primary_fields};
 ghost use Rattle.link_bundle_blocks.specs.PrimaryView.{viewed_fields};
 ghost use Rattle.link_ffi_numbers.specs.Bundle.{state_status, verdict_shown, ReturnsVerdict};
-ghost use Rattle.tcpclkit_c.specs.Bundle.{three_names, ReturnsNames, names_status, ReturnsBundle, ReturnsStop, ReturnsInfo};
+ghost use Rattle.tcpclkit_c.specs.Bundle.{three_names, ReturnsNames, names_status, ReturnsBundle, ReturnsBadBundle, ReturnsInfo};
 
 use link_bundle::{BundleScan, BundleView, State};
 use link_bundle_blocks::PrimaryView;
@@ -110,7 +110,7 @@ fn give_bad(
     report_to_name: &mut [u8],
     answer: &mut Bundle,
 ) -> u32
-    ensures { ReturnsStop verdict state (viewed_fields primary.now)
+    ensures { ReturnsBadBundle verdict state (viewed_fields primary.now)
         (three_names destination_name.old source_name.old report_to_name.old)
         (three_names destination_name.new source_name.new report_to_name.new)
         answer.new result }

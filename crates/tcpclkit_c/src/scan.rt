@@ -11,7 +11,7 @@ ghost use Rattle.link_bundle.specs.Scan.{HasScanned, scan_size};
 ghost use Rattle.link_bundle_blocks.specs.PrimaryFields.{primary_fields};
 ghost use Rattle.link_ffi_numbers.specs.Bundle.{verdict_shown, state_status, ReturnsVerdict};
 ghost use Rattle.tcpclkit_c.specs.Bundle.{three_names, ReturnsInfo};
-ghost use Rattle.tcpclkit_c.specs.Scan.{IsMarkedScanAt, Reading, ReadsScan, HoldsScan, mark, has_room, is_late, fed, fed_status, may_end, EndsScan, ReturnsCut, FeedsMarked, JudgesMarked, EndsMarked, CutsMarked, DescribesMarked};
+ghost use Rattle.tcpclkit_c.specs.Scan.{IsMarkedScanAt, LentScan, ReadsScan, HoldsScan, mark, has_room, is_late, fed, fed_status, may_end, EndsScan, ReturnsCut, FeedsMarked, JudgesMarked, EndsMarked, JudgesMarkedBlock, DescribesMarked};
 ghost use Rattle.tcpclkit_c.specs.NextBlock.{TakesBlock, fed_block, fed_block_status, added_block, FeedsMarkedBlock};
 ghost use Rattle.tcpclkit_c.specs.contracts.scan.MarkedScan.{the_row};
 
@@ -199,7 +199,7 @@ fn judge(scan: &MarkedScan, answer: &mut Verdict) -> u32
 /// Writes the verdict on the bytes seen, and returns its status.
 #[unsafe(no_mangle)]
 pub unsafe extern "C" fn tcpclkit_raw_judge_scan(memory: *const u64, answer: &mut Verdict) -> u32
-    ghost lent: { Reading }
+    ghost lent: { LentScan }
     requires* { sem 𝓛 (ReadsScan lent.share memory lent.seen) }
     ensures* scan { sem 𝓛 (ReadsScan lent.share memory lent.seen) }
     ensures status { result ≡ state_status (state_of (verdict lent.seen)) }
@@ -262,7 +262,7 @@ pub unsafe extern "C" fn tcpclkit_raw_end_scan(
     count: u64,
     answer: &mut Verdict,
 ) -> u32
-    ghost lent: { Reading }
+    ghost lent: { LentScan }
     requires* { sem 𝓛 (ReadsScan lent.share memory lent.seen) }
     ensures* scan { sem 𝓛 (ReadsScan lent.share memory lent.seen) }
     ensures verdict { EndsScan lent.seen count answer.old answer.new result }
@@ -272,7 +272,7 @@ pub unsafe extern "C" fn tcpclkit_raw_end_scan(
 
 /// Writes the block in whose data or check field the bytes seen end, or returns `END` or `RANGE`.
 fn judge_block(scan: &MarkedScan, block: &mut BlockNumbers) -> u32
-    ensures { CutsMarked scan.now block.new result }
+    ensures { JudgesMarkedBlock scan.now block.new result }
 {
     if scan.mark != MARK {
         *block = block_numbers(None);
@@ -289,7 +289,7 @@ pub unsafe extern "C" fn tcpclkit_raw_judge_block(
     memory: *const u64,
     block: &mut BlockNumbers,
 ) -> u32
-    ghost lent: { Reading }
+    ghost lent: { LentScan }
     requires* { sem 𝓛 (ReadsScan lent.share memory lent.seen) }
     ensures* scan { sem 𝓛 (ReadsScan lent.share memory lent.seen) }
     ensures block { ReturnsCut lent.seen block.new result }
@@ -332,7 +332,7 @@ pub unsafe extern "C" fn tcpclkit_raw_describe_scan(
     report_to_name: &mut [u8],
     answer: &mut Bundle,
 ) -> u32
-    ghost lent: { Reading }
+    ghost lent: { LentScan }
     requires* { sem 𝓛 (ReadsScan lent.share memory lent.seen) }
     ensures* scan { sem 𝓛 (ReadsScan lent.share memory lent.seen) }
     ensures answer { ReturnsInfo (verdict lent.seen) (payload_seen lent.seen) (primary_fields lent.seen)

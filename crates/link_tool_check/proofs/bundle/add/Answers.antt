@@ -3,14 +3,14 @@ use Rattle.std.specs.Prelude.{IfSome}
 use Rattle.link_bundle_blocks.specs.declared.block.CanonicalBlock.{CanonicalBlock}
 use Rattle.link_bundle_data.specs.BlockData.{BlockData}
 use Rattle.link_bundle_data.specs.declared.values.DataFault.{DataFault}
-use Rattle.link_report_blocks.specs.Fits.{HasFittingWords}
-use Rattle.link_bundle_reader.specs.DataReader.{read_size}
+use Rattle.link_report_blocks.specs.Fits.{WordsFit}
+use Rattle.link_bundle_data_reader.specs.DataReader.{read_size}
 use Rattle.link_bundle_rules.specs.ReadBundle.{malformed_at, long_head_at}
 use Rattle.link_tool_check.proofs.bundle.add.Goals as goal
 
 -- the offset of malformed data has 64 bits
 malformed_fits : (block : CanonicalBlock) (found : Option (Result BlockData DataFault))
-    → HasFittingWords block.data_start found
+    → WordsFit block.data_start found
     → IfSome (malformed_at block found) (λ byte. byte < 2 ^ 64)
 malformed_fits block None fits = tt
 malformed_fits block (Some (Ok said)) fits = tt

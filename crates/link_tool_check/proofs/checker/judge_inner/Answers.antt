@@ -1,6 +1,6 @@
 use Rattle.std.proofs.Common.{◌≡◌, [], ◌∷◌, ◌++◌, ap, sym, ◌∙◌, subst}
-use Rattle.link_session_rules.specs.{MessageRules.broken_rules, Remembered.Remembers}
-use Rattle.link_run_transfers.specs.{Telling.viewed_head, Walk.Head}
+use Rattle.link_session_rules.specs.{MessageRules.broken_rules, Remembered.IsMessageHistoryAt}
+use Rattle.link_run_over_transfers.specs.{Telling.viewed_head, Walk.Head}
 use Rattle.link_tool_check.specs.Checking.{judged}
 use Rattle.link_tool_check.proofs.Writing.{none_written}
 use Rattle.link_tool_check.proofs.checker.judge_inner.Goals as goal
@@ -15,7 +15,7 @@ returns-then-take_inner-clause-gives g c = λ id before is at.
 
 pub returns-then-take_inner-clause-history : goal.returns-then-take_inner-clause-history
 returns-then-take_inner-clause-history g c = λ id before is at.
-    subst (λ (head : Head). Remembers c.take_inner.new.self (before ++ judged head ∷ [])) (sym is)
+    subst (λ (head : Head). IsMessageHistoryAt c.take_inner.new.self (before ++ judged head ∷ [])) (sym is)
     (c.take_inner.ensures.taken id before at c.if-take_inner.true)
 
 pub returns-clause-gives : goal.returns-clause-gives

@@ -1,10 +1,10 @@
 use Rattle.std.proofs.Common.{◌≡◌, ℕ, ◌+◌, ◌-◌, ◌^◌, ◌≤◌, min, Bool, true, false, List, [], ◌∷◌, length, if◌then◌else◌, refl, ap, ◌∙◌, subst, append-nil, arith}
 use Rattle.std.proofs.lemmas.Bool.{false≢true}
 use Rattle.link_run.specs.Writers.{on_output}
-use Rattle.link_run_transfers.specs.Walk.{WalkEvent, is_beginning}
-use Rattle.link_run_transfers.specs.Telling.{MayCome, data_ends, viewed_events}
-use Rattle.link_run_transfers.specs.declared.consumer.EventView.{EventView}
-use Rattle.link_run_transfers.specs.Saying.{kept_after, keeps_telling, said_from}
+use Rattle.link_run_over_transfers.specs.Walk.{WalkEvent, is_beginning}
+use Rattle.link_run_over_transfers.specs.Telling.{MayCome, data_ends, viewed_events}
+use Rattle.link_run_over_transfers.specs.declared.consumer.EventView.{EventView}
+use Rattle.link_run_over_transfers.specs.Saying.{kept_after, keeps_telling, said_from}
 use Rattle.example_library.specs.Counting.{line_if, sizes}
 use Rattle.example_library.proofs.counting.CountingConsumer.event.Goals as goal
 use Rattle.example_library.proofs.counting.CountingConsumer.event.Goals.{in-Contact, in-Head, then-begins, else-begins, in-Data, in-Inner, in-LeftOpen}

@@ -2,13 +2,13 @@ use Rattle.std.proofs.Common.{◌≡◌, ℕ, Bool, Option, ◌+◌, ◌<◌, �
 use Rattle.std.proofs.lemmas.Bool.{false≢true}
 use Rattle.link_run.specs.{Run.{no_texts, ◌then◌}, Writers.{on_output, on_report}}
 use Rattle.link_run.proofs.Runs.{writes_none, part_of_more, output_then}
-use Rattle.link_run_transfers.specs.Walk.{WalkEvent, ContactHeader, LeftOpen, abandons, closes, has_open}
-use Rattle.link_run_transfers.specs.Telling.{HeadComes, viewed_head}
+use Rattle.link_run_over_transfers.specs.Walk.{WalkEvent, ContactHeader, LeftOpen, abandons, closes, has_open}
+use Rattle.link_run_over_transfers.specs.Telling.{HeadComes, viewed_head}
 use Rattle.link_transfer.specs.declared.joiner.Turn.{Turn}
 use Rattle.link_run_judge.specs.Transfers.{Transfer}
 use Rattle.link_run_judge.specs.Unpacking.{order_line, good_due, transfers_at, told_after}
 use Rattle.link_run_judge.proofs.{Counts.on_ok, Effects.comes_does}
-use Rattle.link_run_bundles.proofs.Told.{told_then, told_part}
+use Rattle.link_run_over_bundles.proofs.Told.{told_then, told_part}
 use Rattle.link_tool_blocks.specs.{Lister.{IsBlockListerAt, end_due}, Showing.unpacking_by}
 use Rattle.link_tool_blocks.specs.declared.lister.BlockLister.{BlockLister}
 use Rattle.link_tool_blocks.specs.declared.transfer.TransferBlocks.{TransferBlocks}

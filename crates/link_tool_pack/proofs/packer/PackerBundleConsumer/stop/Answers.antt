@@ -1,4 +1,4 @@
-use Rattle.link_run_bundles.proofs.Told.{told_known}
+use Rattle.link_run_over_bundles.proofs.Told.{told_known}
 use Rattle.link_tool_pack.proofs.Outcomes.{went_on}
 use Rattle.link_tool_pack.proofs.packer.PackerBundleConsumer.stop.Goals as goal
 

@@ -1,8 +1,8 @@
 use Rattle.std.proofs.Common.{◌≡◌, ℕ, ◌+◌, ◌<◌, ◌^◌, ◌&&◌, not, length, [], true, Ok, Err, refl, ap, sym, ◌∙◌, append-nil, arith}
 use Rattle.std.proofs.lemmas.Bool.{false≢true}
 use Rattle.link_run.proofs.Runs.{writes_none, output_then}
-use Rattle.link_run_transfers.specs.Walk.{ContactHeader, LeftOpen, abandons, closes, has_open}
-use Rattle.link_run_transfers.specs.Telling.{viewed_head}
+use Rattle.link_run_over_transfers.specs.Walk.{ContactHeader, LeftOpen, abandons, closes, has_open}
+use Rattle.link_run_over_transfers.specs.Telling.{viewed_head}
 use Rattle.link_run_judge.specs.Unpacking.{order_line, line_due, good_due, transfers_at, told_after}
 use Rattle.link_run_judge.proofs.{Counts.on_ok, Effects.abandons_open}
 use Rattle.link_tool_unpack.specs.declared.transfer.TransferScan.{TransferScan}

@@ -1,0 +1,278 @@
+-- Relations, but for IsNewWalk, IsWalkAt, most_given: the state of a walk over the transfers of a
+-- stream.
+use Rattle.std.specs.Prelude.{◌≡◌, ℕ, ◌<◌, ◌≤◌, Bool, true, is_some, if◌then◌else◌, zero, suc, List, [], ◌++◌, length, Option, Some, None, Result}
+use Rattle.link_wire.specs.Device.{Input as Seen, Output}
+use Rattle.link_wire.specs.Limits.{longest_head}
+use Rattle.link_wire.specs.Session.{source_of, IsSessionAt, may_open, may_read, is_opened}
+use Rattle.link_wire.specs.Source.{Takes}
+use Rattle.link_wire.specs.Stream.{End, Clean, Cut, Fault, Reading, reading_of}
+use Rattle.link_wire.specs.declared.{IoFault.IoFault, message.Message.Message}
+use Rattle.link_wire.specs.declared.session.Session.{Session}
+use Rattle.link_transfer.specs.Event.{event_of}
+use Rattle.link_transfer.specs.Joiner.{IsJoinerAt}
+use Rattle.link_transfer.specs.Order.{open_of, effect_of}
+use Rattle.link_transfer.specs.declared.{fault.OrderFault.OrderFault, joiner.Joiner.Joiner}
+use Rattle.link_transfer.specs.declared.joiner.Turn.{Turn}
+use Rattle.link_report.specs.Fault.{fault_text}
+use Rattle.link_report.specs.declared.fault.Fault.TheVariants.{Order}
+use Rattle.link_run.specs.Made.{tool_of}
+use Rattle.link_run.specs.Run.{Texts, ◌then◌, Looks, Devices, Place, devices_at, EndedRun, HasNoEarlierFault, ContinuedStep, LastStep, AfterStep}
+use Rattle.link_run.specs.Next.{next_of, progress_of}
+use Rattle.link_run.specs.Reading.{feed_of, SessionWaits}
+use Rattle.link_run.specs.Stages.{IsRunAt}
+use Rattle.link_run.specs.Writers.{place_of, on_report, AfterLastWrite}
+use Rattle.link_run.specs.declared.{input.Input.Input, next.Next.Next, run.Status.Status}
+use Rattle.link_run.specs.declared.next.Next.TheVariants as next
+use Rattle.link_run.specs.declared.writers.Writers.{Writers}
+use Rattle.link_run_over_transfers.specs.Walk.{Head, is_last, WalkEvent, data_size, has_open, Walked, walked, walked_of, Telling, told_of, end_events, head_events}
+use Rattle.link_run_over_transfers.specs.declared.consumer.Manner.{Manner}
+use Rattle.link_run_over_transfers.specs.Telling.{Tells}
+use Rattle.link_run_over_transfers.specs.declared.walk.Stage.{Stage}
+use Rattle.link_run_over_transfers.specs.declared.walk.Stage.TheVariants as stage
+use Rattle.link_run_over_transfers.specs.declared.walk.Walker.{Walker}
+
+-- ---- the stages
+
+-- the most bytes that a step is given: a contact header, the head of a message, or a piece of data
+-- of at most `piece` bytes
+abbrev pub most_by : (piece : ℕ) → Stage → ℕ
+most_by piece stage.Contact = 6
+most_by piece stage.Message = longest_head
+most_by piece _ = piece
+
+abbrev pub most_given : Stage → ℕ
+most_given now = most_by 4096 now
+
+-- whether the session permits the call of a step at this stage
+abbrev pub may_go_on : {R : Type 0} → Stage → Session R → Bool
+may_go_on stage.Contact session = may_open session
+may_go_on stage.Message session = may_read session
+may_go_on (stage.Data last) session = is_opened session
+may_go_on stage.Stray session = is_opened session
+
+-- whether the session permits the call that comes next
+abbrev pub may_follow : {R : Type 0} → Next Stage → Session R → Bool
+may_follow (next.Stage now) session = may_go_on now session
+may_follow (next.Ended answer) session = true
+
+-- the stage in the data of a segment with this effect
+abbrev pub stage_in : Option Turn → Stage
+stage_in None = stage.Stray
+stage_in (Some turn) = stage.Data (is_last (Some turn))
+
+-- the stage after a head or after data, with `left` bytes of data to come
+abbrev pub stage_by : Option Turn → (left : ℕ) → Stage
+stage_by turn zero = stage.Message
+stage_by turn (suc left) = stage_in turn
+
+-- ---- the head of a message, and the end of a stream
+
+-- The consumer was told of a head, and a stage comes next; or a writer failed while writing what is
+-- said of the head.
+abbrev pub TellsHead : {W E : Type 0} → (W → Output) → (E → Output) → Telling
+    → (knows : List WalkEvent → Type 0) → (before : List WalkEvent) → Head → (left : ℕ)
+    → (old new : Writers W E) → Next Stage → Type 0
+TellsHead out_look report_look telling knows before head left old new result =
+    (told : Result (Unit {0}) IoFault) × (result ≡ next_of (stage_by head.turn left) told)
+    × Tells out_look report_look telling knows before (head_events telling.manner.all_heads head)
+    old new told
+
+-- the run has ended at a head that is not in order, with the line of its fault
+abbrev pub EndsAtHead : {W E : Type 0} → (W → Output) → (E → Output) → (offset : ℕ) → OrderFault
+    → (old new : Writers W E) → Next Stage → Type 0
+EndsAtHead out_look report_look offset fault old new result =
+    (answer : Result Status IoFault) × (result ≡ next.Ended answer)
+    × AfterLastWrite out_look report_look old new (on_report (fault_text (Order offset fault))) 3
+    answer
+
+-- A stream has ended between two messages: what is said of its end was written, and the status is
+-- 0 if everything is good, and else 1.
+abbrev pub TellsEnd : {W E : Type 0} → (W → Output) → (E → Output) → Telling
+    → (taken : List Message) → (events : List WalkEvent) → (old new : Writers W E)
+    → Result Status IoFault → Type 0
+TellsEnd out_look report_look telling taken events old new answer =
+    (texts : Texts)
+    × (telling.texts events then texts ≡ telling.texts (events ++ end_events taken))
+    × AfterLastWrite out_look report_look old new texts
+    (if telling.good (events ++ end_events taken) then 0 else 1) answer
+
+-- ---- the state
+
+-- the stage, by how the reading of the bytes so far ends; `before` is what its whole messages tell
+abbrev pub StageFits : Stage → (before : Walked) → End → Type 0
+StageFits now before Clean = now ≡ stage.Message
+StageFits now before (Cut offset sent content) =
+    now ≡ stage_in (effect_of before.taken (event_of sent))
+StageFits now before (Fault offset fault) = ⊥
+
+-- Whether a transfer is open. One whose last segment is being read is open until all of its data
+-- has come.
+abbrev pub is_open_at : Stage → List Message → Bool
+is_open_at (stage.Data last) taken = true
+is_open_at _ taken = is_some (open_of taken)
+
+-- How the reading ends after a step, if data of a segment is still to come. A step that reads a
+-- head is given none of that data.
+abbrev pub HasNoDataYet : Stage → End → Type 0
+HasNoDataYet stage.Message (Cut offset message content) = content ≡ []
+HasNoDataYet now end = Unit {0}
+
+-- what the whole messages of a reading tell
+abbrev pub walked_before : Manner → Reading → Walked
+walked_before manner reading = walked_of manner reading.contact reading.entries
+
+-- the state of a walk whose bytes so far have this reading
+pub record IsWalkAtReading (telling : Telling) (knows : List WalkEvent → Type 0) (now : Stage)
+    (joiner : Joiner)
+    (reading : Reading) : Type 0 where
+  pub unrefused : (walked telling.manner reading).refused ≡ None
+  pub judges : IsJoinerAt joiner (walked telling.manner reading).taken
+  pub known : knows (walked telling.manner reading).events
+  pub opened : has_open (walked telling.manner reading).events
+      ≡ is_open_at now (walked telling.manner reading).taken
+  pub waits : StageFits now (walked_before telling.manner reading) reading.end
+
+module _ {R C : Type 0} (look : R → Seen) (telling : Telling) (knows : C → List WalkEvent → Type 0) where
+  -- a walk that begins was given nothing
+  pub record IsNewWalk (session : Session R) (joiner : Joiner) (consumer : C) (history : List ℕ)
+      : Type 0 where
+    pub nothing : history ≡ []
+    pub opens : may_open session ≡ true
+    pub judges : IsJoinerAt joiner []
+    pub known : knows consumer []
+
+  -- the state of a walk that was given these bytes
+  pub record IsWalkAt (now : Stage) (session : Session R) (joiner : Joiner) (consumer : C)
+      (history : List ℕ) : Type 0 where
+    pub session_at : IsSessionAt look session history
+    pub at : IsWalkAtReading telling (knows consumer) now joiner (reading_of history)
+    pub size : data_size (walked telling.manner (reading_of history)).events ≤ length history
+
+  abbrev pub IsWalkAtStage : Stage → Joiner → C → Session R → (history : List ℕ) → Type 0
+  IsWalkAtStage stage.Contact joiner consumer session history = IsNewWalk session joiner consumer
+      history
+  IsWalkAtStage now joiner consumer session history = IsWalkAt now session joiner consumer history
+
+-- `IsRunAt` for a walk
+abbrev pub IsTellingRunAt : {R W E : Type 0} → Looks R W E → Devices R W E → Telling → Session R
+    → Writers W E → (history : List ℕ) → Type 0
+IsTellingRunAt look start telling session writers history =
+    IsRunAt look (told_of telling) start true (place_of (source_of session) writers) history
+
+-- what a function of the walk reads, writes and changes
+pub record WalkState (R W E C : Type 0) : Type 0 where
+  pub input : Input (Session R) W E
+  pub writers : Writers W E
+  pub joiner : Joiner
+  pub consumer : C
+
+abbrev pub at : {R W E C : Type 0} → Input (Session R) W E → Writers W E → Walker C
+    → WalkState R W E C
+at input writers walker = record {
+  input = input;
+  writers = writers;
+  joiner = walker.joiner;
+  consumer = walker.consumer;
+}
+
+abbrev pub place_at : {R W E C : Type 0} → WalkState R W E C → Place R W E
+place_at now = place_of (source_of (feed_of now.input)) now.writers
+
+module _ {R W E C : Type 0} (look : Looks R W E) (start : Devices R W E) (telling : Telling)
+    (knows : C → List WalkEvent → Type 0) where
+  -- `IsTellingRunAt` and `IsWalkAt` hold
+  abbrev pub IsWalkRunAt : Stage → Session R → Writers W E → Joiner → C → List ℕ → Type 0
+  IsWalkRunAt now session writers joiner consumer history =
+      IsTellingRunAt look start telling session writers history
+      × IsWalkAt look.input telling knows now session joiner consumer history
+
+  -- what holds after a step at the stage `now`
+  abbrev pub AfterWalkStep : (piece : ℕ) → (now : Stage) → (old new : Session R)
+      → Writers W E → Joiner → C → (history : List ℕ) → Next Stage → Type 0
+  AfterWalkStep piece now old new after joiner consumer history (next.Stage later) =
+      ContinuedStep (source_of old) (source_of new)
+      (λ bytes. IsWalkRunAt later new after joiner consumer bytes
+      × HasNoDataYet now (reading_of bytes).end) (most_by piece now) history
+  AfterWalkStep piece now old new after joiner consumer history (next.Ended answer) =
+      LastStep look (tool_of (told_of telling)) start
+      (devices_at (place_of (source_of new) after)) (most_by piece now) history answer
+
+  -- the state of the walk if a stage comes next
+  abbrev pub IfNextStage : WalkState R W E C → Next Stage → (history : List ℕ) → Type 0
+  IfNextStage new (next.Stage now) history =
+      IsWalkRunAt now (feed_of new.input) new.writers new.joiner new.consumer history
+  IfNextStage new (next.Ended answer) history = Unit {0}
+
+  -- what holds after a stride, which was given at most some number of bytes
+  abbrev pub AfterWalkStride : (old new : WalkState R W E C) → (history : List ℕ) → Next Stage
+      → Type 0
+  AfterWalkStride old new history next =
+      (size : ℕ) × (0 < size)
+      × AfterStep look (tool_of (told_of telling)) start (place_at old) (place_at new)
+      (IfNextStage new next) size history (progress_of next)
+
+-- ---- messages that lie whole in the window
+
+module _ {R W E C : Type 0} (look : Looks R W E) (start : Devices R W E) (telling : Telling)
+    (knows : C → List WalkEvent → Type 0) where
+  -- what holds after these bytes were given: a stage comes next, or the run has ended
+  abbrev pub AfterWalkBytes : Session R → Writers W E → Joiner → C → (history : List ℕ) → Next Stage
+      → Type 0
+  AfterWalkBytes session writers joiner consumer history (next.Stage now) =
+      IsWalkRunAt look start telling knows now session writers joiner consumer history
+  AfterWalkBytes session writers joiner consumer history (next.Ended answer) =
+      EndedRun look (tool_of (told_of telling)) start
+      (devices_at (place_of (source_of session) writers)) history answer
+      × HasNoEarlierFault (tool_of (told_of telling)) history
+
+  -- some bytes were given, or none; then a stage comes next, or the run has ended
+  pub record TakesSome (old new : WalkState R W E C) (history : List ℕ) (result : Next Stage)
+      : Type 0 where
+    pub given : List ℕ
+    pub takes : Takes look.input (source_of (feed_of old.input)) (source_of (feed_of new.input))
+        given
+    pub stands : AfterWalkBytes (feed_of new.input) new.writers new.joiner new.consumer
+        (history ++ given) result
+
+-- ---- what the functions of the walk do
+
+module _ {R W E C : Type 0} (look : Looks R W E) (telling : Telling)
+    (knows : C → List WalkEvent → Type 0) where
+  -- the walk was given these bytes, and comes to the stage `now`
+  abbrev pub IfWalkAtStage : (start : Devices R W E) → (now : Stage) → WalkState R W E C
+      → (history : List ℕ)
+      → (after : Type 0) → Type 0
+  IfWalkAtStage start now old history after =
+      IsTellingRunAt look start telling (feed_of old.input) old.writers history
+      → IsWalkAtStage look.input telling knows now old.joiner old.consumer
+      (feed_of old.input) history
+      → after
+
+  -- a call at the stage `now` waits at most once
+  abbrev pub WalkWaits : (now : Stage) → (old new : WalkState R W E C) → Type 0
+  WalkWaits now old new =
+      (history : List ℕ)
+      → IsWalkAtStage look.input telling knows now old.joiner old.consumer
+      (feed_of old.input) history
+      → SessionWaits look old.input new.input old.writers
+
+  -- a step at the stage `now`
+  pub record Steps (piece : ℕ) (now : Stage) (old new : WalkState R W E C) (result : Next Stage)
+      : Type 0 where
+    pub holds : (start : Devices R W E) (history : List ℕ) → IfWalkAtStage start now old history
+        (AfterWalkStep look start telling knows piece now (feed_of old.input) (feed_of new.input)
+        new.writers new.joiner new.consumer history result)
+    pub waits : WalkWaits now old new
+
+  -- a stride that begins at the stage `now`
+  pub record Strides (now : Stage) (old new : WalkState R W E C)
+      (result : Next Stage) : Type 0 where
+    pub holds : (start : Devices R W E) (history : List ℕ) → IfWalkAtStage start now old history
+        (AfterWalkStride look start telling knows old new history result)
+    pub waits : WalkWaits now old new
+
+  -- messages that lie whole in the window are taken, or none
+  pub record TakesMessages (old new : WalkState R W E C) (result : Next Stage) : Type 0 where
+    pub holds : (start : Devices R W E) (history : List ℕ)
+        → IfWalkAtStage start stage.Message old history
+        (TakesSome look start telling knows old new history result)
