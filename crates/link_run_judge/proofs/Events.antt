@@ -6,7 +6,7 @@ use Rattle.link_wire.specs.declared.message.SegmentHead.{SegmentHead}
 use Rattle.link_run_over_transfers.specs.{Walk.{WalkEvent, Whole, data_events}, Telling.data_ends}
 use Rattle.link_run_judge.specs.{Transfers.{Transfer, continued}, TransferJudge.grown}
 use Rattle.link_run_judge.specs.Unpacking.{Told, none_told, told_event, told_after, with_line}
-use Rattle.link_tool_options.specs.declared.wanted.Wanted.{Wanted}
+use Rattle.link_tool_option_types.specs.declared.wanted.Wanted.{Wanted}
 
 -- the latest transfer is open
 abbrev pub LatestIsOpen : List Transfer → Type 0

@@ -1,7 +1,7 @@
 -- The written bytes of transfers, from the latest and those before it.
 use Rattle.std.proofs.Common.{◌≡◌, ℕ, ◌+◌, List, ◌∷◌, ◌++◌, length, refl, length-append, arith}
 use Rattle.link_run_judge.specs.{Transfers.Transfer, Unpacking.{part_of, parts_of}}
-use Rattle.link_tool_options.specs.declared.wanted.Wanted.{Wanted}
+use Rattle.link_tool_option_types.specs.declared.wanted.Wanted.{Wanted}
 
 module _ (wanted : Wanted) where
   pub parts_more : (latest : Transfer) (earlier : List Transfer)

@@ -17,7 +17,7 @@ use Rattle.link_run.specs.Made.{Made, tool_of}
 use Rattle.link_run.specs.Run.{Tool}
 use Rattle.link_run_over_transfers.specs.Walk.{Head, WalkEvent, ContactHeader, MessageHead, Data, Whole, LeftOpen, abandons, closes, Telling, told_of}
 use Rattle.link_run_judge.specs.Transfers.{Transfer, continued, after_message}
-use Rattle.link_tool_options.specs.declared.wanted.Wanted.{Wanted}
+use Rattle.link_tool_option_types.specs.declared.wanted.Wanted.{Wanted}
 
 -- ---- the output
 

@@ -13,7 +13,7 @@ use Rattle.link_session_rules.specs.TransferIds.{interleaved, transfer_id, trans
 use Rattle.link_session_rules.specs.declared.{history.MessageHistory.MessageHistory, endings.Endings.Endings}
 use Rattle.link_session_rules.specs.declared.lengths.TransferSoFar.{TransferSoFar}
 use Rattle.link_session_rules.specs.declared.session.Since.{Since}
-use Rattle.link_tool_options.specs.declared.limits.PeerLimits.{PeerLimits}
+use Rattle.link_tool_option_types.specs.declared.limits.PeerLimits.{PeerLimits}
 use Rattle.link_session_rules.proofs.{Joined.segments_of-push, Kept.{segment_kept, unrejected_by}}
 use Rattle.link_session_rules.proofs.Pushes.{messages_of-push, newest_then, or_none, first_parameters_push}
 use Rattle.link_session_rules.proofs.Since.{next_same, session_then, keepalives_then}

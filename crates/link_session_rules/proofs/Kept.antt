@@ -18,7 +18,7 @@ use Rattle.link_session_rules.specs.{MessageRules.broken_rules, NodeIds.{node_id
 use Rattle.link_session_rules.specs.Session.{order, before_session, keepalive, keepalive_interval}
 use Rattle.link_session_rules.specs.TransferIds.{interleaved, transfer_id, transfer_id_order}
 use Rattle.link_session_rules.specs.{Remembered.AreEndingsAt, declared.endings.Endings.Endings}
-use Rattle.link_tool_options.specs.declared.limits.PeerLimits.{PeerLimits}
+use Rattle.link_tool_option_types.specs.declared.limits.PeerLimits.{PeerLimits}
 use Rattle.link_session_rules.specs.declared.rule.MessageRule.{MessageRule}
 
 none_either : {A : Type 0} (test : Bool) → ◌≡◌ {A = Option A} (if test then None else None) None

@@ -10,7 +10,7 @@ use Rattle.link_session_rules.specs.Heads.{JudgedHead}
 use Rattle.link_session_rules.specs.Lengths.{peer_segment, peer_transfer}
 use Rattle.link_session_rules.specs.Session.{before_session, keepalive}
 use Rattle.link_session_rules.specs.TransferIds.{interleaved, transfer_id, transfer_id_order}
-use Rattle.link_tool_options.specs.declared.limits.PeerLimits.{PeerLimits}
+use Rattle.link_tool_option_types.specs.declared.limits.PeerLimits.{PeerLimits}
 
 -- after these heads, the message breaks no rule of XFER_ACKs, XFER_REFUSEs and KEEPALIVEs
 pub record AreAnswerRulesKept (before : List JudgedHead) (message : Message) : Type 0 where

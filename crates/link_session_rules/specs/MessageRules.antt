@@ -9,7 +9,7 @@ use Rattle.link_session_rules.specs.Lengths.{peer_segment, peer_transfer}
 use Rattle.link_session_rules.specs.NodeIds.{node_id, node_name}
 use Rattle.link_session_rules.specs.Session.{order, before_session, keepalive, keepalive_interval}
 use Rattle.link_session_rules.specs.TransferIds.{interleaved, transfer_id, transfer_id_order}
-use Rattle.link_tool_options.specs.declared.limits.PeerLimits.{PeerLimits}
+use Rattle.link_tool_option_types.specs.declared.limits.PeerLimits.{PeerLimits}
 use Rattle.link_rules_shared.specs.declared.level.{Level.Level, Level.TheVariants.{Must, Should}}
 use Rattle.link_session_rules.specs.declared.rule.MessageRule.{MessageRule}
 use Rattle.link_session_rules.specs.declared.rule.MessageRule.TheVariants as rule

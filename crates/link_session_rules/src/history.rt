@@ -15,7 +15,7 @@ use crate::session::{
 use crate::transfer_ids::{TransferIds, interleaved};
 use arrayvec::ArrayVec;
 use link_rules_shared::broken_of;
-use link_tool_options::PeerLimits;
+use link_tool_option_types::PeerLimits;
 use link_wire::{Fields, MessageBuffer};
 
 /// The number of rules of a message.

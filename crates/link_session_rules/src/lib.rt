@@ -34,7 +34,7 @@ pub use flags::contact_flags;
 pub use head::JudgedHeadView;
 pub use history::{BrokenRules, MessageHistory};
 pub use link_rules_shared::Level;
-pub use link_tool_options::PeerLimits;
+pub use link_tool_option_types::PeerLimits;
 pub use opening::{BrokenTransferRules, Opening};
 pub use rule::{AnswerFault, MessageRule, TransferRule};
 pub use transfer_data::data_rule;

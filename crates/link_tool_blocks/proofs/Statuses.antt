@@ -5,7 +5,7 @@ use Rattle.link_run.specs.Made.{StreamStop, Made, whole_by}
 use Rattle.link_run_over_transfers.specs.Walk.{WalkEvent, ContactHeader, end_events, stop_by, walked, told_of}
 use Rattle.link_run_over_transfers.specs.declared.consumer.Manner.{Manner}
 use Rattle.link_run_judge.specs.Unpacking.{Told, none_told, told_event, told_after}
-use Rattle.link_tool_options.specs.declared.wanted.Wanted.{Wanted}
+use Rattle.link_tool_option_types.specs.declared.wanted.Wanted.{Wanted}
 use Rattle.link_tool_blocks.specs.{Laws.HasStatusOfUnpack, Showing.unpacking_by}
 
 -- what was told has the same transfers, and is good or not alike

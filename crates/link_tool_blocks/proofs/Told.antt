@@ -23,7 +23,7 @@ use Rattle.link_run_judge.proofs.Judging.{judging_same}
 use Rattle.link_tool_blocks.specs.Lister.{IsTransferBlocksAtLatest, IsBlockListerAt, end_due}
 use Rattle.link_tool_blocks.specs.Showing.{transfer_lines, lines_of, order_line_of, unpacking_by, blocks_telling}
 use Rattle.link_tool_blocks.specs.{TransferBlocks.IsTransferBlocksAt, declared.lister.BlockLister.BlockLister}
-use Rattle.link_tool_options.specs.declared.blocks.BlockOptions.{BlockOptions}
+use Rattle.link_tool_option_types.specs.declared.blocks.BlockOptions.{BlockOptions}
 use Rattle.link_tool_blocks.specs.declared.transfer.TransferBlocks.{TransferBlocks}
 use Rattle.link_tool_blocks.proofs.Ended.{lines_of-more, ended_lines, head_lines}
 

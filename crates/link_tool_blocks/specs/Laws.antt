@@ -1,9 +1,9 @@
 -- How `blocks` relates to `unpack`, over the definitions alone.
 use Rattle.std.specs.Prelude.{◌≡◌, ℕ, List}
 use Rattle.link_run_judge.specs.Unpacking.{unpack_tool}
-use Rattle.link_tool_options.specs.declared.wanted.Wanted.{Wanted}
+use Rattle.link_tool_option_types.specs.declared.wanted.Wanted.{Wanted}
 use Rattle.link_tool_blocks.specs.Showing.{blocks_tool}
-use Rattle.link_tool_options.specs.declared.blocks.BlockOptions.{BlockOptions}
+use Rattle.link_tool_option_types.specs.declared.blocks.BlockOptions.{BlockOptions}
 
 -- the status for an input is that of `unpack`, whichever transfers are selected in each
 abbrev pub HasStatusOfUnpack : Type 0

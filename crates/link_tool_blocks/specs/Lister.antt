@@ -6,7 +6,7 @@ use Rattle.link_run_judge.specs.Unpacking.{is_selected, told_after}
 use Rattle.link_tool_blocks.specs.Showing.{end_line, unpacking_by}
 use Rattle.link_tool_blocks.specs.TransferBlocks.{IsTransferBlocksAt}
 use Rattle.link_tool_blocks.specs.declared.lister.BlockLister.{BlockLister}
-use Rattle.link_tool_options.specs.declared.blocks.BlockOptions.{BlockOptions}
+use Rattle.link_tool_option_types.specs.declared.blocks.BlockOptions.{BlockOptions}
 use Rattle.link_tool_blocks.specs.declared.transfer.TransferBlocks.{TransferBlocks}
 
 -- the line of the end of the latest transfer, if it is due and the transfer is selected

@@ -7,9 +7,9 @@ use Rattle.link_run.specs.Run.{Tool}
 use Rattle.link_run_over_transfers.specs.Walk.{WalkEvent, MessageHead, has_open, Telling, told_of}
 use Rattle.link_run_judge.specs.Transfers.{Transfer}
 use Rattle.link_run_judge.specs.Unpacking.{is_selected, judgement_of, order_line, told_after, unpack_telling}
-use Rattle.link_tool_options.specs.declared.wanted.Wanted.{Wanted}
+use Rattle.link_tool_option_types.specs.declared.wanted.Wanted.{Wanted}
 use Rattle.link_tool_blocks.specs.BlockLines.{block_lines}
-use Rattle.link_tool_options.specs.declared.blocks.BlockOptions.{BlockOptions}
+use Rattle.link_tool_option_types.specs.declared.blocks.BlockOptions.{BlockOptions}
 
 -- ---- the output
 

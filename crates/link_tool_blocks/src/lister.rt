@@ -11,7 +11,7 @@ ghost use Rattle.link_report_blocks.specs.Blocks.{end_text};
 ghost use Rattle.link_run_judge.specs.Unpacking.{good_due, is_selected};
 ghost use Rattle.link_tool_blocks.specs.Lister.{IsTransferBlocksAtLatest, IsBlockListerAt, end_due};
 ghost use Rattle.link_tool_blocks.specs.Showing.{blocks_telling, blocks_tool};
-ghost use Rattle.link_tool_options.specs.declared.blocks.BlockOptions.{BlockOptions};
+ghost use Rattle.link_tool_option_types.specs.declared.blocks.BlockOptions.{BlockOptions};
 
 use crate::transfer::TransferBlocks;
 use link_report::JudgementView;
@@ -19,7 +19,7 @@ use link_report_blocks::EndText;
 use link_run::{Run, RunEnd, Writers};
 use link_run_judge::{TransferJudge, is_bundle, tell_order};
 use link_run_over_transfers::{Consumer, EventView, Manner, WalkRun, walk_run};
-use link_tool_options::BlockOptions;
+use link_tool_option_types::BlockOptions;
 use link_wire::{InDevice, IoFault, OutDevice};
 
 /// What is known about the transfers so far.

@@ -8,7 +8,7 @@ use link_bundle_data_reader::DataReader;
 use link_run::Writers;
 use link_run_judge::TransferJudge;
 use link_run_over_bundles::tell_piece;
-use link_tool_options::BlockOptions;
+use link_tool_option_types::BlockOptions;
 use link_wire::{INPUT_LIMIT, IoFault, MessageBuffer, OutDevice};
 
 /// Judges one transfer after another, and shows the blocks of those that are selected.

@@ -19,7 +19,7 @@ use Rattle.link_tool_check.specs.Checker.{IsCheckedTransferAtLatest, IsCheckedTr
 use Rattle.link_tool_check.specs.Checking.{Begun, Kept, begun_by, broken_by, check_telling, checking, head_rules, judged, kept_with, none_kept, with_bytes}
 use Rattle.link_tool_check.specs.{Lines.{lines_of, none_counts}, Writing.WritesRules}
 use Rattle.link_tool_check.specs.declared.checker.Checker.{Checker}
-use Rattle.link_tool_options.specs.declared.check.CheckOptions.{CheckOptions}
+use Rattle.link_tool_option_types.specs.declared.check.CheckOptions.{CheckOptions}
 use Rattle.link_tool_check.specs.declared.transfer.CheckedTransfer.{CheckedTransfer}
 use Rattle.link_tool_check.proofs.Appends.{no_lines, none_count}
 

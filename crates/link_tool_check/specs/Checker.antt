@@ -10,7 +10,7 @@ use Rattle.link_report_rules.specs.declared.line.RuleText.{RuleText}
 use Rattle.link_tool_check.specs.BundleReader.{IsBundleReaderAt}
 use Rattle.link_tool_check.specs.Checking.{Begun, Kept, none_kept, checking, rules_at, closed_rules}
 use Rattle.link_tool_check.specs.declared.checker.Checker.{Checker}
-use Rattle.link_tool_options.specs.declared.check.CheckOptions.{CheckOptions}
+use Rattle.link_tool_option_types.specs.declared.check.CheckOptions.{CheckOptions}
 use Rattle.link_tool_check.specs.declared.transfer.CheckedTransfer.{CheckedTransfer}
 
 abbrev pub transfer_of : Begun → Transfer

@@ -21,7 +21,7 @@ use Rattle.link_report_rules.specs.declared.rule.BrokenRule.TheVariants.{Message
 use Rattle.link_report_rules.specs.declared.rule.BundlePlace.TheVariants as place
 use Rattle.link_tool_check.specs.BundleRules.{bundle_rules}
 use Rattle.link_tool_check.specs.Lines.{lines_of, none_counts, at_offset}
-use Rattle.link_tool_options.specs.declared.check.CheckOptions.{CheckOptions}
+use Rattle.link_tool_option_types.specs.declared.check.CheckOptions.{CheckOptions}
 
 -- ---- a transfer
 

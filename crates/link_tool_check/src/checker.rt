@@ -15,14 +15,14 @@ ghost use Rattle.link_tool_check.specs.Checker.{IsCheckedTransferAtLatest, IsChe
 ghost use Rattle.link_tool_check.specs.Checking.{Begun, check_telling, check_tool, head_rules, judged, optional};
 ghost use Rattle.link_tool_check.specs.Lines.{at_offset};
 ghost use Rattle.link_tool_check.specs.Writing.{WritesRules};
-ghost use Rattle.link_tool_options.specs.declared.check.CheckOptions.{CheckOptions};
+ghost use Rattle.link_tool_option_types.specs.declared.check.CheckOptions.{CheckOptions};
 
 use crate::lines::write_rules;
 use crate::transfer::CheckedTransfer;
 use link_run::{Run, RunEnd, Writers};
 use link_run_over_transfers::{Consumer, EventView, HeadView, Manner, WalkRun, walk_run};
 use link_session_rules::{JudgedHeadView, MessageHistory, contact_flags};
-use link_tool_options::CheckOptions;
+use link_tool_option_types::CheckOptions;
 use link_wire::{Contact, InDevice, IoFault, OutDevice};
 
 /// What is known about the messages and the transfers so far.

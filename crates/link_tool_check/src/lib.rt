@@ -21,4 +21,4 @@ mod transfer;
 
 pub use bundles::{BundleCheckRun, BundleChecker, bundle_check, bundle_check_run};
 pub use checker::{CheckRun, Checker, check, check_run};
-pub use link_tool_options::{CheckOptions, PeerLimits};
+pub use link_tool_option_types::{CheckOptions, PeerLimits};

@@ -10,7 +10,7 @@ use Rattle.link_run_over_bundles.proofs.{Outcomes.whole_of, Told.on_ok_by}
 use Rattle.link_tool_pack.specs.Packing.{prelude_bytes, segment_size, sending, transfer_bytes, report_lines, packing_of, packing_by, pack_tool, report_line}
 use Rattle.link_tool_pack.specs.PackRun.{texts_of, pack_telling, Sends}
 use Rattle.link_tool_pack.specs.Segments.{segments_of, segments_left}
-use Rattle.link_tool_options.specs.declared.pack.PackOptions.{PackOptions}
+use Rattle.link_tool_option_types.specs.declared.pack.PackOptions.{PackOptions}
 use Rattle.link_tool_pack.proofs.Sending.{segments_none, segments_grow, segments_idle, first_chunks-length, all_given_open, all_given_ended, open_none, holds_if}
 use Rattle.link_transfer.specs.Cutting.{with_bytes, due_of, Cutting}
 use Rattle.link_run.specs.Writers.{on_output, on_report, AfterWrite}

@@ -14,7 +14,7 @@ use Rattle.link_run_over_bundles.specs.Bundles.{Packed}
 use Rattle.link_run_over_bundles.specs.Telling.{BundleTelling}
 use Rattle.link_tool_pack.specs.Segments.{segments_of, segments_left, all_given}
 use Rattle.link_tool_pack.specs.Packing.{prelude_bytes, sending, transfer_bytes, end_bytes, report_lines}
-use Rattle.link_tool_options.specs.declared.pack.PackOptions.{PackOptions}
+use Rattle.link_tool_option_types.specs.declared.pack.PackOptions.{PackOptions}
 
 -- the texts for these bundles, and for the bytes `begun` of the next one
 abbrev pub texts_of : PackOptions → List Packed → (begun : List ℕ) → Texts

@@ -5,7 +5,7 @@ use Rattle.link_transfer.specs.Cutting.{Cutting, beginning}
 use Rattle.link_transfer.specs.declared.cutter.Cutter.{Cutter}
 use Rattle.link_tool_pack.specs.Segments.{going}
 use Rattle.link_tool_pack.specs.Packing.{segment_size}
-use Rattle.link_tool_options.specs.declared.pack.PackOptions.{PackOptions}
+use Rattle.link_tool_option_types.specs.declared.pack.PackOptions.{PackOptions}
 
 -- the history of a cutter to which these bytes of an incomplete bundle were pushed, and which has
 -- cut all chunks that are due

@@ -8,7 +8,7 @@ use Rattle.link_run.specs.Run.{Tool}
 use Rattle.link_run_over_bundles.specs.Bundles.{Packed, Rest, Divided, divided}
 use Rattle.link_run_over_bundles.specs.Telling.{stop_by}
 use Rattle.link_tool_pack.specs.Segments.{Sending, segments_of}
-use Rattle.link_tool_options.specs.declared.pack.PackOptions.{PackOptions}
+use Rattle.link_tool_option_types.specs.declared.pack.PackOptions.{PackOptions}
 
 -- ---- the output
 

@@ -13,5 +13,5 @@ mod packer;
 mod segment_text;
 mod segments;
 
-pub use link_tool_options::PackOptions;
+pub use link_tool_option_types::PackOptions;
 pub use packer::{PackRun, Packer, cutter_for, pack, pack_run};

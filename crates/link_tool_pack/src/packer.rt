@@ -16,7 +16,7 @@ use crate::segments::write_run;
 use link_report::{PackedText, PackedView};
 use link_run::{Run, RunEnd, Writers};
 use link_run_over_bundles::{BundleConsumer, BundleWalkRun, RunView, WholeView, bundle_walk_run};
-use link_tool_options::PackOptions;
+use link_tool_option_types::PackOptions;
 use link_transfer::Cutter;
 use link_wire::{HeadBuf, InDevice, IoFault, OutDevice, put_contact, put_sess_init, put_sess_term};
 use std::alloc::{AllocError, Global};

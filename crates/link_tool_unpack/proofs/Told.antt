@@ -22,7 +22,7 @@ use Rattle.link_tool_unpack.specs.TransferScan.{IsTransferScanAt}
 use Rattle.link_tool_unpack.specs.Unpacker.{IsTransferScanAtLatest, IsUnpackerAt}
 use Rattle.link_tool_unpack.specs.declared.transfer.TransferScan.{TransferScan}
 use Rattle.link_tool_unpack.specs.declared.unpacker.Unpacker.{Unpacker}
-use Rattle.link_tool_options.specs.declared.wanted.Wanted.{Wanted}
+use Rattle.link_tool_option_types.specs.declared.wanted.Wanted.{Wanted}
 use Rattle.link_tool_unpack.proofs.Transfers.{part_of-begun, follows_same, same_parts}
 
 -- ---- the latest transfer

@@ -10,7 +10,7 @@ use Rattle.link_run_judge.specs.Unpacking.{is_selected, part_of, parts_of, judge
 use Rattle.link_run_judge.proofs.{Texts.parts_more, Judging.judging_same}
 use Rattle.link_tool_unpack.specs.TransferScan.{IsTransferScanAt}
 use Rattle.link_tool_unpack.specs.declared.transfer.TransferScan.{TransferScan}
-use Rattle.link_tool_options.specs.declared.wanted.Wanted.{Wanted}
+use Rattle.link_tool_option_types.specs.declared.wanted.Wanted.{Wanted}
 
 -- ---- a transfer begins
 

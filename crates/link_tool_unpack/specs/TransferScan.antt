@@ -4,7 +4,7 @@ use Rattle.link_run_judge.specs.Transfers.{Transfer}
 use Rattle.link_run_judge.specs.TransferJudge.{IsTransferJudgeAt}
 use Rattle.link_run_judge.specs.Unpacking.{part_of, parts_of}
 use Rattle.link_tool_unpack.specs.declared.transfer.TransferScan.{TransferScan}
-use Rattle.link_tool_options.specs.declared.wanted.Wanted.{Wanted}
+use Rattle.link_tool_option_types.specs.declared.wanted.Wanted.{Wanted}
 
 -- the scan has taken the data of `transfer` so far, which comes after the transfers `earlier`
 pub record IsTransferScanAt (wanted : Wanted) (now : TransferScan) (transfer : Transfer)

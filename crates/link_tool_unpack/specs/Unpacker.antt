@@ -6,7 +6,7 @@ use Rattle.link_run_judge.specs.Unpacking.{parts_of, told_after}
 use Rattle.link_tool_unpack.specs.TransferScan.{IsTransferScanAt}
 use Rattle.link_tool_unpack.specs.declared.transfer.TransferScan.{TransferScan}
 use Rattle.link_tool_unpack.specs.declared.unpacker.Unpacker.{Unpacker}
-use Rattle.link_tool_options.specs.declared.wanted.Wanted.{Wanted}
+use Rattle.link_tool_option_types.specs.declared.wanted.Wanted.{Wanted}
 
 -- the scan has taken the latest of these transfers so far, and `is_open` is whether it is open
 pub record IsTransferScanAtLatest (wanted : Wanted) (latest : TransferScan) (is_open : Bool)

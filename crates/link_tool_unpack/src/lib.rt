@@ -14,5 +14,5 @@ mod unpacker;
 
 pub use link_bundle::part_in;
 pub use link_run_judge::{TransferJudge, is_bundle, tell_order};
-pub use link_tool_options::Wanted;
+pub use link_tool_option_types::Wanted;
 pub use unpacker::{UnpackRun, Unpacker, unpack, unpack_run};

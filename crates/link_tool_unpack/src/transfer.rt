@@ -6,7 +6,7 @@ ghost use Rattle.link_report.specs.Judgement.{viewed_judgement};
 use link_bundle::part_in;
 use link_report::{TransferText, TransferView};
 use link_run_judge::TransferJudge;
-use link_tool_options::Wanted;
+use link_tool_option_types::Wanted;
 use link_wire::{INPUT_LIMIT, MessageBuffer};
 
 /// Scans one transfer after another. It keeps the values for a transfer's line, but no data.
@@ -36,7 +36,7 @@ impl TransferScan {
     ghost use Rattle.link_run_judge.specs.Unpacking.{parts_of, part_of, line_of, judgement_of, is_good};
     ghost use Rattle.link_run_judge.specs.TransferJudge.{IsTransferJudgeAt, begun, grown};
     ghost use Rattle.link_tool_unpack.specs.TransferScan.{IsTransferScanAt};
-    ghost use Rattle.link_tool_options.specs.declared.wanted.Wanted.{Wanted};
+    ghost use Rattle.link_tool_option_types.specs.declared.wanted.Wanted.{Wanted};
 
     /// Makes a scan for the first transfer of a stream.
     pub fn new() -> TransferScan

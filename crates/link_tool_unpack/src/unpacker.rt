@@ -9,13 +9,13 @@ ghost use Rattle.link_run_judge.specs.Transfers.{Transfer};
 ghost use Rattle.link_run_judge.specs.Unpacking.{line_of, is_good, judgement_of, unpack_telling, unpack_tool, line_due, good_due};
 ghost use Rattle.link_tool_unpack.specs.TransferScan.{IsTransferScanAt};
 ghost use Rattle.link_tool_unpack.specs.Unpacker.{IsTransferScanAtLatest, IsUnpackerAt};
-ghost use Rattle.link_tool_options.specs.declared.wanted.Wanted.{Wanted};
+ghost use Rattle.link_tool_option_types.specs.declared.wanted.Wanted.{Wanted};
 
 use crate::transfer::TransferScan;
 use link_run::{Run, RunEnd, Writers};
 use link_run_judge::{is_bundle, tell_order};
 use link_run_over_transfers::{Consumer, EventView, Manner, WalkRun, walk_run};
-use link_tool_options::Wanted;
+use link_tool_option_types::Wanted;
 use link_wire::{InDevice, IoFault, OutDevice};
 
 /// What is known about the transfers so far.

@@ -1,7 +1,7 @@
 -- The tools by their options: when a tool is ready to run, and what a whole run does.
 use Rattle.std.specs.Prelude.{Option, Some, None, Ok, Err, IfOk, ⊤}
-use Rattle.link_tool_options.specs.declared.options.Options.{Options}
-use Rattle.link_tool_options.specs.declared.options.Options.TheVariants as chosen
+use Rattle.link_tool_option_types.specs.declared.options.Options.{Options}
+use Rattle.link_tool_option_types.specs.declared.options.Options.TheVariants as chosen
 use Rattle.link_run.specs.Run.{Tool, Looks, Devices}
 use Rattle.link_run.specs.WholeRun.{AfterRun}
 use Rattle.link_run.specs.declared.run.RunEnd.{RunEnd}

@@ -24,7 +24,9 @@ pub use link_tool_check::{
     BundleCheckRun, CheckRun, bundle_check, bundle_check_run, check, check_run,
 };
 pub use link_tool_list::{ListRun, list, list_run};
-pub use link_tool_options::{BlockOptions, CheckOptions, Options, PackOptions, PeerLimits, Wanted};
+pub use link_tool_option_types::{
+    BlockOptions, CheckOptions, Options, PackOptions, PeerLimits, Wanted,
+};
 pub use link_tool_pack::{PackRun, cutter_for, pack, pack_run};
 pub use link_tool_unpack::{UnpackRun, unpack, unpack_run};
 pub use options::{Job, run_tool};

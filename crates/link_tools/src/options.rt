@@ -8,7 +8,7 @@ use link_run::RunEnd;
 use link_tool_blocks::{blocks, bundle_blocks};
 use link_tool_check::{bundle_check, check};
 use link_tool_list::list;
-use link_tool_options::{BlockOptions, CheckOptions, Options, PackOptions, Wanted};
+use link_tool_option_types::{BlockOptions, CheckOptions, Options, PackOptions, Wanted};
 use link_tool_pack::{cutter_for, pack};
 use link_tool_unpack::unpack;
 use link_transfer::Cutter;

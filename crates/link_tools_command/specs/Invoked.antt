@@ -3,12 +3,12 @@ use Rattle.std.specs.Prelude.{◌≡◌, ◌&&◌, ◌||◌, ◌^◌, ℕ, Bool,
 use Rattle.std.specs.{List.list_all, Option.option_map_or, Str.bytes_eq}
 use Rattle.std.specs.{Str.Parse.{digits_value, without_leading_plus}, Char.digit_value}
 use Rattle.clap.specs.Words.{Row, Text, first_of, one_of, subcommand_of}
-use Rattle.link_tool_options.specs.declared.wanted.Wanted.{Wanted}
-use Rattle.link_tool_options.specs.declared.blocks.BlockOptions.{BlockOptions}
-use Rattle.link_tool_options.specs.declared.check.CheckOptions.{CheckOptions}
-use Rattle.link_tool_options.specs.declared.pack.PackOptions.{PackOptions}
-use Rattle.link_tool_options.specs.declared.options.Options.{Options}
-use Rattle.link_tool_options.specs.declared.options.Options.TheVariants as options
+use Rattle.link_tool_option_types.specs.declared.wanted.Wanted.{Wanted}
+use Rattle.link_tool_option_types.specs.declared.blocks.BlockOptions.{BlockOptions}
+use Rattle.link_tool_option_types.specs.declared.check.CheckOptions.{CheckOptions}
+use Rattle.link_tool_option_types.specs.declared.pack.PackOptions.{PackOptions}
+use Rattle.link_tool_option_types.specs.declared.options.Options.{Options}
+use Rattle.link_tool_option_types.specs.declared.options.Options.TheVariants as options
 use Rattle.link_tools_command.specs.Table.{table}
 use Rattle.link_tools_command.specs.declared.invocation.Invocation.{Invocation}
 

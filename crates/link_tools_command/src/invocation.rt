@@ -1,6 +1,6 @@
 //! The result of reading a command line.
 
-use link_tool_options::Options;
+use link_tool_option_types::Options;
 
 /// A tool with its options, and the input that it reads.
 #[derive(Debug, Drop, PartialEq, Eq)]

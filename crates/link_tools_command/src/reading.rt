@@ -12,7 +12,7 @@ use crate::invocation::Invocation;
 use crate::usage::UsageFault;
 use clap::error::ErrorKind;
 use clap::{ArgMatches, Error};
-use link_tool_options::{
+use link_tool_option_types::{
     BlockOptions, CheckOptions, NodeId, Options, PackOptions, PeerLimits, Wanted,
 };
 use std::alloc::{AllocError, Global};

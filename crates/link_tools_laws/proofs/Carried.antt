@@ -4,7 +4,7 @@ use Rattle.std.specs.{Prelude.IfSome, List.All}
 use Rattle.std.proofs.Common.{◌≡◌, ℕ, zero, suc, ◌+◌, ◌*◌, ◌<◌, ◌≤◌, Bool, true, false, List, [], ◌∷◌, ◌++◌, length, drop, Option, Some, None, refl, ap, sym, ◌∙◌, subst, append-nil, append_assoc, length-take, length-drop, arith}
 use Rattle.std.proofs.lemmas.{Bool.{eq-eqb, ne_eqb, cases_lt}, List.take_all}
 use Rattle.std.proofs.lemmas.List.Elements.{All-nil, All-cons}
-use Rattle.link_tool_options.specs.declared.pack.PackOptions.{PackOptions}
+use Rattle.link_tool_option_types.specs.declared.pack.PackOptions.{PackOptions}
 use Rattle.link_wire.specs.{Stream.Entry, declared.message.Message.Message}
 use Rattle.link_transfer.specs.{Chunks.chunk_count, Cutting.{due, due_of}, Event.event_of}
 use Rattle.link_transfer.specs.{Joiner.IsJoinerAt, Order.refusal}

@@ -3,7 +3,7 @@ use Rattle.std.specs.List.{All, flat_map}
 use Rattle.std.proofs.Common.{◌≡◌, ℕ, true, List, [], ◌∷◌, ◌++◌, length, map, filter_map, Option, Result, arith, false, drop, option_map, Some, None, if◌then◌else◌, refl, ap, sym, ◌∙◌, subst}
 use Rattle.std.proofs.lemmas.{Bool.and_parts, List.map-append, Grind.{flat_map-append, fold-append}}
 use Rattle.std.proofs.lemmas.List.Elements.{All-nil, All-cons, All-append, All-head, All-tail}
-use Rattle.link_tool_options.specs.{declared.limits.PeerLimits.PeerLimits, declared.wanted.Wanted.Wanted}
+use Rattle.link_tool_option_types.specs.{declared.limits.PeerLimits.PeerLimits, declared.wanted.Wanted.Wanted}
 use Rattle.link_wire.specs.{Message.data_length, Stream.{Entry, End, Reading, reading_of, heads_of}}
 use Rattle.link_wire.specs.{declared.message.Contact.Contact, declared.message.Message.Message}
 use Rattle.link_bundle_types.specs.declared.fault.BundleFault.{BundleFault}

@@ -5,7 +5,7 @@ use Rattle.std.proofs.Common.{◌≡◌, ℕ, zero, suc, ◌+◌, ◌≤◌, Boo
 use Rattle.std.proofs.{Math.Bool.{and-false, and-true}, Math.Seq.take-add}
 use Rattle.std.proofs.lemmas.{Bool.{eq-eqb, ne_eqb, le-ltb}, List.{length-take, reverse-append}}
 use Rattle.std.proofs.lemmas.List.Sums.{sum_by-cons}
-use Rattle.link_tool_options.specs.declared.limits.PeerLimits.{PeerLimits}
+use Rattle.link_tool_option_types.specs.declared.limits.PeerLimits.{PeerLimits}
 use Rattle.link_wire.specs.{Codes.{is_start, is_end}, Stream.Entry}
 use Rattle.link_wire.specs.Spelling.{segment_with, sess_init_with, announced}
 use Rattle.link_wire.specs.declared.message.Message.{Message}

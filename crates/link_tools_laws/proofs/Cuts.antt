@@ -3,7 +3,7 @@
 use Rattle.std.specs.List.{flat_map}
 use Rattle.std.proofs.Common.{◌≡◌, ℕ, Bool, false, not, is_some, List, [], ◌∷◌, ◌++◌, Option, Some, None, refl, ap, sym, ◌∙◌, append-nil, append_assoc, arith, ◌+◌, ◌≤◌, length, length-append, if◌then◌else◌, ◌&&◌, map}
 use Rattle.std.proofs.lemmas.List.Concat.{flat_map-append}
-use Rattle.link_tool_options.specs.declared.wanted.Wanted.{Wanted}
+use Rattle.link_tool_option_types.specs.declared.wanted.Wanted.{Wanted}
 use Rattle.link_wire.specs.{Stream.{Entry, reading_of, heads_of, End, Reading}, Spelled.Spelled}
 use Rattle.link_wire.specs.{declared.message.Message.Message, SpelledStream.{IsStream, IsReading}}
 use Rattle.link_transfer.specs.{Event.event_of, Order.{is_stray, effect_of, with_taken, refusal}}

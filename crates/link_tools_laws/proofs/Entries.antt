@@ -4,7 +4,7 @@ use Rattle.std.proofs.Common.{◌≡◌, ℕ, zero, suc, ◌<◌, ◌≤◌, fal
 use Rattle.std.proofs.lemmas.{Bool.{ltb-false}, List.take-append-drop}
 use Rattle.std.proofs.lemmas.{List.Elements.{All-take, All-drop, All-nil}, Bool.Decides.nat_tests}
 use Rattle.link_cbor.specs.PieceLaws.{takes_shortest}
-use Rattle.link_tool_options.specs.declared.pack.PackOptions.{PackOptions}
+use Rattle.link_tool_option_types.specs.declared.pack.PackOptions.{PackOptions}
 use Rattle.link_wire.specs.{Bytes.{IsByte, AreBytes}, Message.data_length, Spelled.HeadSpelled}
 use Rattle.link_wire.specs.{SpelledStream.{IsStream, IsReading}, declared.message.Message.Message}
 use Rattle.link_wire.specs.declared.message.Message.TheVariants.{SessTerm}

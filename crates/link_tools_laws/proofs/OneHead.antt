@@ -4,7 +4,7 @@ use Rattle.std.proofs.Common.{◌≡◌, ℕ, Bool, true, false, not, List, [], 
 use Rattle.std.proofs.Math.Bool.{and-true, and_comm, and-false, and_assoc}
 use Rattle.std.proofs.lemmas.{List.flat_map_more, List.Folds.list_all-append, Bool.{ne_eqb, eq-eqb}}
 use Rattle.std.proofs.lemmas.List.Concat.{flat_map-append}
-use Rattle.link_tool_options.specs.declared.wanted.Wanted.{Wanted}
+use Rattle.link_tool_option_types.specs.declared.wanted.Wanted.{Wanted}
 use Rattle.link_wire.specs.{Message.data_length, Codes.{is_start, is_end}, Stream.Entry}
 use Rattle.link_wire.specs.declared.message.Message.{Message}
 use Rattle.link_wire.specs.declared.message.SegmentHead.{SegmentHead}

@@ -2,7 +2,7 @@
 use Rattle.std.specs.{Prelude.IfSome, List.All}
 use Rattle.std.proofs.Common.{◌≡◌, ℕ, List, None, refl, ap, sym, ◌∙◌, arith, ◌⊎◌, Bool, true, [], length, Option, Some, length-take, suc, ◌∷◌, ◌++◌, Ok, append-nil, append_assoc, length-append, zero, ◌+◌, ap₂}
 use Rattle.std.proofs.lemmas.{List.Elements.All-nil, Bool.eq-eqb}
-use Rattle.link_tool_options.specs.declared.pack.PackOptions.{PackOptions}
+use Rattle.link_tool_option_types.specs.declared.pack.PackOptions.{PackOptions}
 use Rattle.link_wire.specs.{SpelledStream.IsReading, Stream.{Reading, reading_of, heads_of}}
 use Rattle.link_wire.specs.Spelling.{announced, announce_bytes, total_bytes, segment_head_bytes, sess_init_bytes}
 use Rattle.link_bundle_blocks.specs.Bundle.{verdict}

@@ -3,8 +3,8 @@ use Rattle.std.specs.{Prelude.IfSome, List.All}
 use Rattle.std.proofs.Common.{◌≡◌, ℕ, ◌*◌, ◌<◌, ◌≤◌, Bool, false, ◌==◌, is_some, List, [], ◌∷◌, ◌++◌, length, drop, Option, Some, None, if◌then◌else◌, refl, ap, sym, subst, append-nil, length-take, length-drop, arith, true, Ok, ◌∙◌}
 use Rattle.std.proofs.lemmas.{Bool.eq-eqb, Bool.Decides.nat_tests}
 use Rattle.std.proofs.lemmas.List.Elements.{All-nil, All-head, All-tail, filter-append}
-use Rattle.link_tool_options.specs.declared.limits.PeerLimits.{PeerLimits}
-use Rattle.link_tool_options.specs.declared.pack.PackOptions.{PackOptions}
+use Rattle.link_tool_option_types.specs.declared.limits.PeerLimits.{PeerLimits}
+use Rattle.link_tool_option_types.specs.declared.pack.PackOptions.{PackOptions}
 use Rattle.link_wire.specs.{Stream.{Entry, reading_of, heads_of}}
 use Rattle.link_wire.specs.{declared.message.Message.Message}
 use Rattle.link_wire.specs.{Message.data_length, declared.message.SegmentHead.SegmentHead}

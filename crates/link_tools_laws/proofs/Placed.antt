@@ -5,8 +5,8 @@ use Rattle.std.proofs.Common.{◌≡◌, Bool, true, false, not, ◌&&◌, List,
 use Rattle.std.proofs.Math.Bool.{and-true, and_assoc}
 use Rattle.std.proofs.lemmas.{Grind.flat_map-append, List.Folds.list_all-append, List.map-append}
 use Rattle.std.proofs.lemmas.List.Elements.{filter-append}
-use Rattle.link_tool_options.specs.{declared.limits.PeerLimits.PeerLimits, declared.wanted.Wanted.Wanted}
-use Rattle.link_tool_options.specs.declared.check.CheckOptions.{CheckOptions}
+use Rattle.link_tool_option_types.specs.{declared.limits.PeerLimits.PeerLimits, declared.wanted.Wanted.Wanted}
+use Rattle.link_tool_option_types.specs.declared.check.CheckOptions.{CheckOptions}
 use Rattle.link_wire.specs.{Codes.{is_start, is_end}, declared.message.Message.Message}
 use Rattle.link_wire.specs.declared.message.SegmentHead.{SegmentHead}
 use Rattle.link_bundle_types.specs.declared.fault.BundleFault.{BundleFault}

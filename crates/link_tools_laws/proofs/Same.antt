@@ -4,7 +4,7 @@ use Rattle.std.specs.List.{fold}
 use Rattle.std.proofs.Common.{◌≡◌, inl, inr, List, [], ◌∷◌, ◌++◌, Option, Some, None, refl, ap, ⊎_elim, arith, true, false, append-nil, ℕ, Bool, ◌&&◌, if◌then◌else◌, sym, ◌∙◌}
 use Rattle.std.proofs.{Math.Bool.and-true, Math.Path.fun_ext}
 use Rattle.std.proofs.lemmas.{List.Concat.flat_map-append, List.Folds.list_all-append}
-use Rattle.link_tool_options.specs.declared.wanted.Wanted.{Wanted}
+use Rattle.link_tool_option_types.specs.declared.wanted.Wanted.{Wanted}
 use Rattle.link_wire.specs.Stream.{Entry, End, Reading, cut_heads, heads_of}
 use Rattle.link_wire.specs.{declared.message.Message.Message, declared.message.Contact.Contact}
 use Rattle.link_transfer.specs.{Event.event_of, declared.fault.OrderFault.OrderFault}

@@ -6,7 +6,7 @@ use Rattle.std.proofs.lemmas.{Bool.{cases_Bool, and_parts}, Grind.flat_map-appen
 use Rattle.std.proofs.lemmas.{List.{take-append-drop, map-append}, List.Folds.flat_map-map}
 use Rattle.std.proofs.lemmas.List.Elements.{All-nil, All-head, All-tail, All-push, filter-append, All-map}
 use Rattle.link_cbor.specs.PieceLaws.{takes_shortest}
-use Rattle.link_tool_options.specs.declared.limits.PeerLimits.{PeerLimits}
+use Rattle.link_tool_option_types.specs.declared.limits.PeerLimits.{PeerLimits}
 use Rattle.link_wire.specs.{Bytes.AreBytes, SpelledStream.IsReading}
 use Rattle.link_wire.specs.Stream.{Entry, Reading, reading_of, heads_of}
 use Rattle.link_bundle_types.specs.{Faults.lasts, declared.fault.BundleFault.BundleFault}

@@ -1,9 +1,9 @@
 -- The texts of each tool that some bytes determine are prefixes of its texts for longer inputs.
 use Rattle.std.proofs.Common.{◌≡◌, ℕ, List, ◌++◌, refl, ap, ◌∙◌, ⊎_elim, [], take, drop, Option, Some, None, sym, subst, Bool, true, false, ◌∷◌, if◌then◌else◌, arith, suc, ◌+◌, length, append-nil, append_assoc}
 use Rattle.std.proofs.lemmas.{Grind.flat_map-append, Bool.cases_Bool}
-use Rattle.link_tool_options.specs.{declared.wanted.Wanted.Wanted, declared.pack.PackOptions.PackOptions}
-use Rattle.link_tool_options.specs.declared.blocks.BlockOptions.{BlockOptions}
-use Rattle.link_tool_options.specs.declared.check.CheckOptions.{CheckOptions}
+use Rattle.link_tool_option_types.specs.{declared.wanted.Wanted.Wanted, declared.pack.PackOptions.PackOptions}
+use Rattle.link_tool_option_types.specs.declared.blocks.BlockOptions.{BlockOptions}
+use Rattle.link_tool_option_types.specs.declared.check.CheckOptions.{CheckOptions}
 use Rattle.link_wire.specs.{Stream.{Entry, Stream, Reading, reading_of}, Codes.is_start}
 use Rattle.link_wire.specs.declared.message.Message.{Message}
 use Rattle.link_bundle_blocks.specs.Bundle.{judged_bundle, payload_of, bytes_of, payload_in}

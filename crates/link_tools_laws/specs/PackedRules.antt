@@ -1,7 +1,7 @@
 -- The rules that `check` finds broken in a packed stream.
 use Rattle.std.specs.{Prelude.{◌≡◌, ℕ, ◌≤◌, Bool, List, None, Ok, IfSome}, List.{All, flat_map}}
-use Rattle.link_tool_options.specs.declared.limits.PeerLimits.{PeerLimits}
-use Rattle.link_tool_options.specs.declared.pack.PackOptions.{PackOptions}
+use Rattle.link_tool_option_types.specs.declared.limits.PeerLimits.{PeerLimits}
+use Rattle.link_tool_option_types.specs.declared.pack.PackOptions.{PackOptions}
 use Rattle.link_wire.specs.Spelling.{sess_init_with}
 use Rattle.link_wire.specs.declared.message.Message.{Message}
 use Rattle.link_bundle_blocks.specs.Bundle.{verdict}

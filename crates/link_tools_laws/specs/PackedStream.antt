@@ -1,6 +1,6 @@
 -- A packed stream and the limits of the peer for which it was packed.
 use Rattle.std.specs.{Prelude.{◌≡◌, ℕ, ◌<◌, ◌≤◌, ◌⊎◌, true, length, List, None}, List.All}
-use Rattle.link_tool_options.specs.declared.pack.PackOptions.{PackOptions}
+use Rattle.link_tool_option_types.specs.declared.pack.PackOptions.{PackOptions}
 use Rattle.link_wire.specs.Stream.{Entry, reading_of, heads_of}
 use Rattle.link_wire.specs.declared.message.{Message.Message, Message.TheVariants.Segment}
 use Rattle.link_transfer.specs.Announced.{announced_of}

@@ -1,6 +1,6 @@
 -- Relations: bounds that the types of the options and of the input imply.
 use Rattle.std.specs.Prelude.{ℕ, ◌^◌, ◌<◌, ◌≤◌, List, length}
-use Rattle.link_tool_options.specs.declared.pack.PackOptions.{PackOptions}
+use Rattle.link_tool_option_types.specs.declared.pack.PackOptions.{PackOptions}
 use Rattle.link_wire.specs.Bytes.{AreBytes}
 use Rattle.link_wire.specs.Limits.{longest_node}
 

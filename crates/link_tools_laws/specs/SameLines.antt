@@ -1,7 +1,7 @@
 -- The lines that `blocks` writes for a recording, and those that `blocks --bundles` writes for what
 -- `unpack` writes of the same recording.
 use Rattle.std.specs.{Prelude.{◌≡◌, ℕ, suc, false, List, [], ◌∷◌, None, Ok}, List.{All, flat_map}}
-use Rattle.link_tool_options.specs.declared.blocks.BlockOptions.{BlockOptions}
+use Rattle.link_tool_option_types.specs.declared.blocks.BlockOptions.{BlockOptions}
 use Rattle.link_bundle_blocks.specs.Bundle.{verdict}
 use Rattle.link_run.specs.Writers.{on_output}
 use Rattle.link_run_judge.specs.Unpacking.{unpack_tool}

@@ -2,7 +2,7 @@
 -- in what `unpack` writes of the same recording.
 use Rattle.std.specs.Prelude.{◌≡◌, ℕ, Bool, true, false, List, map, Ok, if◌then◌else◌}
 use Rattle.std.specs.List.{All, filter, flat_map}
-use Rattle.link_tool_options.specs.declared.limits.PeerLimits.{PeerLimits}
+use Rattle.link_tool_option_types.specs.declared.limits.PeerLimits.{PeerLimits}
 use Rattle.link_bundle_blocks.specs.Bundle.{verdict}
 use Rattle.link_run.specs.Run.{Outcome}
 use Rattle.link_run.specs.Writers.{on_output}

@@ -4,11 +4,11 @@
 //! it do nothing either: the proof of the law uses their contracts.
 
 ghost use Rattle.std.specs.Prelude.{◌≡◌, ◌<◌, ◌≤◌, ◌^◌, Bool, true, List, ℕ, length};
-ghost use Rattle.link_tool_options.specs.declared.wanted.Wanted.{Wanted};
-ghost use Rattle.link_tool_options.specs.declared.blocks.BlockOptions.{BlockOptions};
-ghost use Rattle.link_tool_options.specs.declared.check.CheckOptions.{CheckOptions};
-ghost use Rattle.link_tool_options.specs.declared.pack.PackOptions.{PackOptions};
-ghost use Rattle.link_tool_options.specs.declared.limits.PeerLimits.{PeerLimits};
+ghost use Rattle.link_tool_option_types.specs.declared.wanted.Wanted.{Wanted};
+ghost use Rattle.link_tool_option_types.specs.declared.blocks.BlockOptions.{BlockOptions};
+ghost use Rattle.link_tool_option_types.specs.declared.check.CheckOptions.{CheckOptions};
+ghost use Rattle.link_tool_option_types.specs.declared.pack.PackOptions.{PackOptions};
+ghost use Rattle.link_tool_option_types.specs.declared.limits.PeerLimits.{PeerLimits};
 ghost use Rattle.link_wire.specs.Bytes.{AreBytes};
 ghost use Rattle.link_tool_list.specs.Listing.{list_tool};
 ghost use Rattle.link_run.specs.Made.{tool_of};

@@ -4,7 +4,7 @@
 //! the first uses the contract of the call in it.
 
 ghost use Rattle.std.specs.Prelude.{List, ℕ};
-ghost use Rattle.link_tool_options.specs.declared.wanted.Wanted.{Wanted};
+ghost use Rattle.link_tool_option_types.specs.declared.wanted.Wanted.{Wanted};
 ghost use Rattle.link_wire.specs.Bytes.{AreBytes};
 ghost use Rattle.link_tool_list.specs.Listing.{list_tool};
 ghost use Rattle.link_run_judge.specs.Unpacking.{unpack_tool};

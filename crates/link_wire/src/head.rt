@@ -18,7 +18,7 @@ use crate::message::{Contact, Fields, Items, ListOf, MessageBuffer};
 use crate::parts::{bytes, field, number8, number16, number64};
 use byteorder::{BigEndian, ByteOrder};
 use link_io::{Filled, InDevice, IoFault, Source};
-use link_tool_options::{MAX_NODE_ID, NodeId};
+use link_tool_option_types::{MAX_NODE_ID, NodeId};
 
 /// Reads a contact header of six bytes: `dtn!`, the version and the flags (RFC 9174 section 4.2).
 pub fn contact<R: InDevice>(source: &mut Source<R>) -> Result<Contact, Halt>

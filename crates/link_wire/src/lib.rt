@@ -39,7 +39,7 @@ pub use link_io::{
     BufferedReader, DeviceFault, Filled, INPUT_LIMIT, InDevice, IoFault, OutDevice, Reader, Source,
     TEXT_MAX, Text, TextWriter, WINDOW, Writer, copy_into, write_whole,
 };
-pub use link_tool_options::{MAX_NODE_ID, NodeId};
+pub use link_tool_option_types::{MAX_NODE_ID, NodeId};
 pub use message::{
     Contact, Fields, Item, Items, ListOf, MAX_ITEMS, MAX_LIST_LENGTH, Message, MessageBuffer,
     SegmentHead,

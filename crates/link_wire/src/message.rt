@@ -2,7 +2,7 @@
 
 use crate::codes::START;
 use arrayvec::ArrayVec;
-use link_tool_options::NodeId;
+use link_tool_option_types::NodeId;
 
 /// The greatest length of an extension list that is read, in bytes.
 ///

@@ -17,7 +17,7 @@ use crate::codes::{
 use crate::fault::WireFault;
 use crate::message::{Contact, Fields, Item, ListOf, MAX_ITEMS, MAX_LIST_LENGTH, Message};
 use byteorder::{BigEndian, ByteOrder};
-use link_tool_options::MAX_NODE_ID;
+use link_tool_option_types::MAX_NODE_ID;
 
 /// Where some bytes of a slice lie.
 #[derive(Clone, Copy, Debug, PartialEq, Eq)]

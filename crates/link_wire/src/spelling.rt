@@ -13,7 +13,7 @@ use crate::codes::{
 };
 use crate::message::Message;
 use arrayvec::ArrayVec;
-use link_tool_options::NodeId;
+use link_tool_option_types::NodeId;
 
 /// The size of a [`HeadBuf`], in bytes: the longest SESS_INIT that is written has 1,049.
 pub const HEAD_MAX: usize = 2048;

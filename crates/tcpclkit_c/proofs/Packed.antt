@@ -1,11 +1,11 @@
 -- What `pack` returns.
 use Rattle.std.proofs.Common.{◌⊎◌, ℕ, List, Result, Ok, Err, inl, inr}
 use Rattle.std.specs.declared.alloc.AllocError.{AllocError}
-use Rattle.link_tool_options.specs.declared.pack.PackOptions.{PackOptions}
+use Rattle.link_tool_option_types.specs.declared.pack.PackOptions.{PackOptions}
 use Rattle.link_tool_pack.specs.Packing.{pack_tool}
-use Rattle.link_ffi_slices.specs.Run.{ReturnsTool}
-use Rattle.link_ffi_slices.specs.Tool.{Slices, ReturnsTexts, ReturnsNothing}
-use Rattle.link_ffi_slices.specs.declared.running.{Run.Run, Wants.Wants}
+use Rattle.link_ffi_tools.specs.Run.{ReturnsTool}
+use Rattle.link_ffi_tools.specs.Tool.{Slices, ReturnsTexts, ReturnsNothing}
+use Rattle.link_ffi_tools.specs.declared.running.{Run.Run, Wants.Wants}
 use Rattle.link_tools.specs.Options.{job_tool}
 use Rattle.link_tools.specs.declared.options.Job.TheVariants as job
 use Rattle.link_transfer.specs.declared.cutter.Cutter.{Cutter}

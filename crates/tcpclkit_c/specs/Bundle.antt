@@ -10,7 +10,7 @@ use Rattle.link_ffi_numbers.specs.Bundle.{state_status, verdict_shown, eid_or_no
 use Rattle.link_ffi_numbers.specs.declared.bundle.Bundle.{Bundle}
 use Rattle.link_ffi_numbers.specs.declared.bundle.EidNumbers.{EidNumbers}
 use Rattle.link_ffi_numbers.specs.declared.bundle.Verdict.{Verdict}
-use Rattle.link_ffi_slices.specs.Slice.{HoldsPrefix, LeavesRest}
+use Rattle.link_ffi_tools.specs.Slice.{HoldsPrefix, LeavesRest}
 
 -- the three names, or the slices for them before or after a call
 pub record Names : Type 0 where

@@ -1,11 +1,11 @@
 -- What the export of `pack` returns.
 use Rattle.std.specs.Prelude.{◌⊎◌, ℕ, List}
-use Rattle.link_tool_options.specs.declared.pack.PackOptions.{PackOptions}
+use Rattle.link_tool_option_types.specs.declared.pack.PackOptions.{PackOptions}
 use Rattle.link_tool_pack.specs.Packing.{pack_tool}
-use Rattle.link_ffi_slices.specs.Options.{pack_numbers, HasOptions}
-use Rattle.link_ffi_slices.specs.Tool.{Slices, ReturnsTexts, ReturnsNothing}
-use Rattle.link_ffi_slices.specs.declared.running.Run.{Run}
-use Rattle.link_ffi_slices.specs.declared.running.Wants.{Wants}
+use Rattle.link_ffi_tools.specs.Options.{pack_numbers, HasOptions}
+use Rattle.link_ffi_tools.specs.Tool.{Slices, ReturnsTexts, ReturnsNothing}
+use Rattle.link_ffi_tools.specs.declared.running.Run.{Run}
+use Rattle.link_ffi_tools.specs.declared.running.Wants.{Wants}
 
 -- The bundles were packed with these options, and the texts are returned as by the other tools. Or
 -- nothing was written, and the status is TCPCLKIT_MEMORY.

@@ -10,7 +10,7 @@ use Rattle.link_report.specs.Fault.{wire_text, order_text}
 use Rattle.link_ffi_numbers.specs.declared.block.BlockNumbers.{BlockNumbers}
 use Rattle.link_ffi_numbers.specs.declared.named.Named.{Named}
 use Rattle.link_ffi_numbers.specs.declared.named.Named.TheVariants as named
-use Rattle.link_ffi_slices.specs.Slice.{HoldsPrefix, LeavesRest}
+use Rattle.link_ffi_tools.specs.Slice.{HoldsPrefix, LeavesRest}
 
 -- the words of a fault; those of a bundle begin with its code
 abbrev pub named_text : Named → List ℕ

@@ -16,7 +16,7 @@ use link_ffi_numbers::bundle::{
     with_span,
 };
 use link_ffi_numbers::status::{OK, TOO_SMALL};
-use link_ffi_slices::copy_front;
+use link_ffi_tools::copy_front;
 
 /// What a scan has found of the bytes that it has judged.
 fn found(scan: &BundleScan) -> Verdict

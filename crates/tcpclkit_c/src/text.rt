@@ -12,7 +12,7 @@ use link_ffi_numbers::block::BlockNumbers;
 use link_ffi_numbers::bundle::{EidNumbers, eid_by};
 use link_ffi_numbers::named::{Named, named_by};
 use link_ffi_numbers::status::{OK, RANGE, TOO_SMALL};
-use link_ffi_slices::copy_front;
+use link_ffi_tools::copy_front;
 use link_report::{Line, code_of, order_words, put_eid, put_text, put_wire, words_of};
 use link_report_blocks::{WORDS_MAX, data_kind, write_words};
 

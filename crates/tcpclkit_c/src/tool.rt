@@ -6,14 +6,14 @@
 
 ghost use Rattle.std.specs.Prelude.{◌≡◌, true, false, Some, length};
 ghost use Rattle.link_tool_list.specs.Listing.{list_tool};
-ghost use Rattle.link_ffi_slices.specs.Options.{unpack_in_range, blocks_in_range, check_in_range, pack_in_range};
-ghost use Rattle.link_ffi_slices.specs.Tool.{ReturnsTexts, ReturnsUnpacked, ReturnsBlocks, ReturnsRules};
+ghost use Rattle.link_ffi_tools.specs.Options.{unpack_in_range, blocks_in_range, check_in_range, pack_in_range};
+ghost use Rattle.link_ffi_tools.specs.Tool.{ReturnsTexts, ReturnsUnpacked, ReturnsBlocks, ReturnsRules};
 ghost use Rattle.link_tools.specs.Options.{IsReady, job_tool};
 ghost use Rattle.link_tools.specs.declared.options.Job.TheVariants as job;
 ghost use Rattle.tcpclkit_c.specs.Packed.{ReturnsPacked};
 
 use link_ffi_numbers::status::RANGE;
-use link_ffi_slices::{
+use link_ffi_tools::{
     Run, SliceReader, SliceTool, SliceWriter, Wants, blocks_into, check_into, list_into,
     pack_in_range, pack_numbers, packing_of, run_into, unpack_into,
 };

@@ -1,16 +1,16 @@
 //! The module for browsers: the tools that take no memory, over slices of the module's memory.
 //!
 //! The host grows the memory, writes the input into it, and lends slices for the texts, as a caller
-//! of the C library does. A slice is an address and a length. `Run` of link_ffi_slices says what a
+//! of the C library does. A slice is an address and a length. `Run` of link_ffi_tools says what a
 //! run writes into the answer. `include/tcpclkit.h` has the order of the options and the statuses.
 #![tactic(auto)]
 
 ghost use Rattle.std.specs.Prelude.{◌≡◌, true, false};
 ghost use Rattle.link_tool_list.specs.Listing.{list_tool};
-ghost use Rattle.link_ffi_slices.specs.Options.{unpack_in_range, blocks_in_range, check_in_range};
-ghost use Rattle.link_ffi_slices.specs.Tool.{ReturnsTexts, ReturnsUnpacked, ReturnsBlocks, ReturnsRules};
+ghost use Rattle.link_ffi_tools.specs.Options.{unpack_in_range, blocks_in_range, check_in_range};
+ghost use Rattle.link_ffi_tools.specs.Tool.{ReturnsTexts, ReturnsUnpacked, ReturnsBlocks, ReturnsRules};
 
-use link_ffi_slices::{Run, Wants, blocks_into, check_into, list_into, unpack_into};
+use link_ffi_tools::{Run, Wants, blocks_into, check_into, list_into, unpack_into};
 
 /// Runs `list` over the bytes. Returns 0, or 5 if a wanted text does not fit.
 #[unsafe(no_mangle)]

@@ -1,6 +1,6 @@
 use Rattle.std.proofs.{Common.{◌<◌, ◌≤◌, arith}, lemmas.Bool.{lt-ltb, le-ltb}}
 use Rattle.link_wire.proofs.Gettings.{exit, leaving, after, refuse, is_live, if_true, if_false}
-use Rattle.link_tool_options.specs.declared.node.TheConstants.{MAX_NODE_ID}
+use Rattle.link_tool_option_types.specs.declared.node.TheConstants.{MAX_NODE_ID}
 use Rattle.link_wire.specs.Message.{node_at}
 use Rattle.link_wire.proofs.head.node.Goals as goal
 

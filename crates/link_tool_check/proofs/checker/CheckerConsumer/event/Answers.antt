@@ -7,7 +7,7 @@ use Rattle.link_run_over_transfers.specs.Walk.{Head, WalkEvent, ContactHeader, L
 use Rattle.link_tool_check.specs.Checker.{IsCheckedTransferAtLatest, IsCheckerAt, closed_due, kept_of}
 use Rattle.link_tool_check.specs.Checking.{Begun, begun_by, broken_by, head_rules, judged, with_bytes}
 use Rattle.link_tool_check.specs.declared.checker.Checker.{Checker}
-use Rattle.link_tool_options.specs.declared.check.CheckOptions.{CheckOptions}
+use Rattle.link_tool_option_types.specs.declared.check.CheckOptions.{CheckOptions}
 use Rattle.link_run_over_bundles.proofs.Told.{on_ok_by}
 use Rattle.link_tool_check.proofs.Writing.{part_written, quiet_written, then_written}
 use Rattle.link_tool_check.proofs.Kept.{IsLatestRead, closes_read, data_said, inner_said, known_data, known_inner, known_one, opens_read, read_after, said_one, tells}

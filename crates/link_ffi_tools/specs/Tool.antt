@@ -1,0 +1,85 @@
+-- What the exports of whole tools return.
+use Rattle.std.specs.Prelude.{◌≡◌, ℕ, ◌^◌, ◌-◌, ◌==◌, ◌||◌, ◌&&◌, Bool, nat_le, min, List, length, if◌then◌else◌}
+use Rattle.link_tool_blocks.specs.Bundles.{bundle_blocks_tool}
+use Rattle.link_tool_blocks.specs.Showing.{blocks_tool}
+use Rattle.link_tool_check.specs.Bundles.{bundle_check_tool}
+use Rattle.link_tool_check.specs.Checking.{check_tool}
+use Rattle.link_run.specs.Run.{Tool, Outcome}
+use Rattle.link_tool_unpack.specs.Unpacking.{unpack_tool}
+use Rattle.link_ffi_tools.specs.Options.{unpack_numbers, wanted_of, blocks_numbers, block_options_of, check_numbers, check_options_of}
+use Rattle.link_ffi_tools.specs.Slice.{HoldsPrefix, LeavesRest}
+use Rattle.link_ffi_tools.specs.declared.running.Run.{Run}
+use Rattle.link_ffi_tools.specs.declared.running.Wants.{Wants}
+use Rattle.link_ffi_tools.specs.declared.options.BlocksNumbers.{BlocksNumbers}
+use Rattle.link_ffi_tools.specs.declared.options.CheckNumbers.{CheckNumbers}
+
+-- the slices for the two texts, before or after a call
+pub record Slices : Type 0 where
+  pub output : List ℕ
+  pub report : List ℕ
+
+-- TCPCLKIT_OK if each text that is wanted has fit, or TCPCLKIT_TOO_SMALL
+abbrev pub texts_status : Wants → (output_fits report_fits : Bool) → ℕ
+texts_status wants output_fits report_fits =
+    if (wants.output == 0 || output_fits) && (wants.report == 0 || report_fits) then 0 else 5
+
+-- Each slice begins with its text, or has the text's first bytes if it is too small. The bytes
+-- after the text are as they were. The lengths are those of the whole texts; they stop at the
+-- greatest number of 64 bits. The exit status is that of the run. The status that is returned is
+-- TCPCLKIT_OK or TCPCLKIT_TOO_SMALL.
+pub record ReturnsTextsBy (whole : Outcome) (wants : Wants)
+    (old_output old_report output report : List ℕ)
+    (run : Run)
+    (status : ℕ) : Type 0 where
+  pub output_front : HoldsPrefix output whole.texts.output
+  pub output_rest : LeavesRest old_output output whole.texts.output
+  pub report_front : HoldsPrefix report whole.texts.report
+  pub report_rest : LeavesRest old_report report whole.texts.report
+  pub output_length : run.output_length ≡ min (length whole.texts.output) (2 ^ 64 - 1)
+  pub report_length : run.report_length ≡ min (length whole.texts.report) (2 ^ 64 - 1)
+  pub exit : run.exit_status ≡ whole.status
+  pub gives : status ≡ texts_status wants
+      (nat_le (length whole.texts.output) (length output))
+      (nat_le (length whole.texts.report) (length report))
+
+-- what a run has returned in its slices
+abbrev pub ReturnsTexts : Outcome → Wants → (old new : Slices) → Run → ℕ → Type 0
+ReturnsTexts whole wants old new run status =
+    ReturnsTextsBy whole wants old.output old.report new.output new.report run status
+
+-- TCPCLKIT_MEMORY: nothing was written, and the numbers are 0
+pub record ReturnsNothing (old new : Slices) (run : Run) (status : ℕ) : Type 0 where
+  pub no_output : new.output ≡ old.output
+  pub no_report : new.report ≡ old.report
+  pub numbers : run ≡ record { exit_status = 0; output_length = 0; report_length = 0 }
+  pub gives : status ≡ 8
+
+-- Below, `words` are the numbers of the caller's struct after `size`. Each is in its range, as by
+-- `unpack_in_range` of Options.
+
+-- the recording was unpacked with these options
+abbrev pub ReturnsUnpacked : (words bytes : List ℕ) → Wants → (old new : Slices) → Run → ℕ → Type 0
+ReturnsUnpacked words bytes wants old new run status =
+    ReturnsTexts ((unpack_tool (wanted_of (unpack_numbers words))).whole bytes)
+    wants old new run status
+
+-- the tool that these options of `blocks` ask for
+abbrev pub blocks_tool_of : BlocksNumbers → Tool
+blocks_tool_of numbers =
+    if numbers.bundles == 1 then bundle_blocks_tool else blocks_tool (block_options_of numbers)
+
+-- the blocks were shown with these options
+abbrev pub ReturnsBlocks : (words bytes : List ℕ) → Wants → (old new : Slices) → Run → ℕ → Type 0
+ReturnsBlocks words bytes wants old new run status =
+    ReturnsTexts ((blocks_tool_of (blocks_numbers words)).whole bytes) wants old new run status
+
+-- the tool that these options of `check` ask for
+abbrev pub check_tool_of : CheckNumbers → Tool
+check_tool_of numbers =
+    if numbers.bundles == 1 then bundle_check_tool (numbers.must == 1)
+    else check_tool (check_options_of numbers)
+
+-- the rules were judged with these options
+abbrev pub ReturnsRules : (words bytes : List ℕ) → Wants → (old new : Slices) → Run → ℕ → Type 0
+ReturnsRules words bytes wants old new run status =
+    ReturnsTexts ((check_tool_of (check_numbers words)).whole bytes) wants old new run status

@@ -1,0 +1,106 @@
+//! Runs of whole tools over a slice, into two slices.
+//!
+//! A text is wanted if its number is not 0. Of a text that is not wanted, no room is asked.
+//! `options` has a number for each option that the caller's version of the header has, in the order
+//! of the header.
+
+ghost use Rattle.std.specs.Prelude.{◌≡◌, true, false};
+ghost use Rattle.link_tool_list.specs.Listing.{list_tool};
+ghost use Rattle.link_ffi_tools.specs.Options.{unpack_in_range, blocks_in_range, check_in_range};
+ghost use Rattle.link_ffi_tools.specs.Tool.{ReturnsTexts, ReturnsUnpacked, ReturnsBlocks, ReturnsRules};
+
+use crate::options::{blocks_in, check_in, wanted_in};
+use crate::reading::Reading;
+use crate::running::{Run, Wants, run_into};
+use link_ffi_numbers::status::RANGE;
+
+/// Runs `list` over the bytes. Returns `OK` or `TOO_SMALL`.
+pub fn list_into(
+    bytes: &[u8],
+    wants: Wants,
+    output: &mut [u8],
+    report: &mut [u8],
+    answer: &mut Run,
+) -> u32
+    ensures { ReturnsTexts (list_tool.whole bytes.now) wants
+        (record { output = output.old; report = report.old })
+        (record { output = output.new; report = report.new })
+        answer.new result }
+{
+    run_into(Reading::List, bytes, wants, output, report, answer)
+}
+
+/// Runs `unpack` over the bytes. Returns `OK`, `TOO_SMALL`, or `RANGE` for bad options.
+pub fn unpack_into(
+    bytes: &[u8],
+    options: &[u64],
+    wants: Wants,
+    output: &mut [u8],
+    report: &mut [u8],
+    answer: &mut Run,
+) -> u32
+    ensures range { unpack_in_range options.now ≡ false → (result ≡ 6) × (answer.new ≡ answer.old) }
+    ensures run { unpack_in_range options.now ≡ true → ReturnsUnpacked options.now bytes.now wants
+        (record { output = output.old; report = report.old })
+        (record { output = output.new; report = report.new })
+        answer.new result }
+    ensures unwritten { result ≡ 6 → (output.new ≡ output.old) × (report.new ≡ report.old) }
+{
+    let Some(wanted) = wanted_in(options) else {
+        return RANGE;
+    };
+    run_into(
+        Reading::Unpack(wanted),
+        bytes,
+        wants,
+        output,
+        report,
+        answer,
+    )
+}
+
+/// Runs `blocks` over the bytes. Returns `OK`, `TOO_SMALL`, or `RANGE` for bad options.
+#[tactic(auto, using(crate::proofs::Runs::in_range))]
+pub fn blocks_into(
+    bytes: &[u8],
+    options: &[u64],
+    wants: Wants,
+    output: &mut [u8],
+    report: &mut [u8],
+    answer: &mut Run,
+) -> u32
+    ensures range { blocks_in_range options.now ≡ false → (result ≡ 6) × (answer.new ≡ answer.old) }
+    ensures run { blocks_in_range options.now ≡ true → ReturnsBlocks options.now bytes.now wants
+        (record { output = output.old; report = report.old })
+        (record { output = output.new; report = report.new })
+        answer.new result }
+    ensures unwritten { result ≡ 6 → (output.new ≡ output.old) × (report.new ≡ report.old) }
+{
+    let Some(reading) = blocks_in(options) else {
+        return RANGE;
+    };
+    run_into(reading, bytes, wants, output, report, answer)
+}
+
+/// Runs `check` over the bytes. Returns `OK`, `TOO_SMALL`, or `RANGE` for bad options.
+#[tactic(auto, using(crate::proofs::Runs::in_range))]
+pub fn check_into(
+    bytes: &[u8],
+    options: &[u64],
+    wants: Wants,
+    output: &mut [u8],
+    report: &mut [u8],
+    answer: &mut Run,
+) -> u32
+    ensures range { check_in_range options.now ≡ false → (result ≡ 6) × (answer.new ≡ answer.old) }
+    ensures run { check_in_range options.now ≡ true → ReturnsRules options.now bytes.now wants
+        (record { output = output.old; report = report.old })
+        (record { output = output.new; report = report.new })
+        answer.new result }
+    ensures unwritten { result ≡ 6 → (output.new ≡ output.old) × (report.new ≡ report.old) }
+{
+    let Some(reading) = check_in(options) else {
+        return RANGE;
+    };
+    run_into(reading, bytes, wants, output, report, answer)
+}
