@@ -11,8 +11,8 @@ ghost use Rattle.link_bundle_blocks.specs.Laws.{FaultLasts, TrailingLasts, Paylo
 /// - If a byte follows a whole bundle, the verdict is the fault of trailing bytes, at the bundle's
 ///   length, whatever comes after that byte.
 /// - Once the offset of the payload and its length by its head are known, they stay the same.
-/// - This offset and this length also determine which bytes of the payload a prefix of the bytes
-///   has.
+/// - They determine which bytes of the payload are there. This holds for fewer bytes too, in which
+///   the two may not be known yet.
 /// - After the bundle's end, or after a fault that stays, the payload gets no more bytes.
 pub fn verdict_lasts()
     ensures fault { FaultLasts }

@@ -252,7 +252,7 @@ impl BundleHistory {
         Some(BundleRule::IntegrityTarget { block, target })
     }
 
-    /// The rule of block confidentiality blocks that are targets of one, if it is broken.
+    /// The rule that no block confidentiality block is a target of one, if the rule is broken.
     #[tactic(auto, unfolding(crate::specs::Targets::confidential_target))]
     pub(crate) fn confidential_target(&self) -> Option<BundleRule>
         ensures { (long_head : Option ℕ) (payload_length : ℕ)

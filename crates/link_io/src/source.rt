@@ -129,7 +129,7 @@ impl<R: InDevice> Source<R> {
     /// Copies the next available bytes without giving them, and returns how many it copied.
     ///
     /// These are the bytes of the window, and then those that the reader holds. It copies as many
-    /// as there is room for.
+    /// as there are and as there is room for; how many is not promised.
     pub fn peek(&self, bytes: &mut [u8]) -> usize
         ensures fits { result ≤ length bytes.old }
         ensures size { length bytes.new ≡ length bytes.old }

@@ -100,6 +100,7 @@ impl<D: OutDevice> TextWriter<D> {
     fn pass(&mut self) -> Result<(), DeviceFault>
         ensures empty { OnOk result (waiting self.new ≡ []) }
         ensures size { length self.new.page.items ≡ length self.old.page.items }
+        // Bytes that wait count as written: none is lost, and none is added.
         ensures bytes { Keeps (output_of D.state self.old).written
             (output_of D.state self.new).written }
         ensures failed { MatchResult result

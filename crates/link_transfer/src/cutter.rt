@@ -160,10 +160,10 @@ impl Cutter {
     /// them.
     ///
     /// `last` is whether the last byte of the slice is the bundle's last. The bytes are a whole
-    /// chunk if the cutter holds nothing and a chunk is ready after them, but not before the last
-    /// of them and not after the cut. The effect is that of pushing the bytes and of two calls of
-    /// `cut`. In all other cases it returns `None`, and nothing changes. It may be called only if
-    /// no chunk is ready.
+    /// chunk if the cutter holds nothing, and they would make one chunk that ends with the last of
+    /// them. The effect is that of pushing the bytes, of `cut`, and of another `cut`, which forgets
+    /// the chunk. In all other cases it returns `None`, and nothing changes. It may be called only
+    /// if no chunk is ready.
     #[inline(always)]
     pub fn cut_slice(&mut self, bytes: &[u8], last: bool) -> Option<Cut>
         requires { cut_waits self.old ≡ false }
