@@ -53,6 +53,7 @@ head_stage_fits count NoHead = nat_le count 9
 
 -- The stage is that of a scan which has seen `count` bytes. For all bytes `more` that follow,
 -- `reading more` is the head that the stage and `more` determine.
-pub record DeterminesHead (count : ℕ) (stage : HeadStage) (reading : List ℕ → HeadFront) : Type 0 where
+pub record IsStageOfHead (count : ℕ) (stage : HeadStage)
+    (reading : List ℕ → HeadFront) : Type 0 where
   pub fits : IsTrue (head_stage_fits count stage)
   pub reads : (more : List ℕ) → reading more ≡ front_from count stage more

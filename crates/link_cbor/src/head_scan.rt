@@ -26,7 +26,7 @@ const LEAST_IN_NEXT_BYTE: u8 = 32;
 
 impl HeadStage {
     ghost use Rattle.link_cbor.specs.Head.{head_front, no_argument};
-    ghost use Rattle.link_cbor.specs.Stage.{stage_step, in_argument, DeterminesHead};
+    ghost use Rattle.link_cbor.specs.Stage.{stage_step, in_argument, IsStageOfHead};
 
     /// The state of the head after the bytes seen.
     fn outcome(self) -> HeadStep
@@ -44,7 +44,7 @@ impl HeadStage {
     /// The top three bits are the major type, and the low five bits are the additional information.
     #[tactic(auto, using(crate::proofs::Fronts::first_byte), unfolding(crate::specs::Head::front_by, crate::specs::Stage::front_from, crate::specs::Stage::head_stage_fits))]
     fn begin(first: u8) -> HeadStage
-        ensures { DeterminesHead 1 result (λ more. head_front (first ∷ more)) }
+        ensures { IsStageOfHead 1 result (λ more. head_front (first ∷ more)) }
     {
         let major = first >> 5;
         let information = first & 0x1f;
@@ -82,7 +82,7 @@ impl HeadStage {
     /// ill-formed.
     #[tactic(auto, unfolding(crate::specs::Head::no_argument, crate::specs::Stage::front_from, crate::specs::Stage::head_stage_fits))]
     fn without_argument(major: u8) -> HeadStage
-        ensures { DeterminesHead 1 result (λ _. no_argument major) }
+        ensures { IsStageOfHead 1 result (λ _. no_argument major) }
     {
         if major < 2 || major == 6 {
             HeadStage::IllFormed
@@ -106,7 +106,7 @@ pub struct HeadScan {
 impl HeadScan {
     ghost use Rattle.link_cbor.specs.Head.{head_front, step_of, front_by_step};
     ghost use Rattle.link_cbor.specs.HeadScan.{HasScannedHead, head_scan_size, may_scan_head};
-    ghost use Rattle.link_cbor.specs.Stage.{front_from, DeterminesHead};
+    ghost use Rattle.link_cbor.specs.Stage.{front_from, IsStageOfHead};
     ghost use Rattle.link_cbor.specs.declared.head.HeadStep.TheVariants.{More};
 
     /// A scan that has seen no byte.
@@ -136,7 +136,7 @@ impl HeadScan {
     #[tactic(auto, unfolding(crate::specs::Head::argument_front, crate::specs::Head::with_argument, crate::specs::Head::big_endian, crate::specs::Stage::front_from, crate::specs::Stage::head_stage_fits))]
     fn next_stage(&self, byte: u8) -> HeadStage
         requires { IsTrue (may_scan_head self.now) }
-        ensures { DeterminesHead (self.now.count + 1) result
+        ensures { IsStageOfHead (self.now.count + 1) result
             (λ more. front_from self.now.count self.now.stage (byte ∷ more)) }
     {
         match self.stage {

@@ -130,9 +130,9 @@ pub record FetchesData {R W E : Type 0} (look : Looks R W E)
 
 -- A source that has ended or failed returns this again. Or a writer failed to hand on what was
 -- written.
-abbrev pub AfterEndedLoad : {R W E : Type 0} → Looks R W E → (before after : Writers W E)
+abbrev pub AfterRepeatedLoad : {R W E : Type 0} → Looks R W E → (before after : Writers W E)
     → (again result : Result ℕ IoFault) → Type 0
-AfterEndedLoad look before after again result =
+AfterRepeatedLoad look before after again result =
     ((result ≡ again) × Writes look.output look.report before after (on_output []))
     ⊎ ((result ≡ Err io.Write) × FailedSettle look.output look.report before after io.Write)
 
@@ -150,6 +150,6 @@ pub record FetchesBytes {R W E : Type 0} (look : Looks R W E)
       old new before
   pub line : next_line after ≡ next_line before
   pub ended : HasEnded (feed_of old)
-      → (feed_of new ≡ feed_of old) × AfterEndedLoad look before after (Ok 0) result
+      → (feed_of new ≡ feed_of old) × AfterRepeatedLoad look before after (Ok 0) result
   pub failed : (fault : IoFault) → HasFailed (feed_of old) fault
-      → (feed_of new ≡ feed_of old) × AfterEndedLoad look before after (Err fault) result
+      → (feed_of new ≡ feed_of old) × AfterRepeatedLoad look before after (Err fault) result

@@ -241,7 +241,8 @@ module _ {R W E : Type 0} (look : Looks R W E) where
   -- A byte past the longest input was read, and no device failed. The bytes `past` of the last read
   -- were not given. The bytes `given` show no fault, and the texts are those that `given`
   -- determines.
-  pub record ExceededLimit (tool : Tool) (start now : Devices R W E) (given : List ℕ) : Type 0 where
+  pub record ExceededInputLimit (tool : Tool) (start now : Devices R W E)
+      (given : List ℕ) : Type 0 where
     pub unshown : tool.shows given ≡ false
     pub past : List ℕ
     pub few : length past ≤ window_size
@@ -293,7 +294,7 @@ module _ {R W E : Type 0} (look : Looks R W E) where
   -- what holds after each failure; a run never fails for lack of memory
   abbrev pub FailedRun : Tool → Devices R W E → Devices R W E → List ℕ → IoFault → Type 0
   FailedRun tool start now given io.Read = LostReader tool start now given
-  FailedRun tool start now given io.InputTooLong = ExceededLimit tool start now given
+  FailedRun tool start now given io.InputTooLong = ExceededInputLimit tool start now given
   FailedRun tool start now given io.Write = LostWriter tool start now given
   FailedRun tool start now given io.Memory = ⊥
 

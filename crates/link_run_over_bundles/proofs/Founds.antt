@@ -17,7 +17,7 @@ use Rattle.link_run.proofs.Runs.{few_over, then_assoc, writes_then, part_of_more
 use Rattle.link_run.proofs.Stands.{goes_on, loses, ends, last_step}
 use Rattle.link_bundle.specs.Scan.{HasScanned}
 use Rattle.link_run_over_bundles.specs.Bundles.{Packed, divided, with_bundles, size_of}
-use Rattle.link_run_over_bundles.specs.Telling.{SoFar, BundleTelling, WritesRest, told_of, with_run, with_bytes, between, RunViewComes, EndsAtBlock, IsAccepted, StopComes}
+use Rattle.link_run_over_bundles.specs.Telling.{SoFar, BundleTelling, WritesRest, told_of, with_run, with_bytes, between, RunViewComes, EndsAtBlock, IsAccepted, LastBytesCome}
 use Rattle.link_run_over_bundles.specs.BundleRun.{before_last, AfterJudge, cut_at, IsBundleWalkAt, ended_by, WritesUpTo, WritesEnd, WritesFound, BytesCome, RefusedBundle}
 use Rattle.link_run_over_bundles.specs.declared.current.{Current.Current, Found.Found}
 use Rattle.link_run_over_bundles.specs.declared.current.Found.TheVariants as found
@@ -66,7 +66,7 @@ pub refused : {limit : ℕ} {by_blocks : Bool} {current : Current} {before : SoF
     {run : List ℕ} {why : Fault} (bytes : List ℕ) → bytes ≡ before_last run
     → BytesCome limit current before place run
     → RefusedBundle limit by_blocks current.number before.begun run why
-    → StopComes limit by_blocks before current.number bytes
+    → LastBytesCome limit by_blocks before current.number bytes
 refused {before = before} {run = run} bytes is here refuses =
     let some = here.some in
     let few = here.few in

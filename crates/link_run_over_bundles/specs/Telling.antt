@@ -127,7 +127,7 @@ pub record RunViewComes (limit : ℕ) (by_blocks : Bool) (before : SoFar) (run :
 
 -- These bytes of the bundle with this number follow the bytes so far, and the bundle goes on. If
 -- the tool is told of each block by itself, no block ends in them.
-pub record StopComes (limit : ℕ) (by_blocks : Bool) (before : SoFar) (number : ℕ)
+pub record LastBytesCome (limit : ℕ) (by_blocks : Bool) (before : SoFar) (number : ℕ)
     (bytes : List ℕ) : Type 0 where
   pub numbered : number ≡ length before.bundles
   pub opened : IsOpen limit before.begun

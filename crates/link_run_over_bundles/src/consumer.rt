@@ -5,7 +5,7 @@ ghost use Rattle.link_bundle_types.specs.BundleView.{viewed_info};
 ghost use Rattle.link_bundle_types.specs.ShortNames.{HasShortNames};
 ghost use Rattle.link_run.specs.Run.{no_texts};
 ghost use Rattle.link_run_over_bundles.specs.Bundles.{Packed};
-ghost use Rattle.link_run_over_bundles.specs.Telling.{BundleTelling, RunViewComes, SoFar, StopComes, WritesRest, between, come_with, none_yet, size_after, with_bytes};
+ghost use Rattle.link_run_over_bundles.specs.Telling.{BundleTelling, RunViewComes, SoFar, LastBytesCome, WritesRest, between, come_with, none_yet, size_after, with_bytes};
 
 use link_bundle::BundleScan;
 use link_bundle_types::BundleView;
@@ -123,7 +123,7 @@ pub trait BundleConsumer: Sized {
         requires fits { IsTrue (fits self.old) }
         requires few { length bytes.now ≤ wants self.old }
         ensures { (before : SoFar) → knows options.now self.old before
-            → StopComes (telling options.now).limit tells_blocks before number bytes.now
+            → LastBytesCome (telling options.now).limit tells_blocks before number bytes.now
             → WritesRest W.state E.state ((telling options.now).texts before)
             ((telling options.now).texts (with_bytes before bytes.now)) (Unit {0})
             writers.old writers.new result };

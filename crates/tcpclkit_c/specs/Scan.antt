@@ -88,7 +88,7 @@ pub record ReturnsCut (seen : List ℕ) (block : BlockNumbers) (status : ℕ) : 
 -- ---- memory that may have no scan
 
 -- Memory that has a scan is handled as that scan. Without the mark the answer is TCPCLKIT_RANGE.
-pub record FeedsMarked (old : MarkedScan) (piece : List ℕ) (new : MarkedScan)
+pub record FeedsMarkedScan (old : MarkedScan) (piece : List ℕ) (new : MarkedScan)
     (taken status : ℕ) : Type 0 where
   pub scan : (seen : List ℕ) → IsMarkedScanAt old seen → Feeds seen piece new taken status
   pub other : (old.mark ≡ mark → ⊥) → (status ≡ 6) × (taken ≡ 0) × (new ≡ old)

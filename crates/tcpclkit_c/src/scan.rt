@@ -11,7 +11,7 @@ ghost use Rattle.link_bundle.specs.Scan.{HasScanned, scan_size};
 ghost use Rattle.link_bundle_blocks.specs.PrimaryFields.{primary_fields};
 ghost use Rattle.link_ffi_numbers.specs.Bundle.{verdict_shown, state_status, ReturnsVerdict};
 ghost use Rattle.tcpclkit_c.specs.Bundle.{three_names, ReturnsInfo};
-ghost use Rattle.tcpclkit_c.specs.Scan.{IsMarkedScanAt, LentScan, ReadsScan, HoldsScan, mark, has_room, is_late, fed, fed_status, may_end, EndsScan, ReturnsCut, FeedsMarked, JudgesMarked, EndsMarked, JudgesMarkedBlock, DescribesMarked};
+ghost use Rattle.tcpclkit_c.specs.Scan.{IsMarkedScanAt, LentScan, ReadsScan, HoldsScan, mark, has_room, is_late, fed, fed_status, may_end, EndsScan, ReturnsCut, FeedsMarkedScan, JudgesMarked, EndsMarked, JudgesMarkedBlock, DescribesMarked};
 ghost use Rattle.tcpclkit_c.specs.NextBlock.{TakesBlock, fed_block, fed_block_status, added_block, FeedsMarkedBlock};
 ghost use Rattle.tcpclkit_c.specs.contracts.scan.MarkedScan.{the_row};
 
@@ -106,7 +106,7 @@ fn piece_status(scan: &BundleScan, late: bool) -> u32
 
 /// Takes bytes of the piece while more are needed. Returns `RANGE` if [`may_feed`] is false.
 fn feed(scan: &mut MarkedScan, piece: &[u8], taken: &mut u64) -> u32
-    ensures { FeedsMarked scan.old piece.now scan.new taken.new result }
+    ensures { FeedsMarkedScan scan.old piece.now scan.new taken.new result }
 {
     *taken = 0;
     if !may_feed(scan, piece) {
