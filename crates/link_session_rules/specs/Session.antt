@@ -86,8 +86,8 @@ keepalive_interval _ = None
 abbrev pub after_disabling : List Message → List Message
 after_disabling messages = after_first disables_keepalive messages
 
--- keepalive: no KEEPALIVE comes after a SESS_INIT whose interval is 0 (sections 4.7 and 5.1.1). Only
--- the first such KEEPALIVE breaks the rule. Another SESS_INIT changes nothing.
+-- keepalive: no KEEPALIVE comes after a SESS_INIT whose interval is 0 (sections 4.7 and 5.1.1).
+-- Only the first such KEEPALIVE breaks the rule. Another SESS_INIT changes nothing.
 unfoldable pub keepalive : List JudgedHead → Message → Option MessageRule
 keepalive before message =
     let earlier = messages_of before in
