@@ -187,7 +187,7 @@ module _ (peer : PeerLimits) where
 
 -- the length of the transfer breaks no rule, and its data is a good bundle
 record BreaksNone (transfer : Transfer) : Type 0 where
-  pub of_transfers-nil : broken_transfer_rules transfer.first (length transfer.content) ≡ []
+  pub lengths : broken_transfer_rules transfer.first (length transfer.content) ≡ []
   pub info : BundleInfo
   pub is : verdict transfer.content ≡ Ok info
 
