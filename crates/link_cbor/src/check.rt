@@ -5,6 +5,7 @@ ghost use Rattle.link_cbor.specs.CrcTables.{AreTables};
 
 mod crc16;
 mod crc32;
+mod parts;
 mod register;
 
 use self::register::{Tables, register_after, register_after_blocks};

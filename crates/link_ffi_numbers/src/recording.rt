@@ -131,7 +131,7 @@ fn of_reason(kind: u64, reason: u8) -> Message
 }
 
 /// The kind and the numbers of a message, without where its parts lie and how much data is there.
-fn fields_shown(fields: Fields) -> Message
+pub fn fields_shown(fields: Fields) -> Message
     ensures { result ≡ fields_shown fields }
 {
     match fields {

@@ -1,5 +1,7 @@
 -- The names of reason codes.
 use Rattle.std.specs.Prelude.{ℕ, List, [], ◌∷◌, slice_index_or, codes}
+use Rattle.link_report.specs.declared.reason.ReasonOf.{ReasonOf}
+use Rattle.link_report.specs.declared.reason.ReasonOf.TheVariants.{Refuse, SessTerm, MsgReject}
 
 -- the names of XFER_REFUSE reasons, from code 00 on (RFC 9174 section 5.2.4)
 abbrev pub refuse_names : List (List ℕ)
@@ -22,3 +24,9 @@ reject_names =
 -- the name of a code, or `?` if it has none
 unfoldable pub name_in : List (List ℕ) → ℕ → List ℕ
 name_in names code = slice_index_or names code (codes "?")
+
+-- the name of a reason, by the kind of message that has it
+abbrev pub name_of : ReasonOf → (reason : ℕ) → List ℕ
+name_of Refuse reason = name_in refuse_names reason
+name_of SessTerm reason = name_in term_names reason
+name_of MsgReject reason = name_in reject_names reason

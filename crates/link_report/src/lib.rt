@@ -22,6 +22,8 @@
 //!
 //! A crate with lines of its own makes them of the pieces that the `write_` calls put into a page.
 //! Each of these calls takes the index where its piece begins and returns the index after it.
+//!
+//! [`reason_name`] is the name of a reason alone, as the lines have it.
 #![tactic(auto)]
 
 mod bundle_fault;
@@ -45,4 +47,5 @@ pub use message::{MessageText, contact_line, message_line};
 pub use packed::{PackedEntry, PackedText, PackedView, packed_line, packed_view_line};
 pub use page::{write_bytes, write_decimal, write_hex2, write_number, write_text};
 pub use put::{LINE_MAX, Line, put_text};
+pub use reason::{ReasonOf, reason_name};
 pub use transfer::{TransferEntry, TransferText, TransferView, transfer_line, transfer_view_line};

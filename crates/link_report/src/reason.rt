@@ -2,7 +2,18 @@
 #![tactic(auto, unfolding(crate::specs::Reason::name_in))]
 
 ghost use Rattle.std.specs.Prelude.{◌≡◌, ◌≤◌, length};
-ghost use Rattle.link_report.specs.Reason.{refuse_names, term_names, reject_names, name_in};
+ghost use Rattle.link_report.specs.Reason.{refuse_names, term_names, reject_names, name_in, name_of};
+
+/// A kind of message that has a reason.
+#[derive(Clone, Copy, Debug, PartialEq, Eq)]
+pub enum ReasonOf {
+    /// XFER_REFUSE (RFC 9174 section 5.2.4).
+    Refuse,
+    /// SESS_TERM (RFC 9174 section 6.1).
+    SessTerm,
+    /// MSG_REJECT (RFC 9174 section 5.1.2).
+    MsgReject,
+}
 
 /// The name of an XFER_REFUSE reason (RFC 9174 section 5.2.4), or `?` for other codes.
 pub(crate) fn refuse_name(reason: u8) -> &'static str
@@ -47,5 +58,17 @@ pub(crate) fn reject_name(reason: u8) -> &'static str
         0x02 => "message-unsupported",
         0x03 => "message-unexpected",
         _ => "?",
+    }
+}
+
+/// The name of a reason of this kind of message, or `?` for other codes.
+pub fn reason_name(of: ReasonOf, reason: u8) -> &'static str
+    ensures name { result.now ≡ name_of of reason }
+    ensures short { length result.now ≤ 20 }
+{
+    match of {
+        ReasonOf::Refuse => refuse_name(reason),
+        ReasonOf::SessTerm => term_name(reason),
+        ReasonOf::MsgReject => reject_name(reason),
     }
 }

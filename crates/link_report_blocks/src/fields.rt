@@ -4,7 +4,7 @@
 
 ghost use Rattle.std.specs.Prelude.{◌≡◌, ◌+◌, ◌<◌, ◌≤◌, ◌++◌, length, take, codes};
 ghost use Rattle.link_report.specs.Written.{PutsText};
-ghost use Rattle.link_report_blocks.specs.Fields.{significant, flags_text, check_text, control_text, type_text, length_to};
+ghost use Rattle.link_report_blocks.specs.Fields.{significant, flags_text, check_text, control_text, type_name, type_text, length_to};
 
 use link_cbor::CheckKind;
 use link_report::{write_bytes, write_hex2, write_number};
@@ -87,6 +87,23 @@ pub(crate) fn write_control(
     let at = write_bytes(page, at, *b" flags=");
     let at = write_flags(page, at, flags);
     write_check(page, at, check)
+}
+
+/// The name of a block type (RFC 9171 section 4.4, RFC 9172 section 3), or `?` for other codes.
+#[tactic(auto, unfolding(crate::specs::Fields::type_name))]
+pub fn block_type_name(block_type: u64) -> &'static str
+    ensures name { result.now ≡ type_name block_type }
+    ensures short { length result.now ≤ 21 }
+{
+    match block_type {
+        1 => "payload",
+        6 => "previous-node",
+        7 => "bundle-age",
+        10 => "hop-count",
+        11 => "block-integrity",
+        12 => "block-confidentiality",
+        _ => "?",
+    }
 }
 
 /// Writes a block type: its code and its name.

@@ -12,7 +12,8 @@
 //! ```
 //!
 //! [`data_kind`] says which data is read for the last words of a block's line, such as ` age=100`.
-//! [`write_words`] writes these words. [`write_flags`] writes flags as the lines have them.
+//! [`write_words`] writes these words. [`write_flags`] writes flags as the lines have them, and
+//! [`block_type_name`] and [`report_reason_name`] are the names that the lines have.
 #![tactic(auto)]
 
 mod blocks;
@@ -21,6 +22,6 @@ mod kinds;
 mod words;
 
 pub use blocks::{BlockText, EndText, PrimaryRestText, PrimaryStartText};
-pub use fields::write_flags;
+pub use fields::{block_type_name, write_flags};
 pub use kinds::data_kind;
-pub use words::{WORDS_MAX, write_integer, write_words};
+pub use words::{WORDS_MAX, report_reason_name, write_integer, write_words};

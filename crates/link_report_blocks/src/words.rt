@@ -36,7 +36,7 @@ pub const WORDS_MAX: usize = 23 + STATUSES_MAX + SUBJECT_MAX;
 ///
 /// The codes are those of RFC 9171 section 6.1.1 and RFC 9172 section 7.1.
 #[tactic(auto, unfolding(link_report::specs::Reason::name_in))]
-fn report_name(reason: u64) -> &'static str
+pub fn report_reason_name(reason: u64) -> &'static str
     ensures name { result.now ≡ name_in report_names reason }
     ensures short { length result.now ≤ 34 }
 {
@@ -136,7 +136,7 @@ fn write_statuses(page: &mut [u8], at: usize, report: &Report) -> usize
     let at = write_assertion(page, at, *b" deleted=", report.deleted);
     let at = write_number(page, at, *b" reason=", report.reason);
     let at = write_bytes(page, at, *b"/");
-    write_text(page, at, report_name(report.reason))
+    write_text(page, at, report_reason_name(report.reason))
 }
 
 /// Writes the offset and the length of the payload, if the bundle is a fragment, or else nothing.

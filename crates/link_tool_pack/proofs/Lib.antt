@@ -1,2 +1,5 @@
 pub mod Sending
 pub mod Outcomes
+mod MoreOutcomes
+mod Packs
+mod Moved

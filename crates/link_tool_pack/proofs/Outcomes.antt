@@ -26,7 +26,7 @@ use Rattle.link_transfer.specs.Chunks.{chunk_count}
 module _ (options : PackOptions) where
   -- ---- one more bundle, which has the number `n`
 
-  transfers_of_push : (number n : ℕ) (bundles : List Packed) (bundle : Packed)
+  pub transfers_of_push : (number n : ℕ) (bundles : List Packed) (bundle : Packed)
       → n ≡ number + length bundles
       → transfer_bytes options number (bundles ++ bundle ∷ [])
       ≡ transfer_bytes options number bundles ++ segments_of n (sending options true bundle.bytes)
@@ -51,11 +51,11 @@ module _ (options : PackOptions) where
   -- ---- more bytes of a bundle
 
   -- the segments that are due once the bytes `run` have come
-  abbrev due_with : (number : ℕ) → (begun run : List ℕ) → (whole : Bool) → List ℕ
+  abbrev pub due_with : (number : ℕ) → (begun run : List ℕ) → (whole : Bool) → List ℕ
   due_with number begun run whole =
       segments_left number (with_bytes run whole (cutting options begun))
 
-  segments_of-append : (number : ℕ) (begun run : List ℕ) (whole : Bool) → 0 < length run
+  pub segments_of-append : (number : ℕ) (begun run : List ℕ) (whole : Bool) → 0 < length run
       → segments_of number (sending options false begun) ++ due_with number begun run whole
       ≡ segments_of number (sending options whole (begun ++ run))
   segments_of-append number begun run whole some =
@@ -63,7 +63,7 @@ module _ (options : PackOptions) where
       segments_grow number (segment_size options) options.announce begun run whole
       (omega arith) some
 
-  grown_any : (number : ℕ) (begun run : List ℕ)
+  pub grown_any : (number : ℕ) (begun run : List ℕ)
       → segments_of number (sending options false begun) ++ due_with number begun run false
       ≡ segments_of number (sending options false (begun ++ run))
   grown_any number begun [] =
@@ -113,6 +113,24 @@ module _ (options : PackOptions) where
       ) refl)
       (sym (lines_of_push 0 n bundles bundle (omega arith)))
 
+  -- the same for the bundle with this number
+  pub grown_at : (number : ℕ) (bundles : List Packed) (begun run : List ℕ)
+      → number ≡ length bundles
+      → texts_of options bundles begun then on_output (due_with number begun run false)
+      ≡ texts_of options bundles (begun ++ run)
+  grown_at number bundles begun run numbered = rw numbered (texts_grown bundles begun run)
+
+  pub whole_at : (number : ℕ) (bundles : List Packed) (begun run : List ℕ) (bundle : Packed)
+      → number ≡ length bundles → bundle.bytes ≡ begun ++ run → 0 < length run
+      → texts_of options bundles begun
+      then (record {
+        output = due_with number begun run true;
+        report = report_line options number bundle;
+      })
+      ≡ texts_of options (bundles ++ bundle ∷ []) []
+  whole_at number bundles begun run bundle numbered is some =
+      rw numbered (texts_whole bundles begun run bundle is some)
+
 -- ---- how many bytes the cutter keeps between two steps
 
 -- what is left of an incomplete bundle once all due chunks were cut
@@ -148,7 +166,7 @@ chunks_counted segment size some =
     let within = div_ceil_times size segment some in
     rounded_up segment size (size / segment + min 1 (size % segment)) some within.0 within.1
 
--- ---- the bytes of a run
+-- ---- the bytes of a run, where `texts` are those for some bundles and for bytes of the next one
 
 kept_as : (options : PackOptions) (cutter : Cutter) (begun : List ℕ) (cuts : Cutting)
     → cuts ≡ cutting options begun → IsCutterAt cutter cuts → IsCutterIn options cutter begun
@@ -157,38 +175,41 @@ kept_as options cutter begun cuts is at =
     record { cut = here; kept = kept_few options cutter begun here }
 
 module _ {W E : Type 0} (out_look : W → Output) (report_look : E → Output) (options : PackOptions)
-    (before : SoFar) (run : List ℕ) (number : ℕ) (numbered : number ≡ length before.bundles)
+    (texts : List Packed → List ℕ → Texts) (before : SoFar) (run : List ℕ) (id : ℕ)
     (cutter : Cutter) where
   abbrev pushed : (last : Bool) → Cutting
   pushed last = with_bytes run last (cutting options before.begun)
 
   abbrev TellsRun : (now : SoFar) → (old new : Writers W E) → Result (Unit {0}) IoFault → Type 0
   TellsRun now old new result =
-      WritesRest out_look report_look (texts_of options before.bundles before.begun)
-      (texts_of options now.bundles now.begun) (IsCutterIn options cutter now.begun) old new result
+      WritesRest out_look report_look (texts before.bundles before.begun)
+      (texts now.bundles now.begun) (IsCutterIn options cutter now.begun) old new result
 
   -- the bundle goes on
-  pub went_on : (old new : Writers W E) (result : Result (Unit {0}) IoFault)
-      → Sends out_look report_look number (pushed false) old new cutter result
+  pub went_on : texts before.bundles before.begun
+      then on_output (segments_left id (pushed false))
+      ≡ texts before.bundles (before.begun ++ run)
+      → (old new : Writers W E) (result : Result (Unit {0}) IoFault)
+      → Sends out_look report_look id (pushed false) old new cutter result
       → TellsRun (with_run before run None) old new result
-  went_on old new result sends = record {
-    texts = on_output (segments_left number (pushed false));
-    said = rw numbered (texts_grown options before.bundles before.begun run);
+  went_on said old new result sends = record {
+    texts = on_output (segments_left id (pushed false));
+    said = said;
     wrote = sends.wrote;
     known = on_ok_by result (kept_as _ cutter _ _ (all_given_open _ _ _ run)) sends.after;
   }
 
   -- the bundle is whole: its last segments are written, and then its line
-  module _ (bundle : Packed) (is : bundle.bytes ≡ before.begun ++ run) (some : 0 < length run)
+  module _ (bundle : Packed) (line : List ℕ) (some : 0 < length run)
+      (said : texts before.bundles before.begun
+      then (record { output = segments_left id (pushed true); report = line })
+      ≡ texts (before.bundles ++ bundle ∷ []) [])
       (old mid : Writers W E) where
-    abbrev line : List ℕ
-    line = report_line options number bundle
-
     abbrev ended : SoFar
     ended = between (before.bundles ++ bundle ∷ [])
 
     last : List ℕ
-    last = segments_left number (pushed true)
+    last = segments_left id (pushed true)
 
     tells_ended : (new : Writers W E) (result : Result (Unit {0}) IoFault)
         → AfterWrite out_look report_look old new (on_output last then on_report line) result
@@ -196,14 +217,13 @@ module _ {W E : Type 0} (out_look : W → Output) (report_look : E → Output) (
     unfolding last
     tells_ended new result wrote known = record {
       texts = on_output last then on_report line;
-      said = rw (append-nil last, numbered)
-          (texts_whole options before.bundles before.begun run bundle is some);
+      said = rw (append-nil last) said;
       wrote = wrote;
       known = known;
     }
 
     pub lost : (fault : IoFault)
-        → Sends out_look report_look number (pushed true) old mid cutter (Err fault)
+        → Sends out_look report_look id (pushed true) old mid cutter (Err fault)
         → TellsRun ended old mid (Err fault)
     unfolding last
     lost fault sends =
@@ -211,7 +231,7 @@ module _ {W E : Type 0} (out_look : W → Output) (report_look : E → Output) (
         (on_report line) fault (λ none. refl) sends.wrote) tt
 
     pub with_line : (done : Unit {0})
-        → Sends out_look report_look number (pushed true) old mid cutter (Ok done)
+        → Sends out_look report_look id (pushed true) old mid cutter (Ok done)
         → (new : Writers W E) (result : Result (Unit {0}) IoFault)
         → AfterWrite out_look report_look mid new (on_report line) result
         → TellsRun ended old new result

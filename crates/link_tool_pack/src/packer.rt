@@ -179,7 +179,7 @@ fn put_prelude(head: &mut HeadBuf, options: &PackOptions)
 
 /// Writes the line of a whole bundle to the report.
 #[inline(always)]
-fn write_line<W: OutDevice, E: OutDevice>(
+pub(crate) fn write_line<W: OutDevice, E: OutDevice>(
     number: u64,
     options: &PackOptions,
     whole: WholeView<'_>,

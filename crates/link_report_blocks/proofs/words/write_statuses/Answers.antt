@@ -7,7 +7,7 @@ unfolding statuses_text
 returns-clause-text c =
     rw (
       c.write_text.ensures.text,
-      c.report_name.ensures.name,
+      c.report_reason_name.ensures.name,
       c.write_bytes-at.ensures.text,
       c.write_number-at.ensures.text,
       c.write_assertion-at-4.ensures.text,

@@ -1,0 +1,9 @@
+pub mod HeadsBack
+pub mod There
+pub mod EidsBack
+mod RowsThere
+mod CheckBack
+mod PrimaryBack
+mod BlocksBack
+mod BundleBack
+mod Shortest

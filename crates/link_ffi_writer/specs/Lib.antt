@@ -1,0 +1,4 @@
+pub mod Messages
+pub mod Bundles
+pub mod Checks
+pub mod Written

@@ -1,0 +1,19 @@
+-- What a writer returns, as numbers.
+use Rattle.std.specs.Prelude.{◌≡◌, ℕ, List, Option, Result, Ok, Err}
+use Rattle.link_writing.specs.Writes.{slice_after, outcome}
+use Rattle.link_writing.specs.declared.fault.WriteFault.{WriteFault}
+use Rattle.link_writing.specs.declared.fault.WriteFault.TheVariants.{OutOfRange, TooSmall}
+use Rattle.link_ffi_writer.specs.declared.written.Written.{Written}
+
+-- the number of bytes written and of those that are needed, and the status: TCPCLKIT_OK,
+-- TCPCLKIT_TOO_SMALL or TCPCLKIT_RANGE
+abbrev pub written_shown : Result ℕ WriteFault → Written × ℕ
+written_shown (Ok size) = (record { count = size; needed = size }, 0)
+written_shown (Err (TooSmall size)) = (record { count = 0; needed = size }, 5)
+written_shown (Err OutOfRange) = (record { count = 0; needed = 0 }, 6)
+
+-- An export had these bytes to write, or none if a number is out of its range.
+pub record ReturnsWritten (bytes : Option (List ℕ)) (old new : List ℕ) (written : Written)
+    (status : ℕ) : Type 0 where
+  pub slice : new ≡ slice_after old bytes
+  pub answer : (written, status) ≡ written_shown (outcome old bytes)

@@ -1,0 +1,3 @@
+pub mod Escapes
+mod Numbers
+mod Texts

@@ -1,0 +1,33 @@
+use Rattle.std.proofs.Common.{◌++◌, refl, ap, ◌∙◌}
+use Rattle.link_bundle_types.specs.BundleView.{viewed_info}
+use Rattle.link_run_over_bundles.specs.Bundles.{Packed}
+use Rattle.link_tool_pack.specs.{More.id_at, MoreRun.more_texts_of}
+use Rattle.link_tool_pack.proofs.{MoreOutcomes.{texts_grown, texts_whole}, Outcomes.{went_on, lost, with_line}}
+use Rattle.link_tool_pack.proofs.more.MorePackerBundleConsumer.run.Goals as goal
+
+pub returns-in_default-clause-gives : goal.returns-in_default-clause-gives
+returns-in_default-clause-gives g c = λ before keeps. rw c.in_default.is (λ comes.
+    let options = c.args.options.now in
+    let known = c.id_of-id.ensures ∙ ap (id_at options) comes.numbered in
+    went_on _ _ options.pack (more_texts_of options) before _ _ _
+    (texts_grown options _ _ _ _ known) _ _ _
+    (c.write_run.ensures.gives _ keeps.cut c.requires.few))
+
+pub returns-in-Err-clause-gives : goal.returns-in-Err-clause-gives
+returns-in-Err-clause-gives g c = λ before keeps. rw c.in-Some.is (λ comes.
+    let options = c.args.options.now in
+    let known = c.id_of-id.ensures ∙ ap (id_at options) comes.numbered in
+    let bundle : Packed = record { bytes = before.begun ++ c.args.run.now.bytes.now; info = viewed_info c.in-Some.whole.info } in
+    lost _ _ options.pack (more_texts_of options) before _ _ _ bundle _ comes.some
+    (texts_whole options _ _ _ _ bundle known refl comes.some) _ _ _
+    (c.in-Err.ensures.gives _ keeps.cut c.requires.few))
+
+pub returns-in-Ok-clause-gives : goal.returns-in-Ok-clause-gives
+returns-in-Ok-clause-gives g c = λ before keeps. rw c.in-Some.is (λ comes.
+    let options = c.args.options.now in
+    let known = c.id_of-id.ensures ∙ ap (id_at options) comes.numbered in
+    let bundle : Packed = record { bytes = before.begun ++ c.args.run.now.bytes.now; info = viewed_info c.in-Some.whole.info } in
+    with_line _ _ options.pack (more_texts_of options) before _ _ _ bundle _ comes.some
+    (texts_whole options _ _ _ _ bundle known refl comes.some) _ _ _
+    (c.in-Ok.ensures.gives _ keeps.cut c.requires.few) _ _
+    (c.write_line.ensures bundle refl comes.accepted.1))

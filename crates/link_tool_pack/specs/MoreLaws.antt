@@ -1,0 +1,58 @@
+-- What `pack_more` writes, compared with the stream of `pack`.
+use Rattle.std.specs.Prelude.{◌≡◌, ℕ, ◌+◌, ◌-◌, ◌^◌, ◌≤◌, List, ◌++◌, map, length}
+use Rattle.link_wire.specs.Stream.{Entry, Clean, stream_at}
+use Rattle.link_wire.specs.declared.message.Message.{Message}
+use Rattle.link_wire.specs.declared.message.Message.TheVariants.{Segment}
+use Rattle.link_run_over_bundles.specs.Bundles.{divided}
+use Rattle.link_tool_option_types.specs.declared.pack.PackOptions.{PackOptions}
+use Rattle.link_tool_pack.specs.Packing.{prelude_bytes, end_bytes, report_lines, packing_of}
+use Rattle.link_tool_pack.specs.More.{more_of}
+use Rattle.link_tool_pack.specs.declared.more.MoreOptions.{MoreOptions}
+
+-- these options, with transfer IDs from this one on
+abbrev pub from : (first : ℕ) → PackOptions → MoreOptions
+from first options = record { first = first; pack = options }
+
+-- What `pack` writes is the prelude, then the segments alone from the ID 0 on, and then SESS_TERM,
+-- if it was asked for. The report and the fault are the same.
+pub record IsPackedAlone (options : PackOptions) (bytes : List ℕ) : Type 0 where
+  pub output : (packing_of options bytes).texts.output
+      ≡ prelude_bytes options ++ (more_of (from 0 options) bytes).texts.output
+  pub ended : (packing_of options bytes).ended.output
+      ≡ prelude_bytes options ++ (more_of (from 0 options) bytes).ended.output ++ end_bytes options
+  -- if all IDs fit
+  pub report : length (divided options.peer_transfer bytes).bundles ≤ 2 ^ 64
+      → (packing_of options bytes).texts.report ≡ (more_of (from 0 options) bytes).texts.report
+  pub stop : (packing_of options bytes).stop ≡ (more_of (from 0 options) bytes).stop
+
+-- An input has no more bundles than bytes. So if the first ID and the number of bytes together are
+-- at most 2^64 - 1, all IDs fit in 64 bits.
+abbrev pub HasFewBundles : (limit : ℕ) → (bytes : List ℕ) → Type 0
+HasFewBundles limit bytes = length (divided limit bytes).bundles ≤ length bytes
+
+-- If all IDs fit, the lines are those of the transfers `first` and after it.
+abbrev pub HasLinesFromFirst : MoreOptions → (bytes : List ℕ) → Type 0
+HasLinesFromFirst options bytes =
+    let bundles = (divided options.pack.peer_transfer bytes).bundles in
+    options.first + length bundles ≤ 2 ^ 64
+    → (more_of options bytes).texts.report ≡ report_lines options.pack options.first bundles
+
+-- a message whose transfer has another ID
+abbrev pub moved : (first : ℕ) → Message → Message
+moved first (Segment head) = Segment (record head { id = first + head.id })
+moved first message = message
+
+abbrev pub moved_entry : (first : ℕ) → Entry → Entry
+moved_entry first entry = record entry { message = moved first entry.message }
+
+-- With another first ID, the segments are the same except for their IDs. All IDs have to fit.
+abbrev pub IsMoved : Type 0
+IsMoved =
+    (first : ℕ) (options : PackOptions) (bytes : List ℕ) →
+    first + length (divided options.peer_transfer bytes).bundles ≤ 2 ^ 64 - 1 →
+    stream_at 0 (more_of (from first options) bytes).texts.output
+    ≡ record {
+      entries = map (moved_entry first)
+          (stream_at 0 (more_of (from 0 options) bytes).texts.output).entries;
+      end = Clean;
+    }

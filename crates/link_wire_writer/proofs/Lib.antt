@@ -1,0 +1,6 @@
+mod ListItems
+mod Readings
+mod Messages
+mod Streams
+mod NewItems
+mod Whole

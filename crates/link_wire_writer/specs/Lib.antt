@@ -1,0 +1,4 @@
+pub mod MessageBytes
+pub mod Pieces
+pub mod ReadsBack
+pub mod Sent
