@@ -1,6 +1,6 @@
 //! A check value that is computed in pieces, as numbers that a caller in C keeps.
 
-ghost use Rattle.std.specs.Prelude.{◌≡◌, ℕ, ◌^◌, ◌<◌, List, [], ◌++◌, Some, None, IfSome, IsSomeAnd, is_some, option_map};
+ghost use Rattle.std.specs.Prelude.{◌≡◌, ℕ, ◌^◌, ◌<◌, true, List, [], ◌++◌, Some, None, IfSome, IsSomeAnd, is_some, option_map};
 ghost use Rattle.link_cbor.specs.Pushed.{HasPushed};
 ghost use Rattle.link_cbor.specs.declared.check.CheckKind.{CheckKind};
 ghost use Rattle.link_ffi_writer.specs.Checks.{kind_by, kind_of, HasFed};
@@ -77,6 +77,8 @@ impl KeptCheck {
     pub fn feed(&mut self, piece: &[u8]) -> bool
         ensures fed { (kind : CheckKind) (before : List ℕ) → HasFed kind self.old before
             → HasFed kind self.new (before ++ piece.now) }
+        ensures check { (kind : CheckKind) (before : List ℕ) → HasFed kind self.old before
+            → result ≡ true }
         ensures known { result ≡ is_some (kind_of self.old) }
         ensures unknown { kind_of self.old ≡ None → self.new ≡ self.old }
     {

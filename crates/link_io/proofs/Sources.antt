@@ -2,11 +2,11 @@
 use Rattle.std.proofs.Common.{⊎_elim, ◌≡◌, ℕ, ◌+◌, ◌-◌, ◌^◌, ◌<◌, ◌≤◌, nat_lt, List, [], ◌∷◌, ◌++◌, length, take, drop, Option, Some, None, ap, sym, ◌∙◌, true, false, eqb, eqb-true, length-append, append_assoc, append-nil, add-zero, refl, arith, length-take, length-drop, take-append-drop}
 use Rattle.std.specs.Io.KnownBytes.{Consumes, prepend_known}
 use Rattle.std.proofs.KnownBytes.{Consumes-nil, Consumes-trans}
-use Rattle.std.proofs.{lemmas.List.Elements.{All-nil, All-append}, Math.Seq.take-take}
+use Rattle.std.proofs.{lemmas.List.Elements.{All-nil, All-append}, Math.Seq.{take-add, take-take}}
 use Rattle.std.proofs.lemmas.{Bool.{and_parts, cases_lt, Decides.nat_tests}, List.nil_from_length}
 use Rattle.std.proofs.lemmas.Grind.{common_steps}
 use Rattle.link_io.specs.{Bytes.IsByte, Device.Input, Limits.{longest_input, window_size}}
-use Rattle.link_io.specs.Source.{is_open, is_fresh, IsSourceAt, IsLiveBy, IsLive, HasEnded, HasFailed, IsOver, given_by, window_of, held_from, front_of, ahead, ShiftsWindow, Takes, Readies, TakesThenStops}
+use Rattle.link_io.specs.Source.{is_open, is_fresh, IsSourceAt, IsLiveBy, IsLive, HasEnded, HasFailed, IsOver, given_by, taken_by, window_of, held_from, at_hand, front_of, ahead, reach, GivesAtHand, ShiftsWindow, Takes, Readies, TakesThenStops}
 use Rattle.link_io.specs.declared.fault.IoFault.{IoFault}
 use Rattle.link_io.proofs.Windows.{range_none}
 use Rattle.link_io.specs.declared.source.Flow.{Flow}
@@ -48,6 +48,12 @@ held_part flow.Open most held count some within =
     }
 held_part now most held count some within = absurd (omega (arith, some, within))
 
+-- if the source may give some of what is held, it may give it up to the limit
+pub held_some : (now : Flow) (most : ℕ) (held : List ℕ) → 0 < length (held_from now most held)
+    → held_from now most held ≡ take most held
+held_some flow.Open most held some = refl
+held_some now most held some = absurd (omega (arith, some))
+
 -- an open source may give what is held, up to the limit
 pub held_open : (now : Flow) (most : ℕ) (held : List ℕ) → now ≡ flow.Open
     → held_from now most held ≡ take most held
@@ -70,6 +76,13 @@ pub Consumes-behind : (old new : Option (List ℕ)) (bytes : List ℕ) → Consu
 Consumes-behind None new bytes read = tt
 Consumes-behind (Some xs) None bytes read = absurd read
 Consumes-behind (Some xs) (Some ys) bytes read = read
+
+-- bytes that are taken into an empty window are not given
+pub Consumes-into : (old new : Option (List ℕ)) (bytes : List ℕ) → Consumes old new bytes
+    → Consumes (prepend_known [] old) (prepend_known bytes new) []
+Consumes-into None new bytes read = tt
+Consumes-into (Some xs) None bytes read = absurd read
+Consumes-into (Some xs) (Some ys) bytes read = read
 
 module _ {R : Type 0} (look : R → Input) (s : Source R) where
   -- a window that is not empty is all that is at hand
@@ -140,6 +153,78 @@ module _ {R : Type 0} (look : R → Input) (s : Source R) where
   pub front_failed : (fault : IoFault) → HasFailed s fault → front_of look s ≡ []
   front_failed fault failed =
       front_held (omega (arith, failed.1)) ∙ held_closed s.flow _ _ (λ still. let never = sym failed.0 ∙ still in absurd (cc))
+
+-- ---- the bytes at hand
+
+-- of the bytes at hand, `count` come from what the reader holds
+held_split : (now : Flow) (most : ℕ) (held : List ℕ) (count : ℕ) → 0 < count
+    → count ≤ length (held_from now most held)
+    → held_from now most held ≡ take count held ++ held_from now (most - count) (drop count held)
+held_split flow.Open most held count some within =
+    let parts : most ≡ count + (most - count) = omega (arith, length-take most held, within) in
+    ap (λ n. take n held) parts ∙ take-add count (most - count) held
+held_split now most held count some within = absurd (omega (arith, some, within))
+
+module _ {R : Type 0} (look : R → Input) where
+  pub gives_none : (s : Source R) → GivesAtHand look s s []
+  gives_none s = record { unread = refl; parts = refl }
+
+  pub gives_then : (old mid new : Source R) (xs ys : List ℕ) → GivesAtHand look old mid xs
+      → GivesAtHand look mid new ys → GivesAtHand look old new (xs ++ ys)
+  gives_then old mid new xs ys p q = record {
+    unread = q.unread ∙ p.unread;
+    parts = p.parts ∙ ap (λ (more : List ℕ). xs ++ more) q.parts
+        ∙ sym (append_assoc xs ys (at_hand look new));
+  }
+
+  -- with an empty window, the front is all that is at hand
+  hand_held : (s : Source R) → s.start ≡ s.end
+      → at_hand look s ≡ held_from s.flow (longest_input - s.given) (look s.reader).held
+  hand_held s empty =
+      let taken : s.given + (s.end - s.start) ≡ s.given = omega (arith, empty) in
+      rw (range_none s.window s.start s.end empty, taken) refl
+
+  pub hand_front : (s : Source R) → s.start ≡ s.end → at_hand look s ≡ front_of look s
+  hand_front s empty =
+      hand_held s empty ∙ sym (front_held look s (omega (arith, empty)))
+
+  -- some bytes are at hand if the front has some
+  pub hand_some : (s : Source R) → s.start ≤ s.end → 0 < length (front_of look s)
+      → 0 < length (at_hand look s)
+  hand_some s ordered some =
+      ⊎_elim
+      (λ full. omega (
+        arith,
+        some,
+        ap length (front_open look s full),
+        length-append (window_of s)
+            (held_from s.flow (longest_input - taken_by s) (look s.reader).held),
+      ))
+      (λ less. let empty : s.start ≡ s.end = omega (arith, less, ordered) in
+      rw (← hand_front s empty) at some)
+      (cases_lt s.start s.end)
+
+  -- what the reader holds was taken into an empty window
+  pub taken_held : (old new : Source R) (count : ℕ) → old.start ≡ old.end → 0 < count
+      → count ≤ length (front_of look old) → new.start ≡ 0 → new.end ≡ count
+      → new.given ≡ old.given → new.flow ≡ old.flow
+      → window_of new ≡ take count (look old.reader).held
+      → (look new.reader).held ≡ drop count (look old.reader).held → GivesAtHand look old new []
+  taken_held old new count empty some within starts ends given flow window held =
+      let most = longest_input - old.given in
+      let all = (look old.reader).held in
+      let within_held : count ≤ length (held_from old.flow most all) =
+      rw (front_held look old (omega (arith, empty))) at within in
+      let part = held_first look old count empty some within in
+      let rest : most - count ≡ longest_input - (new.given + (new.end - new.start)) =
+      omega (arith, starts, ends, given) in
+      record {
+        unread = rw (flow, window, held, range_none old.window old.start old.end empty)
+            (ap (λ (n : ℕ). (n, old.flow))
+            (omega (arith, given, part.here, length-take count all, length-drop count all)));
+        parts = hand_held old empty ∙ held_split old.flow most all count some within_held
+            ∙ rw (window, held, flow, ← rest) refl;
+      }
 
 module _ {R : Type 0} (s : Source R) (fresh : is_fresh s ≡ true) where
   -- a fresh source has given nothing

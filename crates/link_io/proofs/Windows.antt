@@ -9,6 +9,11 @@ range_none window start end same =
     let none : end - start ≡ 0 = omega arith in
     rw none refl
 
+pub range_front : (window : List ℕ) (end : ℕ) → slice_range window 0 end ≡ take end window
+range_front window end =
+    let all : end - 0 ≡ end = omega arith in
+    rw all refl
+
 -- the window after its first `count` bytes were given
 pub range_rest : (window : List ℕ) (start end count : ℕ) → count ≤ end - start
     → slice_range window (start + count) end ≡ drop count (slice_range window start end)
@@ -27,6 +32,16 @@ begins_nothing (Some all) = (all, refl)
 -- all of the bytes come next in them
 pub begins_all : (bytes : List ℕ) → BeginsWith (Some bytes) bytes
 begins_all bytes = ([], sym (append-nil bytes))
+
+-- the first of the bytes that come next come next too
+pub begins_take : (left : Option (List ℕ)) (bytes : List ℕ) (count : ℕ) → BeginsWith left bytes
+    → BeginsWith left (take count bytes)
+begins_take None bytes count next = tt
+begins_take (Some all) bytes count next = (
+  drop count bytes ++ next.0,
+  next.1 ∙ ap (λ first. first ++ next.0) (sym (take-append-drop count bytes))
+      ∙ append_assoc (take count bytes) (drop count bytes) next.0,
+)
 
 -- the bytes of the window are the next of the input
 pub window_next : (left : Option (List ℕ)) (window : List ℕ) (count : ℕ)

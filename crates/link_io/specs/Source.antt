@@ -58,10 +58,12 @@ module _ {R : Type 0} where
   abbrev pub ahead : (R → Input) → Source R → Option (List ℕ)
   ahead look source = prepend_known (window_of source) (look source.reader).left
 
-  -- the bytes at hand: those of the window, and then those that the reader holds, which are not
-  -- taken yet
+  -- The bytes at hand, which are given without a read: those of the window, and then those that the
+  -- reader holds and that are not taken yet, up to the limit of an input.
   abbrev pub at_hand : (R → Input) → Source R → List ℕ
-  at_hand look source = window_of source ++ (look source.reader).held
+  at_hand look source =
+      window_of source
+      ++ held_from source.flow (longest_input - taken_by source) (look source.reader).held
 
   -- The front: the bytes of the window, or those that the reader holds if the window is empty. They
   -- lie in one piece.
@@ -77,6 +79,11 @@ module _ {R : Type 0} where
   abbrev pub reach : (R → Input) → Source R → ℕ × Flow
   reach look source =
       (source.given + (length (window_of source) + length (look source.reader).held), source.flow)
+
+  -- from `old` to `new` nothing was read, and these bytes were given: the first of those at hand
+  pub record GivesAtHand (look : R → Input) (old new : Source R) (bytes : List ℕ) : Type 0 where
+    pub unread : reach look new ≡ reach look old
+    pub parts : at_hand look old ≡ bytes ++ at_hand look new
 
   -- the source has given exactly these bytes since it was made
   pub record IsSourceAt (source : Source R) (history : List ℕ) : Type 0 where

@@ -51,7 +51,7 @@ pub trait InDevice {
 
     /// The next bytes, as many as the device already holds.
     ///
-    /// If there are some, the next read gives some of them, and does not have to wait.
+    /// If there are some, a source takes these, and does not read.
     fn held(&self) -> &[u8]
         ensures held { result.now ≡ (state self.now).held }
         ensures next { BeginsWith (state self.now).left result.now };

@@ -6,7 +6,7 @@
 //! them. [`Source::front`] also shows bytes that the reader holds, and [`Source::give_front`] gives
 //! those without taking them into the window.
 
-ghost use Rattle.std.specs.Prelude.{◌≡◌, ◌+◌, ◌-◌, ◌^◌, ◌<◌, ◌≤◌, true, length, take, slice_range, IfOk, MatchResult};
+ghost use Rattle.std.specs.Prelude.{◌≡◌, ◌+◌, ◌-◌, ◌^◌, ◌<◌, ◌≤◌, true, length, min, take, slice_range, IfOk, MatchResult};
 ghost use Rattle.link_io.specs.Bytes.{AreBytes};
 ghost use Rattle.link_io.specs.Device.{BeginsWith, HasSomeByte};
 ghost use Rattle.std.specs.Io.KnownBytes.{ReadConsumes};
@@ -58,8 +58,8 @@ pub struct Source<R> {
 
 impl<R: InDevice> Source<R> {
     ghost use Rattle.std.specs.Prelude.{◌≡◌, ◌+◌, ◌-◌, ◌<◌, ◌≤◌, ◌==◌, true, false, [], length, take, drop, IfOk, IfErr, OnOk, MatchResult, IsTrue};
-    ghost use Rattle.link_io.specs.Limits.{window_size};
-    ghost use Rattle.link_io.specs.Source.{IsSourceAt, is_fresh, reader_of, given_by, taken_by, window_of, at_hand, front_of, ahead, reach, IsLive, IsOver, HasEnded, HasFailed, Takes, TakesThenStops, AfterReady, AfterReadyFront};
+    ghost use Rattle.link_io.specs.Limits.{longest_input, window_size};
+    ghost use Rattle.link_io.specs.Source.{IsSourceAt, is_fresh, reader_of, given_by, taken_by, window_of, held_from, at_hand, front_of, ahead, reach, GivesAtHand, IsLive, IsOver, HasEnded, HasFailed, Takes, TakesThenStops, ReadiedWindow, AfterReady, AfterReadyFront};
 
     /// Makes a source that has taken nothing.
     pub fn new(reader: R) -> Source<R>
@@ -128,8 +128,8 @@ impl<R: InDevice> Source<R> {
 
     /// Copies the next available bytes without giving them, and returns how many it copied.
     ///
-    /// These are the bytes of the window, and then those that the reader holds. It copies as many
-    /// as there are and as there is room for; how many is not promised.
+    /// These are the bytes of the window, and then those that the reader holds, up to the limit of
+    /// an input. It copies as many as there is room for; how many is not promised.
     pub fn peek(&self, bytes: &mut [u8]) -> usize
         ensures fits { result ≤ length bytes.old }
         ensures size { length bytes.new ≡ length bytes.old }
@@ -142,9 +142,22 @@ impl<R: InDevice> Source<R> {
             return copy_into(bytes, 0, &window[..bytes.len()]);
         }
         let at = copy_into(bytes, 0, window);
-        let held = self.reader.held();
+        let held = self.held_ahead();
         let count = held.len().min(bytes.len() - at);
         copy_into(bytes, at, &held[..count])
+    }
+
+    /// The bytes at hand after those of the window: what the reader holds, up to the limit of an
+    /// input.
+    fn held_ahead(&self) -> &[u8]
+        ensures held { result.now ≡ held_from self.now.flow (longest_input - taken_by self.now)
+            (R.state (reader_of self.now)).held }
+        ensures next { BeginsWith (R.state (reader_of self.now)).left result.now }
+    {
+        match self.flow {
+            Flow::Open => up_to(self.reader.held(), INPUT_LIMIT - self.taken()),
+            _ => &[],
+        }
     }
 
     /// The window: the bytes that were taken and not given.
@@ -229,6 +242,8 @@ impl<R: InDevice> Source<R> {
         ensures reader { reader_of self.new ≡ reader_of self.old }
         ensures none { count ≡ 0 → self.new ≡ self.old }
         ensures unread { reach R.state self.new ≡ reach R.state self.old }
+        ensures here { GivesAtHand R.state self.old self.new
+            (take count (window_of self.old)) }
     {
         // Only the proof needs this call. Its contract says that each number of the window is a
         // byte, which `takes` needs.
@@ -250,6 +265,8 @@ impl<R: InDevice> Source<R> {
         ensures ended { HasEnded self.old → (self.new ≡ self.old) × (result ≡ Ok 0) }
         ensures failed { (fault : _) → HasFailed self.old fault
             → (self.new ≡ self.old) × (result ≡ Err fault) }
+        ensures here { 0 < length (at_hand R.state self.old)
+            → GivesAtHand R.state self.old self.new [] }
     {
         if self.start < self.end {
             return Ok(self.end - self.start);
@@ -270,6 +287,8 @@ impl<R: InDevice> Source<R> {
         ensures ended { HasEnded self.old → (self.new ≡ self.old) × (result ≡ Ok 0) }
         ensures failed { (fault : _) → HasFailed self.old fault
             → (self.new ≡ self.old) × (result ≡ Err fault) }
+        ensures here { 0 < length (at_hand R.state self.old)
+            → GivesAtHand R.state self.old self.new [] }
     {
         let ready = self.front().len();
         if ready > 0 {
@@ -289,12 +308,35 @@ impl<R: InDevice> Source<R> {
         ensures failed { (fault : _) → HasFailed self.old fault
             → (self.new ≡ self.old) × (result ≡ Err fault) }
         ensures over { IfOk result (λ n. n ≡ 0 → HasEnded self.new) }
+        ensures here { 0 < length (at_hand R.state self.old)
+            → GivesAtHand R.state self.old self.new [] }
     {
+        let held = self.held_front().len();
+        if held > 0 {
+            return Ok(self.take_held());
+        }
         match self.flow {
             Flow::Open => self.read(first),
             Flow::Ended => Ok(0),
             Flow::Failed(fault) => Err(fault),
         }
+    }
+
+    /// Takes what the reader holds into an empty window, and returns how many bytes. This is not a
+    /// read, so it does not have to wait.
+    fn take_held(&mut self) -> usize
+        requires empty { self.old.start ≡ self.old.end }
+        requires some { 0 < length (front_of R.state self.old) }
+        ensures ready { ReadiedWindow R.state self.old self.new result }
+        ensures some { 0 < result }
+        ensures here { GivesAtHand R.state self.old self.new [] }
+    {
+        let held = up_to(self.reader.held(), INPUT_LIMIT - self.given);
+        let count = copy_front(&mut self.window, held);
+        self.reader.pass_held(count);
+        self.start = 0;
+        self.end = count;
+        count
     }
 
     /// Reads once, into an empty window. With `first`, a reader with a buffer may give one byte.
@@ -329,8 +371,8 @@ impl<R: InDevice> Source<R> {
 
 /// The calls that copy bytes.
 impl<R: InDevice> Source<R> {
-    ghost use Rattle.std.specs.Prelude.{◌≡◌, ◌+◌, ◌-◌, ◌<◌, ◌≤◌, [], length, take, drop, IfOk};
-    ghost use Rattle.link_io.specs.Source.{reader_of, window_of, IsLive, HasEnded, HasFailed, Takes, AfterSome, FillsSlice};
+    ghost use Rattle.std.specs.Prelude.{◌≡◌, ◌+◌, ◌-◌, ◌<◌, ◌≤◌, Ok, [], length, take, drop, IfOk};
+    ghost use Rattle.link_io.specs.Source.{reader_of, window_of, at_hand, reach, GivesAtHand, IsLive, HasEnded, HasFailed, Takes, AfterSome, FillsSlice};
 
     /// Gives the next bytes, after at most one read, and returns how many.
     ///
@@ -347,6 +389,10 @@ impl<R: InDevice> Source<R> {
         ensures nothing { length buffer.old ≡ 0 → self.new ≡ self.old }
         ensures rest { IfOk result (λ n. drop n buffer.new ≡ drop n buffer.old) }
         ensures untouched { (fault : _) → HasFailed self.old fault → buffer.new ≡ buffer.old }
+        ensures unread { 0 < length (at_hand R.state self.old)
+            → reach R.state self.new ≡ reach R.state self.old }
+        ensures here { 0 < length (at_hand R.state self.old)
+            → IfOk result (λ n. GivesAtHand R.state self.old self.new (take n buffer.new)) }
     {
         if let Flow::Failed(fault) = self.flow {
             return Err(fault);
@@ -370,6 +416,7 @@ impl<R: InDevice> Source<R> {
         ensures part { part.new ≡ take (length part.new) (window_of self.old) }
         ensures takes { Takes R.state self.old self.new part.new }
         ensures live { IsLive R.state self.old → IsLive R.state self.new }
+        ensures here { GivesAtHand R.state self.old self.new part.new }
     {
         let count = part.len();
         part.copy_from_slice(&self.window()[..count]);
@@ -382,7 +429,12 @@ impl<R: InDevice> Source<R> {
     /// fault again. In both cases it does not read.
     #[inline(always)]
     pub fn fill(&mut self, buffer: &mut [u8]) -> Result<Filled, IoFault>
-        ensures { FillsSlice R.state self.old self.new buffer.old buffer.new result }
+        ensures fills { FillsSlice R.state self.old self.new buffer.old buffer.new result }
+        // If enough bytes are at hand, nothing is read.
+        ensures unread { length buffer.old ≤ length (at_hand R.state self.old)
+            → reach R.state self.new ≡ reach R.state self.old }
+        ensures here { length buffer.old ≤ length (at_hand R.state self.old)
+            → result ≡ Ok Filled.Whole → GivesAtHand R.state self.old self.new buffer.new }
     {
         if buffer.len() <= self.end - self.start && !buffer.is_empty() {
             self.copy(buffer);
@@ -394,7 +446,12 @@ impl<R: InDevice> Source<R> {
     /// `fill` for an empty buffer, or for more bytes than the window has.
     #[inline(never)]
     fn fill_on(&mut self, buffer: &mut [u8]) -> Result<Filled, IoFault>
-        ensures { FillsSlice R.state self.old self.new buffer.old buffer.new result }
+        ensures fills { FillsSlice R.state self.old self.new buffer.old buffer.new result }
+        // If enough bytes are at hand, nothing is read.
+        ensures unread { length buffer.old ≤ length (at_hand R.state self.old)
+            → reach R.state self.new ≡ reach R.state self.old }
+        ensures here { length buffer.old ≤ length (at_hand R.state self.old)
+            → result ≡ Ok Filled.Whole → GivesAtHand R.state self.old self.new buffer.new }
     {
         if let Flow::Failed(fault) = self.flow {
             return Err(fault);
@@ -421,6 +478,11 @@ impl<R: InDevice> Source<R> {
         ensures ended { HasEnded self.old → (self.new ≡ self.old) × (result ≡ Ok 0) }
         ensures failed { (fault : _) → HasFailed self.old fault
             → (self.new ≡ self.old) × (result ≡ Err fault) }
+        ensures unread { 0 < length (at_hand R.state self.old)
+            → reach R.state self.new ≡ reach R.state self.old }
+        ensures here { 0 < length (at_hand R.state self.old)
+            → IfOk result (λ n. GivesAtHand R.state self.old self.new
+            (take n (drop at buffer.new))) }
     {
         self.some(&mut buffer[at..])
     }
@@ -444,6 +506,16 @@ fn up_to(bytes: &[u8], most: u64) -> &[u8]
     ensures bytes { AreBytes result.now }
 {
     part(bytes, 0, most.min(bytes.len() as u64) as usize)
+}
+
+/// Copies the first bytes into a whole window, and returns how many.
+fn copy_front(window: &mut [u8], bytes: &[u8]) -> usize
+    requires { length window.old ≡ 8192 }
+    ensures size { result ≡ min (length bytes.now) 8192 }
+    ensures bytes { take result window.new ≡ take result bytes.now }
+{
+    let size = bytes.len().min(window.len());
+    copy_into(window, 0, &bytes[..size])
 }
 
 /// One read, for a whole window. With `first`, a reader with a buffer may give one byte only.

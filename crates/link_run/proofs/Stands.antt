@@ -1,5 +1,5 @@
 -- A step of a run for which `IsRunAt` holds: the run goes on, it ends, or a device fails.
-use Rattle.std.proofs.Common.{◌≡◌, ℕ, ◌<◌, ◌≤◌, ◌⊎◌, inl, inr, Bool, true, false, List, [], ◌++◌, length, take, Result, Ok, Err, ⊎_elim, refl, ap, sym, ◌∙◌, append-nil, arith}
+use Rattle.std.proofs.Common.{◌≡◌, ℕ, ◌<◌, ◌≤◌, ◌⊎◌, inl, inr, Bool, true, false, List, [], ◌++◌, length, take, Result, Ok, Err, ⊎_elim, refl, ap, sym, ◌∙◌, append-nil, length-append, arith}
 use Rattle.link_wire.specs.{Limits.window_size, Source.{window_of, Takes, TakesThenStops, IsOver}}
 use Rattle.link_wire.specs.declared.{IoFault.IoFault, Source.Source}
 use Rattle.link_run.specs.Made.{Made, whole_by, shows_fault, tool_of}
@@ -69,10 +69,11 @@ module _ {R W E : Type 0} {look : Looks R W E} {made : List ℕ → Made} {start
 
       -- a writer failed in the middle of them
       pub loses : (fault : IoFault) → WritesPart look.output look.report before after texts fault
-          → LastStep look (tool_of made) start (devices_at (place_of new after)) most history (Err fault)
+          → LastStep look (tool_of made) start (place_of new after) most history (Err fault)
       loses fault part = record {
         given = given;
         size = size;
+        count = still.count;
         gave = writer_lost look (tool_of made) (made_reports made) start new before after bytes had texts _ fault still still_sound refl
             (inl (due ∙ sym (unshown_sofar (made bytes).stop (made bytes).texts unshown))) few
             (λ some. stood_by begun made history given at.unshown) part;
@@ -122,10 +123,11 @@ module _ {R W E : Type 0} {look : Looks R W E} {made : List ℕ → Made} {start
 
       pub ends : (answer : Result Status IoFault)
           → AfterLastWrite look.output look.report before after texts (whole_by (made bytes).stop (made bytes)).status answer
-          → LastStep look (tool_of made) start (devices_at (place_of new after)) most history answer
+          → LastStep look (tool_of made) start (place_of new after) most history answer
       ends answer gives = record {
         given = given;
         size = size;
+        count = still.count;
         gave = end_by answer gives;
         ends = ⊎_elim (λ is. ends_unshown made at.lasting bytes is.1)
             (λ is. ends_shown made at.lasting history given at.unshown is.2) over;
@@ -137,12 +139,13 @@ module _ {R W E : Type 0} {look : Looks R W E} {made : List ℕ → Made} {start
       → TakesThenStops look.input old new given fault → length given ≤ most
       → written_by begun (made history) ≡ (made (history ++ given)).texts
       → shows_fault (made (history ++ given)).stop ≡ false → answer ≡ Err fault → after ≡ before
-      → LastStep look (tool_of made) start (devices_at (place_of new after)) most history answer
+      → LastStep look (tool_of made) start (place_of new after) most history answer
   read_fails given after fault answer stops size due unshown is same =
       let bytes = history ++ given in
       rw (is, same) (record {
         given = given;
         size = size;
+        count = omega (arith, stops.count, at.written.count, length-append history given);
         gave = reader_lost look (tool_of made) start old new before history given _ fault at.written at.sound
             (due ∙ sym (unshown_sofar (made bytes).stop (made bytes).texts unshown)) unshown stops;
         ends = ends_unshown made at.lasting bytes unshown;
@@ -165,10 +168,11 @@ module _ {R W E : Type 0} {look : Looks R W E} {made : List ℕ → Made} {start
   -- if handing on fails, no text is lost
   pub not_handed_on : (most : ℕ) (fault : IoFault) → length (window_of source) < window_size
       → FailedSettle look.output look.report before after fault
-      → LastStep look (tool_of made) start (devices_at (place_of source after)) most history (Err fault)
+      → LastStep look (tool_of made) start (place_of source after) most history (Err fault)
   not_handed_on most fault few part = record {
     given = [];
     size = omega arith;
+    count = omega (arith, at.written.count, length-append history []);
     ends = rw append-nil (ends_unshown made at.lasting history at.unshown);
     gave = rw append-nil (settle_lost look (tool_of made) (made_reports made) start source before after history fault
         (written_as look at.written refl (sym (unshown_sofar (made history).stop (made history).texts at.unshown)))
@@ -179,7 +183,7 @@ module _ {R W E : Type 0} {look : Looks R W E} {made : List ℕ → Made} {start
 pub last_step : {R W E : Type 0} {look : Looks R W E} (made : List ℕ → Made) {start : Devices R W E}
     (old new : Place R W E) (stands : List ℕ → Type 0) {most : ℕ} {history : List ℕ}
     (answer : Result Status IoFault)
-    → LastStep look (tool_of made) start (devices_at new) most history answer
+    → LastStep look (tool_of made) start new most history answer
     → AfterStep look (tool_of made) start old new stands most history (answer_of answer)
 last_step made old new stands (Ok status) gives = gives
 last_step made old new stands (Err fault) gives = gives

@@ -1,9 +1,10 @@
 -- Steps, one after another, make a stride.
-use Rattle.std.proofs.Common.{◌≡◌, ℕ, ◌+◌, ◌≤◌, Bool, List, ◌++◌, length, Option, None, Result, Ok, Err, ⊎_elim, append_assoc, length-append, arith}
+use Rattle.std.proofs.Common.{◌≡◌, ℕ, ◌+◌, ◌-◌, ◌<◌, ◌≤◌, Bool, List, ◌++◌, length, Option, None, Result, Ok, Err, ⊎_elim, append_assoc, length-append, arith}
 use Rattle.std.proofs.lemmas.Bool.{cases_lt}
 use Rattle.link_wire.specs.declared.{IoFault.IoFault, Source.Source}
 use Rattle.link_run.specs.Made.{Made, tool_of}
-use Rattle.link_run.specs.Run.{Tool, Looks, Devices, Place, ContinuedStep, LastStep, AfterStep}
+use Rattle.link_run.specs.Run.{Tool, Looks, Devices, Place, reach_at, ContinuedStep, LastStep, AfterStep, AfterStride}
+use Rattle.link_wire.specs.Source.{given_by}
 use Rattle.link_run.specs.{Stages.{IsRunAt, AfterStage, IsMore}, declared.run.Progress.Progress}
 use Rattle.link_run.specs.declared.run.{Progress.TheVariants.{More, Done}, Status.Status}
 
@@ -46,7 +47,7 @@ went_later {stands} {first} {history} went more =
 
 module _ {R W E : Type 0} (look : Looks R W E) (tool : Tool) (start : Devices R W E) where
   -- a step that went on, and then the last one
-  last_later : {now : Devices R W E} {first second : ℕ} {history : List ℕ}
+  last_later : {now : Place R W E} {first second : ℕ} {history : List ℕ}
       {answer : Result Status IoFault} (bytes : List ℕ) → length bytes ≤ first
       → LastStep look tool start now second (history ++ bytes) answer
       → LastStep look tool start now (first + second) history answer
@@ -55,6 +56,7 @@ module _ {R W E : Type 0} (look : Looks R W E) (tool : Tool) (start : Devices R 
       record {
         given = bytes ++ last.given;
         size = omega (arith, length-append bytes last.given);
+        count = rw append_assoc at last.count;
         gave = rw append_assoc at last.gave;
         ends = rw append_assoc at last.ends;
       }
@@ -68,6 +70,50 @@ module _ {R W E : Type 0} (look : Looks R W E) (tool : Tool) (start : Devices R 
     step_then first second (Ok More) went gives = went_later went gives
     step_then first second (Ok (Done status)) went gives = last_later went.given went.size gives
     step_then first second (Err fault) went gives = last_later went.given went.size gives
+
+-- A stride is given no more bytes than those of a step, and those that are at hand when its wait
+-- has ended.
+module _ {R W E : Type 0} (look : Looks R W E) (tool : Tool) (start : Devices R W E)
+    (old new : Place R W E) (stands : List ℕ → Type 0) {size : ℕ} (most : ℕ) (history : List ℕ)
+    (some : 0 < most → 0 < size) (counted : given_by old.source ≡ length history) where
+  last_bounded : {answer : Result Status IoFault}
+      → LastStep look tool start new size history answer
+      → (bound : ℕ) × (bound ≤ most + (reach_at look.input new.source - given_by old.source))
+      × (0 < most → 0 < bound) × LastStep look tool start new bound history answer
+  last_bounded last =
+      let count = last.count in
+      let sizes = length-append history last.given in (
+        most + length last.given,
+        omega arith,
+        λ any. omega arith,
+        record {
+          given = last.given;
+          size = omega arith;
+          count = count;
+          gave = last.gave;
+          ends = last.ends;
+        },
+      )
+
+  pub bounded : (result : Result Progress IoFault)
+      → AfterStep look tool start old new stands size history result
+      → AfterStride look tool start old new stands most history result
+  bounded (Ok More) went =
+      let count = went.count in (
+        length went.given,
+        omega arith,
+        λ any. went.some (some any),
+        record {
+          given = went.given;
+          some = λ given. given;
+          size = omega arith;
+          count = count;
+          window = went.window;
+          at = went.at;
+        },
+      )
+  bounded (Ok (Done status)) last = last_bounded last
+  bounded (Err fault) last = last_bounded last
 
 -- what holds after a step of its tool holds of a run, which has no answer if it goes on
 pub stage_kept : {R W E : Type 0} (look : Looks R W E) (made later : List ℕ → Made)

@@ -1,15 +1,20 @@
 -- When a call waits for its input, and when a step of a run does.
-use Rattle.std.proofs.Common.{◌≡◌, ◌⊎◌, inl, inr, ℕ, Bool, true, false, List, [], ◌∷◌, ◌++◌, length, Result, ⊎_elim, refl, ap, sym, ◌∙◌, append-nil, append_assoc, length-append, arith}
+use Rattle.std.proofs.Common.{◌≡◌, ◌<◌, ◌≤◌, inl, inr, ℕ, Bool, true, false, List, [], ◌∷◌, ◌++◌, length, Result, eqb, eqb-true, ⊎_elim, refl, ap, sym, ◌∙◌, append-nil, append_assoc, length-append, arith}
 use Rattle.std.specs.{Prelude.All, Io.KnownBytes.Appends}
-use Rattle.std.proofs.KnownBytes.{Appends-trans}
+use Rattle.std.proofs.{KnownBytes.Appends-trans, lemmas.Bool.and_parts}
 use Rattle.std.proofs.lemmas.List.Elements.{All-nil, All-push, All-weaker}
 use Rattle.link_wire.specs.{Device.{Input as Seen, Output}, declared.IoFault.IoFault}
+use Rattle.link_wire.specs.Limits.{window_size}
+use Rattle.link_wire.specs.Source.{given_by, is_fresh, reader_of, window_of}
 use Rattle.link_wire.specs.declared.Source.{Source}
+use Rattle.link_io.specs.{Source.is_open, declared.source.Flow.Flow}
+use Rattle.link_io.proofs.{Sources.fresh_at, Windows.range_none}
 use Rattle.link_run.specs.{Made.{Made, tool_of}, Reading.{ReadsNothing, CallWaits}}
-use Rattle.link_run.specs.Run.{Texts, Tool, Looks, Devices, Place, Wait, Waits, then_waits, noted, waits_by, HasHandedOn, IsWaitOfPlace, IsPrompt, IsPromptWithin, WaitsOnce, LastStep}
-use Rattle.link_run.specs.WholeRun.{devices_of, ran_of, IsLogOf, AfterRunFrom}
-use Rattle.link_run.specs.{Stages.IsRunAt, declared.input.Input.Input}
-use Rattle.link_run.specs.declared.run.{Status.Status, RunEnd.RunEnd}
+use Rattle.link_run.specs.Run.{Texts, no_texts, Tool, Looks, Devices, Place, devices_at, reach_at, Wait, Waits, then_waits, noted, waits_by, HasHandedOn, IsWaitOfPlace, IsPrompt, IsPromptWithin, WaitsOnce, LastStep}
+use Rattle.link_run.specs.WholeRun.{devices_of, ran_of, IsLogOf, AreSpaced, AfterRun, AfterRunFrom}
+use Rattle.link_run.specs.{NewRun.IsNewRun, Stages.IsRunAt, Writers.{place_of, Writes}}
+use Rattle.link_run.specs.declared.input.{Input.Input, Position.Position}
+use Rattle.link_run.specs.declared.run.{Run.Ghosts, Status.Status, RunEnd.RunEnd}
 use Rattle.link_run.specs.declared.writers.Writers.{Writers}
 use Rattle.link_run.proofs.Ends.{unshown_sofar}
 
@@ -24,21 +29,39 @@ module _ {S R W E : Type 0} {look : R → Seen} {source : S → Source R} where
     waits = later.waits ∙ first.waits;
   }
 
--- enough bytes at hand spare a wait
-pub waits_enough : {R W E : Type 0} {enough other : Type 0} {before after : Waits R W E}
-    {is : Wait W E → Type 0} → WaitsOnce enough before after is
-    → WaitsOnce (enough ⊎ other) before after is
-waits_enough waits = ⊎_elim (λ none. inl (none.0, inl none.1)) (λ waited. inr waited) waits
+module _ {R W E : Type 0} (look : Looks R W E) (source : Source R) (before after : Writers W E)
+    (position : Position) where
+  -- what was written was handed on before a read
+  pub wait_at : (end : ℕ) → position.given ≡ given_by source
+      → position.ahead ≡ length (window_of source) → length (window_of source) < window_size
+      → Writes look.output look.report before after no_texts
+      → (look.output after.output).handed ≡ (look.output after.output).written
+      → (look.report after.report).handed ≡ (look.report after.report).written
+      → IsWaitOfPlace look (place_of source before)
+      (record { position = position; writers = after; reach = end })
+  wait_at end given ahead few wrote output report = record {
+    given = given;
+    ahead = ahead;
+    few = rw ahead few;
+    output = record { written = wrote.output; handed = output };
+    report = record { written = wrote.report; handed = report };
+    output_kept = wrote.output_sound;
+    report_kept = wrote.report_sound;
+  }
 
-module _ {S R W E : Type 0} {look : Looks R W E} {source : S → Source R} {enough : Type 0}
-    (before : Writers W E) where
+module _ {S R W E : Type 0} {look : Looks R W E} {source : S → Source R} (before : Writers W E) where
   -- after a call, others read nothing
-  pub waits_then : {old mid new : Input S W E} → CallWaits look source enough old mid before
-      → ReadsNothing look.input source mid new → CallWaits look source enough old new before
+  pub waits_then : {old mid new : Input S W E} → CallWaits look source old mid before
+      → ReadsNothing look.input source mid new → CallWaits look source old new before
   waits_then first later =
       ⊎_elim
-      (λ none. inl (later.waits ∙ none.0, ⊎_elim (λ some. inl some) (λ same. inr (later.reach ∙ same)) none.1))
-      (λ waited. inr (waited.0, later.waits ∙ waited.1, waited.2))
+      (λ none. inl (later.waits ∙ none.0, later.reach ∙ none.1))
+      (λ waited. inr (
+        waited.0,
+        later.waits ∙ waited.1,
+        waited.2 ∙ ap (λ (far : ℕ × Flow). far.0) (sym later.reach),
+        waited.3,
+      ))
       first
 
 -- no waits are one more than themselves
@@ -77,18 +100,34 @@ module _ {R W E : Type 0} {look : Looks R W E} {made : List ℕ → Made} {start
       }
 
   -- a stage waits before it is given a byte and before it writes, so its run has nothing in hand
-  pub prompt_once : {S : Type 0} (reader_of : S → R) (begun : Bool) {place : Place R W E}
-      {history : List ℕ} {spared : Type 0} {before after : Waits S W E}
+  pub prompt_once : {S : Type 0} (of : S → R) (begun : Bool) (new : Source R)
+      {place : Place R W E} {history : List ℕ} {before after : Waits S W E}
       → IsRunAt look made start begun place history → (begun ≡ false → after ≡ before)
-      → WaitsOnce spared before after (IsWaitOfPlace look place)
-      → WaitsOnce spared (waits_by reader_of before) (waits_by reader_of after)
+      → WaitsOnce look.input place.source new before after (IsWaitOfPlace look place)
+      → WaitsOnce look.input place.source new (waits_by of before) (waits_by of after)
       (λ wait. IsWaitOfPlace look place wait × IsPrompt look (tool_of made) start history wait)
-  prompt_once reader_of true stands begins waits =
-      ⊎_elim (λ none. inl (ap (waits_by reader_of) none.0, none.1))
-      (λ waited. inr (waited.0, ap (waits_by reader_of) waited.1, (waited.2, prompt_at stands waited.2))) waits
-  prompt_once reader_of false {before} {after} stands begins waits =
-      ⊎_elim (λ none. inl (ap (waits_by reader_of) none.0, none.1))
+  prompt_once of true new stands begins waits =
+      ⊎_elim (λ none. inl (ap (waits_by of) none.0, none.1))
+      (λ waited. inr (
+        waited.0,
+        ap (waits_by of) waited.1,
+        waited.2,
+        (waited.3, prompt_at stands waited.3),
+      )) waits
+  prompt_once of false new {before} {after} stands begins waits =
+      ⊎_elim (λ none. inl (ap (waits_by of) none.0, none.1))
       (λ waited. absurd (never_longer before after waited.0 (begins refl) waited.1)) waits
+
+-- ---- the waits of a run
+
+module _ {W E : Type 0} where
+  -- one more wait, at an offset up to which the input was at hand
+  spaced_push : (reach : ℕ) (waits : List (Wait W E)) (wait : Wait W E) (end : ℕ)
+      → AreSpaced reach waits wait.position.given → end ≤ wait.reach
+      → AreSpaced reach (waits ++ wait ∷ []) end
+  spaced_push reach [] wait end spaced within = (spaced, within)
+  spaced_push reach (first ∷ more) wait end spaced within =
+      (spaced.0, spaced_push first.reach more wait end spaced.1 within)
 
 module _ {R W E : Type 0} (look : Looks R W E) (tool : Tool) (start : Devices R W E) where
   abbrev ArePrompt : List ℕ → List (Wait W E) → Type 0
@@ -107,49 +146,62 @@ module _ {R W E : Type 0} (look : Looks R W E) (tool : Tool) (start : Devices R 
         prompt = was.prompt;
       }) waits were
 
-  -- the waits of a run since it began: those before a stride, and the one in it
-  pub record Waited (given : List ℕ) (before now : Waits R W E) : Type 0 where
+  -- The waits of a run since it began. The input was at hand up to the offset `from` then, and now
+  -- it is up to the offset `far`.
+  pub record Waited (given : List ℕ) (from far : ℕ) (before now : Waits R W E) : Type 0 where
     pub since : List (Wait W E)
     pub are : now ≡ then_waits before since
     pub prompt : ArePrompt given since
+    pub spaced : (end : ℕ) → end ≤ far → AreSpaced from since end
 
-  pub waited_none : (before : Waits R W E) → Waited [] before before
-  waited_none before = record {
+  pub waited_none : (from : ℕ) (before : Waits R W E) → Waited [] from from before before
+  waited_none from before = record {
     since = [];
     are = ap (λ each. record { from = before.from; each = each }) (sym (append-nil before.each));
     prompt = All-nil (IsPromptWithin look tool start []);
+    spaced = λ end within. within;
   }
 
-  pub waited_more : {spared : Type 0} {place : Place R W E} (given more : List ℕ)
-      (before now later : Waits R W E) → Waited given before now
-      → WaitsOnce spared now later
+  pub waited_more : {place : Place R W E} (new : Source R) (given more : List ℕ) (from : ℕ)
+      (before now later : Waits R W E)
+      → Waited given from (reach_at look.input place.source) before now
+      → WaitsOnce look.input place.source new now later
       (λ wait. IsWaitOfPlace look place wait × IsPrompt look tool start given wait)
-      → Waited (given ++ more) before later
-  waited_more given more before now later waited waits =
+      → Waited (given ++ more) from (reach_at look.input new) before later
+  waited_more {place} new given more from before now later waited waits =
       let still = still_prompt given more waited.since waited.prompt in
       ⊎_elim
-      (λ none. record { since = waited.since; are = none.0 ∙ waited.are; prompt = still })
+      (λ none. record {
+        since = waited.since;
+        are = none.0 ∙ waited.are;
+        prompt = still;
+        spaced = λ end within. waited.spaced end
+            (rw (ap (λ (far : ℕ × Flow). far.0) none.1) at within);
+      })
       (λ once. record {
         since = waited.since ++ once.0 ∷ [];
         are = once.1 ∙ ap (λ all. noted all once.0) waited.are
             ∙ ap (λ each. record { from = before.from; each = each }) (append_assoc before.each waited.since (once.0 ∷ []));
         prompt = All-push (IsPromptWithin look tool start (given ++ more)) waited.since once.0 still
-            (record { front = given; rest = more; parts = refl; prompt = once.2.1 });
+            (record { front = given; rest = more; parts = refl; prompt = once.3.1 });
+        spaced = λ end within. spaced_push from waited.since once.0 end
+            (waited.spaced once.0.position.given (omega (arith, once.3.0.given)))
+            (omega (arith, within, once.2));
       })
       waits
 
   -- the last stride of a run: what it gave, and all waits since the run began
-  pub ran_on : {now : Devices R W E} {most : ℕ} {spared : Type 0} {place : Place R W E}
-      {before between later : Waits R W E} {answer : Result Status IoFault} (history : List ℕ)
-      (end : RunEnd R W E) → devices_of end ≡ now → end.answer ≡ answer
+  pub ran_on : {now place : Place R W E} {most from : ℕ} {before between later : Waits R W E}
+      {answer : Result Status IoFault} (history : List ℕ)
+      (end : RunEnd R W E) → devices_of end ≡ devices_at now → end.answer ≡ answer
       → IsLogOf later (devices_of end) (ran_of end)
       → LastStep look tool start now most history answer
-      → Waited history before between
-      → WaitsOnce spared between later
+      → Waited history from (reach_at look.input place.source) before between
+      → WaitsOnce look.input place.source now.source between later
       (λ wait. IsWaitOfPlace look place wait × IsPrompt look tool start history wait)
-      → AfterRunFrom look tool start before end
-  ran_on history end returned answered log last waited waits =
-      let all = waited_more history last.given _ _ _ waited waits in
+      → AfterRunFrom look tool start from before end
+  ran_on {now} history end returned answered log last waited waits =
+      let all = waited_more now.source history last.given _ _ _ _ waited waits in
       record {
         since = all.since;
         log = rw all.are at log;
@@ -158,5 +210,38 @@ module _ {R W E : Type 0} (look : Looks R W E) (tool : Tool) (start : Devices R 
           gave = rw (returned, answered) last.gave;
           ends = last.ends;
           prompt = all.prompt;
+          spaced = all.spaced (length (history ++ last.given)) (omega (arith, last.count));
         };
       }
+
+fresh_empty : {R : Type 0} (s : Source R) → is_fresh s ≡ true → s.start ≡ s.end
+fresh_empty s fresh =
+    let rest = (and_parts (eqb s.given 0) _ fresh).1 in
+    eqb-true s.start s.end (and_parts (is_open s.flow) _ rest).1
+
+-- how far the input of a fresh source is at hand
+fresh_reach : {R : Type 0} (look : R → Seen) (s : Source R) → is_fresh s ≡ true
+    → reach_at look s ≡ length (look (reader_of s)).held
+fresh_reach look s fresh =
+    let given = (fresh_at s fresh).given in
+    let empty = fresh_empty s fresh in
+    omega (arith, given, ap length (range_none s.window s.start s.end empty))
+
+-- what holds after a whole run of a tool, from its making on
+pub whole_run : {Self R W E : Type 0} {members : Ghosts Self R W E} {look : Looks R W E}
+    {tool : Tool} {start : Devices R W E} {run : Self} {end : RunEnd R W E}
+    → IsNewRun members tool start run
+    → AfterRunFrom look (members.tool run) (devices_at (members.place run))
+    (reach_at look.input (members.place run).source) (members.waits run) end
+    → AfterRun look tool start end
+whole_run {members = members} {look = look} {start = start} {run = run} new ran =
+    let reader : reader_of (members.place run).source ≡ start.reader =
+    ap (λ (d : Devices _ _ _). d.reader) new.devices in
+    let far = fresh_reach look.input (members.place run).source new.fresh
+    ∙ ap (λ r. length (look.input r).held) reader in
+    let log = rw new.waits at ran.log in
+    record {
+      from = log.from;
+      to = log.to;
+      whole = rw log.waits (rw (new.tool_is, new.devices, far) at ran.rest);
+    }

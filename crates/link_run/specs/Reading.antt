@@ -1,18 +1,18 @@
--- Relations, but for HasEnough, CallWaits: what a run reads from a session or a source, after it
--- has handed on what was written.
-use Rattle.std.specs.Prelude.{◌≡◌, ℕ, ◌<◌, ◌⊎◌, true, List, [], length, Option, Result, Ok, Err, IfOk, IfErr, IfSome, IsTrue}
+-- Relations, but for CallWaits: what a run reads from a session or a source, after it has handed on
+-- what was written.
+use Rattle.std.specs.Prelude.{◌≡◌, ℕ, ◌<◌, ◌⊎◌, List, [], length, Option, Result, Ok, Err, IfOk, IfErr, IfSome, IsTrue}
 use Rattle.link_wire.specs.Device.{Input as Seen}
 use Rattle.link_wire.specs.Limits.{window_size}
 use Rattle.link_wire.specs.MessageBuffer.{message_of, SegmentTotalsFit}
-use Rattle.link_wire.specs.Session.{source_of, left_of, may_open, is_opened, data_in, HasStopped, IsSessionAt, HasEnoughForNext, with_message_read, AfterNext, AfterLoad}
-use Rattle.link_wire.specs.Source.{window_of, at_hand, front_of, reach, IsLive, HasEnded, HasFailed, AfterReadyFront}
+use Rattle.link_wire.specs.Session.{source_of, left_of, may_read, is_opened, data_in, HasStopped, IsSessionAt, with_message_read, AfterOpen, AfterNext, AfterLoad}
+use Rattle.link_wire.specs.Source.{window_of, front_of, reach, IsLive, HasEnded, HasFailed, AfterReadyFront}
 use Rattle.link_wire.specs.declared.IoFault.{IoFault}
 use Rattle.link_wire.specs.declared.IoFault.TheVariants as io
 use Rattle.link_wire.specs.declared.{Source.Source, fault.Stop.Stop}
 use Rattle.link_wire.specs.declared.fault.Stop.TheVariants as stop
-use Rattle.link_wire.specs.declared.message.{Message.Message, MessageBuffer.MessageBuffer}
+use Rattle.link_wire.specs.declared.message.{Contact.Contact, Message.Message, MessageBuffer.MessageBuffer}
 use Rattle.link_wire.specs.declared.session.Session.{Session}
-use Rattle.link_run.specs.Run.{Looks, Waits, IsWaitOfPlace, WaitsOnce, IsSpared}
+use Rattle.link_run.specs.Run.{Looks, Waits, IsWaitOfPlace, WaitsOnce}
 use Rattle.link_run.specs.Writers.{place_of, on_output, next_line, Writes, FailedSettle}
 use Rattle.link_run.specs.declared.{input.Input.Input, writers.Writers.Writers}
 
@@ -25,11 +25,6 @@ module _ {S W E : Type 0} where
   abbrev pub waits_of : Input S W E → Waits S W E
   waits_of input = input.log.waits
 
--- The session has enough bytes at hand for what comes next. Before the contact header this always
--- holds, since a run has written nothing yet.
-abbrev pub HasEnough : {R : Type 0} → (R → Seen) → Session R → Type 0
-HasEnough look session = (may_open session ≡ true) ⊎ HasEnoughForNext look session
-
 module _ {R W E : Type 0} (look : Looks R W E)
     (old new : Session R) (before after : Writers W E) where
   -- a writer failed to hand on what was written, and nothing was read
@@ -39,6 +34,17 @@ module _ {R W E : Type 0} (look : Looks R W E)
     pub unread : new ≡ old
     pub few : length (window_of (source_of old)) < window_size
     pub unsettled : FailedSettle look.output look.report before after fault
+
+  -- Nothing was written, and the session gave the contact header or stopped; or a writer failed to
+  -- hand on what was written.
+  abbrev pub AfterFetchContact : Result Contact Stop → Type 0
+  AfterFetchContact (Ok contact) =
+      Writes look.output look.report before after (on_output [])
+      × AfterOpen look.input old new (Ok contact)
+  AfterFetchContact (Err why) =
+      (Writes look.output look.report before after (on_output [])
+      × AfterOpen look.input old new (Err why))
+      ⊎ NotHandedOn why
 
   -- Nothing was written, and the session gave this message or stopped; or a writer failed to hand
   -- on what was written.
@@ -80,19 +86,29 @@ pub record ReadsNothing {S R W E : Type 0} (look : R → Seen) (source : S → S
   pub reach : reach look (source (feed_of new)) ≡ reach look (source (feed_of old))
   pub waits : waits_of new ≡ waits_of old
 
--- A call waits at most once, before it reads, and after all that was written was handed on. No wait
--- is needed if the bytes at hand are enough, or nothing is read.
+-- A call waits at most once, before it reads, and after all that was written was handed on. Without
+-- a wait, it reads nothing.
 abbrev pub CallWaits : {S R W E : Type 0} → Looks R W E → (source : S → Source R)
-    → (enough : Type 0) → (old new : Input S W E) → (before : Writers W E) → Type 0
-CallWaits look source enough old new before =
-    WaitsOnce (IsSpared look.input enough (source (feed_of old)) (source (feed_of new)))
-    (waits_of old) (waits_of new) (IsWaitOfPlace look (place_of (source (feed_of old)) before))
+    → (old new : Input S W E) → (before : Writers W E) → Type 0
+CallWaits look source old new before =
+    WaitsOnce look.input (source (feed_of old)) (source (feed_of new)) (waits_of old) (waits_of new)
+    (IsWaitOfPlace look (place_of (source (feed_of old)) before))
 
 -- the same for a call of a session
 abbrev pub SessionWaits : {R W E : Type 0} → Looks R W E → (old new : Input (Session R) W E)
     → (before : Writers W E) → Type 0
-SessionWaits look old new before =
-    CallWaits look source_of (HasEnough look.input (feed_of old)) old new before
+SessionWaits look old new before = CallWaits look source_of old new before
+
+-- what holds after a call that reads the contact header
+pub record FetchesContact {R W E : Type 0} (look : Looks R W E)
+    (old new : Input (Session R) W E) (before after : Writers W E)
+    (result : Result Contact Stop) : Type 0 where
+  pub opened : IfOk result (λ contact. IsTrue (is_opened (feed_of new)))
+  pub may_read : IfOk result (λ contact. IsTrue (may_read (feed_of new)))
+  pub gives : AfterFetchContact look (feed_of old) (feed_of new) before after result
+  pub waits : SessionWaits look old new before
+  pub left : IfErr result (λ why. left_of (feed_of new) ≡ left_of (feed_of old))
+  pub line : next_line after ≡ next_line before
 
 -- what holds after a call that reads the head of the next message into `message`
 pub record FetchesMessage {R W E : Type 0} (look : Looks R W E)
@@ -146,8 +162,7 @@ pub record FetchesBytes {R W E : Type 0} (look : Looks R W E)
       → (new ≡ old) × (after ≡ before) × (result ≡ Ok (length (front_of look.input (feed_of old))))
   pub gives : IsLive look.input (feed_of old)
       → AfterFetchBytes look (feed_of old) (feed_of new) before after result
-  pub waits : CallWaits look (λ source. source) (0 < length (at_hand look.input (feed_of old)))
-      old new before
+  pub waits : CallWaits look (λ source. source) old new before
   pub line : next_line after ≡ next_line before
   pub ended : HasEnded (feed_of old)
       → (feed_of new ≡ feed_of old) × AfterRepeatedLoad look before after (Ok 0) result

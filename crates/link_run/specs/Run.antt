@@ -1,5 +1,5 @@
 -- What a run of a tool has written, and how it ends.
-use Rattle.std.specs.Prelude.{◌≡◌, ℕ, ◌+◌, ◌<◌, ◌≤◌, ◌⊎◌, Bool, true, false, List, [], ◌∷◌, ◌++◌, length, take, Result, Ok, Err}
+use Rattle.std.specs.Prelude.{◌≡◌, ℕ, ◌+◌, ◌-◌, ◌<◌, ◌≤◌, ◌⊎◌, Bool, true, false, List, [], ◌∷◌, ◌++◌, length, take, Result, Ok, Err}
 use Rattle.std.specs.Io.KnownBytes.{Consumes, Appends, IsAtEnd}
 use Rattle.link_wire.specs.Device.{Input, Output}
 use Rattle.link_wire.specs.Limits.{longest_input, window_size}
@@ -65,6 +65,10 @@ pub record Place (R W E : Type 0) : Type 0 where
 abbrev pub devices_at : {R W E : Type 0} → Place R W E → Devices R W E
 devices_at place = devices (reader_of place.source) place.output place.report
 
+-- how far the input is at hand: the offset after the bytes at hand
+abbrev pub reach_at : {R : Type 0} → (R → Input) → Source R → ℕ
+reach_at look source = (reach look source).0
+
 -- the answer of a run, as its last step returns it
 abbrev pub answer_of : Result Status IoFault → Result Progress IoFault
 answer_of (Ok status) = Ok (Done status)
@@ -85,9 +89,13 @@ pub record IsBehind (tool : Tool) (given : List ℕ) (output_count report_count 
   pub output : length (tool.so_far front).output ≤ output_count
   pub report : report_count ≤ length (tool.so_far front).report
 
--- A wait: how far the input had been read, and the writers, when a run had to wait for input.
-abbrev pub Wait : (W E : Type 0) → Type 0
-Wait W E = Position × Writers W E
+-- A wait of a run for its input. `position` is how far the input had been read when it began, and
+-- `writers` are the writers then. `reach` is the offset after the bytes that were at hand when it
+-- ended.
+pub record Wait (W E : Type 0) : Type 0 where
+  pub position : Position
+  pub writers : Writers W E
+  pub reach : ℕ
 
 -- When a run had to wait for input, since it was made with these devices.
 pub record Waits (R W E : Type 0) : Type 0 where
@@ -121,27 +129,27 @@ module _ {R W E : Type 0} (look : Looks R W E) where
   -- The run waited at this place: since then nothing was given, and earlier texts were handed on.
   -- Of the bytes taken from the reader, less than a window was not given.
   pub record IsWaitOfPlace (place : Place R W E) (wait : Wait W E) : Type 0 where
-    pub given : wait.0.given ≡ given_by place.source
-    pub ahead : wait.0.ahead ≡ length (window_of place.source)
-    pub few : wait.0.ahead < window_size
-    pub output : HasHandedOn (look.output place.output) (look.output wait.1.output) []
-    pub report : HasHandedOn (look.report place.report) (look.report wait.1.report) []
-    pub output_kept : (look.output wait.1.output).failed ≡ (look.output place.output).failed
-    pub report_kept : (look.report wait.1.report).failed ≡ (look.report place.report).failed
+    pub given : wait.position.given ≡ given_by place.source
+    pub ahead : wait.position.ahead ≡ length (window_of place.source)
+    pub few : wait.position.ahead < window_size
+    pub output : HasHandedOn (look.output place.output) (look.output wait.writers.output) []
+    pub report : HasHandedOn (look.report place.report) (look.report wait.writers.report) []
+    pub output_kept : (look.output wait.writers.output).failed ≡ (look.output place.output).failed
+    pub report_kept : (look.report wait.writers.report).failed ≡ (look.report place.report).failed
 
   module _ (tool : Tool) (start : Devices R W E) where
     -- The run waited when it had been given exactly these bytes. They show no fault, and all that
     -- they determine had been handed on. No writer had failed.
     pub record IsPrompt (given : List ℕ) (wait : Wait W E) : Type 0 where
-      pub count : wait.0.given ≡ length given
-      pub few : wait.0.ahead < window_size
+      pub count : wait.position.given ≡ length given
+      pub few : wait.position.ahead < window_size
       pub unshown : tool.shows given ≡ false
-      pub output : HasHandedOn (look.output start.output) (look.output wait.1.output)
+      pub output : HasHandedOn (look.output start.output) (look.output wait.writers.output)
           (tool.so_far given).output
-      pub report : HasHandedOn (look.report start.report) (look.report wait.1.report)
+      pub report : HasHandedOn (look.report start.report) (look.report wait.writers.report)
           (tool.so_far given).report
-      pub output_sound : (look.output wait.1.output).failed ≡ false
-      pub report_sound : (look.report wait.1.report).failed ≡ false
+      pub output_sound : (look.output wait.writers.output).failed ≡ false
+      pub report_sound : (look.report wait.writers.report).failed ≡ false
 
     -- the same, for a prefix of these bytes
     pub record IsPromptWithin (given : List ℕ) (wait : Wait W E) : Type 0 where
@@ -150,24 +158,20 @@ module _ {R W E : Type 0} (look : Looks R W E) where
       pub parts : given ≡ front ++ rest
       pub prompt : IsPrompt front wait
 
--- There was at most one wait, and `is` holds of it. If there was none, it was spared.
-abbrev pub WaitsOnce : {R W E : Type 0} → (spared : Type 0) → (before after : Waits R W E)
-    → (is : Wait W E → Type 0) → Type 0
-WaitsOnce {W} {E} spared before after is =
-    ((after ≡ before) × spared)
-    ⊎ ((wait : Wait W E) × (after ≡ noted before wait) × is wait)
-
--- No wait is needed: the bytes at hand are enough, or nothing is read.
-abbrev pub IsSpared : {R : Type 0} → (R → Input) → (enough : Type 0) → (old new : Source R) → Type 0
-IsSpared look enough old new = enough ⊎ (reach look new ≡ reach look old)
+-- There was at most one wait, and `is` holds of it: the input was then at hand as far as it is now.
+-- Without a wait, nothing was read.
+abbrev pub WaitsOnce : {R S W E : Type 0} → (R → Input) → (old new : Source R)
+    → (before after : Waits S W E) → (is : Wait W E → Type 0) → Type 0
+WaitsOnce {W} {E} look old new before after is =
+    ((after ≡ before) × (reach look new ≡ reach look old))
+    ⊎ ((wait : Wait W E) × (after ≡ noted before wait) × (wait.reach ≡ reach_at look new) × is wait)
 
 -- A step of a run that was given these bytes waits at most once: before it is given a byte, and
 -- before it writes.
 abbrev pub StepWaits : {R W E : Type 0} → Looks R W E → Tool → (start : Devices R W E)
-    → (given : List ℕ) → (enough : Type 0) → (old new : Place R W E)
-    → (before after : Waits R W E) → Type 0
-StepWaits look tool start given enough old new before after =
-    WaitsOnce (IsSpared look.input enough old.source new.source) before after
+    → (given : List ℕ) → (old new : Place R W E) → (before after : Waits R W E) → Type 0
+StepWaits look tool start given old new before after =
+    WaitsOnce look.input old.source new.source before after
     (λ wait. IsWaitOfPlace look old wait × IsPrompt look tool start given wait)
 
 -- No proper prefix of the bytes shows a fault: nothing is given after one is shown.
@@ -305,11 +309,12 @@ module _ {R W E : Type 0} (look : Looks R W E) where
   EndedRun tool start now given (Err fault) = FailedRun tool start now given fault
 
   -- a step was the last of its run, and was given at most `most` bytes
-  pub record LastStep (tool : Tool) (start now : Devices R W E) (most : ℕ) (history : List ℕ)
-      (answer : Result Status IoFault) : Type 0 where
+  pub record LastStep (tool : Tool) (start : Devices R W E) (now : Place R W E) (most : ℕ)
+      (history : List ℕ) (answer : Result Status IoFault) : Type 0 where
     pub given : List ℕ
     pub size : length given ≤ most
-    pub gave : EndedRun tool start now (history ++ given) answer
+    pub count : given_by now.source ≡ length (history ++ given)
+    pub gave : EndedRun tool start (devices_at now) (history ++ given) answer
     pub ends : HasNoEarlierFault tool (history ++ given)
 
   -- what holds after a step, by its result
@@ -318,16 +323,18 @@ module _ {R W E : Type 0} (look : Looks R W E) where
   AfterStep tool start old new stands most history (Ok More) =
       ContinuedStep old.source new.source stands most history
   AfterStep tool start old new stands most history (Ok (Done status)) =
-      LastStep tool start (devices_at new) most history (Ok status)
+      LastStep tool start new most history (Ok status)
   AfterStep tool start old new stands most history (Err fault) =
-      LastStep tool start (devices_at new) most history (Err fault)
+      LastStep tool start new most history (Err fault)
 
-  -- what holds after a stride: the same as after a step, but without its bound
+  -- What holds after a stride: the same as after a step, but with another bound. A stride is given
+  -- at most the bytes of one step, and those that were at hand when its wait ended.
   abbrev pub AfterStride : Tool → Devices R W E → (old new : Place R W E)
       → (stands : List ℕ → Type 0) → (most : ℕ) → (history : List ℕ)
       → Result Progress IoFault → Type 0
   AfterStride tool start old new stands most history result =
-      (size : ℕ) × (0 < most → 0 < size)
+      (size : ℕ) × (size ≤ most + (reach_at look.input new.source - given_by old.source))
+      × (0 < most → 0 < size)
       × AfterStep tool start old new stands size history result
 
 -- this is the result of a run's last step

@@ -1,7 +1,8 @@
 -- The state of a run between two steps, and what a step does before it reads.
-use Rattle.std.specs.Prelude.{◌≡◌, ℕ, ◌<◌, Bool, true, false, List, [], Option, Some, None, Result, Ok}
+use Rattle.std.specs.Prelude.{◌≡◌, ℕ, ◌+◌, ◌-◌, ◌<◌, ◌≤◌, Bool, true, false, List, [], Option, Some, None, Result, Ok}
+use Rattle.link_wire.specs.Source.{given_by}
 use Rattle.link_wire.specs.declared.IoFault.{IoFault}
-use Rattle.link_run.specs.Run.{Texts, no_texts, Looks, Devices, Place, devices_at, NoneFailed, HasWritten, AfterStep, answer_of}
+use Rattle.link_run.specs.Run.{Texts, no_texts, Looks, Devices, Place, devices_at, NoneFailed, HasWritten, AfterStep, answer_of, reach_at}
 use Rattle.link_run.specs.Made.{Made, IsLasting, shows_fault, tool_of}
 use Rattle.link_run.specs.declared.run.{Progress.Progress, Progress.TheVariants.More, Status.Status}
 
@@ -40,7 +41,8 @@ abbrev pub AfterStageStride : {R W E : Type 0} → Looks R W E → (made : List 
     → (knows : List ℕ → Type 0) → (most : ℕ) → (history : List ℕ)
     → Result Progress IoFault → Type 0
 AfterStageStride look made start begun old new knows most history result =
-    (size : ℕ) × (0 < most → 0 < size)
+    (size : ℕ) × (size ≤ most + (reach_at look.input new.source - given_by old.source))
+    × (0 < most → 0 < size)
     × AfterStage look made start begun old new knows size history result
 
 -- the step was not the last

@@ -1,5 +1,5 @@
 -- What holds after a whole run.
-use Rattle.std.specs.Prelude.{◌≡◌, ℕ, List, Result, All}
+use Rattle.std.specs.Prelude.{◌≡◌, ℕ, ◌≤◌, List, [], ◌∷◌, length, Result, All}
 use Rattle.link_wire.specs.declared.IoFault.{IoFault}
 use Rattle.link_run.specs.Run.{Tool, Looks, Devices, devices, Wait, Waits, then_waits, IsPromptWithin, HasNoEarlierFault, EndedRun}
 use Rattle.link_run.specs.declared.{run.{RunEnd.RunEnd, Status.Status}, log.Ran.Ran}
@@ -20,26 +20,38 @@ module _ {R W E : Type 0} where
     pub to : ran.to ≡ now
     pub waits : ran.waits ≡ all.each
 
+-- The waits are spaced. Between two of them, before the first and after the last, only bytes were
+-- given that were at hand when the wait before had ended. `reach` is how far the input was at hand
+-- before the first, and `end` is the offset after the bytes given.
+abbrev pub AreSpaced : {W E : Type 0} → (reach : ℕ) → List (Wait W E) → (end : ℕ) → Type 0
+AreSpaced reach [] end = end ≤ reach
+AreSpaced reach (wait ∷ more) end =
+    (wait.position.given ≤ reach) × AreSpaced wait.reach more end
+
 module _ {R W E : Type 0} (look : Looks R W E) where
   -- The run began with the devices `start`, was given these bytes, and ended as its answer says.
   -- At each of these waits, it had handed on all text that the bytes given until then determine.
-  pub record RanToEnd (tool : Tool) (start now : Devices R W E) (waits : List (Wait W E))
-      (answer : Result Status IoFault) : Type 0 where
+  -- Before the first of them, the input was at hand up to the offset `reach`.
+  pub record RanToEnd (tool : Tool) (start now : Devices R W E) (reach : ℕ)
+      (waits : List (Wait W E)) (answer : Result Status IoFault) : Type 0 where
     pub given : List ℕ
     pub gave : EndedRun look tool start now given answer
     pub ends : HasNoEarlierFault tool given
     pub prompt : All (IsPromptWithin look tool start given) waits
+    pub spaced : AreSpaced reach waits (length given)
 
   -- What holds after a whole run. Its log has the devices with which it began, those that it
-  -- returned, and all of its waits.
+  -- returned, and all of its waits. Before the first wait, only what the reader held was at hand.
   pub record AfterRun (tool : Tool) (start : Devices R W E) (end : RunEnd R W E) : Type 0 where
     pub from : (ran_of end).from ≡ start
     pub to : (ran_of end).to ≡ devices_of end
-    pub whole : RanToEnd tool start (devices_of end) (ran_of end).waits end.answer
+    pub whole : RanToEnd tool start (devices_of end) (length (look.input start.reader).held)
+        (ran_of end).waits end.answer
 
-  -- what holds after the rest of a run that had these waits before
-  pub record AfterRunFrom (tool : Tool) (start : Devices R W E) (before : Waits R W E)
+  -- What holds after the rest of a run that had these waits before. The input was at hand up to the
+  -- offset `reach`.
+  pub record AfterRunFrom (tool : Tool) (start : Devices R W E) (reach : ℕ) (before : Waits R W E)
       (end : RunEnd R W E) : Type 0 where
     pub since : List (Wait W E)
     pub log : IsLogOf (then_waits before since) (devices_of end) (ran_of end)
-    pub rest : RanToEnd tool start (devices_of end) since end.answer
+    pub rest : RanToEnd tool start (devices_of end) reach since end.answer

@@ -1,17 +1,16 @@
 //! What a run reads: a session, or a source of bytes.
 //!
 //! A stage of a tool reads only through the calls of an [`Input`]. Before a read that may have to
-//! wait, these calls hand on what was written, and note that they did. So a reader of the output
-//! and the report sees the texts that the bytes so far determine.
+//! wait, these calls hand on what was written. So a reader of the output and the report sees the
+//! texts that the bytes so far determine. After the read, they note the wait. Without a wait that
+//! is noted, they read nothing.
 
-ghost use Rattle.std.specs.Prelude.{◌≡◌, ◌<◌, ◌⊎◌, ℕ, List, [], length, Err, IfErr, IfOk, IfSome, IsOk, IsTrue, OnOk, MatchResult};
+ghost use Rattle.std.specs.Prelude.{◌≡◌, ◌<◌, ℕ, List, [], length, IfSome, IsTrue};
 ghost use Rattle.link_wire.specs.MessageBuffer.{message_of, SegmentTotalsFit};
 ghost use Rattle.link_wire.specs.Session.{source_of, may_read, is_opened, data_in, left_of, IsSessionAt, HasStopped};
-ghost use Rattle.link_wire.specs.Limits.{window_size};
-ghost use Rattle.link_wire.specs.Source.{window_of, at_hand, front_of, IsLive};
-ghost use Rattle.link_run.specs.Run.{looks, IsWaitOfPlace, WaitsOnce};
-ghost use Rattle.link_run.specs.Reading.{feed_of, waits_of, FetchesBytes, FetchesData, FetchesMessage, HasEnough, NotHandedOn, ReadsNothing};
-ghost use Rattle.link_run.specs.Writers.{place_of, on_output, next_line, Writes, FailedSettle};
+ghost use Rattle.link_wire.specs.Source.{given_by, window_of, front_of, IsLive};
+ghost use Rattle.link_run.specs.Run.{looks};
+ghost use Rattle.link_run.specs.Reading.{feed_of, waits_of, FetchesBytes, FetchesContact, FetchesData, FetchesMessage, ReadsNothing};
 
 use crate::log::Log;
 use crate::writers::Writers;
@@ -27,9 +26,6 @@ pub trait Feed: Sized {
     /// The source that gives the bytes.
     ghost source: { Self → Source Self.Reader };
 
-    /// The bytes at hand are enough for what comes next.
-    ghost has_next: { Self → Type 0 };
-
     /// Returns the source.
     fn into_source(self) -> Source<Self::Reader>
         ensures { result ≡ source self };
@@ -40,8 +36,6 @@ impl<R: InDevice> Feed for Session<R> {
 
     ghost source = { source_of };
 
-    ghost has_next = { HasEnough R.state };
-
     fn into_source(self) -> Source<R> {
         self.into_source()
     }
@@ -51,8 +45,6 @@ impl<R: InDevice> Feed for Source<R> {
     type Reader = R;
 
     ghost source = { λ source. source };
-
-    ghost has_next = { λ source. 0 < length (at_hand R.state source) };
 
     fn into_source(self) -> Source<R> {
         self
@@ -98,24 +90,32 @@ impl<S, W, E> Input<S, W, E> {
 /// The calls that read a recorded session.
 impl<R: InDevice, W: OutDevice, E: OutDevice> Input<Session<R>, W, E> {
     ghost use Rattle.std.specs.Prelude.{◌≤◌, None, take};
-    ghost use Rattle.link_wire.specs.Session.{may_open, PassedBytes, AfterOpen};
+    ghost use Rattle.link_wire.specs.Session.{may_open, PassedBytes};
     ghost use Rattle.link_wire.specs.Whole.{GivenWholeMessage, PassedQuietMessages};
 
     /// Reads the contact header, as [`Session::open`] does.
     ///
-    /// This call hands nothing on, since a run has written nothing before it.
-    #[inline(always)]
-    pub fn open(&mut self) -> Result<Contact, Stop>
+    /// If the read may have to wait, the call first hands on what was written. If that fails, it
+    /// reads nothing and returns the failure as a stop, although the session has not stopped.
+    #[cold]
+    #[inline(never)]
+    pub fn open(&mut self, writers: &mut Writers<W, E>) -> Result<Contact, Stop>
         requires { IsTrue (may_open (feed_of self.old)) }
-        ensures gives { AfterOpen R.state (feed_of self.old) (feed_of self.new) result }
-        ensures opened { IsTrue (is_opened (feed_of self.new)) }
-        ensures may_read { IsTrue (may_read (feed_of self.new)) }
-        ensures left { IfErr result
-            (λ _. left_of (feed_of self.new) ≡ left_of (feed_of self.old)) }
-        ensures settles { IfErr result (HasStopped (feed_of self.new)) }
-        ensures waits { waits_of self.new ≡ waits_of self.old }
+        ensures { FetchesContact (looks R.state W.state E.state)
+            self.old self.new writers.old writers.new result }
     {
-        self.feed.open()
+        if !self.feed.may_wait() {
+            return self.feed.open();
+        }
+        match writers.settle() {
+            Ok(()) => {
+                let position = position_of(&self.feed);
+                let result = self.feed.open();
+                self.log = self.log.and(&position, writers, &self.feed);
+                result
+            }
+            Err(fault) => Err(Stop::Io(fault)),
+        }
     }
 
     /// Reads the head of the next message, as [`Session::next`] does.
@@ -295,8 +295,18 @@ fn read_message<R: InDevice, W: OutDevice, E: OutDevice>(
     if let Some(offset) = input.feed.next_ahead(message) {
         return Ok(Some(offset));
     }
-    settle_before(&input.feed, writers, &mut input.log)?;
-    input.feed.next_fields(message)
+    if !input.feed.may_wait() {
+        return input.feed.next_fields(message);
+    }
+    match writers.settle() {
+        Ok(()) => {
+            let position = position_of(&input.feed);
+            let result = input.feed.next_fields(message);
+            input.log = input.log.and(&position, writers, &input.feed);
+            result
+        }
+        Err(fault) => Err(Stop::Io(fault)),
+    }
 }
 
 /// Makes data of the segment ready if none is at hand.
@@ -310,11 +320,21 @@ fn load_on<R: InDevice, W: OutDevice, E: OutDevice>(
     ensures { FetchesData (looks R.state W.state E.state)
         input.old input.new writers.old writers.new result }
 {
-    settle_before(&input.feed, writers, &mut input.log)?;
-    input.feed.load()
+    if !input.feed.may_wait() {
+        return input.feed.load();
+    }
+    match writers.settle() {
+        Ok(()) => {
+            let position = position_of(&input.feed);
+            let result = input.feed.load();
+            input.log = input.log.and(&position, writers, &input.feed);
+            result
+        }
+        Err(fault) => Err(Stop::Io(fault)),
+    }
 }
 
-/// Makes bytes ready if none is at hand.
+/// Makes bytes ready if none is at hand, so the read may have to wait.
 #[cold]
 #[inline(never)]
 fn read_bytes<R: InDevice, W: OutDevice, E: OutDevice>(
@@ -325,78 +345,30 @@ fn read_bytes<R: InDevice, W: OutDevice, E: OutDevice>(
     ensures { FetchesBytes (looks R.state W.state E.state)
         input.old input.new writers.old writers.new result }
 {
-    settle_before_bytes(&input.feed, writers, &mut input.log)?;
-    input.feed.ready_front()
-}
-
-/// Hands on what was written, if the next call of the session may have to wait. Then it notes the
-/// wait.
-#[cold]
-#[inline(never)]
-fn settle_before<R: InDevice, W: OutDevice, E: OutDevice>(
-    session: &Session<R>,
-    writers: &mut Writers<W, E>,
-    log: &mut Log<Session<R>, W, E>,
-) -> Result<(), Stop>
-    ensures gives { MatchResult result
-        (λ _. Writes W.state E.state writers.old writers.new (on_output []))
-        (NotHandedOn (looks R.state W.state E.state) session.now session.now
-        writers.old writers.new) }
-    ensures waits { IfOk result (λ _. (history : List ℕ) → IsSessionAt R.state session.now history
-        → WaitsOnce (HasEnough R.state session.now) log.old.waits log.new.waits
-        (IsWaitOfPlace (looks R.state W.state E.state)
-        (place_of (source_of session.now) writers.old))) }
-    ensures none { IfErr result (λ _. log.new ≡ log.old) }
-    ensures line { next_line writers.new ≡ next_line writers.old }
-    ensures stopped { (stop : _) → HasStopped session.now stop
-        → (writers.new ≡ writers.old) × (log.new ≡ log.old) × (IsOk result) }
-{
-    if !session.may_wait() {
-        return Ok(());
-    }
     match writers.settle() {
         Ok(()) => {
             let position = Position {
-                given: session.given(),
-                ahead: session.ahead(),
+                given: input.feed.given(),
+                ahead: input.feed.window().len(),
             };
-            *log = log.and(&position, writers);
-            Ok(())
+            let result = input.feed.ready_front();
+            input.log = input.log.and(&position, writers, &input.feed);
+            result
         }
-        Err(fault) => Err(Stop::Io(fault)),
+        Err(fault) => Err(fault),
     }
 }
 
-/// Hands on what was written, if the next read of the source may have to wait. Then it notes the
-/// wait.
-#[cold]
-#[inline(never)]
-fn settle_before_bytes<R: InDevice, W: OutDevice, E: OutDevice>(
-    source: &Source<R>,
-    writers: &mut Writers<W, E>,
-    log: &mut Log<Source<R>, W, E>,
-) -> Result<(), IoFault>
-    requires { length (window_of source.now) ≡ 0 }
-    ensures gives { MatchResult result
-        (λ _. Writes W.state E.state writers.old writers.new (on_output []))
-        (λ fault. (length (window_of source.now) < window_size)
-        × FailedSettle W.state E.state writers.old writers.new fault) }
-    ensures waits { IfOk result (λ _. WaitsOnce (0 < length (at_hand R.state source.now))
-        log.old.waits log.new.waits
-        (IsWaitOfPlace (looks R.state W.state E.state) (place_of source.now writers.old))) }
-    ensures none { IfErr result (λ _. log.new ≡ log.old) }
-    ensures line { next_line writers.new ≡ next_line writers.old }
+/// How far the source of a session was read.
+#[inline(always)]
+fn position_of<R: InDevice>(session: &Session<R>) -> Position
+    ensures given { result.given ≡ given_by (source_of session.now) }
+    ensures ahead { result.ahead ≡ length (window_of (source_of session.now)) }
 {
-    if !source.may_wait() {
-        return Ok(());
+    Position {
+        given: session.given(),
+        ahead: session.ahead(),
     }
-    writers.settle()?;
-    let position = Position {
-        given: source.given(),
-        ahead: source.window().len(),
-    };
-    *log = log.and(&position, writers);
-    Ok(())
 }
 
 mod inner;

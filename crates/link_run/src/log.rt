@@ -25,7 +25,7 @@ impl<S, W, E> Model for Log<S, W, E> {
 }
 
 impl<S, W, E> Log<S, W, E> {
-    ghost use Rattle.std.specs.Prelude.{◌≡◌};
+    ghost use Rattle.std.specs.Prelude.{◌≡◌, ℕ};
     ghost use Rattle.link_run.specs.Run.{devices, no_waits, noted};
 
     /// The log of a run that begins with this feed and these writers.
@@ -36,10 +36,16 @@ impl<S, W, E> Log<S, W, E> {
         Log { of: PhantomData }
     }
 
-    /// This log, and then a wait at this position.
+    /// This log, and then a wait at this position, which ends with this feed. `reach_of` gives how
+    /// far the input of a feed is at hand.
     #[inline(always)]
-    pub(crate) fn and(&self, position: &Position, writers: &Writers<W, E>) -> Log<S, W, E>
-        ensures { result.waits ≡ noted self.now.waits (position.now, writers.now) }
+    pub(crate) fn and(&self, position: &Position, writers: &Writers<W, E>, feed: &S) -> Log<S, W, E>
+        ghost reach_of: { S → ℕ }
+        ensures { result.waits ≡ noted self.now.waits (record {
+          position = position.now;
+          writers = writers.now;
+          reach = reach_of feed.now;
+        }) }
     {
         Log { of: PhantomData }
     }

@@ -2,7 +2,7 @@
 
 ghost use Rattle.std.specs.Prelude.{◌≡◌, ◌<◌, ℕ, List, [], Result, Err};
 ghost use Rattle.link_wire.specs.declared.IoFault.{IoFault};
-ghost use Rattle.link_run.specs.Run.{Tool, Devices, Place, Waits, answer_of, devices, devices_at, looks, AfterStep, AfterStride, IsLastResult, StepWaits};
+ghost use Rattle.link_run.specs.Run.{Tool, Devices, Place, Waits, answer_of, devices, devices_at, looks, reach_at, AfterStep, AfterStride, IsLastResult, StepWaits};
 ghost use Rattle.link_run.specs.WholeRun.{AfterRunFrom, IsLogOf, devices_of, ran_of};
 ghost use Rattle.link_run.specs.declared.run.Progress.{Progress};
 
@@ -130,9 +130,6 @@ pub trait Run<R: InDevice, W: OutDevice, E: OutDevice>: Sized {
     // with which devices it was made, and when it had to wait for its input
     ghost waits: { Self → Waits R W E };
 
-    // the bytes at hand are enough for the next step
-    ghost has_next: { Self → Type 0 };
-
     // the run has ended, and each further step returns this
     ghost has_ended: { Self → Result Progress IoFault → Type 0 };
 
@@ -152,7 +149,7 @@ pub trait Run<R: InDevice, W: OutDevice, E: OutDevice>: Sized {
             (place self.new) (stands self.new start) (most self.old) history result }
         ensures waits { (start : Devices R W E) (history : List ℕ) → stands self.old start history
             → StepWaits (looks R.state W.state E.state) (tool self.old) start history
-            (has_next self.old) (place self.old) (place self.new) (waits self.old) (waits self.new) }
+            (place self.old) (place self.new) (waits self.old) (waits self.new) }
         ensures goes_on { most self.new ≡ 0 → IsLastResult result }
         ensures ends { IsLastResult result → has_ended self.new result }
         ensures again { (answer : _) → has_ended self.old answer
@@ -161,8 +158,8 @@ pub trait Run<R: InDevice, W: OutDevice, E: OutDevice>: Sized {
     /// Does at least one step, and as many more as the bytes at hand allow: a *stride*.
     ///
     /// After it, the texts are those that the bytes given determine, as after a step. It waits as
-    /// [`Run::step`] does: at most once, before it is given a byte and before it writes. The bytes
-    /// that it is given were at hand before that wait, or came with the reads after it.
+    /// [`Run::step`] does: at most once, before it is given a byte and before it writes. It is
+    /// given at most the bytes of a step, and those that were at hand when that wait had ended.
     ///
     /// # Errors
     ///
@@ -174,7 +171,7 @@ pub trait Run<R: InDevice, W: OutDevice, E: OutDevice>: Sized {
             (place self.new) (stands self.new start) (most self.old) history result }
         ensures waits { (start : Devices R W E) (history : List ℕ) → stands self.old start history
             → StepWaits (looks R.state W.state E.state) (tool self.old) start history
-            (has_next self.old) (place self.old) (place self.new) (waits self.old) (waits self.new) }
+            (place self.old) (place self.new) (waits self.old) (waits self.new) }
         ensures goes_on { most self.new ≡ 0 → IsLastResult result }
         ensures ends { IsLastResult result → has_ended self.new result }
         ensures again { (answer : _) → has_ended self.old answer
@@ -194,7 +191,8 @@ pub trait Run<R: InDevice, W: OutDevice, E: OutDevice>: Sized {
     final fn run(self) -> RunEnd<R, W, E>
         requires { stands self (devices_at (place self)) [] }
         ensures { AfterRunFrom (looks R.state W.state E.state) (tool self)
-            (devices_at (place self)) (waits self) result }
+            (devices_at (place self)) (reach_at R.state (place self).source) (waits self)
+            result }
     {
         let mut run = self;
         'strides: loop {

@@ -54,7 +54,7 @@ pub trait Stages<S: Feed, W: OutDevice, E: OutDevice>: Sized {
         ensures goes_on { most self.new ≡ 0 → IsLastResult result }
         ensures waits { (history : List ℕ) → knows self.old (feed_of input.old) history
             → CallWaits (looks S.Reader.state W.state E.state) S.source
-            (S.has_next (feed_of input.old)) input.old input.new writers.old }
+            input.old input.new writers.old }
         ensures begins { begun self.old ≡ false → waits_of input.new ≡ waits_of input.old };
 
     /// Does at least one step, and as many more as the bytes at hand allow.
@@ -80,7 +80,7 @@ pub trait Stages<S: Feed, W: OutDevice, E: OutDevice>: Sized {
         ensures goes_on { most self.new ≡ 0 → IsLastResult result }
         ensures waits { (history : List ℕ) → knows self.old (feed_of input.old) history
             → CallWaits (looks S.Reader.state W.state E.state) S.source
-            (S.has_next (feed_of input.old)) input.old input.new writers.old }
+            input.old input.new writers.old }
         ensures begins { begun self.old ≡ false → waits_of input.new ≡ waits_of input.old }
     {
         self.stage(input, writers)
@@ -158,8 +158,6 @@ impl<S: Feed, W: OutDevice, E: OutDevice, T: Stages<S, W, E> + Drop> Run<S::Read
     ghost most = { λ run. most_unless_ended run.answer (T.most run.tool) };
 
     ghost waits = { λ run. waits_by (λ feed. reader_of (S.source feed)) (waits_of run.input) };
-
-    ghost has_next = { λ run. S.has_next (feed_of run.input) };
 
     ghost has_ended = { λ run. RunHasEnded run.answer };
 

@@ -19,7 +19,7 @@ use Rattle.link_bundle.specs.declared.stage.ScanStage.TheVariants as stage
 use Rattle.link_bundle.proofs.Verdicts.{state_of-seen}
 use Rattle.link_bundle_data_reader.proofs.Judged.{joined_rest}
 use Rattle.link_report.specs.declared.fault.Fault.TheVariants.{TooLong}
-use Rattle.link_run_over_bundles.specs.{BundleRun.{AddsSeen, RefusedBundle, AfterJudge, HasScannedPart, found_by}, Telling.EndsAtBlock}
+use Rattle.link_run_over_bundles.specs.{BundleRun.{AddsSeen, RefusedBundle, AfterJudge, HasScannedPart, found_by}, Telling.HasNoEarlierBlockEnd}
 use Rattle.link_run_over_bundles.specs.declared.current.{Current.Current, Found.Found}
 use Rattle.link_run_over_bundles.specs.declared.current.Found.TheVariants as found
 
@@ -310,7 +310,7 @@ fewer_blocks begun run count same =
 
 module _ (limit : ℕ) (by_blocks : Bool) (current : Current) (begun run : List ℕ)
     (some : 0 < length run) (scanned : HasScanned current.scan (begun ++ run))
-    (blocks : EndsAtBlock by_blocks current.scan begun run)
+    (blocks : HasNoEarlierBlockEnd by_blocks current.scan begun run)
     (front : bundle_prefix (begun ++ run) ≡ begun ++ run)
     (within : length (begun ++ run) ≤ limit) where
   took_fault : (fault : BundleFault) (offset : ℕ) (test : Bool) → lasts fault ≡ test

@@ -17,7 +17,7 @@ use Rattle.link_run.proofs.Runs.{few_over, then_assoc, writes_then, part_of_more
 use Rattle.link_run.proofs.Stands.{goes_on, loses, ends, last_step}
 use Rattle.link_bundle.specs.Scan.{HasScanned}
 use Rattle.link_run_over_bundles.specs.Bundles.{Packed, divided, with_bundles, size_of}
-use Rattle.link_run_over_bundles.specs.Telling.{SoFar, BundleTelling, WritesRest, told_of, with_run, with_bytes, between, RunViewComes, EndsAtBlock, IsAccepted, LastBytesCome}
+use Rattle.link_run_over_bundles.specs.Telling.{SoFar, BundleTelling, WritesRest, told_of, with_run, with_bytes, between, RunViewComes, HasNoEarlierBlockEnd, IsAccepted, LastBytesCome}
 use Rattle.link_run_over_bundles.specs.BundleRun.{before_last, AfterJudge, cut_at, IsBundleWalkAt, ended_by, WritesUpTo, WritesEnd, WritesFound, BytesCome, RefusedBundle}
 use Rattle.link_run_over_bundles.specs.declared.current.{Current.Current, Found.Found}
 use Rattle.link_run_over_bundles.specs.declared.current.Found.TheVariants as found
@@ -45,7 +45,7 @@ between_is now none = ap (λ (begun : List ℕ). record { bundles = now.bundles;
 -- with these bytes the bundle goes on or is whole
 pub accepted : {limit : ℕ} {by_blocks : Bool} {current : Current} {before : SoFar} {place : ℕ}
     {run : List ℕ} → BytesCome limit current before place run → HasScanned current.scan (before.begun ++ run)
-    → EndsAtBlock by_blocks current.scan before.begun run → (view : RunView)
+    → HasNoEarlierBlockEnd by_blocks current.scan before.begun run → (view : RunView)
     → view.number ≡ current.number → view.before ≡ place → view.bytes.now ≡ run
     → view.scan.now ≡ current.scan → IsAccepted limit before.begun run view.whole
     → RunViewComes limit by_blocks before view

@@ -1,4 +1,4 @@
--- Relations, but for IsNewBundleWalk, IsBundleWalkAt, most_given: the state of a walk over bundles,
+-- Relations, but for IsNewBundleWalk, IsBundleWalkAt, by_stage: the state of a walk over bundles,
 -- and what a stretch of bytes shows of the current bundle.
 use Rattle.std.specs.Prelude.{◌≡◌, ℕ, ◌+◌, ◌-◌, ◌^◌, ◌<◌, ◌≤◌, Bool, true, false, List, [], ◌++◌, length, take, Option, Some, None, if◌then◌else◌, Result, Ok}
 use Rattle.link_wire.specs.Device.{Input as Seen, Output}
@@ -17,7 +17,7 @@ use Rattle.link_run.specs.Writers.{AfterLastWrite}
 use Rattle.link_run.specs.declared.run.{Progress.Progress, Status.Status}
 use Rattle.link_run.specs.declared.writers.Writers.{Writers}
 use Rattle.link_run_over_bundles.specs.Bundles.{Refusal, IsOpen, bundle_prefix, divided, with_bundles, size_of}
-use Rattle.link_run_over_bundles.specs.Telling.{SoFar, none_yet, BundleTelling, WritesRest, with_run, with_bytes, EndsAtBlock, refusal_fault, lasting, stop_by, IsViewOf}
+use Rattle.link_run_over_bundles.specs.Telling.{SoFar, none_yet, BundleTelling, WritesRest, with_run, with_bytes, HasNoEarlierBlockEnd, refusal_fault, lasting, stop_by, IsViewOf}
 use Rattle.link_run_over_bundles.specs.declared.{consumer.WholeView.WholeView, current.Current.Current}
 use Rattle.link_run_over_bundles.specs.declared.current.Found.{Found}
 use Rattle.link_run_over_bundles.specs.declared.current.Found.TheVariants as found
@@ -38,7 +38,7 @@ pub record HasScannedPart (by_blocks : Bool) (scan : BundleScan) (begun piece : 
   pub some : 0 < count
   pub scanned : HasScanned scan (begun ++ take count piece)
   pub wanted : (fewer : ℕ) → fewer < count → bundle_goes (begun ++ take fewer piece) ≡ true
-  pub blocks : EndsAtBlock by_blocks scan begun (take count piece)
+  pub blocks : HasNoEarlierBlockEnd by_blocks scan begun (take count piece)
 
 -- the bytes `run` of the current bundle are added to what has come so far
 pub record BytesCome (limit : ℕ) (current : Current) (before : SoFar) (place : ℕ) (run : List ℕ)
@@ -87,9 +87,10 @@ fault_of (Some stop) = Some stop.fault
 abbrev pub AfterJudge : (limit : ℕ) → (by_blocks : Bool) → Current → (begun run : List ℕ) → Found
     → Type 0
 AfterJudge limit by_blocks current begun run found.Part =
-    IsCurrentAt limit current (begun ++ run) × EndsAtBlock by_blocks current.scan begun run
+    IsCurrentAt limit current (begun ++ run) × HasNoEarlierBlockEnd by_blocks current.scan begun run
 AfterJudge limit by_blocks current begun run found.Whole =
-    IsWholeBundle limit current (begun ++ run) × EndsAtBlock by_blocks current.scan begun run
+    IsWholeBundle limit current (begun ++ run)
+    × HasNoEarlierBlockEnd by_blocks current.scan begun run
 AfterJudge limit by_blocks current begun run (found.Refused fault) =
     RefusedBundle limit by_blocks current.number begun run fault
 
@@ -121,10 +122,10 @@ IsCutFault limit number begun (Some fault) = cut_at limit number begun ≡ Some 
 
 -- ---- the state of a walk
 
--- the most bytes that a step is given
-abbrev pub most_given : Stage → ℕ
-most_given stage.Begin = 0
-most_given stage.Bundles = 4096
+-- one number for the first step, and one for the others
+abbrev pub by_stage : (first others : ℕ) → Stage → ℕ
+by_stage first others stage.Begin = first
+by_stage first others stage.Bundles = others
 
 -- whether what comes before the first bundle was written
 abbrev pub has_begun : Stage → Bool

@@ -107,8 +107,8 @@ IsAccepted limit begun run None = IsOpen limit (begun ++ run)
 IsAccepted limit begun run (Some whole) = IsViewOf (begun ++ run) whole
 
 -- if the scan stops at each block, no block ends in the run before its end
-abbrev pub EndsAtBlock : (by_blocks : Bool) → BundleScan → (begun run : List ℕ) → Type 0
-EndsAtBlock by_blocks scan begun run =
+abbrev pub HasNoEarlierBlockEnd : (by_blocks : Bool) → BundleScan → (begun run : List ℕ) → Type 0
+HasNoEarlierBlockEnd by_blocks scan begun run =
     by_blocks ≡ true → blocks_in (begun ++ run) ≡ blocks_in begun ++ ending scan
 
 -- The bytes of a run follow the bytes so far. The scan has seen them. If the tool is told of each
@@ -121,7 +121,7 @@ pub record RunViewComes (limit : ℕ) (by_blocks : Bool) (before : SoFar) (run :
   pub opened : IsOpen limit before.begun
   pub accepted : IsAccepted limit before.begun run.bytes.now run.whole
   pub scanned : HasScanned run.scan.now (before.begun ++ run.bytes.now)
-  pub blocks : EndsAtBlock by_blocks run.scan.now before.begun run.bytes.now
+  pub blocks : HasNoEarlierBlockEnd by_blocks run.scan.now before.begun run.bytes.now
   pub few : length before.bundles + length (before.begun ++ run.bytes.now) < 2 ^ 63
   pub sized : size_of before.bundles + length (before.begun ++ run.bytes.now) < 2 ^ 63
 

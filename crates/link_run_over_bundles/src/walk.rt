@@ -2,7 +2,6 @@
 
 ghost use Rattle.std.specs.Prelude.{◌≡◌, ◌<◌, ◌≤◌, ◌&&◌, true, nat_le, if◌then◌else◌, IsTrue, List, length, ℕ};
 ghost use Rattle.link_bundle.specs.Scan.{scan_size};
-ghost use Rattle.link_wire.specs.Source.{at_hand};
 ghost use Rattle.link_run.specs.Made.{tool_of};
 ghost use Rattle.link_run.specs.Reading.{feed_of, CallWaits};
 ghost use Rattle.link_run.specs.Run.{Devices, devices, looks, NoneFailed};
@@ -46,7 +45,7 @@ pub type BundleWalkRun<R, W, E, C> = ToolRun<Source<R>, W, E, BundleWalk<C>>;
 
 impl<R: InDevice, W: OutDevice, E: OutDevice, C: BundleConsumer> Stages<Source<R>, W, E>
     for BundleWalk<C> {
-    ghost use Rattle.link_run_over_bundles.specs.BundleRun.{most_given, has_begun, IsBundleWalkAtStage};
+    ghost use Rattle.link_run_over_bundles.specs.BundleRun.{by_stage, has_begun, IsBundleWalkAtStage};
 
     ghost made = { λ tool. told_of (C.telling tool.options) };
 
@@ -58,7 +57,7 @@ impl<R: InDevice, W: OutDevice, E: OutDevice, C: BundleConsumer> Stages<Source<R
     ghost knows = { λ tool source history. IsBundleWalkAtStage R.state (C.telling tool.options)
         (C.knows tool.options tool.walker.consumer) tool.walker.current source history tool.stage };
 
-    ghost most = { λ tool. most_given tool.stage };
+    ghost most = { λ tool. by_stage 0 4096 tool.stage };
 
     fn stage(
         &mut self,
@@ -115,7 +114,7 @@ fn take_bytes<R: InDevice, W: OutDevice, E: OutDevice, C: BundleConsumer>(
         (IsBundleWalkAt R.state (C.telling options.now) (C.knows options.now walker.new.consumer)
         walker.new.current (feed_of input.new)) most history result }
     ensures waits { CallWaits (looks R.state W.state E.state) (λ source. source)
-        (0 < length (at_hand R.state (feed_of input.old))) input.old input.new writers.old }
+        input.old input.new writers.old }
 {
     let ready = match input.ready_bytes(writers) {
         Ok(0) => return Progress::ended(finish(options, writers, walker)),

@@ -20,7 +20,7 @@ use Rattle.link_transfer.proofs.Continuing.{continues_open, may_continue, joiner
 use Rattle.link_report.specs.{Fault.fault_text, declared.fault.Fault.TheVariants.Order}
 use Rattle.link_run.specs.Made.{shows_fault, stop_of, tool_of}
 use Rattle.link_run.specs.{Next.next_of, Reading.feed_of}
-use Rattle.link_run.specs.Run.{◌then◌, Looks, Devices, devices_at, LastStep}
+use Rattle.link_run.specs.Run.{◌then◌, Looks, Devices, LastStep}
 use Rattle.link_run.specs.Writers.{place_of, on_report, AfterLastWrite}
 use Rattle.link_run.specs.declared.{next.Next.Next, run.Status.Status, writers.Writers.Writers}
 use Rattle.link_run.specs.declared.next.Next.TheVariants as next
@@ -257,7 +257,14 @@ module _ {R W E C : Type 0} {look : Looks R W E} {start : Devices R W E} {tellin
   }
   told_step piece now size waiting (Err fault) tells =
       let next = told_next (Err fault) tells in
-      record { given = given; size = size; gave = next.0; ends = next.1 }
+      let before_count = stood.written.count in
+      record {
+        given = given;
+        size = size;
+        count = omega (arith, takes.count, before_count, length-append history given);
+        gave = next.0;
+        ends = next.1;
+      }
 
 -- a head has no data yet
 none_in : (offset : ℕ) (sent : Message) (test : Bool) (entries : List Entry)
@@ -284,8 +291,8 @@ module _ {R W E : Type 0} {look : Looks R W E} {start : Devices R W E} (telling 
   -- the stream has ended between two messages
   pub finished : ReachedEnd look.input old new history → (answer : Result Status IoFault)
       → TellsEnd look.output look.report telling here.taken here.events before after answer
-      → LastStep look (tool_of (told_of telling)) start
-      (devices_at (place_of (source_of new) after)) longest_head history answer
+      → LastStep look (tool_of (told_of telling)) start (place_of (source_of new) after)
+      longest_head history answer
   finished got answer gives =
       let same : told_of telling (history ++ []) ≡ by_reading telling (reading_of history) =
       ap (told_of telling) (append-nil history) ∙ told_of-reading telling history in
@@ -306,8 +313,8 @@ module _ {R W E : Type 0} {look : Looks R W E} {start : Devices R W E} (telling 
       → (answer : Result Status IoFault)
       → AfterLastWrite look.output look.report before after
       (on_report (fault_text (Order offset fault))) 3 answer
-      → LastStep look (tool_of (told_of telling)) start
-      (devices_at (place_of (source_of new) after)) longest_head history answer
+      → LastStep look (tool_of (told_of telling)) start (place_of (source_of new) after)
+      longest_head history answer
   refused {offset} got clean fault is stays answer gives =
       let bytes = history ++ got.given in
       ends longest_head (source_of old) (source_of new) before stood got.takes got.size
@@ -379,7 +386,13 @@ module _ {R W E C : Type 0} {look : Looks R W E} {start : Devices R W E} {tellin
   ready_step size piece new after joiner consumer (next.Ended answer) some within taken =
       let end = taken stands_ready walks_ready in
       let fits = end.size in
-      record { given = end.given; size = omega arith; gave = end.gave; ends = end.ends }
+      record {
+        given = end.given;
+        size = omega arith;
+        count = end.count;
+        gave = end.gave;
+        ends = end.ends;
+      }
 
 -- ---- messages that lie whole in the window
 

@@ -1,19 +1,19 @@
 -- Steps of a walk, one after another, make a stride.
-use Rattle.std.proofs.Common.{◌≡◌, ℕ, ◌+◌, ◌<◌, true, List, ◌++◌, length, Ok, ⊎_elim, arith}
+use Rattle.std.proofs.Common.{◌≡◌, ℕ, ◌+◌, ◌<◌, true, List, ◌++◌, length, length-append, Ok, Err, ⊎_elim, arith}
 use Rattle.std.proofs.lemmas.Bool.{cases_lt}
 use Rattle.link_wire.specs.{Device.{Input as Seen}, Limits.window_size, Session.{source_of}}
-use Rattle.link_wire.specs.{Source.{window_of, Takes}, Stream.reading_of}
+use Rattle.link_wire.specs.{Source.{given_by, window_of, Takes}, Stream.reading_of}
 use Rattle.link_wire.specs.declared.Source.{Source}
 use Rattle.link_wire.specs.declared.session.Session.{Session}
 use Rattle.link_transfer.specs.declared.joiner.Joiner.{Joiner}
 use Rattle.link_run.specs.{Made.tool_of, Next.{progress_of, stage_after}, Reading.{feed_of, ReadsNothing}}
-use Rattle.link_run.specs.Run.{Looks, Devices, ContinuedStep, AfterStep}
+use Rattle.link_run.specs.Run.{Looks, Devices, answer_of, ContinuedStep, AfterStep}
 use Rattle.link_run.specs.Stages.{AfterStage, AfterStageStride}
 use Rattle.link_run.specs.declared.{next.Next.Next}
 use Rattle.link_run.specs.declared.next.Next.TheVariants as next
-use Rattle.link_run.proofs.{Stands.last_step, Strides.{went_with, step_then}, Waiting.waits_then}
+use Rattle.link_run.proofs.{Stands.last_step, Strides.{bounded, went_with, step_then}, Waiting.waits_then}
 use Rattle.link_run_over_transfers.specs.Walk.{WalkEvent, Telling, told_of}
-use Rattle.link_run_over_transfers.specs.WalkRun.{WalkState, place_at, most_by, most_given, walked_before, IsWalkAt, IsWalkAtStage, IfNextStage, AfterWalkStep, AfterWalkStride, TakesSome, IfWalkAtStage, Steps, Strides, TakesMessages}
+use Rattle.link_run_over_transfers.specs.WalkRun.{WalkState, place_at, most_by, walked_before, IsWalkAt, IsWalkAtStage, IfNextStage, AfterWalkStep, AfterWalkStride, TakesBytes, IfWalkAtStage, Steps, Strides, TakesMessages}
 use Rattle.link_run_over_transfers.specs.declared.walk.Stage.{Stage}
 use Rattle.link_run_over_transfers.specs.declared.walk.Stage.TheVariants as stage
 use Rattle.link_run_over_transfers.proofs.Comes.{never_contact}
@@ -114,7 +114,8 @@ module _ {R W E C : Type 0} {look : Looks R W E} {telling : Telling}
           step_then look (tool_of (told_of telling)) start (place_at old) (place_at mid)
               (place_at new) _ (IfNextStage look start telling knows new result) history
               (most_by piece now) (length taken.given) (progress_of result) went
-              (as_step start (history ++ went.given) result went.window taken),
+              (as_step start (history ++ went.given) result went.window
+              went.at.0.0.written.count taken),
         );
     waits = λ history walks.
         waits_then old.writers {old = old.input} (step.waits history walks) unread;
@@ -123,11 +124,12 @@ module _ {R W E C : Type 0} {look : Looks R W E} {telling : Telling}
       -- these messages are a step, whose bound is the number of its bytes
       as_step : (start : Devices R W E) (bytes : List ℕ) (result : Next Stage)
           → length (window_of (source_of (feed_of mid.input))) < window_size
-          → (taken : TakesSome look start telling knows mid new bytes result)
+          → given_by (source_of (feed_of mid.input)) ≡ length bytes
+          → (taken : TakesBytes look start telling knows mid new bytes result)
           → AfterStep look (tool_of (told_of telling)) start (place_at mid) (place_at new)
           (IfNextStage look start telling knows new result) (length taken.given) bytes
           (progress_of result)
-      as_step start bytes (next.Stage now) few taken = record {
+      as_step start bytes (next.Stage now) few count taken = record {
         given = taken.given;
         some = λ some. some;
         size = omega arith;
@@ -136,11 +138,12 @@ module _ {R W E C : Type 0} {look : Looks R W E} {telling : Telling}
             (source_of (feed_of new.input)) taken.given taken.takes few;
         at = taken.stands;
       }
-      as_step start bytes (next.Ended answer) few taken =
+      as_step start bytes (next.Ended answer) few count taken =
           last_step (told_of telling) (place_at mid) (place_at new) (λ bytes. Unit {0}) answer
           (record {
             given = taken.given;
             size = omega arith;
+            count = omega (arith, count, taken.takes.count, length-append bytes taken.given);
             gave = taken.stands.0;
             ends = taken.stands.1;
           })
@@ -160,7 +163,7 @@ module _ {R W E C : Type 0} {look : Looks R W E} {telling : Telling}
       → (start : Devices R W E) (history : List ℕ)
       → IfWalkAtStage look telling knows start now old history
       (AfterStage look (told_of telling) start true (place_at old) (place_at new)
-      (knows_next look telling knows now new result) (most_given now) history (progress_of result))
+      (knows_next look telling knows now new result) (most_by 4096 now) history (progress_of result))
   step_kept (next.Stage later) step = λ start history at walks.
       let went = step.holds start history at walks in
       went_with went (went.at.0.0, walking_at later went.at.0.1)
@@ -171,11 +174,19 @@ module _ {R W E C : Type 0} {look : Looks R W E} {telling : Telling}
       → (start : Devices R W E) (history : List ℕ)
       → IfWalkAtStage look telling knows start now old history
       (AfterStageStride look (told_of telling) start true (place_at old) (place_at new)
-      (knows_next look telling knows now new result) (most_given now) history (progress_of result))
+      (knows_next look telling knows now new result) (most_by 4096 now) history (progress_of result))
   stride_kept (next.Stage later) stride = λ start history at walks.
       let far = stride.holds start history at walks in
-      (far.0, λ some. far.1, went_with far.2 (far.2.at.0, walking_at later far.2.at.1))
+      bounded look (tool_of (told_of telling)) start (place_at old) (place_at new) _ (most_by 4096 now)
+      history (λ some. far.1) at.written.count (progress_of (next.Stage later))
+      (went_with far.2 (far.2.at.0, walking_at later far.2.at.1))
   stride_kept (next.Ended (Ok status)) stride = λ start history at walks.
-      let far = stride.holds start history at walks in (far.0, λ some. far.1, far.2)
-  stride_kept result stride = λ start history at walks.
-      let far = stride.holds start history at walks in (far.0, λ some. far.1, far.2)
+      let far = stride.holds start history at walks in
+      bounded look (tool_of (told_of telling)) start (place_at old) (place_at new)
+      (λ bytes. Unit {0}) (most_by 4096 now) history (λ some. far.1) at.written.count
+      (answer_of (Ok status)) far.2
+  stride_kept (next.Ended (Err fault)) stride = λ start history at walks.
+      let far = stride.holds start history at walks in
+      bounded look (tool_of (told_of telling)) start (place_at old) (place_at new)
+      (λ bytes. Unit {0}) (most_by 4096 now) history (λ some. far.1) at.written.count
+      (answer_of (Err fault)) far.2

@@ -1,4 +1,4 @@
--- Relations, but for IsNewWalk, IsWalkAt, most_given: the state of a walk over the transfers of a
+-- Relations, but for IsNewWalk, IsWalkAt, by_stage: the state of a walk over the transfers of a
 -- stream.
 use Rattle.std.specs.Prelude.{◌≡◌, ℕ, ◌<◌, ◌≤◌, Bool, true, is_some, if◌then◌else◌, zero, suc, List, [], ◌++◌, length, Option, Some, None, Result}
 use Rattle.link_wire.specs.Device.{Input as Seen, Output}
@@ -33,15 +33,15 @@ use Rattle.link_run_over_transfers.specs.declared.walk.Walker.{Walker}
 
 -- ---- the stages
 
--- the most bytes that a step is given: a contact header, the head of a message, or a piece of data
--- of at most `piece` bytes
-abbrev pub most_by : (piece : ℕ) → Stage → ℕ
-most_by piece stage.Contact = 6
-most_by piece stage.Message = longest_head
-most_by piece _ = piece
+-- one number for the contact header, one for the head of a message, and one for a piece of data
+abbrev pub by_stage : (contact head piece : ℕ) → Stage → ℕ
+by_stage contact head piece stage.Contact = contact
+by_stage contact head piece stage.Message = head
+by_stage contact head piece _ = piece
 
-abbrev pub most_given : Stage → ℕ
-most_given now = most_by 4096 now
+-- the most bytes that a step is given, and at most `piece` bytes of data
+abbrev pub most_by : (piece : ℕ) → Stage → ℕ
+most_by piece now = by_stage 6 longest_head piece now
 
 -- whether the session permits the call of a step at this stage
 abbrev pub may_go_on : {R : Type 0} → Stage → Session R → Bool
@@ -194,8 +194,8 @@ module _ {R W E C : Type 0} (look : Looks R W E) (start : Devices R W E) (tellin
       (λ bytes. IsWalkRunAt later new after joiner consumer bytes
       × HasNoDataYet now (reading_of bytes).end) (most_by piece now) history
   AfterWalkStep piece now old new after joiner consumer history (next.Ended answer) =
-      LastStep look (tool_of (told_of telling)) start
-      (devices_at (place_of (source_of new) after)) (most_by piece now) history answer
+      LastStep look (tool_of (told_of telling)) start (place_of (source_of new) after)
+      (most_by piece now) history answer
 
   -- the state of the walk if a stage comes next
   abbrev pub IfNextStage : WalkState R W E C → Next Stage → (history : List ℕ) → Type 0
@@ -226,7 +226,7 @@ module _ {R W E C : Type 0} (look : Looks R W E) (start : Devices R W E) (tellin
       × HasNoEarlierFault (tool_of (told_of telling)) history
 
   -- some bytes were given, or none; then a stage comes next, or the run has ended
-  pub record TakesSome (old new : WalkState R W E C) (history : List ℕ) (result : Next Stage)
+  pub record TakesBytes (old new : WalkState R W E C) (history : List ℕ) (result : Next Stage)
       : Type 0 where
     pub given : List ℕ
     pub takes : Takes look.input (source_of (feed_of old.input)) (source_of (feed_of new.input))
@@ -275,4 +275,4 @@ module _ {R W E C : Type 0} (look : Looks R W E) (telling : Telling)
   pub record TakesMessages (old new : WalkState R W E C) (result : Next Stage) : Type 0 where
     pub holds : (start : Devices R W E) (history : List ℕ)
         → IfWalkAtStage start stage.Message old history
-        (TakesSome look start telling knows old new history result)
+        (TakesBytes look start telling knows old new history result)

@@ -60,7 +60,7 @@ pub type WalkRun<R, W, E, C> = ToolRun<Session<R>, W, E, Walk<C>>;
 impl<R: InDevice, W: OutDevice, E: OutDevice, C: Consumer> Stages<Session<R>, W, E> for Walk<C> {
     ghost use Rattle.std.specs.Prelude.{true};
     ghost use Rattle.link_run_over_transfers.specs.Walk.{told_of};
-    ghost use Rattle.link_run_over_transfers.specs.WalkRun.{may_go_on, most_given, IsWalkAtStage};
+    ghost use Rattle.link_run_over_transfers.specs.WalkRun.{may_go_on, by_stage, IsWalkAtStage};
 
     ghost made = { λ tool. told_of (C.telling tool.options) };
 
@@ -71,7 +71,8 @@ impl<R: InDevice, W: OutDevice, E: OutDevice, C: Consumer> Stages<Session<R>, W,
     ghost knows = { λ tool. IsWalkAtStage R.state (C.telling tool.options) (C.knows tool.options)
         tool.stage tool.walker.joiner tool.walker.consumer };
 
-    ghost most = { λ tool. most_given tool.stage };
+    // 6 bytes of a contact header, 66,585 of a head, 4,096 of data
+    ghost most = { λ tool. by_stage 6 66585 4096 tool.stage };
 
     fn stage(
         &mut self,
@@ -175,7 +176,7 @@ impl<C: Consumer> Walker<C> {
             (C.knows options.now) 4096 Stage.Contact
             (at input.old writers.old self.old) (at input.new writers.new self.new) result }
     {
-        match input.open() {
+        match input.open(writers) {
             Ok(contact) => {
                 let view = EventView::Contact(&contact);
                 Next::of(Stage::Message, self.consumer.event(options, view, writers))

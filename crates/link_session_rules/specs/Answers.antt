@@ -47,15 +47,17 @@ ack_length before _ = None
 
 -- ---- answer-order
 
--- whether the last XFER_ACK has this ID, has it with END, and whether the last XFER_REFUSE has it
+-- whether the last XFER_ACK has this ID
 abbrev pub is_acked : Option Ack → (id : ℕ) → Bool
 is_acked None id = false
 is_acked (Some ack) id = ack.id == id
 
+-- whether it has this ID, with END
 abbrev pub has_ended : Option Ack → (id : ℕ) → Bool
 has_ended None id = false
 has_ended (Some ack) id = (ack.id == id) && ack.ends
 
+-- whether the last XFER_REFUSE has this ID
 abbrev pub is_refused : Option ℕ → (id : ℕ) → Bool
 is_refused None id = false
 is_refused (Some refused) id = refused == id

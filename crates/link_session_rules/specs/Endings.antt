@@ -47,7 +47,7 @@ is_late older message =
     && list_any is_sess_term older
 
 -- term-order: a session has one SESS_TERM, and its first SESS_INIT does not come after it (section
--- 6.1)
+-- 6.1). `newest before` is all messages before, the newest first.
 unfoldable pub term_order : List JudgedHead → Message → Option MessageRule
 term_order before message =
     if is_late (newest before) message then Some (TermOrder (type_of message)) else None

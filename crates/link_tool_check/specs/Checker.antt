@@ -32,7 +32,8 @@ pub record IsCheckedTransferAtLatest (now : CheckedTransfer) (latest : Option Be
 abbrev pub kept_of : CheckOptions → List WalkEvent → Kept
 kept_of options events = kept_after (checking options) none_kept events
 
--- the checker has had exactly these events; while no transfer is open, `latest` does not matter
+-- The checker has had exactly these events. While no transfer is open, only the size of `latest`
+-- matters.
 pub record IsCheckerAt (options : CheckOptions) (now : Checker) (events : List WalkEvent)
     : Type 0 where
   pub size : now.latest.judge.size ≤ data_size events

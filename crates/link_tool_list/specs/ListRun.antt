@@ -1,4 +1,4 @@
--- Relations, but for IsNewListing, IsListingAt, most_given: the state of a run of `list`.
+-- Relations, but for IsNewListing, IsListingAt, by_stage: the state of a run of `list`.
 use Rattle.std.specs.Prelude.{◌≡◌, ℕ, ◌<◌, ◌≤◌, Bool, true, false, List, [], ◌++◌, length, Result}
 use Rattle.link_wire.specs.Device.{Input}
 use Rattle.link_wire.specs.Limits.{longest_head, window_size}
@@ -8,7 +8,7 @@ use Rattle.link_wire.specs.Session.{source_of, IsSessionAt, may_open, may_read, 
 use Rattle.link_wire.specs.Source.{Takes, window_of}
 use Rattle.link_wire.specs.declared.{IoFault.IoFault, session.Session.Session}
 use Rattle.link_report.specs.Message.{message_text}
-use Rattle.link_run.specs.Run.{Texts, Looks, ◌then◌, Devices, Place, LastStep, ContinuedStep, devices_at}
+use Rattle.link_run.specs.Run.{Texts, Looks, ◌then◌, Devices, Place, LastStep, ContinuedStep}
 use Rattle.link_run.specs.Stages.{IsRunAt, AfterStage}
 use Rattle.link_run.specs.Writers.{place_of, on_output, AfterWrite}
 use Rattle.link_run.specs.declared.{next.Next.Next, run.Progress.Progress}
@@ -18,15 +18,15 @@ use Rattle.link_tool_list.specs.Listing.{list_tool, listing_of}
 use Rattle.link_tool_list.specs.declared.listing.{Latest.Latest, Stage.Stage}
 use Rattle.link_tool_list.specs.declared.listing.Stage.TheVariants as stage
 
--- the most bytes that a step is given: a contact header, the head of a message, or a piece of data
--- of at most `piece` bytes
-abbrev pub most_by : (piece : ℕ) → Stage → ℕ
-most_by piece stage.Contact = 6
-most_by piece stage.Message = longest_head
-most_by piece stage.Data = piece
+-- one number for the contact header, one for the head of a message, and one for a piece of data
+abbrev pub by_stage : (contact head piece : ℕ) → Stage → ℕ
+by_stage contact head piece stage.Contact = contact
+by_stage contact head piece stage.Message = head
+by_stage contact head piece stage.Data = piece
 
-abbrev pub most_given : Stage → ℕ
-most_given now = most_by 4096 now
+-- the most bytes that a step is given, and at most `piece` bytes of data
+abbrev pub most_by : (piece : ℕ) → Stage → ℕ
+most_by piece now = by_stage 6 longest_head piece now
 
 -- whether the session permits the call of a step at this stage
 abbrev pub may_go_on : {R : Type 0} → Stage → Session R → Bool
@@ -105,9 +105,8 @@ module _ {R W E : Type 0} (look : Looks R W E) (start : Devices R W E) (piece : 
       × (IsListingAt look.input stage.Data line new bytes
       × HasNoDataYet now (reading_of bytes).end)) (most_by piece now) history
   AfterRead (next.Ended answer) =
-      LastStep look list_tool start (devices_at (place_of (source_of new) writers))
-      (most_by piece now)
-      history answer
+      LastStep look list_tool start (place_of (source_of new) writers) (most_by piece now) history
+      answer
 
 module _ {R : Type 0} (look : R → Input) (first : Texts) where
   -- Between two messages, after the texts `first`, these lines make the texts of the bytes so far.

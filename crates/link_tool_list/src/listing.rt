@@ -49,7 +49,7 @@ pub type ListRun<R, W, E> = ToolRun<Session<R>, W, E, Listing>;
 impl<R: InDevice, W: OutDevice, E: OutDevice> Stages<Session<R>, W, E> for Listing {
     ghost use Rattle.std.specs.Prelude.{true};
     ghost use Rattle.link_tool_list.specs.Listing.{listing_of};
-    ghost use Rattle.link_tool_list.specs.ListRun.{may_go_on, latest_line, most_given, IsListingAtStage};
+    ghost use Rattle.link_tool_list.specs.ListRun.{may_go_on, latest_line, by_stage, IsListingAtStage};
 
     ghost made = { λ tool. listing_of };
 
@@ -59,7 +59,8 @@ impl<R: InDevice, W: OutDevice, E: OutDevice> Stages<Session<R>, W, E> for Listi
 
     ghost knows = { λ tool. IsListingAtStage R.state tool.stage (latest_line tool.latest) };
 
-    ghost most = { λ tool. most_given tool.stage };
+    // 6 bytes of a contact header, 66,585 of a head, 4,096 of data
+    ghost most = { λ tool. by_stage 6 66585 4096 tool.stage };
 
     #[tactic(auto, using(crate::proofs::Lists::most_some))]
     #[inline(always)]
@@ -149,7 +150,7 @@ fn list_contact<R: InDevice, W: OutDevice, E: OutDevice>(
         (IsListingAt R.state Stage.Message line (feed_of input.new)) 6 history result }
     ensures waits { SessionWaits (looks R.state W.state E.state) input.old input.new writers.old }
 {
-    match input.open() {
+    match input.open(writers) {
         Ok(contact) => {
             writers.clear_line();
             contact_line(&mut writers.line, &contact);

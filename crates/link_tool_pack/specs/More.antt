@@ -46,5 +46,6 @@ more_by options input = record {
 unfoldable pub more_of : MoreOptions → List ℕ → Made
 more_of options bytes = more_by options (divided options.pack.peer_transfer bytes)
 
+-- `pack_more` as a tool
 abbrev pub more_tool : MoreOptions → Tool
 more_tool options = tool_of (more_of options)

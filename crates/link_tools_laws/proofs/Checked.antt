@@ -26,7 +26,7 @@ use Rattle.link_run_over_transfers.specs.Walk.{head_at, WalkEvent, MessageHead, 
 use Rattle.link_run_judge.specs.{Transfers.Transfer, Unpacking.Told}
 use Rattle.link_tool_check.specs.Checking.{closed_rules, data_rules, Begun, heads_with, judged, latest_with, check_tool}
 use Rattle.link_tool_check.specs.Lines.{none_counts, at_offset}
-use Rattle.link_tools_laws.specs.Checked.{MayBeGood, IsAllowed, IsSecondInit, MayStop, HasOnlyAllowed}
+use Rattle.link_tools_laws.specs.Checked.{IsGoodOrUnread, IsAllowed, IsSecondInit, MayStop, HasOnlyAllowed}
 use Rattle.link_tools_laws.specs.{Cuts.{fault_at, faults_after, lined}, RoundTrip.all}
 use Rattle.link_tools_laws.specs.Transfers.{ordered_by, ordered_after, ordered, transfers_of, unpacked_of}
 use Rattle.link_tools_laws.proofs.Placed.{counts_append, options, broken_with, broken_from, good_kept, none_before, Placed, is_closed, passing, transfers_in, begun_of, due_of, rules_of, told_transfers, AfterAll, from_start}
@@ -57,7 +57,7 @@ no_must_both first second none = and_parts _ _ (rw counts_append at none)
 module _ (offset id : ℕ) (content : List ℕ) where
   data_allowed : (said : Result BundleInfo (BundleFault × ℕ))
       → NoMust (at_offset offset (data_rules id content said))
-      → MayBeGood content (judged_data said)
+      → IsGoodOrUnread content (judged_data said)
   unfolding data_rule none_counts rule_level transfer_level_of
   data_allowed said none = grind arith
 
@@ -66,14 +66,14 @@ module _ (offset id : ℕ) (content : List ℕ) where
       → NoMust (at_offset offset (map (λ one. rule.Transfer id one)
       (filter_map (λ judged. judged)
       (if_malformed announced ∷ if_different announced size ∷ single ∷ []))))
-      → MayBeGood content (judged_data said)
-      → MayBeGood content (judged_length announced size said)
+      → IsGoodOrUnread content (judged_data said)
+      → IsGoodOrUnread content (judged_length announced size said)
   unfolding none_counts rule_level transfer_level_of
   length_allowed announced size single said none may = grind arith
 
 closed_allowed : (placed : Placed)
     → NoMust (at_offset placed.offset (closed_rules (begun_of placed)))
-    → MayBeGood placed.transfer.content
+    → IsGoodOrUnread placed.transfer.content
     (judged_length (announced_of placed.transfer.first.items.items)
     (length placed.transfer.content) (verdict placed.transfer.content))
 unfolding broken_transfer_rules length_item length_differs

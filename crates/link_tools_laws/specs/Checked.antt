@@ -15,15 +15,15 @@ use Rattle.link_tools_laws.specs.Cuts.{faults_after, reported, reported_on, stre
 
 -- A transfer with this data is good or abandoned, or its data may be a bundle that this toolkit
 -- does not read.
-abbrev pub MayBeGood : (content : List ℕ) → Judgement → Type 0
-MayBeGood content Abandoned = Unit {0}
-MayBeGood content BadLengthItem = ⊥
-MayBeGood content (LengthDiffers announced) = ⊥
-MayBeGood content (Bad fault offset) = may_be_bundle (unread_of content) fault offset ≡ true
-MayBeGood content (Good info) = Unit {0}
+abbrev pub IsGoodOrUnread : (content : List ℕ) → Judgement → Type 0
+IsGoodOrUnread content Abandoned = Unit {0}
+IsGoodOrUnread content BadLengthItem = ⊥
+IsGoodOrUnread content (LengthDiffers announced) = ⊥
+IsGoodOrUnread content (Bad fault offset) = may_be_bundle (unread_of content) fault offset ≡ true
+IsGoodOrUnread content (Good info) = Unit {0}
 
 abbrev pub IsAllowed : Transfer → Type 0
-IsAllowed transfer = MayBeGood transfer.content (judgement_of transfer)
+IsAllowed transfer = IsGoodOrUnread transfer.content (judgement_of transfer)
 
 -- the fault of a head is that it is a second SESS_INIT
 abbrev pub IsSecondInit : ℕ × OrderFault → Type 0

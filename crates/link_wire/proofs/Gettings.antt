@@ -7,7 +7,7 @@ use Rattle.byteorder.specs.Endian.{big_number}
 use Rattle.link_io.specs.Device.{Input}
 use Rattle.link_wire.specs.{Part.{Part, ◌>>=◌, bytes_at, number_at}, Message.skipped_at}
 use Rattle.link_wire.proofs.Skips.{skipped_at-there, skipped_at-add}
-use Rattle.link_io.specs.Source.{IsLive}
+use Rattle.link_io.specs.Source.{at_hand, IsLive}
 use Rattle.link_io.proofs.Sources.{Takes-none, Takes-then, TakesThenStops-then}
 use Rattle.link_wire.specs.Getting.{AreNeeded, IsPart, IsFault, ReadsPart, with_value}
 use Rattle.link_wire.specs.declared.fault.{WireFault.WireFault, WireFault.TheVariants.Truncated}
@@ -81,6 +81,7 @@ module _ {R A B : Type 0} {look : R → Input} {part : List ℕ → Part A}
       is = IsFault-exit part next met.by.given fault met.by.is;
       over = met.by.over;
     };
+    here = λ enough. met.here (λ cut. enough (ap (λ r. r >>= next) cut));
   }
   exit {stop = halt.Io fault} met = record {
     by = record {
@@ -88,6 +89,7 @@ module _ {R A B : Type 0} {look : R → Input} {part : List ℕ → Part A}
       stops = met.by.stops;
       is_cut = ap (λ r. r >>= next) met.by.is_cut;
     };
+    here = λ enough. met.here (λ cut. enough (ap (λ r. r >>= next) cut));
   }
 
   -- the part was read, and then what depends on its value
@@ -101,6 +103,12 @@ module _ {R A B : Type 0} {look : R → Input} {part : List ℕ → Part A}
       live = more.by.live;
       is = IsPart-then part next value got.by.given more.by.given got.by.is result more.by.is;
     };
+    here = λ enough.
+        let one = got.here (λ cut. enough (ap (λ r. r >>= next) cut)) in
+        let whole : part (at_hand look old) >>= next ≡ next (value, at_hand look mid) =
+        ap (λ (r : Part A). r >>= next) one.1 in
+        let two = more.here (λ cut. enough (whole ∙ cut)) in
+        (two.0 ∙ one.0, whole ∙ two.1);
   }
   after {old} {mid} {new} {value} {outcome = Err (halt.Wire fault)} got more = record {
     by = record {
@@ -109,6 +117,11 @@ module _ {R A B : Type 0} {look : R → Input} {part : List ℕ → Part A}
       is = IsFault-then part next value got.by.given more.by.given got.by.is fault more.by.is;
       over = more.by.over;
     };
+    here = λ enough.
+        let one = got.here (λ cut. enough (ap (λ r. r >>= next) cut)) in
+        let whole : part (at_hand look old) >>= next ≡ next (value, at_hand look mid) =
+        ap (λ (r : Part A). r >>= next) one.1 in
+        more.here (λ cut. enough (whole ∙ cut)) ∙ one.0;
   }
   after {old} {mid} {new} {value} {outcome = Err (halt.Io fault)} got more = record {
     by = record {
@@ -116,6 +129,11 @@ module _ {R A B : Type 0} {look : R → Input} {part : List ℕ → Part A}
       stops = TakesThenStops-then look old mid new got.by.given more.by.given fault got.by.takes more.by.stops;
       is_cut = cut_then part next value got.by.given more.by.given got.by.is more.by.is_cut;
     };
+    here = λ enough.
+        let one = got.here (λ cut. enough (ap (λ r. r >>= next) cut)) in
+        let whole : part (at_hand look old) >>= next ≡ next (value, at_hand look mid) =
+        ap (λ (r : Part A). r >>= next) one.1 in
+        more.here (λ cut. enough (whole ∙ cut)) ∙ one.0;
   }
 
 module _ {R A : Type 0} {look : R → Input} where
@@ -151,6 +169,7 @@ module _ {R A : Type 0} {look : R → Input} where
       → ReadsPart look (λ bytes. Ok (value, bytes)) source source (Ok value)
   pure {source} live = record {
     by = record { given = []; takes = Takes-none look source; live = live; is = record { is_part = λ more. refl; needs = λ count fewer. absurd (omega arith) } };
+    here = λ enough. (refl, refl);
   }
 
   -- a fault that needs no byte: what was read before breaks a rule
@@ -164,6 +183,7 @@ module _ {R A : Type 0} {look : R → Input} where
       is = record { is_fault = λ more may. refl; needs = λ count fewer. absurd (omega arith) };
       over = λ is. absurd (not is);
     };
+    here = λ enough. refl;
   }
 
   -- what was read before decides which part comes
@@ -227,6 +247,7 @@ module _ {R : Type 0} {look : R → Input} where
       live = live;
       is = record { is_part = λ more. skipped_at-there 0 more (omega arith); needs = λ count fewer. absurd (omega arith) };
     };
+    here = λ enough. (refl, skipped_at-there 0 (at_hand look source) (omega arith));
   }
 
   module _ {old mid new : Source R} (a b : ℕ) where

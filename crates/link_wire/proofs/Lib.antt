@@ -12,7 +12,7 @@ mod Rests
 mod Wholes
 mod Sessions
 mod Inners
-mod Sound
+pub mod Sound
 mod Complete
 mod OneReading
 pub mod Spellings

@@ -1,17 +1,17 @@
 -- How each call of a session changes its state.
-use Rattle.std.proofs.Common.{⊎_elim, ◌≡◌, ℕ, ◌+◌, ◌<◌, ◌≤◌, true, eqb, eqb-true, List, [], ◌∷◌, ◌++◌, length, take, drop, Some, Result, Ok, Err, arith, refl, ap, sym, ◌∙◌, append_assoc, append-nil, length-append, add-zero}
+use Rattle.std.proofs.Common.{⊎_elim, ◌≡◌, ℕ, zero, suc, ◌+◌, ◌<◌, ◌≤◌, true, eqb, eqb-true, List, [], ◌∷◌, ◌++◌, length, take, drop, Some, Result, Ok, Err, arith, refl, ap, sym, ◌∙◌, append_assoc, append-nil, length-append, add-zero}
 use Rattle.std.specs.Prelude.{IsErrAnd}
 use Rattle.std.proofs.lemmas.{Bool.{and_parts, cases_lt}, List.{nil_from_length, take-append-drop}}
 use Rattle.link_io.specs.Device.{Input}
 use Rattle.link_wire.specs.Part.{Part, number_at}
 use Rattle.link_wire.specs.Message.{contact_at, message_at, fields_at, data_length}
-use Rattle.link_io.specs.Source.{window_of, is_fresh, IsSourceAt, IsLive, IsOver, Takes, Readies}
+use Rattle.link_io.specs.Source.{window_of, at_hand, reach, GivesAtHand, is_fresh, IsSourceAt, IsLive, IsOver, Takes, Readies}
 use Rattle.link_wire.specs.Limits.{window_size}
-use Rattle.link_wire.specs.Getting.{AreNeeded, IsPart, IsFault, GivenPart, ReadsPart, GivenKind}
+use Rattle.link_wire.specs.Getting.{IsEnoughFor, AreNeeded, IsPart, IsFault, GivenPart, ReadsPart, GivenKind}
 use Rattle.link_wire.specs.Stream.{Entry, End, Clean, Cut, Fault, Stream, ended, stream_at, Reading, reading_of}
-use Rattle.link_wire.specs.Session.{joined, data_after, rest_after, IsLeft, IsUndecided, HaveSameMessages, OnlyLastShows, is_unopened, reads_next, may_open, may_read, left_of, HasStopped, IsSessionAt, GivenContact, AfterOpen, GivenMessage, AfterNext, PassedBytes, LoadedData, AfterLoad, AfterData}
+use Rattle.link_wire.specs.Session.{IsEnough, HasEnoughForNext, joined, data_after, rest_after, IsLeft, IsUndecided, HaveSameMessages, OnlyLastShows, is_unopened, reads_next, may_open, may_read, left_of, HasStopped, IsSessionAt, GivenContact, AfterOpen, GivenMessage, AfterNext, PassedBytes, LoadedData, AfterLoad, AfterData}
 use Rattle.link_io.proofs.Sources.{fresh_at, fresh_live, IsSourceAt-then, Takes-then, Readies-takes, Readies-over, TakesThenStops-then}
-use Rattle.link_wire.proofs.{Gettings.{after, IsFault-then, cut_then}, Plains.IsPart-byte}
+use Rattle.link_wire.proofs.{FieldReads.bytes_at-short, Gettings.{after, IsFault-then, cut_then}, Plains.IsPart-byte}
 use Rattle.link_wire.proofs.{Shrinks.shrinks_message, Steady.{steady_contact, steady_message, cut_before}}
 use Rattle.link_wire.proofs.Within.{Steady, within_contact, within_message, part_size, needed_size}
 use Rattle.link_wire.proofs.Streams.{stream_at-head, stream_at-fault}
@@ -35,6 +35,37 @@ unopened_by : (now : Phase) → is_unopened now ≡ true → now ≡ phase.Unope
 unopened_by phase.Unopened is = refl
 unopened_by phase.Reading is = absurd (cc)
 unopened_by (phase.Stopped why) is = absurd (cc)
+
+-- ---- whether bytes are enough
+
+number_short : (bytes : List ℕ) → length bytes < 1 → number_at 1 bytes ≡ Err wire.Truncated
+unfolding number_at
+number_short bytes short = rw (bytes_at-short 1 bytes short) refl
+
+head_short : (bytes : List ℕ) → length bytes < 1 → message_at bytes ≡ Err wire.Truncated
+unfolding message_at
+head_short bytes short = rw (number_short bytes short) refl
+
+one_byte : (bytes : List ℕ) → IsEnoughFor (number_at 1) bytes → 0 < length bytes
+one_byte bytes enough =
+    ⊎_elim (λ short. absurd (enough (number_short bytes short))) (λ some. omega (arith, some))
+    (cases_lt (length bytes) 1)
+
+-- enough bytes for a message are at least one
+pub enough_head : {R : Type 0} (look : R → Input) (s : Session R) → s.left ≡ 0
+    → HasEnoughForNext look s → 0 < length (at_hand look s.source)
+enough_head look s between enough =
+    let head = rw between at enough in
+    ⊎_elim (λ short. absurd (head (head_short (at_hand look s.source) short)))
+    (λ some. omega (arith, some)) (cases_lt (length (at_hand look s.source)) 1)
+
+pub enough_data : (left : ℕ) (bytes : List ℕ) → 0 < left → IsEnough left bytes → 0 < length bytes
+enough_data zero bytes some enough = absurd (omega (arith, some))
+enough_data (suc left) bytes some enough = enough
+
+pub some_enough : (left : ℕ) (bytes : List ℕ) → 0 < left → 0 < length bytes → IsEnough left bytes
+some_enough zero bytes some here = absurd (omega (arith, some))
+some_enough (suc left) bytes some here = here
 
 module _ {R : Type 0} (look : R → Input) (s : Session R) (fresh : may_open s ≡ true) where
   -- the three properties of a session that may be opened
@@ -258,9 +289,30 @@ module _ {R : Type 0} {look : R → Input} where
           }
 
     -- the next message, by its type byte and the fields after it
-    module _ {mid : Source R} {kind : ℕ} (first : GivenKind look old.source mid kind) where
+    module _ {mid : Source R} {kind : ℕ} (first : GivenKind look old.source mid kind)
+        (hand : 0 < length (at_hand look old.source)
+        → GivesAtHand look old.source mid (kind ∷ [])) where
       typed : ReadsPart look (number_at 1) old.source mid (Ok kind)
-      typed = record { by = record { given = kind ∷ []; takes = first.takes; live = first.live; is = IsPart-byte kind } }
+      typed = record {
+        by = record { given = kind ∷ []; takes = first.takes; live = first.live; is = IsPart-byte kind };
+        here = λ enough.
+            let gives = hand (one_byte (at_hand look old.source) enough) in (
+              gives.unread,
+              ap (number_at 1) gives.parts ∙ (IsPart-byte kind).is_part (at_hand look mid),
+            );
+      }
+
+      -- if the bytes at hand are enough for the message, nothing is read
+      pub message_unread : (source : Source R) (outcome : Result Message Halt)
+          → ReadsPart look (fields_at kind) mid source outcome → HasEnoughForNext look old
+          → reach look source ≡ reach look old.source
+      unfolding message_at
+      message_unread source (Ok message) fields enough =
+          let whole : ReadsPart look message_at old.source source (Ok message) = after _ typed fields in
+          (whole.here (rw between at enough)).0
+      message_unread source (Err why) met enough =
+          let whole : ReadsPart look message_at old.source source (Err why) = after _ typed met in
+          whole.here (rw between at enough)
 
       pub message_came : (new : Session R) (message : Message)
           → ReadsPart look (fields_at kind) mid new.source (Ok message) → new.offset ≡ length history

@@ -2,7 +2,7 @@
 use Rattle.std.proofs.Common.{◌≡◌, ◌⊎◌, inl, inr, ⊎_elim, ℕ, List, ◌++◌, Some, Ok, Err, refl, ap, sym, ◌∙◌}
 use Rattle.link_io.specs.{Device.{Input, BeginsWith}, Source.at_hand}
 use Rattle.link_wire.specs.{Message.{contact_at, message_at}, Part.Part}
-use Rattle.link_wire.specs.Session.{IsEnoughFor, HasEnoughForContact, HasEnoughForNext}
+use Rattle.link_wire.specs.{Getting.IsEnoughFor, Session.{HasEnoughForContact, HasEnoughForNext}}
 use Rattle.link_wire.specs.declared.fault.{WireFault.WireFault, WireFault.TheVariants.Truncated}
 use Rattle.link_wire.specs.declared.session.Session.{Session}
 use Rattle.link_wire.proofs.Within.{Steady, within_contact, within_message}

@@ -186,7 +186,7 @@ taken_else true read value fault is = absurd (cc)
 taken_else false read value fault is = (refl, is)
 
 -- an item that was read ends within its list
-item_fits : (left : ℕ) (bytes : List ℕ) (head : ItemHead) (rest : List ℕ)
+pub item_fits : (left : ℕ) (bytes : List ℕ) (head : ItemHead) (rest : List ℕ)
     → item_head_at left bytes ≡ Ok (head, rest) → 5 + head.length ≤ left
 unfolding item_head_at
 item_fits left bytes head rest is =
@@ -231,7 +231,7 @@ within_items owner (suc room) left =
     within_then (left - (5 + head.length)) _ _ (omega arith) (within_items owner room _) (λ others.
     within_pure _))))
 
-within_items_of : (owner : ListOf) (size most : ℕ) → size ≤ most → IsBounded most (items_of owner size)
+pub within_items_of : (owner : ListOf) (size most : ℕ) → size ≤ most → IsBounded most (items_of owner size)
 unfolding items_of
 within_items_of owner size most fits =
     within_then size _ _ fits (within_items owner most_items size) (λ items. within_pure _)

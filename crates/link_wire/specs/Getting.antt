@@ -1,9 +1,9 @@
--- Relations, but for MayFollow: a part that is read from a source, compared with its definition
--- over lists.
+-- Relations, but for MayFollow, IsEnoughFor: a part that is read from a source, compared with its
+-- definition over lists.
 use Rattle.std.specs.Prelude.{◌≡◌, ℕ, ◌<◌, List, [], ◌∷◌, ◌++◌, length, take, Option, Some, None, Result, Ok, Err}
 use Rattle.link_io.specs.Device.{Input}
 use Rattle.link_wire.specs.Part.{Part}
-use Rattle.link_io.specs.Source.{IsLive, IsOver, Takes, TakesThenStops}
+use Rattle.link_io.specs.Source.{at_hand, reach, IsLive, IsOver, Takes, TakesThenStops}
 use Rattle.link_io.specs.declared.fault.IoFault.{IoFault}
 use Rattle.link_wire.specs.declared.fault.{WireFault.WireFault, WireFault.TheVariants.Truncated}
 use Rattle.link_wire.specs.declared.halt.Halt.{Halt}
@@ -14,6 +14,10 @@ use Rattle.link_io.specs.declared.source.Source.{Source}
 -- faults
 abbrev pub MayFollow : WireFault → List ℕ → Type 0
 MayFollow fault more = fault ≡ Truncated → more ≡ []
+
+-- These bytes are enough for this part: no field of it is missing, or it shows a fault.
+abbrev pub IsEnoughFor : {A : Type 0} → (List ℕ → Part A) → List ℕ → Type 0
+IsEnoughFor part bytes = part bytes ≡ Err Truncated → ⊥
 
 module _ {A : Type 0} where
   -- all of these bytes are needed: in a proper prefix of them a field is missing
@@ -61,11 +65,20 @@ module _ {R A : Type 0} where
   AfterPart look part old new (Err (halt.Wire fault)) = MetFault look part old new fault
   AfterPart look part old new (Err (halt.Io fault)) = MetStop look part old new fault
 
+  -- nothing was read: the part was at hand, or a fault
+  abbrev pub AfterPartAtHand : (R → Input) → (List ℕ → Part A) → Source R
+      → Source R → Result A Halt → Type 0
+  AfterPartAtHand look part old new (Ok value) =
+      (reach look new ≡ reach look old) × (part (at_hand look old) ≡ Ok (value, at_hand look new))
+  AfterPartAtHand look part old new (Err why) = reach look new ≡ reach look old
+
   -- A function that reads the part has this outcome. It is a record only for the prover, which
   -- would otherwise take `AfterPart` apart into its cases.
   pub record ReadsPart (look : R → Input) (part : List ℕ → Part A) (old new : Source R)
       (outcome : Result A Halt) : Type 0 where
     pub by : AfterPart look part old new outcome
+    -- if the bytes at hand are enough, nothing is read
+    pub here : IsEnoughFor part (at_hand look old) → AfterPartAtHand look part old new outcome
 
 -- the same result with this value in place of `()`: the function has written the value into its
 -- caller's variable

@@ -1,11 +1,10 @@
 -- The state of a session in the reading of the bytes that it was given.
 use Rattle.std.specs.Prelude.{◌≡◌, ℕ, zero, suc, ◌+◌, ◌<◌, ◌≤◌, Bool, true, false, ◌&&◌, ◌==◌, List, [], ◌++◌, length, take, drop, Option, Some, None, Result, Ok, Err, nat_lt, if◌then◌else◌, IfOk, IfErr, IfSome, IsTrue}
 use Rattle.link_io.specs.Device.{Input}
-use Rattle.link_wire.specs.Getting.{MayFollow}
+use Rattle.link_wire.specs.Getting.{MayFollow, IsEnoughFor}
 use Rattle.link_wire.specs.Limits.{longest_head, window_size}
 use Rattle.link_wire.specs.Message.{data_length, contact_at, message_at}
 use Rattle.link_wire.specs.MessageBuffer.{message_of, SegmentTotalsFit}
-use Rattle.link_wire.specs.Part.{Part}
 use Rattle.link_io.specs.Source.{IsSourceAt, IsLive, IsOver, HasEnded, Takes, Readies, TakesThenStops, is_fresh, window_of, at_hand, front_of}
 use Rattle.link_wire.specs.Stream.{End, Clean, Cut, Fault, Stream, ended, with_entry, stream_at, Reading, reading_of}
 use Rattle.link_io.specs.declared.fault.IoFault.{IoFault}
@@ -76,10 +75,6 @@ abbrev pub IsUndecided : End → Type 0
 IsUndecided Clean = Unit {0}
 IsUndecided (Cut offset message content) = ⊥
 IsUndecided (Fault offset fault) = fault ≡ wire.Truncated
-
--- These bytes are enough for this part: no field of it is missing, or it shows a fault.
-abbrev pub IsEnoughFor : {A : Type 0} → (List ℕ → Part A) → List ℕ → Type 0
-IsEnoughFor part bytes = part bytes ≡ Err wire.Truncated → ⊥
 
 -- These bytes are enough for what comes next. If `left` bytes of data are to come, one of them
 -- comes next. Otherwise the head of a message does.

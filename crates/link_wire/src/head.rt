@@ -1,7 +1,7 @@
 //! Reading the contact header and heads of messages, field by field (RFC 9174 sections 4.2 to 6.1).
 
-ghost use Rattle.std.specs.Prelude.{◌≡◌, ◌≤◌, Ok, None, OnOk};
-ghost use Rattle.link_io.specs.Source.{HasEnded, IsLive};
+ghost use Rattle.std.specs.Prelude.{◌≡◌, ◌<◌, ◌≤◌, [], ◌∷◌, length, Ok, None, IfOk, IfSome, OnOk};
+ghost use Rattle.link_io.specs.Source.{at_hand, reach, GivesAtHand, HasEnded, IsLive};
 ghost use Rattle.link_wire.specs.Message.{contact_at, node_at, node_bytes_at, segment_items_at, segment_at, ack_at, refuse_at, sess_term_at, msg_reject_at, sess_init_at, fields_at, TotalsFit};
 ghost use Rattle.link_wire.specs.Getting.{ReadsPart, with_value};
 ghost use Rattle.link_wire.specs.Getting.{AfterKind};
@@ -208,6 +208,11 @@ pub fn fields<R: InDevice>(
 pub fn kind<R: InDevice>(source: &mut Source<R>) -> Result<Option<u8>, IoFault>
     ensures ended { HasEnded source.old → (source.new ≡ source.old) × (result ≡ Ok None) }
     ensures gives { IsLive R.state source.old → AfterKind R.state source.old source.new result }
+    ensures unread { 0 < length (at_hand R.state source.old)
+        → reach R.state source.new ≡ reach R.state source.old }
+    ensures here { 0 < length (at_hand R.state source.old)
+        → IfOk result (λ got. IfSome got (λ kind.
+        GivesAtHand R.state source.old source.new (kind ∷ []))) }
 {
     let mut kind = [0; 1];
     match source.fill(&mut kind)? {

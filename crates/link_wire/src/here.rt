@@ -4,7 +4,7 @@
 
 ghost use Rattle.std.specs.Prelude.{IsTrue};
 ghost use Rattle.link_wire.specs.Message.{contact_at, message_at};
-ghost use Rattle.link_wire.specs.Session.{IsEnoughFor};
+ghost use Rattle.link_wire.specs.Getting.{IsEnoughFor};
 
 use crate::fault::WireFault;
 use crate::slices::{contact_in, message_in};

@@ -38,7 +38,6 @@ pub fn field<const N: usize, R: InDevice>(source: &mut Source<R>) -> Result<[u8;
 }
 
 /// Reads the next byte.
-#[tactic(auto, using(crate::proofs::Gettings::byte_read, crate::proofs::Gettings::number_exit))]
 #[inline]
 pub fn number8<R: InDevice>(source: &mut Source<R>) -> Result<u8, Halt>
     ensures { IsLive R.state source.old
@@ -48,7 +47,6 @@ pub fn number8<R: InDevice>(source: &mut Source<R>) -> Result<u8, Halt>
 }
 
 /// Reads the next two bytes as a number.
-#[tactic(auto, using(crate::proofs::Gettings::number_exit))]
 #[inline]
 pub fn number16<R: InDevice>(source: &mut Source<R>) -> Result<u16, Halt>
     ensures { IsLive R.state source.old
@@ -58,7 +56,6 @@ pub fn number16<R: InDevice>(source: &mut Source<R>) -> Result<u16, Halt>
 }
 
 /// Reads the next four bytes as a number.
-#[tactic(auto, using(crate::proofs::Gettings::number_exit))]
 #[inline]
 pub fn number32<R: InDevice>(source: &mut Source<R>) -> Result<u32, Halt>
     ensures { IsLive R.state source.old
@@ -68,7 +65,6 @@ pub fn number32<R: InDevice>(source: &mut Source<R>) -> Result<u32, Halt>
 }
 
 /// Reads the next eight bytes as a number.
-#[tactic(auto, using(crate::proofs::Gettings::number_exit))]
 #[inline]
 pub fn number64<R: InDevice>(source: &mut Source<R>) -> Result<u64, Halt>
     ensures { IsLive R.state source.old

@@ -114,7 +114,7 @@ impl<R: InDevice> Session<R> {
             return false;
         }
         if self.left > 0 {
-            return self.source.window().is_empty() && self.source.may_wait();
+            return self.source.front().is_empty();
         }
         let mut front = [0; FRONT];
         let count = self.source.peek(&mut front);
@@ -136,6 +136,9 @@ impl<R: InDevice> Session<R> {
         ensures gives { AfterOpen R.state self.old self.new result }
         ensures opened { IsTrue (is_opened self.new) }
         ensures may_read { IsTrue (may_read self.new) }
+        // If enough bytes are at hand, nothing is read.
+        ensures unread { HasEnoughForContact R.state self.old
+            → reach R.state (source_of self.new) ≡ reach R.state (source_of self.old) }
     {
         match contact(&mut self.source) {
             Ok(contact) => {
@@ -256,7 +259,11 @@ impl<R: InDevice> Session<R> {
     #[inline(never)]
     pub fn next_fields(&mut self, message: &mut MessageBuffer) -> Result<Option<u64>, Stop>
         requires { IsTrue (may_read self.old) }
-        ensures { ReadsNext R.state self.old self.new message.new result }
+        ensures reads { ReadsNext R.state self.old self.new message.new result }
+        // If enough bytes are at hand, nothing is read.
+        ensures unread { (history : List ℕ) → IsSessionAt R.state self.old history
+            → HasEnoughForNext R.state self.old
+            → reach R.state (source_of self.new) ≡ reach R.state (source_of self.old) }
     {
         if let Phase::Stopped(stop) = self.phase {
             return Err(stop);
@@ -368,7 +375,7 @@ impl<R: InDevice> Session<R> {
 impl<R: InDevice> Session<R> {
     ghost use Rattle.std.specs.Prelude.{◌≡◌, ◌<◌, ◌≤◌, ℕ, List, length, take, drop, IfOk, IfErr, Ok, Err, IsTrue};
     ghost use Rattle.link_io.specs.Source.{reach};
-    ghost use Rattle.link_wire.specs.Session.{source_of, is_opened, IsSessionAt, HasStopped, left_of, data_in, PassedBytes, AfterData, LoadsData};
+    ghost use Rattle.link_wire.specs.Session.{source_of, is_opened, IsSessionAt, HasEnoughForNext, HasStopped, left_of, data_in, PassedBytes, AfterData, LoadsData};
     ghost use Rattle.link_wire.specs.declared.session.Phase.TheVariants as phase;
 
     /// Copies the next bytes of the segment's data, after at most one read, and returns how many.
@@ -434,7 +441,10 @@ impl<R: InDevice> Session<R> {
     /// data, the fault is [`WireFault::Truncated`], at the offset of the segment.
     #[inline(always)]
     pub fn load(&mut self) -> Result<usize, Stop>
-        ensures { LoadsData R.state self.old self.new result }
+        ensures loads { LoadsData R.state self.old self.new result }
+        // If data is at hand, nothing is read.
+        ensures unread { HasEnoughForNext R.state self.old
+            → reach R.state (source_of self.new) ≡ reach R.state (source_of self.old) }
     {
         let loaded = self.loaded().len();
         match self.phase {
@@ -447,7 +457,10 @@ impl<R: InDevice> Session<R> {
     #[cold]
     #[inline(never)]
     fn load_on(&mut self) -> Result<usize, Stop>
-        ensures { LoadsData R.state self.old self.new result }
+        ensures loads { LoadsData R.state self.old self.new result }
+        // If data is at hand, nothing is read.
+        ensures unread { HasEnoughForNext R.state self.old
+            → reach R.state (source_of self.new) ≡ reach R.state (source_of self.old) }
     {
         if let Phase::Stopped(stop) = self.phase {
             return Err(stop);

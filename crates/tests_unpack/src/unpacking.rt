@@ -112,12 +112,12 @@ fn after_keepalives_in_place(rt: HostRuntime) -> Result<(), Fail> {
     Ok(())
 }
 
-/// Over a reader that holds all bytes, heads are read, and data is passed over in place.
+/// Over a reader that holds all bytes, the first is read, and the others are taken without a read.
 #[test]
-fn data_in_place(rt: HostRuntime) -> Result<(), Fail> {
+fn held_bytes_are_taken(rt: HostRuntime) -> Result<(), Fail> {
     let stream = built(rt.alloc(), TWO_BUNDLES)?;
     let end = ended_in_place(rt.alloc(), Tool::Unpack(ALL), &stream, usize::MAX, 1);
-    assert_eq!(rt; (end.reader.given(), end.reader.passed()), (118, 68));
+    assert_eq!(rt; (end.reader.given(), end.reader.passed()), (1, 185));
     Ok(())
 }
 

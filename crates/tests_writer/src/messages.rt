@@ -111,8 +111,8 @@ fn is_written(rt: &impl Abort, row: &Row) {
     let size = row.bytes.len();
     let written = write_message(row.fields, row.node, row.items, &mut slice);
     assert_eq!(rt; written, Ok(size));
-    assert_eq!(rt; slice.get(..size), Some(row.bytes));
-    assert_eq!(rt; slice.get(size), Some(&0xee));
+    assert!(rt; slice.starts_with(row.bytes));
+    assert_eq!(rt; slice.get(size).copied(), Some(0xee));
     match message_in(row.bytes, 0) {
         Ok(found) => assert_eq!(rt; found.fields, row.fields),
         Err(fault) => assert!(rt; false, "{fault:?}"),

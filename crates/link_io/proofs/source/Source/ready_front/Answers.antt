@@ -2,7 +2,7 @@ use Rattle.std.proofs.Common.{◌≡◌, ℕ, suc, zero, length, Result, Ok, Err
 use Rattle.link_io.specs.Device.{Input}
 use Rattle.link_io.specs.Source.{front_of, window_of, HasEnded, AfterReady, AfterReadyFront}
 use Rattle.link_io.specs.declared.{fault.IoFault.IoFault, source.Source.Source}
-use Rattle.link_io.proofs.Sources.{front_empty, front_ended, front_failed, front_window}
+use Rattle.link_io.proofs.Sources.{front_empty, front_ended, front_failed, front_window, gives_none}
 use Rattle.link_io.proofs.source.Source.ready_front.Goals as goal
 
 module _ {R : Type 0} (look : R → Input) (s : Source R) where
@@ -47,3 +47,6 @@ returns-clause-size g c = size_by g.R.InDevice.state c.read_on.new.self c.read_o
 
 pub returns-clause-gives : goal.returns-clause-gives
 returns-clause-gives g c = λ live. by_window g.R.InDevice.state c.args.self.now c.read_on.new.self c.read_on.result (c.read_on.ensures.gives live)
+
+pub returns-then-ready-gt0-clause-here : goal.returns-then-ready-gt0-clause-here
+returns-then-ready-gt0-clause-here g c = λ some. gives_none g.R.InDevice.state c.args.self.now

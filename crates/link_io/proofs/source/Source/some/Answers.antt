@@ -1,6 +1,6 @@
-use Rattle.std.proofs.Common.{◌≡◌, ◌≢◌, ◌<◌, ◌++◌, length, take, drop, ap, sym, ◌∙◌, arith, length-append, length-take, length-drop}
+use Rattle.std.proofs.Common.{◌≡◌, [], ◌≢◌, ◌<◌, ◌++◌, length, take, drop, ap, sym, ◌∙◌, arith, length-append, length-take, length-drop}
 use Rattle.std.proofs.{Math.Seq.take-append_seam, lemmas.Bool.Decides.nat_tests}
-use Rattle.link_io.proofs.Sources.{Readies-takes}
+use Rattle.link_io.proofs.Sources.{Readies-takes, gives_none, gives_then}
 use Rattle.link_io.proofs.source.Source.some.Goals as goal
 
 pub returns-clause-gives : goal.returns-clause-gives
@@ -22,3 +22,27 @@ pub returns-clause-ended : goal.returns-clause-ended
 returns-clause-ended g c = λ ended.
     let none = c.in_ok-ready.ensures.ended ended in
     absurd (c.if-ready-eq0.false (cc))
+
+pub returns-then-is_empty-clause-here : goal.returns-then-is_empty-clause-here
+returns-then-is_empty-clause-here g c = λ some. gives_none g.R.InDevice.state c.args.self.now
+
+pub returns-in_err-ready-clause-unread : goal.returns-in_err-ready-clause-unread
+returns-in_err-ready-clause-unread g c = λ some. (c.in_err-ready.ensures.here some).unread
+
+pub returns-then-ready-eq0-clause-unread : goal.returns-then-ready-eq0-clause-unread
+returns-then-ready-eq0-clause-unread g c = λ some. (c.in_ok-ready.ensures.here some).unread
+
+pub returns-then-ready-eq0-clause-here : goal.returns-then-ready-eq0-clause-here
+returns-then-ready-eq0-clause-here g c = λ some. c.in_ok-ready.ensures.here some
+
+pub returns-clause-unread : goal.returns-clause-unread
+returns-clause-unread g c = λ some.
+    c.copy.ensures.here.unread ∙ (c.in_ok-ready.ensures.here some).unread
+
+pub returns-clause-here : goal.returns-clause-here
+returns-clause-here g c = λ some.
+    let part = c.copy.new.part in
+    let rest = drop c.min-count.result c.args.buffer.now in
+    let size : length part ≡ c.min-count.result = omega (arith, c.copy.auto.part, length-take c.min-count.result c.args.buffer.now) in
+    let given : take c.min-count.result (part ++ rest) ≡ part = ap (λ n. take n (part ++ rest)) (sym size) ∙ take-append_seam part rest in
+    rw given (gives_then g.R.InDevice.state _ _ _ [] part (c.in_ok-ready.ensures.here some) c.copy.ensures.here)

@@ -1,4 +1,4 @@
-use Rattle.std.proofs.Common.{refl, sym, inl, inr}
+use Rattle.std.proofs.Common.{refl, sym, inl}
 use Rattle.link_run.proofs.Runs.{writes_none}
 use Rattle.link_run.proofs.input.Input+Session+R+W+E.next_message.Goals as goal
 
@@ -10,7 +10,7 @@ returns-in-Some g c =
       gives = λ history at.
           let none = writes_none g.W.OutDevice.state g.E.OutDevice.state c.args.writers.now in
           (none, here.gives history at);
-      waits = λ history at. inl (refl, inr here.unread);
+      waits = λ history at. inl (refl, here.unread);
       totals = here.totals;
       left = tt;
       line = refl;

@@ -7,10 +7,15 @@ strides-preserved g c =
     let stood = c.strides.invariant.1 in
     let same = c.strides.invariant.0 in
     let strode = rw c.in-Ok-More.field-0-is at (c.in-Ok-More.ensures.gives _ stood.0 stood.1) in
-    let went = strode.2 in
+    let went = strode.3 in
     let waits = rw same at (c.in-Ok-More.ensures.waits _ stood.0 stood.1) in (
       c.in-Ok-More.ensures.tool ∙ same,
-      (stood.0 ++ went.given, went.at, waited_more _ _ _ stood.0 went.given _ _ _ stood.2 waits),
+      (
+        stood.0 ++ went.given,
+        went.at,
+        waited_more _ _ _ (g.Self.Run.place c.stride.new.self).source stood.0 went.given _ _ _ _ stood.2
+            waits,
+      ),
     )
 
 pub returns-in-Ok-Done : goal.returns-in-Ok-Done
@@ -22,7 +27,7 @@ returns-in-Ok-Done g c =
     let waits = rw same at (done.waits _ stood.0 stood.1) in
     let ends = rw c.in-Ok-Done.field-0-is at done.ends in
     let back = c.into_end.ensures in
-    ran_on _ _ _ stood.0 _ back.devices back.answer (back.ran (ends tt)) strode.2 stood.2 waits
+    ran_on _ _ _ stood.0 _ back.devices back.answer (back.ran (ends tt)) strode.3 stood.2 waits
 
 pub returns-in-Err : goal.returns-in-Err
 returns-in-Err g c =
@@ -32,4 +37,4 @@ returns-in-Err g c =
     let strode = rw same at (failed.gives _ stood.0 stood.1) in
     let waits = rw same at (failed.waits _ stood.0 stood.1) in
     let back = c.into_end-in-Err.ensures in
-    ran_on _ _ _ stood.0 _ back.devices back.answer (back.ran (failed.ends tt)) strode.2 stood.2 waits
+    ran_on _ _ _ stood.0 _ back.devices back.answer (back.ran (failed.ends tt)) strode.3 stood.2 waits

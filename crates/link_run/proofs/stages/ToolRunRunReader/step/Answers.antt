@@ -1,8 +1,10 @@
 use Rattle.link_wire.specs.Source.{reader_of}
+use Rattle.link_run.specs.Reading.{feed_of}
 use Rattle.link_run.proofs.Waiting.{prompt_once}
 use Rattle.link_run.proofs.stages.ToolRunRunReader.step.Goals as goal
 
 pub returns-clause-waits : goal.returns-clause-waits
 returns-clause-waits g c = λ start history at.
-    prompt_once (λ feed. reader_of (g.S.Feed.source feed)) _ at.1.0 c.stage-progress.ensures.begins
+    prompt_once (λ feed. reader_of (g.S.Feed.source feed)) _
+    (g.S.Feed.source (feed_of c.stage-progress.new.input)) at.1.0 c.stage-progress.ensures.begins
     (c.stage-progress.ensures.waits history at.1.1)

@@ -1,4 +1,4 @@
-use Rattle.std.proofs.Common.{◌≡◌, ◌+◌, ◌<◌, ◌&&◌, ◌==◌, inl, inr, List, ℕ, Some, length, take, refl, ap, ◌∙◌, arith, length-take, length-append}
+use Rattle.std.proofs.Common.{◌≡◌, ◌+◌, ◌<◌, ◌&&◌, ◌==◌, inl, List, ℕ, Some, length, take, refl, ap, ◌∙◌, arith, length-take, length-append}
 use Rattle.link_wire.specs.Session.{source_of, left_of, data_in, IsSessionAt, PassedBytes}
 use Rattle.link_wire.specs.declared.session.Session.{Session}
 use Rattle.link_transfer.specs.declared.joiner.Turn.TheVariants as turn
@@ -64,7 +64,7 @@ gave_data g c given passed unread some = record {
           length-take c.args.size c.loaded.result.now,
         ),
       )));
-  waits = λ history walks. inl (unread.waits, inr unread.reach);
+  waits = λ history walks. inl (unread.waits, unread.reach);
 }
 
 pub returns-clause-gives : goal.returns-clause-gives

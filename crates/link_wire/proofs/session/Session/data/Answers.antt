@@ -8,11 +8,11 @@ use Rattle.link_wire.proofs.session.Session.data.Goals as goal
 pub returns-in_err-ready-clause-gives : goal.returns-in_err-ready-clause-gives
 returns-in_err-ready-clause-gives g c = λ history at.
     data_stopped g.R.InDevice.state c.args.self.now c.load.new.self history c.args.buffer.now
-    c.from_residual.result _ c.from_residual.ensures.1 (c.in_err-ready.ensures.gives history at)
+    c.from_residual.result _ c.from_residual.ensures.1 (c.in_err-ready.ensures.loads.gives history at)
 
 pub returns-clause-gives : goal.returns-clause-gives
 returns-clause-gives g c = λ history at.
-    let loaded = c.in_ok-ready.ensures.gives history at in
+    let loaded = c.in_ok-ready.ensures.loads.gives history at in
     let part = c.copy.new.part in
     let count = c.min-count.result in
     let buffer = c.args.buffer.now in
@@ -39,11 +39,11 @@ returns-clause-gives g c = λ history at.
 pub returns-then-ready-eq0-clause-gives : goal.returns-then-ready-eq0-clause-gives
 returns-then-ready-eq0-clause-gives g c = λ history at.
     let old = c.args.self.now in
-    let loaded = c.in_ok-ready.ensures.gives history at in
+    let loaded = c.in_ok-ready.ensures.loads.gives history at in
     let some = loaded.some in
     let empty : c.in_ok-ready.ready ≡ 0 = c.if-ready-eq0.true in
     let none : left_of old ≡ 0 = grind (arith, some, empty) in
-    let same = (c.in_ok-ready.ensures.none none (λ stop stopped. let going = at.going in cc)).0 in
+    let same = (c.in_ok-ready.ensures.loads.none none (λ stop stopped. let going = at.going in cc)).0 in
     rw same (record {
       room = omega arith;
       gave = data_given old old history [] at (Takes-none g.R.InDevice.state old.source) at.live

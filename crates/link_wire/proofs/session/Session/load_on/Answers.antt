@@ -1,11 +1,11 @@
-use Rattle.std.proofs.Common.{◌≢◌, ap, refl, arith, length-take, rules}
+use Rattle.std.proofs.Common.{◌≢◌, ◌∙◌, ap, refl, arith, length-take, rules}
 use Rattle.std.proofs.lemmas.Bool.Decides.{nat_tests}
-use Rattle.link_io.specs.Source.{front_of}
-use Rattle.link_wire.proofs.Sessions.{loaded_stands, data_cut}
+use Rattle.link_io.specs.Source.{front_of, reach}
+use Rattle.link_wire.proofs.Sessions.{loaded_stands, data_cut, enough_data}
 use Rattle.link_wire.proofs.session.Session.load_on.Goals as goal
 
-pub returns-in-Ok : goal.returns-in-Ok
-returns-in-Ok g c =
+pub returns-in-Ok-clause-loads : goal.returns-in-Ok-clause-loads
+returns-in-Ok-clause-loads g c =
     let old = c.args.self.now in
     let least = length-take old.left (front_of g.R.InDevice.state c.ready_front.new.self) in
     record {
@@ -30,8 +30,8 @@ returns-in-Ok g c =
       stopped = search rules;
     }
 
-pub returns-in-Ok-eq0 : goal.returns-in-Ok-eq0
-returns-in-Ok-eq0 g c = record {
+pub returns-in-Ok-eq0-clause-loads : goal.returns-in-Ok-eq0-clause-loads
+returns-in-Ok-eq0-clause-loads g c = record {
   size = search rules;
   settles = search rules;
   left = search rules;
@@ -47,3 +47,20 @@ returns-in-Ok-eq0 g c = record {
   none = λ nothing going. absurd (omega (arith, nothing, c.if-self-eq0.false));
   stopped = search rules;
 }
+
+pub returns-in-Ok-clause-unread : goal.returns-in-Ok-clause-unread
+returns-in-Ok-clause-unread g c = λ enough.
+    (c.in-Ok.ensures.here
+    (enough_data c.args.self.now.left _ (omega (arith, c.if-self-eq0.false)) enough)).unread
+
+pub returns-in-Ok-eq0-clause-unread : goal.returns-in-Ok-eq0-clause-unread
+returns-in-Ok-eq0-clause-unread g c = λ enough.
+    ap (λ s. reach g.R.InDevice.state s.source) c.stop_at.ensures.state
+    ∙ (c.in-Ok-eq0.ensures.here
+    (enough_data c.args.self.now.left _ (omega (arith, c.if-self-eq0.false)) enough)).unread
+
+pub returns-in-Err-clause-unread : goal.returns-in-Err-clause-unread
+returns-in-Err-clause-unread g c = λ enough.
+    ap (λ s. reach g.R.InDevice.state s.source) c.stop_at-in-Err.ensures.state
+    ∙ (c.in-Err.ensures.here
+    (enough_data c.args.self.now.left _ (omega (arith, c.if-self-eq0.false)) enough)).unread
