@@ -1,5 +1,5 @@
 -- The state of a device, as contracts see it.
-use Rattle.std.specs.Prelude.{◌≡◌, ℕ, ◌<◌, Bool, List, ◌++◌, length, Option, None, Some, ⊤}
+use Rattle.std.specs.Prelude.{◌≡◌, ℕ, Bool, List, ◌++◌, Option, None, Some, ⊤}
 
 -- an input device: the bytes left, `None` if they are not known, whether it has failed, and the
 -- next bytes, as many as it already holds
@@ -19,8 +19,3 @@ pub record Output : Type 0 where
 abbrev pub BeginsWith : Option (List ℕ) → List ℕ → Type 0
 BeginsWith None bytes = ⊤
 BeginsWith (Some all) bytes = (rest : List ℕ) × (all ≡ bytes ++ rest)
-
--- there is at least one byte, if the bytes are known
-abbrev pub HasSomeByte : Option (List ℕ) → Type 0
-HasSomeByte None = ⊤
-HasSomeByte (Some all) = 0 < length all

@@ -8,7 +8,7 @@
 
 ghost use Rattle.std.specs.Prelude.{◌≡◌, ◌+◌, ◌-◌, ◌^◌, ◌<◌, ◌≤◌, true, length, min, take, slice_range, IfOk, MatchResult};
 ghost use Rattle.link_io.specs.Bytes.{AreBytes};
-ghost use Rattle.link_io.specs.Device.{BeginsWith, HasSomeByte};
+ghost use Rattle.link_io.specs.Device.{BeginsWith};
 ghost use Rattle.std.specs.Io.KnownBytes.{ReadConsumes};
 
 use crate::device::{DeviceFault, InDevice};
@@ -109,21 +109,6 @@ impl<R: InDevice> Source<R> {
         ensures lag { result ≤ given_by self.now + WINDOW }
     {
         self.given + (self.end - self.start) as u64
-    }
-
-    /// Whether a call that needs more bytes than the window has may have to wait for the reader. It
-    /// need not wait if the reader holds bytes, or if the window is full.
-    #[inline(always)]
-    pub fn may_wait(&self) -> bool
-        ensures few { IsTrue result → length (window_of self.now) < window_size }
-        ensures none { IsTrue result → (R.state (reader_of self.now)).held ≡ [] }
-        // If a read need not wait, the reader holds bytes, which are the next that it has left.
-        ensures held { result ≡ false → length (window_of self.now) < window_size
-            → 0 < length (R.state (reader_of self.now)).held }
-        ensures left { result ≡ false → length (window_of self.now) < window_size
-            → HasSomeByte (R.state (reader_of self.now)).left }
-    {
-        self.reader.held().is_empty() && self.end - self.start < WINDOW
     }
 
     /// Copies the next available bytes without giving them, and returns how many it copied.
