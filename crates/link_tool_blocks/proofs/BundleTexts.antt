@@ -6,9 +6,9 @@ use Rattle.link_report.specs.declared.judgement.Judgement.TheVariants.{Good}
 use Rattle.link_report_blocks.specs.Blocks.{end_text}
 use Rattle.link_run.specs.{Run.no_texts, Writers.{on_output, AfterWrite}}
 use Rattle.link_run.specs.declared.writers.Writers.{Writers}
-use Rattle.link_run_over_bundles.specs.Bundles.{Packed}
-use Rattle.link_run_over_bundles.specs.Telling.{SoFar, none_yet, between, with_bytes, with_run, WritesRest}
-use Rattle.link_run_over_bundles.proofs.Told.{told_after, told_then, told_part}
+use Rattle.link_run_over_bundle_files.specs.Bundles.{Packed}
+use Rattle.link_run_over_bundle_files.specs.Telling.{SoFar, none_yet, between, with_bytes, with_run, WritesRest}
+use Rattle.link_run_over_bundle_files.proofs.Told.{told_after, told_then, told_part}
 use Rattle.link_run_judge.proofs.Counts.{on_ok}
 use Rattle.link_tool_blocks.specs.BlockLines.{block_lines}
 use Rattle.link_tool_blocks.specs.Bundles.{whole_lines, bundle_lines, bundle_blocks_telling}

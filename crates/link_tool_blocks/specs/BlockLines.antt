@@ -3,7 +3,7 @@ use Rattle.std.specs.Prelude.{ℕ, List, [], ◌∷◌, ◌++◌}
 use Rattle.link_bundle_blocks.specs.Blocks.{Block, PrimaryOf, CanonicalOf}
 use Rattle.link_bundle_blocks.specs.Bundle.{blocks_in}
 use Rattle.link_report_blocks.specs.Blocks.{primary_text, block_text}
-use Rattle.link_bundle_data_reader.specs.Found.{found_in, flags_after}
+use Rattle.link_bundle_data_in_pieces.specs.Found.{found_in, flags_after}
 
 -- the line of a block; the first word is `id`
 abbrev pub block_line : (id flags : ℕ) → (content : List ℕ) → Block → List ℕ

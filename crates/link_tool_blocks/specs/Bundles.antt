@@ -5,8 +5,8 @@ use Rattle.link_report_blocks.specs.Blocks.{end_text}
 use Rattle.link_run.specs.Made.{Made, tool_of}
 use Rattle.link_run.specs.Run.{Tool}
 use Rattle.link_run.specs.Writers.{on_output}
-use Rattle.link_run_over_bundles.specs.Bundles.{Packed, bundle_limit}
-use Rattle.link_run_over_bundles.specs.Telling.{BundleTelling, told_of}
+use Rattle.link_run_over_bundle_files.specs.Bundles.{Packed, bundle_limit}
+use Rattle.link_run_over_bundle_files.specs.Telling.{BundleTelling, told_of}
 use Rattle.link_tool_blocks.specs.BlockLines.{block_lines}
 
 -- the lines of a whole bundle: the lines of its blocks, and the line of its end

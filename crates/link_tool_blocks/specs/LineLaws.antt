@@ -5,9 +5,9 @@ use Rattle.link_bundle_blocks.specs.Blocks.{Block, PrimaryOf, CanonicalOf, LiesW
 use Rattle.link_bundle_blocks.specs.Bundle.{blocks_in}
 use Rattle.link_bundle_blocks.proofs.Lying.{BlocksWithin-holds}
 use Rattle.link_bundle_blocks.proofs.Showing.{BlocksGrow-holds}
-use Rattle.link_bundle_data_reader.specs.Found.{flags_after}
-use Rattle.link_bundle_data_reader.proofs.Grown.{all_first, all_rest, data_grown, no_blocks}
-use Rattle.link_run_over_bundles.specs.Blocks.{SaysMore}
+use Rattle.link_bundle_data_in_pieces.specs.Found.{flags_after}
+use Rattle.link_bundle_data_in_pieces.proofs.Grown.{all_first, all_rest, data_grown, no_blocks}
+use Rattle.link_run_over_bundle_files.specs.Blocks.{SaysMore}
 use Rattle.link_tool_blocks.specs.BlockLines.{block_line, lines_from, block_lines}
 
 -- ---- whole blocks

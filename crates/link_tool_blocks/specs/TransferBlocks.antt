@@ -3,7 +3,7 @@ use Rattle.std.specs.Prelude.{◌≡◌, ℕ, true, Option}
 use Rattle.link_run_judge.specs.Transfers.{Transfer}
 use Rattle.link_run_judge.specs.TransferJudge.{IsTransferJudgeAt}
 use Rattle.link_run_judge.specs.Unpacking.{is_selected}
-use Rattle.link_bundle_data_reader.specs.DataReader.{IsDataReaderAt}
+use Rattle.link_bundle_data_in_pieces.specs.DataReader.{IsDataReaderAt}
 use Rattle.link_tool_blocks.specs.declared.transfer.TransferBlocks.{TransferBlocks}
 
 -- the judge has taken this transfer's data so far, and so has the reader, if it is selected

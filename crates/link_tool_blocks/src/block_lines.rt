@@ -3,15 +3,15 @@
 ghost use Rattle.std.specs.Prelude.{◌≡◌, ◌^◌, ◌<◌, List, ℕ};
 ghost use Rattle.link_bundle_blocks.specs.Blocks.{viewed_primary, HasShortEids};
 ghost use Rattle.link_report_blocks.specs.Blocks.{primary_text, block_text};
-ghost use Rattle.link_bundle_data_reader.specs.DataReader.{IsDataReaderIn, read_size};
-ghost use Rattle.link_bundle_data_reader.specs.Found.{found_in};
+ghost use Rattle.link_bundle_data_in_pieces.specs.DataReader.{IsDataReaderIn, read_size};
+ghost use Rattle.link_bundle_data_in_pieces.specs.Found.{found_in};
 ghost use Rattle.link_run.specs.Writers.{AfterWrite, on_output};
 
 use link_bundle::{BlockView, CanonicalBlock, PrimaryBlock};
-use link_bundle_data_reader::DataReader;
+use link_bundle_data_in_pieces::DataReader;
 use link_report_blocks::{BlockText, PrimaryRestText, PrimaryStartText};
 use link_run::Writers;
-use link_run_over_bundles::BlockConsumer;
+use link_run_over_bundle_files::BlockConsumer;
 use link_wire::{INPUT_LIMIT, IoFault, OutDevice};
 
 /// Writes the line of each block.

@@ -8,15 +8,15 @@ ghost use Rattle.link_run.specs.Run.{devices, looks, NoneFailed};
 ghost use Rattle.link_run.specs.NewRun.{IsNewRun};
 ghost use Rattle.link_run.specs.WholeRun.{AfterRun};
 ghost use Rattle.link_run.specs.Writers.{AfterWrite, on_output};
-ghost use Rattle.link_bundle_data_reader.specs.DataReader.{IsDataReaderAt, read_size};
+ghost use Rattle.link_bundle_data_in_pieces.specs.DataReader.{IsDataReaderAt, read_size};
 ghost use Rattle.link_tool_blocks.specs.Bundles.{bundle_blocks_tool};
 
 use crate::block_lines::BlockLines;
-use link_bundle_data_reader::DataReader;
+use link_bundle_data_in_pieces::DataReader;
 use link_report::JudgementView;
 use link_report_blocks::EndText;
 use link_run::{Run, RunEnd, Writers};
-use link_run_over_bundles::{
+use link_run_over_bundle_files::{
     BundleConsumer, BundleWalkRun, RunView, WholeView, bundle_walk_run, tell_run,
 };
 use link_wire::{InDevice, IoFault, OutDevice};

@@ -19,6 +19,6 @@ mod lister;
 mod transfer;
 
 pub use bundles::{BundleBlocksRun, BundleLister, bundle_blocks, bundle_blocks_run};
-pub use link_bundle_data_reader::DataReader;
+pub use link_bundle_data_in_pieces::DataReader;
 pub use link_tool_option_types::BlockOptions;
 pub use lister::{BlockLister, BlocksRun, blocks, blocks_run};

@@ -1,13 +1,13 @@
 //! The latest transfer of a stream, and the lines of its blocks.
 
 ghost use Rattle.std.specs.Prelude.{◌≡◌, ◌+◌, ◌^◌, ◌≤◌, ◌<◌, true, length};
-ghost use Rattle.link_bundle_data_reader.specs.DataReader.{read_size};
+ghost use Rattle.link_bundle_data_in_pieces.specs.DataReader.{read_size};
 
 use crate::block_lines::BlockLines;
-use link_bundle_data_reader::DataReader;
+use link_bundle_data_in_pieces::DataReader;
 use link_run::Writers;
 use link_run_judge::TransferJudge;
-use link_run_over_bundles::tell_piece;
+use link_run_over_bundle_files::tell_piece;
 use link_tool_option_types::BlockOptions;
 use link_wire::{INPUT_LIMIT, IoFault, MessageBuffer, OutDevice};
 
@@ -27,7 +27,7 @@ impl TransferBlocks {
     ghost use Rattle.link_run_judge.specs.Transfers.{Transfer};
     ghost use Rattle.link_run_judge.specs.TransferJudge.{begun, grown};
     ghost use Rattle.link_run.specs.Writers.{on_output};
-    ghost use Rattle.link_run_over_bundles.specs.Telling.{WritesRest};
+    ghost use Rattle.link_run_over_bundle_files.specs.Telling.{WritesRest};
     ghost use Rattle.link_tool_blocks.specs.Showing.{transfer_lines};
     ghost use Rattle.link_tool_blocks.specs.TransferBlocks.{IsTransferBlocksAt};
 

@@ -2,7 +2,7 @@
 use Rattle.std.proofs.Common.{◌≡◌, ℕ, Bool, true, not, ◌&&◌, List, [], ◌∷◌, ◌++◌, append-nil, refl}
 use Rattle.std.proofs.{Math.Bool.and-true, lemmas.Grind.flat_map-append}
 use Rattle.std.proofs.lemmas.List.{map-append, Folds.list_all-append}
-use Rattle.link_report_rules.specs.declared.{line.RuleText.RuleText, rule.BrokenRule.BrokenRule}
+use Rattle.link_report_broken_rules.specs.declared.{line.RuleText.RuleText, rule.BrokenRule.BrokenRule}
 use Rattle.link_tool_check.specs.Lines.{counts, line_of, lines_of, none_counts, at_offset}
 
 pub lines_append : (must : Bool) (first second : List RuleText)

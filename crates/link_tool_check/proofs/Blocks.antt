@@ -7,8 +7,8 @@ use Rattle.link_bundle_blocks.specs.Blocks.{Primary, Block, PrimaryOf, Canonical
 use Rattle.link_bundle_blocks.specs.Bundle.{blocks_in}
 use Rattle.link_bundle_blocks.specs.declared.block.CanonicalBlock.{CanonicalBlock}
 use Rattle.link_bundle_blocks.proofs.{Few.few_blocks, Lying.BlocksWithin-holds}
-use Rattle.link_bundle_data_reader.specs.Found.{flags_after, found_in, long_head_in}
-use Rattle.link_bundle_data_reader.proofs.Grown.{all_first, all_rest, data_grown, no_blocks}
+use Rattle.link_bundle_data_in_pieces.specs.Found.{flags_after, found_in, long_head_in}
+use Rattle.link_bundle_data_in_pieces.proofs.Grown.{all_first, all_rest, data_grown, no_blocks}
 use Rattle.link_rules_shared.specs.Heads.{first_long}
 use Rattle.link_bundle_rules.specs.BundleRules.{broken_bundle_rules}
 use Rattle.link_bundle_rules.specs.{History.bundle_of, ReadBundle.{ReadBundle, begun, block_facts, with_block}}

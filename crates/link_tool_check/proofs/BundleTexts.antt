@@ -3,13 +3,13 @@ use Rattle.std.proofs.Common.{◌≡◌, ℕ, suc, ◌+◌, Bool, true, ◌&&◌
 use Rattle.std.proofs.lemmas.List.Sums.{sum_by-cons, sum_by_push}
 use Rattle.link_wire.specs.{Device.Output, declared.IoFault.IoFault}
 use Rattle.link_bundle_types.specs.declared.info.BundleInfo.{BundleInfo}
-use Rattle.link_run_over_bundles.specs.Bundles.{Packed, size_of}
-use Rattle.link_run_over_bundles.specs.Telling.{SoFar, none_yet, WritesRest}
-use Rattle.link_run_over_bundles.proofs.Told.{on_ok_by, told_after, told_part}
+use Rattle.link_run_over_bundle_files.specs.Bundles.{Packed, size_of}
+use Rattle.link_run_over_bundle_files.specs.Telling.{SoFar, none_yet, WritesRest}
+use Rattle.link_run_over_bundle_files.proofs.Told.{on_ok_by, told_after, told_part}
 use Rattle.link_run.specs.{Run.no_texts, Writers.on_output}
 use Rattle.link_run.specs.declared.writers.Writers.{Writers}
 use Rattle.link_run.proofs.Runs.{texts_as}
-use Rattle.link_report_rules.specs.declared.line.RuleText.{RuleText}
+use Rattle.link_report_broken_rules.specs.declared.line.RuleText.{RuleText}
 use Rattle.link_tool_check.specs.{BundleChecker.{IsBundleCheckerAt, with_end}, BundleReader.IsBundleReaderAt}
 use Rattle.link_tool_check.specs.Bundles.{broken_in, broken_bundles, bundle_check_telling}
 use Rattle.link_tool_check.specs.{Lines.{lines_of, none_counts}, Writing.WritesRules}

@@ -3,8 +3,8 @@ use Rattle.std.proofs.Common.{◌≡◌, List, ◌++◌, map, length, refl}
 use Rattle.link_bundle_blocks.specs.Bundle.{verdict}
 use Rattle.link_session_rules.specs.TransferRules.{broken_transfer_rules}
 use Rattle.link_session_rules.specs.declared.rule.TransferRule.{TransferRule}
-use Rattle.link_report_rules.specs.declared.line.RuleText.{RuleText}
-use Rattle.link_report_rules.specs.declared.rule.BrokenRule.TheVariants.{Transfer}
+use Rattle.link_report_broken_rules.specs.declared.line.RuleText.{RuleText}
+use Rattle.link_report_broken_rules.specs.declared.rule.BrokenRule.TheVariants.{Transfer}
 use Rattle.link_tool_check.specs.{Checker.IsCheckedTransferAt, Checking.{Begun, closed_rules, data_rules}}
 use Rattle.link_tool_check.specs.{Lines.at_offset, declared.transfer.CheckedTransfer.CheckedTransfer}
 use Rattle.link_tool_check.proofs.Appends.{at_append}

@@ -14,7 +14,7 @@ use Rattle.link_run_over_transfers.specs.Walk.{Head, WalkEvent, MessageHead, Dat
 use Rattle.link_run_judge.proofs.Counts.{size_then, open_then, size_with_data}
 use Rattle.link_run_judge.proofs.Effects.{Does, Strays, Passes, Begins, Continues, comes_does}
 use Rattle.link_session_rules.specs.Remembered.{IsMessageHistoryAt}
-use Rattle.link_report_rules.specs.declared.line.RuleText.{RuleText}
+use Rattle.link_report_broken_rules.specs.declared.line.RuleText.{RuleText}
 use Rattle.link_tool_check.specs.Checker.{IsCheckedTransferAtLatest, IsCheckedTransferAt, IsCheckerAt, closed_due, kept_of}
 use Rattle.link_tool_check.specs.Checking.{Begun, Kept, begun_by, broken_by, check_telling, checking, head_rules, judged, kept_with, none_kept, with_bytes}
 use Rattle.link_tool_check.specs.{Lines.{lines_of, none_counts}, Writing.WritesRules}

@@ -7,10 +7,10 @@ use Rattle.link_wire.specs.{Device.Output, declared.IoFault.IoFault}
 use Rattle.link_run.specs.{Writers.{AfterWrite, on_output}, declared.writers.Writers.Writers}
 use Rattle.link_run.proofs.Runs.{outputs_then, part_of_more, writes_none}
 use Rattle.link_run.specs.Run.{Texts, no_texts}
-use Rattle.link_run_over_bundles.specs.Telling.{WritesRest}
-use Rattle.link_run_over_bundles.proofs.Told.{on_ok_by}
+use Rattle.link_run_over_bundle_files.specs.Telling.{WritesRest}
+use Rattle.link_run_over_bundle_files.proofs.Told.{on_ok_by}
 use Rattle.link_run_judge.proofs.Counts.{on_ok}
-use Rattle.link_report_rules.specs.declared.{line.RuleText.RuleText, rule.BrokenRule.BrokenRule}
+use Rattle.link_report_broken_rules.specs.declared.{line.RuleText.RuleText, rule.BrokenRule.BrokenRule}
 use Rattle.link_tool_check.specs.Lines.{at_offset, counts, line_of, lines_of}
 use Rattle.link_tool_check.specs.Writing.{WritesRules}
 use Rattle.link_tool_check.proofs.Appends.{counts_append, lines_append, no_lines, none_count, one_counts, one_line}

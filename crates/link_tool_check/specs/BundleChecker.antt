@@ -1,8 +1,8 @@
 -- Relations: what is kept of the bundles of an input.
 use Rattle.std.specs.Prelude.{◌≡◌, Bool, [], ◌∷◌, ◌++◌}
 use Rattle.link_bundle_types.specs.declared.info.BundleInfo.{BundleInfo}
-use Rattle.link_run_over_bundles.specs.Bundles.{size_of}
-use Rattle.link_run_over_bundles.specs.Telling.{SoFar, between}
+use Rattle.link_run_over_bundle_files.specs.Bundles.{size_of}
+use Rattle.link_run_over_bundle_files.specs.Telling.{SoFar, between}
 use Rattle.link_tool_check.specs.BundleReader.{IsBundleReaderAt}
 use Rattle.link_tool_check.specs.Bundles.{broken_bundles}
 use Rattle.link_tool_check.specs.Lines.{none_counts}

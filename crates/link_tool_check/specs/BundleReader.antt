@@ -1,8 +1,8 @@
 -- Relations: what a reader keeps of the bytes of a bundle.
 use Rattle.std.specs.Prelude.{◌≡◌, ◌≤◌, ℕ, suc, Bool, true, false, List, length, Option, Some, None, fold}
 use Rattle.link_bundle_blocks.specs.Bundle.{blocks_in}
-use Rattle.link_bundle_data_reader.specs.DataReader.{IsDataReaderAt, read_size}
-use Rattle.link_bundle_data_reader.specs.Found.{flags_after}
+use Rattle.link_bundle_data_in_pieces.specs.DataReader.{IsDataReaderAt, read_size}
+use Rattle.link_bundle_data_in_pieces.specs.Found.{flags_after}
 use Rattle.link_rules_shared.specs.HeadWalk.{HasWalked}
 use Rattle.link_rules_shared.specs.Prefix.{IsPrefixAt}
 use Rattle.link_bundle_rules.specs.History.{bundle_of}

@@ -3,7 +3,7 @@ use Rattle.std.specs.Prelude.{ℕ, List, [], Option, Some, None, option_map, fol
 use Rattle.link_bundle_types.specs.declared.info.BundleInfo.{BundleInfo}
 use Rattle.link_bundle_blocks.specs.Blocks.{Block, PrimaryOf, CanonicalOf}
 use Rattle.link_bundle_blocks.specs.Bundle.{blocks_in}
-use Rattle.link_bundle_data_reader.specs.Found.{found_in, long_head_in}
+use Rattle.link_bundle_data_in_pieces.specs.Found.{found_in, long_head_in}
 use Rattle.link_rules_shared.specs.Heads.{first_long}
 use Rattle.link_bundle_rules.specs.BundleRules.{broken_bundle_rules}
 use Rattle.link_bundle_rules.specs.ReadBundle.{ReadBundle, begun, with_block}

@@ -3,11 +3,11 @@ use Rattle.std.specs.Prelude.{ℕ, suc, ◌+◌, Bool, List, [], ◌∷◌, ◌+
 use Rattle.link_run.specs.Made.{Made, tool_of}
 use Rattle.link_run.specs.Run.{Tool}
 use Rattle.link_run.specs.Writers.{on_output}
-use Rattle.link_run_over_bundles.specs.Bundles.{Packed, bundle_limit}
-use Rattle.link_run_over_bundles.specs.Telling.{BundleTelling, told_of}
-use Rattle.link_report_rules.specs.declared.line.RuleText.{RuleText}
-use Rattle.link_report_rules.specs.declared.rule.BrokenRule.TheVariants.{Bundle}
-use Rattle.link_report_rules.specs.declared.rule.BundlePlace.TheVariants as place
+use Rattle.link_run_over_bundle_files.specs.Bundles.{Packed, bundle_limit}
+use Rattle.link_run_over_bundle_files.specs.Telling.{BundleTelling, told_of}
+use Rattle.link_report_broken_rules.specs.declared.line.RuleText.{RuleText}
+use Rattle.link_report_broken_rules.specs.declared.rule.BrokenRule.TheVariants.{Bundle}
+use Rattle.link_report_broken_rules.specs.declared.rule.BundlePlace.TheVariants as place
 use Rattle.link_tool_check.specs.BundleRules.{bundle_rules}
 use Rattle.link_tool_check.specs.Lines.{lines_of, none_counts, at_offset}
 

@@ -6,7 +6,7 @@ use Rattle.link_run_judge.specs.TransferJudge.{IsTransferJudgeAt}
 use Rattle.link_run_judge.specs.Transfers.{Transfer}
 use Rattle.link_session_rules.specs.TransferRules.{opening_of}
 use Rattle.link_session_rules.specs.Remembered.{IsMessageHistoryAt}
-use Rattle.link_report_rules.specs.declared.line.RuleText.{RuleText}
+use Rattle.link_report_broken_rules.specs.declared.line.RuleText.{RuleText}
 use Rattle.link_tool_check.specs.BundleReader.{IsBundleReaderAt}
 use Rattle.link_tool_check.specs.Checking.{Begun, Kept, none_kept, checking, rules_at, closed_rules}
 use Rattle.link_tool_check.specs.declared.checker.Checker.{Checker}

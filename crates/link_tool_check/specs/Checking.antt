@@ -16,9 +16,9 @@ use Rattle.link_session_rules.specs.MessageRules.{broken_rules}
 use Rattle.link_session_rules.specs.TransferData.{data_rule}
 use Rattle.link_session_rules.specs.TransferRules.{broken_transfer_rules}
 use Rattle.link_session_rules.specs.declared.rule.TransferRule.TheVariants.{Unfinished}
-use Rattle.link_report_rules.specs.declared.{line.RuleText.RuleText, rule.BrokenRule.BrokenRule}
-use Rattle.link_report_rules.specs.declared.rule.BrokenRule.TheVariants.{Message, Transfer, Bundle}
-use Rattle.link_report_rules.specs.declared.rule.BundlePlace.TheVariants as place
+use Rattle.link_report_broken_rules.specs.declared.{line.RuleText.RuleText, rule.BrokenRule.BrokenRule}
+use Rattle.link_report_broken_rules.specs.declared.rule.BrokenRule.TheVariants.{Message, Transfer, Bundle}
+use Rattle.link_report_broken_rules.specs.declared.rule.BundlePlace.TheVariants as place
 use Rattle.link_tool_check.specs.BundleRules.{bundle_rules}
 use Rattle.link_tool_check.specs.Lines.{lines_of, none_counts, at_offset}
 use Rattle.link_tool_option_types.specs.declared.check.CheckOptions.{CheckOptions}

@@ -4,7 +4,7 @@ use Rattle.std.proofs.lemmas.Grind.{fold-append}
 use Rattle.link_bundle_blocks.specs.Blocks.{Block, PrimaryOf, CanonicalOf, LiesWithin}
 use Rattle.link_bundle_blocks.specs.Bundle.{blocks_in}
 use Rattle.link_bundle_blocks.proofs.Lying.{BlocksWithin-holds}
-use Rattle.link_bundle_data_reader.proofs.Grown.{all_first, all_rest, data_grown}
+use Rattle.link_bundle_data_in_pieces.proofs.Grown.{all_first, all_rest, data_grown}
 use Rattle.link_bundle_rules.specs.ReadBundle.{ReadBundle}
 use Rattle.link_bundle_rules.specs.declared.history.BundleHistory.{BundleHistory}
 use Rattle.link_tool_check.specs.BundleReader.{HasHistory}

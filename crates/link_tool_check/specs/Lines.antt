@@ -2,9 +2,9 @@
 use Rattle.std.specs.Prelude.{ℕ, Bool, true, false, not, ◌||◌, List, [], map, flat_map, if◌then◌else◌}
 use Rattle.std.specs.List.{list_all}
 use Rattle.link_rules_shared.specs.declared.level.{Level.Level, Level.TheVariants.{Must, Should}}
-use Rattle.link_report_rules.specs.Line.{rule_line}
-use Rattle.link_report_rules.specs.Names.{rule_level}
-use Rattle.link_report_rules.specs.declared.{line.RuleText.RuleText, rule.BrokenRule.BrokenRule}
+use Rattle.link_report_broken_rules.specs.Line.{rule_line}
+use Rattle.link_report_broken_rules.specs.Names.{rule_level}
+use Rattle.link_report_broken_rules.specs.declared.{line.RuleText.RuleText, rule.BrokenRule.BrokenRule}
 
 abbrev pub is_must : Level → Bool
 is_must Must = true

@@ -4,7 +4,7 @@ use Rattle.link_wire.specs.Device.{Output}
 use Rattle.link_wire.specs.declared.IoFault.{IoFault}
 use Rattle.link_run.specs.Writers.{AfterWrite, on_output}
 use Rattle.link_run.specs.declared.writers.Writers.{Writers}
-use Rattle.link_report_rules.specs.declared.line.RuleText.{RuleText}
+use Rattle.link_report_broken_rules.specs.declared.line.RuleText.{RuleText}
 use Rattle.link_tool_check.specs.Lines.{lines_of, none_counts}
 
 -- The lines of those rules that count were written, or a writer failed. If none failed, `good` is

@@ -1,19 +1,19 @@
 //! What the rules for a bundle need of its bytes.
 
 ghost use Rattle.std.specs.Prelude.{◌≡◌, ◌+◌, ◌^◌, ◌≤◌, ◌<◌, ◌++◌, true, List, [], ℕ, length, map};
-ghost use Rattle.link_bundle_data_reader.specs.DataReader.{IsDataReaderIn, read_size};
-ghost use Rattle.link_bundle_data_reader.specs.Found.{found_in, long_head_in};
+ghost use Rattle.link_bundle_data_in_pieces.specs.DataReader.{IsDataReaderIn, read_size};
+ghost use Rattle.link_bundle_data_in_pieces.specs.Found.{found_in, long_head_in};
 ghost use Rattle.link_bundle_rules.specs.History.{bundle_of};
 ghost use Rattle.link_bundle_rules.specs.ReadBundle.{with_block};
 
 use crate::lines::write_rules;
 use link_bundle::{BlockView, BundleScan, CanonicalBlock};
-use link_bundle_data_reader::DataReader;
+use link_bundle_data_in_pieces::DataReader;
 use link_bundle_rules::{BrokenBundleRules, BundleHistory, ReadBlockView};
-use link_report_rules::BundlePlace;
+use link_report_broken_rules::BundlePlace;
 use link_rules_shared::{HeadWalk, Prefix, Unread};
 use link_run::Writers;
-use link_run_over_bundles::{BlockConsumer, RunView, tell_piece, tell_run};
+use link_run_over_bundle_files::{BlockConsumer, RunView, tell_piece, tell_run};
 use link_wire::{IoFault, OutDevice};
 
 /// Reads one bundle after another, as far as the rules for bundles need it.
@@ -92,13 +92,13 @@ impl BundleReader {
     ghost use Rattle.link_bundle_types.specs.declared.info.BundleInfo.{BundleInfo};
     ghost use Rattle.link_bundle.specs.Scan.{HasJudged, scan_size};
     ghost use Rattle.link_run.specs.Run.{no_texts};
-    ghost use Rattle.link_run_over_bundles.specs.Telling.{RunViewComes, SoFar, WritesRest};
+    ghost use Rattle.link_run_over_bundle_files.specs.Telling.{RunViewComes, SoFar, WritesRest};
     ghost use Rattle.link_rules_shared.specs.Heads.{unread_of};
     ghost use Rattle.link_tool_check.specs.BundleReader.{IsBundleReaderAt, data_size};
     ghost use Rattle.link_tool_check.specs.BundleRules.{bundle_rules};
     ghost use Rattle.link_tool_check.specs.Lines.{at_offset};
     ghost use Rattle.link_tool_check.specs.Writing.{WritesRules};
-    ghost use Rattle.link_report_rules.specs.declared.rule.BrokenRule.TheVariants.{Bundle};
+    ghost use Rattle.link_report_broken_rules.specs.declared.rule.BrokenRule.TheVariants.{Bundle};
 
     /// Makes a reader for the first bundle.
     pub(crate) fn new() -> BundleReader

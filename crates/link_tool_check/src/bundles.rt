@@ -8,9 +8,11 @@ ghost use Rattle.link_tool_check.specs.BundleReader.{data_size};
 ghost use Rattle.link_tool_check.specs.Bundles.{bundle_check_tool};
 
 use crate::bundle::BundleReader;
-use link_report_rules::BundlePlace;
+use link_report_broken_rules::BundlePlace;
 use link_run::{Run, RunEnd, Writers};
-use link_run_over_bundles::{BundleConsumer, BundleWalkRun, RunView, WholeView, bundle_walk_run};
+use link_run_over_bundle_files::{
+    BundleConsumer, BundleWalkRun, RunView, WholeView, bundle_walk_run,
+};
 use link_wire::{InDevice, IoFault, OutDevice};
 
 /// Judges one bundle after another.
@@ -26,8 +28,8 @@ pub struct BundleChecker {
 impl BundleChecker {
     ghost use Rattle.std.specs.Prelude.{◌+◌, ◌^◌, ◌<◌, length};
     ghost use Rattle.link_bundle_types.specs.BundleView.{viewed_info};
-    ghost use Rattle.link_run_over_bundles.specs.Bundles.{size_of};
-    ghost use Rattle.link_run_over_bundles.specs.Telling.{SoFar, WritesRest, none_yet};
+    ghost use Rattle.link_run_over_bundle_files.specs.Bundles.{size_of};
+    ghost use Rattle.link_run_over_bundle_files.specs.Telling.{SoFar, WritesRest, none_yet};
     ghost use Rattle.link_tool_check.specs.BundleChecker.{IsBundleCheckerAt, with_end};
     ghost use Rattle.link_tool_check.specs.Bundles.{bundle_check_telling};
 

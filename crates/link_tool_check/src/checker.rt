@@ -6,7 +6,7 @@ ghost use Rattle.link_session_rules.specs.Flags.{contact_flags};
 ghost use Rattle.link_session_rules.specs.Heads.{JudgedHead, viewed_head};
 ghost use Rattle.link_session_rules.specs.MessageRules.{broken_rules};
 ghost use Rattle.link_session_rules.specs.Remembered.{IsMessageHistoryAt};
-ghost use Rattle.link_report_rules.specs.declared.rule.BrokenRule.TheVariants.{Message};
+ghost use Rattle.link_report_broken_rules.specs.declared.rule.BrokenRule.TheVariants.{Message};
 ghost use Rattle.link_run.specs.Run.{devices, looks, NoneFailed};
 ghost use Rattle.link_run.specs.NewRun.{IsNewRun};
 ghost use Rattle.link_run.specs.WholeRun.{AfterRun};

@@ -2,12 +2,12 @@
 
 ghost use Rattle.std.specs.Prelude.{◌≡◌, ◌&&◌, not, map};
 ghost use Rattle.link_run.specs.Writers.{AfterWrite, on_output};
-ghost use Rattle.link_report_rules.specs.declared.rule.BrokenRule.{BrokenRule};
+ghost use Rattle.link_report_broken_rules.specs.declared.rule.BrokenRule.{BrokenRule};
 ghost use Rattle.link_tool_check.specs.Lines.{counts, at_offset, line_of};
 ghost use Rattle.link_tool_check.specs.Writing.{WritesRules};
 
 use link_bundle_rules::BundleRule;
-use link_report_rules::{BrokenRule, BundlePlace, RuleText};
+use link_report_broken_rules::{BrokenRule, BundlePlace, RuleText};
 use link_rules_shared::Level;
 use link_run::Writers;
 use link_session_rules::{MessageRule, TransferRule};
@@ -27,7 +27,7 @@ pub(crate) trait Rule: Copy {
 }
 
 impl Rule for MessageRule {
-    ghost use Rattle.link_report_rules.specs.declared.rule.BrokenRule.TheVariants.{Message};
+    ghost use Rattle.link_report_broken_rules.specs.declared.rule.BrokenRule.TheVariants.{Message};
 
     type Owner = ();
 
@@ -39,7 +39,7 @@ impl Rule for MessageRule {
 }
 
 impl Rule for TransferRule {
-    ghost use Rattle.link_report_rules.specs.declared.rule.BrokenRule.TheVariants.{Transfer};
+    ghost use Rattle.link_report_broken_rules.specs.declared.rule.BrokenRule.TheVariants.{Transfer};
 
     /// The transfer ID.
     type Owner = u64;
@@ -52,7 +52,7 @@ impl Rule for TransferRule {
 }
 
 impl Rule for BundleRule {
-    ghost use Rattle.link_report_rules.specs.declared.rule.BrokenRule.TheVariants.{Bundle};
+    ghost use Rattle.link_report_broken_rules.specs.declared.rule.BrokenRule.TheVariants.{Bundle};
 
     type Owner = BundlePlace;
 

@@ -9,7 +9,7 @@ ghost use Rattle.link_tool_check.specs.BundleReader.{data_size};
 
 use crate::bundle::BundleReader;
 use crate::lines::write_rules;
-use link_report_rules::BundlePlace;
+use link_report_broken_rules::BundlePlace;
 use link_run::Writers;
 use link_run_judge::TransferJudge;
 use link_run_over_transfers::HeadView;
@@ -55,7 +55,7 @@ impl CheckedTransfer {
     ghost use Rattle.link_wire.specs.declared.message.Message.{Message};
     ghost use Rattle.link_wire.specs.declared.message.SegmentHead.{SegmentHead};
     ghost use Rattle.link_run.specs.Run.{no_texts};
-    ghost use Rattle.link_run_over_bundles.specs.Telling.{WritesRest};
+    ghost use Rattle.link_run_over_bundle_files.specs.Telling.{WritesRest};
     ghost use Rattle.link_tool_check.specs.Checking.{Begun, closed_rules, data_rules, open_rules, with_bytes};
     ghost use Rattle.link_tool_check.specs.Checker.{IsCheckedTransferAt};
     ghost use Rattle.link_tool_check.specs.Lines.{at_offset};

@@ -10,9 +10,9 @@ use Rattle.link_run.specs.Made.{StreamStop, shows_fault, so_far_by, tool_of}
 use Rattle.link_run.specs.Run.{Texts, Outcome, Tool, ◌then◌, no_texts}
 use Rattle.link_run.specs.Writers.{on_output}
 use Rattle.link_run.proofs.Runs.{texts_as}
-use Rattle.link_run_over_bundles.specs.Bundles.{Packed, Rest, Divided, divided}
-use Rattle.link_run_over_bundles.specs.Telling.{BundleTelling, stop_by, told_by, told_of}
-use Rattle.link_run_over_bundles.proofs.{Outcomes.whole_of}
+use Rattle.link_run_over_bundle_files.specs.Bundles.{Packed, Rest, Divided, divided}
+use Rattle.link_run_over_bundle_files.specs.Telling.{BundleTelling, stop_by, told_by, told_of}
+use Rattle.link_run_over_bundle_files.proofs.{Outcomes.whole_of}
 use Rattle.link_tool_pack.specs.Segments.{flags_of, Sending, cut_at, segments_from, segments_of}
 use Rattle.link_tool_pack.specs.Packing.{segment_size, sending, transfer_bytes, report_line}
 use Rattle.link_tool_pack.specs.More.{id_at, more_lines, more_by, more_of, more_tool}

@@ -19,7 +19,7 @@ use Rattle.link_wire.proofs.FieldReads.{bytes_at-there}
 use Rattle.link_wire.proofs.Streams.{stream_at-nil, stream_at-head}
 use Rattle.link_transfer.specs.{Chunks.chunk_at, Cutting.{Cutting, announcement, due}}
 use Rattle.link_transfer.specs.declared.cut.Cut.{Cut}
-use Rattle.link_run_over_bundles.specs.Bundles.{Packed, Rest, divided}
+use Rattle.link_run_over_bundle_files.specs.Bundles.{Packed, Rest, divided}
 use Rattle.link_tool_option_types.specs.declared.pack.PackOptions.{PackOptions}
 use Rattle.link_tool_pack.specs.Segments.{flags_of, segment_bytes, Sending, cutting_of, cut_at, segments_from, segments_of}
 use Rattle.link_tool_pack.specs.Packing.{sending, transfer_bytes, rest_segments}

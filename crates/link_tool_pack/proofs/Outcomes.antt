@@ -4,9 +4,9 @@ use Rattle.std.proofs.Math.Path.{fun_ext}
 use Rattle.link_run.specs.Made.{StreamStop, shows_fault, so_far_by, tool_of}
 use Rattle.link_run.specs.Run.{Texts, Outcome, Tool, ◌then◌}
 use Rattle.link_run.proofs.Runs.{texts_as, part_of_more, output_then}
-use Rattle.link_run_over_bundles.specs.Bundles.{Packed, Rest, Divided, divided}
-use Rattle.link_run_over_bundles.specs.Telling.{SoFar, BundleTelling, stop_by, told_by, told_of, between, WritesRest, with_run}
-use Rattle.link_run_over_bundles.proofs.{Outcomes.whole_of, Told.on_ok_by}
+use Rattle.link_run_over_bundle_files.specs.Bundles.{Packed, Rest, Divided, divided}
+use Rattle.link_run_over_bundle_files.specs.Telling.{SoFar, BundleTelling, stop_by, told_by, told_of, between, WritesRest, with_run}
+use Rattle.link_run_over_bundle_files.proofs.{Outcomes.whole_of, Told.on_ok_by}
 use Rattle.link_tool_pack.specs.Packing.{prelude_bytes, segment_size, sending, transfer_bytes, report_lines, packing_of, packing_by, pack_tool, report_line}
 use Rattle.link_tool_pack.specs.PackRun.{texts_of, pack_telling, Sends}
 use Rattle.link_tool_pack.specs.Segments.{segments_of, segments_left}

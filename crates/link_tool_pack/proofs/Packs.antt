@@ -1,7 +1,7 @@
 -- What `pack` writes is the prelude and then the segments alone, and which IDs the lines have.
 use Rattle.std.proofs.Common.{◌≡◌, ℕ, zero, suc, Result, Ok, Err, drop, ◌+◌, ◌≤◌, ◌^◌, List, [], ◌∷◌, ◌++◌, length, refl, ap, sym, append_assoc, zero-add, arith}
 use Rattle.link_bundle_types.specs.declared.info.BundleInfo.{BundleInfo}
-use Rattle.link_run_over_bundles.specs.Bundles.{Packed, Refusal, Divided, bundle_prefix, divided_by, divided_in, divided}
+use Rattle.link_run_over_bundle_files.specs.Bundles.{Packed, Refusal, Divided, bundle_prefix, divided_by, divided_in, divided}
 use Rattle.link_tool_option_types.specs.declared.pack.PackOptions.{PackOptions}
 use Rattle.link_tool_pack.specs.Packing.{prelude_bytes, transfer_bytes, rest_segments, end_bytes, bundles_output, report_lines, packing_of}
 use Rattle.link_tool_pack.specs.More.{id_at, more_output, more_lines, more_of}

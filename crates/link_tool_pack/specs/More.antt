@@ -3,8 +3,8 @@
 use Rattle.std.specs.Prelude.{ℕ, suc, ◌+◌, ◌%◌, ◌^◌, true, List, [], ◌∷◌, ◌++◌, length}
 use Rattle.link_run.specs.Made.{Made, tool_of}
 use Rattle.link_run.specs.Run.{Texts, Tool}
-use Rattle.link_run_over_bundles.specs.Bundles.{Packed, Divided, divided}
-use Rattle.link_run_over_bundles.specs.Telling.{stop_by}
+use Rattle.link_run_over_bundle_files.specs.Bundles.{Packed, Divided, divided}
+use Rattle.link_run_over_bundle_files.specs.Telling.{stop_by}
 use Rattle.link_tool_pack.specs.Packing.{transfer_bytes, rest_segments, report_line}
 use Rattle.link_tool_pack.specs.declared.more.MoreOptions.{MoreOptions}
 

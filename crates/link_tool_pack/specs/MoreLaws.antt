@@ -3,7 +3,7 @@ use Rattle.std.specs.Prelude.{◌≡◌, ℕ, ◌+◌, ◌-◌, ◌^◌, ◌≤�
 use Rattle.link_wire.specs.Stream.{Entry, Clean, stream_at}
 use Rattle.link_wire.specs.declared.message.Message.{Message}
 use Rattle.link_wire.specs.declared.message.Message.TheVariants.{Segment}
-use Rattle.link_run_over_bundles.specs.Bundles.{divided}
+use Rattle.link_run_over_bundle_files.specs.Bundles.{divided}
 use Rattle.link_tool_option_types.specs.declared.pack.PackOptions.{PackOptions}
 use Rattle.link_tool_pack.specs.Packing.{prelude_bytes, end_bytes, report_lines, packing_of}
 use Rattle.link_tool_pack.specs.More.{more_of}

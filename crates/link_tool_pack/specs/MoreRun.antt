@@ -1,8 +1,8 @@
 -- Relations: what `pack_more` says of the bundles so far.
 use Rattle.std.specs.Prelude.{ℕ, ◌+◌, true, false, List, [], ◌++◌, length}
 use Rattle.link_run.specs.Run.{Texts}
-use Rattle.link_run_over_bundles.specs.Bundles.{Packed}
-use Rattle.link_run_over_bundles.specs.Telling.{BundleTelling}
+use Rattle.link_run_over_bundle_files.specs.Bundles.{Packed}
+use Rattle.link_run_over_bundle_files.specs.Telling.{BundleTelling}
 use Rattle.link_tool_pack.specs.Segments.{segments_of}
 use Rattle.link_tool_pack.specs.Packing.{sending, transfer_bytes}
 use Rattle.link_tool_pack.specs.More.{more_lines}

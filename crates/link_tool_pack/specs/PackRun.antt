@@ -10,8 +10,8 @@ use Rattle.link_run.specs.Run.{Texts, ◌then◌, Devices}
 use Rattle.link_run.specs.Writers.{on_output, AfterWrite}
 use Rattle.link_run.specs.WholeRun.{devices_of}
 use Rattle.link_run.specs.declared.{run.RunEnd.RunEnd, writers.Writers.Writers}
-use Rattle.link_run_over_bundles.specs.Bundles.{Packed}
-use Rattle.link_run_over_bundles.specs.Telling.{BundleTelling}
+use Rattle.link_run_over_bundle_files.specs.Bundles.{Packed}
+use Rattle.link_run_over_bundle_files.specs.Telling.{BundleTelling}
 use Rattle.link_tool_pack.specs.Segments.{segments_of, segments_left, all_given}
 use Rattle.link_tool_pack.specs.Packing.{prelude_bytes, sending, transfer_bytes, end_bytes, report_lines}
 use Rattle.link_tool_option_types.specs.declared.pack.PackOptions.{PackOptions}

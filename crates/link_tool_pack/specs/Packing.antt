@@ -5,8 +5,8 @@ use Rattle.link_transfer.specs.Chunks.{chunk_count}
 use Rattle.link_report.specs.Packed.{packed_text}
 use Rattle.link_run.specs.Made.{Made, tool_of}
 use Rattle.link_run.specs.Run.{Tool}
-use Rattle.link_run_over_bundles.specs.Bundles.{Packed, Rest, Divided, divided}
-use Rattle.link_run_over_bundles.specs.Telling.{stop_by}
+use Rattle.link_run_over_bundle_files.specs.Bundles.{Packed, Rest, Divided, divided}
+use Rattle.link_run_over_bundle_files.specs.Telling.{stop_by}
 use Rattle.link_tool_pack.specs.Segments.{Sending, segments_of}
 use Rattle.link_tool_option_types.specs.declared.pack.PackOptions.{PackOptions}
 

@@ -12,7 +12,7 @@ ghost use Rattle.link_tool_pack.specs.PackRun.{LacksMemory};
 use crate::packer::write_line;
 use crate::segments::write_run;
 use link_run::{Run, RunEnd, Writers};
-use link_run_over_bundles::{BundleConsumer, BundleWalkRun, RunView, bundle_walk_run};
+use link_run_over_bundle_files::{BundleConsumer, BundleWalkRun, RunView, bundle_walk_run};
 use link_tool_option_types::PackOptions;
 use link_transfer::Cutter;
 use link_wire::{InDevice, IoFault, OutDevice};

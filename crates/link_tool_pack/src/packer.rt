@@ -7,7 +7,7 @@ ghost use Rattle.link_run.specs.Run.{devices, looks, NoneFailed};
 ghost use Rattle.link_run.specs.NewRun.{IsNewRun};
 ghost use Rattle.link_run.specs.WholeRun.{AfterRun};
 ghost use Rattle.link_run.specs.Writers.{AfterWrite, on_output, on_report};
-ghost use Rattle.link_run_over_bundles.specs.Bundles.{Packed};
+ghost use Rattle.link_run_over_bundle_files.specs.Bundles.{Packed};
 ghost use Rattle.link_tool_pack.specs.Packer.{IsCutterFor};
 ghost use Rattle.link_tool_pack.specs.Packing.{pack_tool, prelude_bytes, end_bytes, report_line, segment_size};
 ghost use Rattle.link_tool_pack.specs.PackRun.{LacksMemory};
@@ -15,7 +15,9 @@ ghost use Rattle.link_tool_pack.specs.PackRun.{LacksMemory};
 use crate::segments::write_run;
 use link_report::{PackedText, PackedView};
 use link_run::{Run, RunEnd, Writers};
-use link_run_over_bundles::{BundleConsumer, BundleWalkRun, RunView, WholeView, bundle_walk_run};
+use link_run_over_bundle_files::{
+    BundleConsumer, BundleWalkRun, RunView, WholeView, bundle_walk_run,
+};
 use link_tool_option_types::PackOptions;
 use link_transfer::Cutter;
 use link_wire::{HeadBuf, InDevice, IoFault, OutDevice, put_contact, put_sess_init, put_sess_term};

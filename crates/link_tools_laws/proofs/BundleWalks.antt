@@ -7,11 +7,11 @@ use Rattle.link_bundle_types.specs.declared.info.BundleInfo.{BundleInfo}
 use Rattle.link_bundle_blocks.specs.Bundle.{verdict, bundle_goes}
 use Rattle.link_run.specs.Made.{Made, tool_of}
 use Rattle.link_run.proofs.Ends.{take-append}
-use Rattle.link_run_over_bundles.specs.Bundles.{Packed, Refusal, Longer, Faulty, Rest, Divided, IsOpen, refused_by, divided_by, divided, with_bundles}
-use Rattle.link_run_over_bundles.specs.Telling.{SoFar, BundleTelling, between, come_in, stop_by, with_run, told_of}
-use Rattle.link_run_over_bundles.proofs.Dividing.{front_more, none_open, whole_stops, faulty_stops, within_limit, beyond_limit, refused_so, divided_none, divided_front}
-use Rattle.link_run_over_bundles.proofs.Divisions.{IsRefused, StaysDivided, stays_divided}
-use Rattle.link_run_over_bundles.proofs.Outcomes.{texts_going, unshown_going, told_same}
+use Rattle.link_run_over_bundle_files.specs.Bundles.{Packed, Refusal, Longer, Faulty, Rest, Divided, IsOpen, refused_by, divided_by, divided, with_bundles}
+use Rattle.link_run_over_bundle_files.specs.Telling.{SoFar, BundleTelling, between, come_in, stop_by, with_run, told_of}
+use Rattle.link_run_over_bundle_files.proofs.Dividing.{front_more, none_open, whole_stops, faulty_stops, within_limit, beyond_limit, refused_so, divided_none, divided_front}
+use Rattle.link_run_over_bundle_files.proofs.Divisions.{IsRefused, StaysDivided, stays_divided}
+use Rattle.link_run_over_bundle_files.proofs.Outcomes.{texts_going, unshown_going, told_same}
 use Rattle.link_tools_laws.specs.Prefix.{HasPrefixTexts}
 use Rattle.link_tools_laws.proofs.Prefixes.{AreFronts, fronts_same, fronts_trans, MadeOn, prefixed}
 

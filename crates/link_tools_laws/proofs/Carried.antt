@@ -14,7 +14,7 @@ use Rattle.link_session_rules.specs.Heads.{JudgedHead}
 use Rattle.link_run.proofs.Continued.{entry}
 use Rattle.link_run_over_transfers.specs.Walk.{head_at}
 use Rattle.link_run_judge.specs.Transfers.{Transfer, after_message}
-use Rattle.link_run_over_bundles.specs.Bundles.{Packed, Rest, Divided}
+use Rattle.link_run_over_bundle_files.specs.Bundles.{Packed, Rest, Divided}
 use Rattle.link_tool_check.specs.Checking.{judged}
 use Rattle.link_tool_pack.specs.Packing.{segment_size, sending}
 use Rattle.link_tool_pack.specs.Segments.{Sending, cutting_of, cut_at, segment_bytes, segments_of}

@@ -20,7 +20,7 @@ use Rattle.link_session_rules.specs.MessageRules.{broken_rules, judged_rules, le
 use Rattle.link_session_rules.specs.declared.rule.MessageRule.{MessageRule}
 use Rattle.link_report.specs.Judgement.{judged_length, judged_data}
 use Rattle.link_report.specs.declared.fault.Fault.TheVariants.{Order}
-use Rattle.link_report_rules.specs.{Names.rule_level, declared.line.RuleText.RuleText}
+use Rattle.link_report_broken_rules.specs.{Names.rule_level, declared.line.RuleText.RuleText}
 use Rattle.link_run.specs.Made.{StreamStop, stop_of}
 use Rattle.link_run_over_transfers.specs.Walk.{head_at, WalkEvent, MessageHead, content_events, Walked, none_walked, with_next, walked_of, end_events, stop_by, told_of}
 use Rattle.link_run_judge.specs.{Transfers.Transfer, Unpacking.Told}
@@ -34,7 +34,7 @@ use Rattle.link_tools_laws.proofs.Same.{accepted_in_order, all_kept, not_stray, 
 use Rattle.link_tools_laws.proofs.Walks.{walk_told, heads_grow, going, content_none, walk_events, walk_is}
 use Rattle.link_tools_laws.proofs.{Prefixes.front_first, SameRules.status_clean}
 use Rattle.link_tools_laws.proofs.Whole.{AreRead, reading_read}
-use Rattle.link_report_rules.specs.declared.rule.BrokenRule.TheVariants as rule
+use Rattle.link_report_broken_rules.specs.declared.rule.BrokenRule.TheVariants as rule
 use Rattle.link_session_rules.specs.declared.rule.MessageRule.TheVariants as message_rule
 
 -- ---- closed transfers that break no rule of level `must`

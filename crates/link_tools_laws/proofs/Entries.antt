@@ -15,8 +15,8 @@ use Rattle.link_bundle_types.specs.declared.info.BundleInfo.{BundleInfo}
 use Rattle.link_bundle_blocks.specs.Bundle.{verdict, bundle_goes}
 use Rattle.link_transfer.specs.{Chunks.chunk_at, Cutting.{Cutting, announcement, due}}
 use Rattle.link_run.proofs.Continued.{entry}
-use Rattle.link_run_over_bundles.specs.Bundles.{Packed, Refusal, Rest, Divided, bundle_prefix, judged_front, accepted_by, divided_by, divided_in, divided}
-use Rattle.link_run_over_bundles.proofs.{Dividing.{whole_stops, some_stopped}, Outcomes.whole_of}
+use Rattle.link_run_over_bundle_files.specs.Bundles.{Packed, Refusal, Rest, Divided, bundle_prefix, judged_front, accepted_by, divided_by, divided_in, divided}
+use Rattle.link_run_over_bundle_files.proofs.{Dividing.{whole_stops, some_stopped}, Outcomes.whole_of}
 use Rattle.link_tool_pack.specs.Segments.{Sending, cutting_of, cut_at, flags_of, segment_bytes, segments_from, segments_of}
 use Rattle.link_tool_pack.specs.Packing.{prelude_bytes, sending, transfer_bytes, end_bytes, packing_by}
 use Rattle.link_tools_laws.specs.Ranges.{OptionsFit}

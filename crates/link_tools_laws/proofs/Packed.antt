@@ -14,7 +14,7 @@ use Rattle.link_run_over_transfers.proofs.Heads.{heads_clean}
 use Rattle.link_run_judge.specs.{Transfers.Transfer, Unpacking.{parts_of, judgement_of}}
 use Rattle.link_run_judge.proofs.Texts.{parts_more}
 use Rattle.link_tool_list.specs.Listing.{listing_of, message_lines}
-use Rattle.link_run_over_bundles.specs.Bundles.{Packed, Divided, divided, Rest}
+use Rattle.link_run_over_bundle_files.specs.Bundles.{Packed, Divided, divided, Rest}
 use Rattle.link_tool_pack.specs.Packing.{packing_of, pack_tool, sending, transfer_bytes}
 use Rattle.link_tool_pack.specs.Segments.{cutting_of, Sending, cut_at, segment_bytes, segments_from}
 use Rattle.link_tools_laws.specs.{Ranges.{OptionsFit, InputFits}, RoundTrip.{all, good_lines, UnpacksToBundles}}

@@ -17,10 +17,10 @@ use Rattle.link_transfer.proofs.{Joining.IsJoinerAt-none, Due.chunk_left}
 use Rattle.link_session_rules.specs.{Heads.JudgedHead, MessageRules.broken_rules}
 use Rattle.link_session_rules.specs.{Lengths.{segments_of, peer_transfer}, Flags.contact_flags}
 use Rattle.link_session_rules.specs.TransferRules.{broken_transfer_rules, length_item, length_differs, length_of_one_segment}
-use Rattle.link_report_rules.specs.declared.line.RuleText.{RuleText}
+use Rattle.link_report_broken_rules.specs.declared.line.RuleText.{RuleText}
 use Rattle.link_run_over_transfers.specs.Walk.{head_at, WalkEvent, Data, Whole, data_events, content_events, walked_of, end_events}
 use Rattle.link_run_judge.specs.Transfers.{Transfer}
-use Rattle.link_run_over_bundles.specs.Bundles.{Packed, Divided, divided}
+use Rattle.link_run_over_bundle_files.specs.Bundles.{Packed, Divided, divided}
 use Rattle.link_tool_check.specs.Checking.{judged, Begun, begun_by, closed_rules, latest_with}
 use Rattle.link_tool_check.specs.{BundleRules.bundle_rules, Lines.at_offset}
 use Rattle.link_tool_pack.specs.{Packing.{segment_size, sending}, Segments.{Sending, cut_at}}
@@ -34,8 +34,8 @@ use Rattle.link_tools_laws.proofs.Placed.{broken_from, Placed, is_closed, passin
 use Rattle.link_tools_laws.proofs.{Same.{not_stray, taken_more, unpacked_in_order}, Whole.reading_read}
 use Rattle.link_tools_laws.proofs.Walks.{going, walk_events, taken_by, walk_is}
 use Rattle.link_wire.specs.declared.message.Message.TheVariants as message
-use Rattle.link_report_rules.specs.declared.rule.BrokenRule.TheVariants as rule
-use Rattle.link_report_rules.specs.declared.rule.BundlePlace.TheVariants as place
+use Rattle.link_report_broken_rules.specs.declared.rule.BrokenRule.TheVariants as rule
+use Rattle.link_report_broken_rules.specs.declared.rule.BundlePlace.TheVariants as place
 use Rattle.link_tools_laws.proofs.SameRules as same
 
 -- ---- the messages break no rule of messages

@@ -17,8 +17,8 @@ use Rattle.link_session_rules.specs.{Heads.JudgedHead, Flags.contact_flags, Tran
 use Rattle.link_session_rules.specs.TransferRules.{broken_transfer_rules, length_item, length_differs, length_of_one_segment}
 use Rattle.link_session_rules.specs.declared.rule.MessageRule.{MessageRule}
 use Rattle.link_session_rules.specs.declared.rule.TransferRule.TheVariants.{Unfinished}
-use Rattle.link_report_rules.specs.declared.line.RuleText.{RuleText}
-use Rattle.link_report_rules.specs.declared.rule.BrokenRule.{BrokenRule}
+use Rattle.link_report_broken_rules.specs.declared.line.RuleText.{RuleText}
+use Rattle.link_report_broken_rules.specs.declared.rule.BrokenRule.{BrokenRule}
 use Rattle.link_run.specs.Writers.{on_output}
 use Rattle.link_run.proofs.Runs.{texts_as}
 use Rattle.link_run_over_transfers.specs.Saying.{kept_after, said_from}
@@ -35,8 +35,8 @@ use Rattle.link_tools_laws.proofs.Prefixes.{IsFront, front_first, front_after, f
 use Rattle.link_tools_laws.proofs.Walks.{Follows, AllFollow}
 use Rattle.link_wire.specs.declared.message.Message.TheVariants as message
 use Rattle.link_transfer.specs.declared.joiner.Turn.TheVariants as turn
-use Rattle.link_report_rules.specs.declared.rule.BrokenRule.TheVariants as rule
-use Rattle.link_report_rules.specs.declared.rule.BundlePlace.TheVariants as place
+use Rattle.link_report_broken_rules.specs.declared.rule.BrokenRule.TheVariants as rule
+use Rattle.link_report_broken_rules.specs.declared.rule.BundlePlace.TheVariants as place
 
 -- ---- the rules that are broken in events, whether or not they have a line
 

@@ -15,7 +15,7 @@ use Rattle.link_bundle_blocks.specs.Bundle.{verdict, state_of, is_going, bundle_
 use Rattle.link_bundle_blocks.proofs.Lengths.{FaultLasts-holds, TrailingLasts-holds}
 use Rattle.link_session_rules.specs.TransferRules.{broken_transfer_rules}
 use Rattle.link_report.specs.declared.judgement.Judgement.TheVariants.{Good}
-use Rattle.link_report_rules.specs.declared.line.RuleText.{RuleText}
+use Rattle.link_report_broken_rules.specs.declared.line.RuleText.{RuleText}
 use Rattle.link_run.specs.{Made.{StreamStop, Made, whole_by, stop_of}, Run.Outcome}
 use Rattle.link_run.specs.Writers.{on_output}
 use Rattle.link_run.proofs.Runs.{texts_as}
@@ -23,9 +23,9 @@ use Rattle.link_run_over_transfers.specs.Walk.{WalkEvent, Walked, with_next, non
 use Rattle.link_run_over_transfers.specs.declared.consumer.Manner.{Manner}
 use Rattle.link_run_judge.specs.Transfers.{Transfer}
 use Rattle.link_run_judge.specs.Unpacking.{parts_of, judgement_of, is_good, Told, told_after, unpack_tool}
-use Rattle.link_run_over_bundles.specs.Bundles.{Packed, bundle_limit, bundle_prefix, divided}
-use Rattle.link_run_over_bundles.proofs.{Dividing.{divided_none, divided_whole}, Divisions.stopped_lasts}
-use Rattle.link_run_over_bundles.proofs.Outcomes.{told_as}
+use Rattle.link_run_over_bundle_files.specs.Bundles.{Packed, bundle_limit, bundle_prefix, divided}
+use Rattle.link_run_over_bundle_files.proofs.{Dividing.{divided_none, divided_whole}, Divisions.stopped_lasts}
+use Rattle.link_run_over_bundle_files.proofs.Outcomes.{told_as}
 use Rattle.link_tool_blocks.specs.Bundles.{whole_lines, bundle_lines, bundle_blocks_telling}
 use Rattle.link_tool_blocks.specs.Showing.{lines_of, order_line_of, blocks_tool}
 use Rattle.link_tool_check.specs.{BundleRules.bundle_rules, Bundles.bundle_check_telling}
@@ -38,8 +38,8 @@ use Rattle.link_tools_laws.proofs.Cuts.{reading_size, order_size, every_byte}
 use Rattle.link_tools_laws.proofs.Walks.{closed_at_end, follow_both, reading_told, end_follows, content_none, going, walk_is}
 use Rattle.link_tools_laws.proofs.Same.{clean_end, clean_told, every_told}
 use Rattle.link_tools_laws.proofs.Whole.{AreWhole, reading_read}
-use Rattle.link_report_rules.specs.declared.rule.BrokenRule.TheVariants as rule
-use Rattle.link_report_rules.specs.declared.rule.BundlePlace.TheVariants as place
+use Rattle.link_report_broken_rules.specs.declared.rule.BrokenRule.TheVariants as rule
+use Rattle.link_report_broken_rules.specs.declared.rule.BundlePlace.TheVariants as place
 
 -- ---- a good bundle is its own shortest prefix
 

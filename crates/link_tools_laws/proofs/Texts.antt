@@ -21,7 +21,7 @@ use Rattle.link_run_judge.specs.Unpacking.{is_selected, parts_of, Told, transfer
 use Rattle.link_run_judge.proofs.{Events.told_push, Texts.parts_more, Effects.comes_does}
 use Rattle.link_run_judge.proofs.Heads.{kind_of, transfers_same, transfer_begins, transfer_continues}
 use Rattle.link_tool_list.specs.Listing.{contact_lines, message_lines, listed_lines, listing_of, listing_by, list_tool}
-use Rattle.link_run_over_bundles.specs.Bundles.{Packed}
+use Rattle.link_run_over_bundle_files.specs.Bundles.{Packed}
 use Rattle.link_tool_blocks.specs.{BlockLines.block_lines, Lister.end_due, LineLaws.lines_grow}
 use Rattle.link_tool_blocks.specs.Bundles.{whole_lines, bundle_lines, bundle_blocks_telling, bundle_blocks_tool}
 use Rattle.link_tool_blocks.specs.Showing.{transfer_lines, lines_of, order_line_of, unpacking_by, blocks_telling, blocks_tool}

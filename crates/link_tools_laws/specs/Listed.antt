@@ -6,7 +6,7 @@ use Rattle.link_wire.specs.declared.message.Message.TheVariants.{SessTerm}
 use Rattle.link_transfer.specs.Chunks.{chunk_at, chunk_count}
 use Rattle.link_report.specs.Message.{contact_text, message_text}
 use Rattle.link_tool_list.specs.Listing.{list_tool}
-use Rattle.link_run_over_bundles.specs.Bundles.{Packed, divided}
+use Rattle.link_run_over_bundle_files.specs.Bundles.{Packed, divided}
 use Rattle.link_tool_pack.specs.Packing.{segment_size, sending}
 use Rattle.link_tool_pack.specs.Segments.{Sending, cut_at, flags_of}
 

@@ -5,7 +5,7 @@ use Rattle.link_tool_option_types.specs.declared.pack.PackOptions.{PackOptions}
 use Rattle.link_report.specs.Transfer.{transfer_text}
 use Rattle.link_report.specs.declared.judgement.Judgement.TheVariants.{Good}
 use Rattle.link_run_judge.specs.Unpacking.{unpack_tool}
-use Rattle.link_run_over_bundles.specs.Bundles.{Packed, divided}
+use Rattle.link_run_over_bundle_files.specs.Bundles.{Packed, divided}
 
 -- `unpack` without options: all data of all transfers
 abbrev pub all : Wanted

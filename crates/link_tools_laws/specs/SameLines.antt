@@ -5,7 +5,7 @@ use Rattle.link_tool_option_types.specs.declared.blocks.BlockOptions.{BlockOptio
 use Rattle.link_bundle_blocks.specs.Bundle.{verdict}
 use Rattle.link_run.specs.Writers.{on_output}
 use Rattle.link_run_judge.specs.Unpacking.{unpack_tool}
-use Rattle.link_run_over_bundles.specs.Bundles.{Packed}
+use Rattle.link_run_over_bundle_files.specs.Bundles.{Packed}
 use Rattle.link_tool_blocks.specs.Bundles.{whole_lines, bundle_blocks_tool}
 use Rattle.link_tool_blocks.specs.Showing.{blocks_tool}
 use Rattle.link_tools_laws.specs.RoundTrip.{all}

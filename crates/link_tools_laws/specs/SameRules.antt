@@ -6,10 +6,10 @@ use Rattle.link_tool_option_types.specs.declared.limits.PeerLimits.{PeerLimits}
 use Rattle.link_bundle_blocks.specs.Bundle.{verdict}
 use Rattle.link_run.specs.Run.{Outcome}
 use Rattle.link_run.specs.Writers.{on_output}
-use Rattle.link_run_over_bundles.specs.Bundles.{Packed}
-use Rattle.link_report_rules.specs.declared.{line.RuleText.RuleText, rule.BrokenRule.BrokenRule}
-use Rattle.link_report_rules.specs.declared.rule.BrokenRule.TheVariants.{Message, Transfer, Bundle}
-use Rattle.link_report_rules.specs.declared.rule.BundlePlace.TheVariants as place
+use Rattle.link_run_over_bundle_files.specs.Bundles.{Packed}
+use Rattle.link_report_broken_rules.specs.declared.{line.RuleText.RuleText, rule.BrokenRule.BrokenRule}
+use Rattle.link_report_broken_rules.specs.declared.rule.BrokenRule.TheVariants.{Message, Transfer, Bundle}
+use Rattle.link_report_broken_rules.specs.declared.rule.BundlePlace.TheVariants as place
 use Rattle.link_tool_check.specs.BundleRules.{bundle_rules}
 use Rattle.link_tool_check.specs.Bundles.{broken_bundles, bundle_check_tool}
 use Rattle.link_tool_check.specs.Checking.{check_tool}

@@ -1,7 +1,7 @@
 //! Answers to a transfer: the example of RFC 9174 section 5.2.3.
 
+use link_transfer_answer_judge::{Answer, AnswerFault, Sent};
 use link_wire::{END, START};
-use link_wire_answers::{Answer, AnswerFault, Sent};
 
 /// An XFER_ACK of transfer 7.
 fn ack(flags: u8, length: u64) -> Answer {

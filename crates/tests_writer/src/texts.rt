@@ -3,7 +3,7 @@
 use link_bundle_types::{EidForm, EidView};
 use link_report::{Line, ReasonOf, put_eid, reason_name};
 use link_report_blocks::{block_type_name, report_reason_name};
-use link_report_eids::{TextFault, read_eid_text};
+use link_report_eid_parser::{TextFault, read_eid_text};
 use std::process::Abort;
 
 /// The endpoint ID of a form and a name.

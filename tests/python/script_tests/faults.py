@@ -1,4 +1,4 @@
-"""Tests of scripts/faults. tests/gate/faulty-streams has those of the files that it writes."""
+"""Tests of scripts/faults. tests/gate/faulty-examples has those of the files that it writes."""
 
 import os
 import shutil

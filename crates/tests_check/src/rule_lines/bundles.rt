@@ -3,7 +3,7 @@
 use super::messages::{MAX, expect};
 use link_bundle_data::Integer;
 use link_bundle_rules::{BundleRule as Rule, Endpoint, Level};
-use link_report_rules::{BrokenRule, BundlePlace};
+use link_report_broken_rules::{BrokenRule, BundlePlace};
 use std::process::Abort;
 
 /// A rule, and the line of a bundle that breaks it. The bundle is the first of an input.

@@ -1,6 +1,6 @@
 //! The lines of the rules of messages. They are those of tests/python/rows.
 
-use link_report_rules::{BrokenRule, RuleText};
+use link_report_broken_rules::{BrokenRule, RuleText};
 use link_session_rules::{AnswerFault, Level, MessageRule as Rule};
 use link_transfer::OrderFault;
 use link_wire::{TEXT_MAX, Text};

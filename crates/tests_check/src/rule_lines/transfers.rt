@@ -2,7 +2,7 @@
 
 use super::messages::{MAX, expect};
 use link_bundle_types::BundleFault;
-use link_report_rules::BrokenRule;
+use link_report_broken_rules::BrokenRule;
 use link_session_rules::TransferRule as Rule;
 
 /// A rule, and the line of a transfer that breaks it. The transfer has the ID 0 and begins at 38.

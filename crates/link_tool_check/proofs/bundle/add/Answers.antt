@@ -4,7 +4,7 @@ use Rattle.link_bundle_blocks.specs.declared.block.CanonicalBlock.{CanonicalBloc
 use Rattle.link_bundle_data.specs.BlockData.{BlockData}
 use Rattle.link_bundle_data.specs.declared.values.DataFault.{DataFault}
 use Rattle.link_report_blocks.specs.Fits.{WordsFit}
-use Rattle.link_bundle_data_reader.specs.DataReader.{read_size}
+use Rattle.link_bundle_data_in_pieces.specs.DataReader.{read_size}
 use Rattle.link_bundle_rules.specs.ReadBundle.{malformed_at, long_head_at}
 use Rattle.link_tool_check.proofs.bundle.add.Goals as goal
 

@@ -1,6 +1,6 @@
 use Rattle.std.proofs.Common.{◌++◌, ap, sym, arith}
 use Rattle.link_bundle_blocks.specs.Bundle.{blocks_in}
-use Rattle.link_bundle_data_reader.proofs.Reading.{lies_within}
+use Rattle.link_bundle_data_in_pieces.proofs.Reading.{lies_within}
 use Rattle.link_run.specs.Writers.{on_output}
 use Rattle.link_run_judge.proofs.Counts.{on_ok}
 use Rattle.link_tool_blocks.specs.LineLaws.{line_more}

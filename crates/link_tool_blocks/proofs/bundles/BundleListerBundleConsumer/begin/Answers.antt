@@ -1,4 +1,4 @@
-use Rattle.link_run_over_bundles.proofs.Told.{told_none}
+use Rattle.link_run_over_bundle_files.proofs.Told.{told_none}
 use Rattle.link_tool_blocks.proofs.BundleTexts.{says_none}
 use Rattle.link_tool_blocks.proofs.bundles.BundleListerBundleConsumer.begin.Goals as goal
 

@@ -1,6 +1,6 @@
 use Rattle.std.proofs.Common.{ap}
 use Rattle.link_run.specs.Writers.{on_output}
-use Rattle.link_run_over_bundles.proofs.Told.{told_none}
+use Rattle.link_run_over_bundle_files.proofs.Told.{told_none}
 use Rattle.link_tool_blocks.proofs.BundleTexts.{between_lines}
 use Rattle.link_tool_blocks.proofs.bundles.BundleListerBundleConsumer.end.Goals as goal
 

@@ -1,6 +1,6 @@
 use Rattle.std.proofs.Common.{sym, refl}
 use Rattle.link_bundle_types.specs.BundleView.{viewed_info}
-use Rattle.link_run_over_bundles.proofs.Told.{told_known}
+use Rattle.link_run_over_bundle_files.proofs.Told.{told_known}
 use Rattle.link_tool_blocks.proofs.BundleTexts.{told_on, told_lost, told_whole}
 use Rattle.link_tool_blocks.proofs.bundles.BundleListerBundleConsumer.run.Goals as goal
 

@@ -1,6 +1,6 @@
 use Rattle.std.proofs.Common.{ap, sym, refl, ◌++◌, length}
 use Rattle.link_run.specs.Writers.{on_output}
-use Rattle.link_run_over_bundles.proofs.Told.{told_none}
+use Rattle.link_run_over_bundle_files.proofs.Told.{told_none}
 use Rattle.link_tool_blocks.specs.Bundles.{bundle_lines}
 use Rattle.link_tool_blocks.specs.LineLaws.{lines_same}
 use Rattle.link_tool_blocks.proofs.bundles.BundleListerBundleConsumer.stop.Goals as goal

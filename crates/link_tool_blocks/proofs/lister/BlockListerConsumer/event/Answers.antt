@@ -8,7 +8,7 @@ use Rattle.link_transfer.specs.declared.joiner.Turn.{Turn}
 use Rattle.link_run_judge.specs.Transfers.{Transfer}
 use Rattle.link_run_judge.specs.Unpacking.{order_line, good_due, transfers_at, told_after}
 use Rattle.link_run_judge.proofs.{Counts.on_ok, Effects.comes_does}
-use Rattle.link_run_over_bundles.proofs.Told.{told_then, told_part}
+use Rattle.link_run_over_bundle_files.proofs.Told.{told_then, told_part}
 use Rattle.link_tool_blocks.specs.{Lister.{IsBlockListerAt, end_due}, Showing.unpacking_by}
 use Rattle.link_tool_blocks.specs.declared.lister.BlockLister.{BlockLister}
 use Rattle.link_tool_blocks.specs.declared.transfer.TransferBlocks.{TransferBlocks}

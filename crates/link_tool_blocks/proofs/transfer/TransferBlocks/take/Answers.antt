@@ -1,7 +1,7 @@
 use Rattle.std.proofs.Common.{◌≡◌, true, sym, refl, ap, ◌∙◌, append-nil, length-append, arith}
 use Rattle.std.proofs.lemmas.Bool.{false≢true}
 use Rattle.link_run_judge.specs.Unpacking.{is_selected}
-use Rattle.link_run_over_bundles.proofs.Told.{told_none, told_known}
+use Rattle.link_run_over_bundle_files.proofs.Told.{told_none, told_known}
 use Rattle.link_tool_blocks.proofs.transfer.TransferBlocks.take.Goals as goal
 
 pub returns-then-not-is_selected-clause-gives : goal.returns-then-not-is_selected-clause-gives

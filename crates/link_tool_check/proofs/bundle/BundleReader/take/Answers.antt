@@ -1,5 +1,5 @@
 use Rattle.std.proofs.Common.{length-append, arith}
-use Rattle.link_run_over_bundles.proofs.Told.{told_known}
+use Rattle.link_run_over_bundle_files.proofs.Told.{told_known}
 use Rattle.link_tool_check.proofs.bundle.BundleReader.take.Goals as goal
 
 pub returns-clause-gives : goal.returns-clause-gives

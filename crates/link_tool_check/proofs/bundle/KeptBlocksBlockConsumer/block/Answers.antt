@@ -1,7 +1,7 @@
 use Rattle.std.proofs.Common.{◌++◌, refl, arith}
 use Rattle.link_bundle_blocks.specs.{Blocks.viewed_primary, Bundle.blocks_in}
-use Rattle.link_bundle_data_reader.proofs.Reading.{lies_within}
-use Rattle.link_run_over_bundles.proofs.Told.{told_none}
+use Rattle.link_bundle_data_in_pieces.proofs.Reading.{lies_within}
+use Rattle.link_run_over_bundle_files.proofs.Told.{told_none}
 use Rattle.link_tool_check.proofs.Blocks.{history_begins, history_adds}
 use Rattle.link_tool_check.proofs.bundle.KeptBlocksBlockConsumer.block.Goals as goal
 

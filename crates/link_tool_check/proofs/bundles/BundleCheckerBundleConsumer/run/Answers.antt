@@ -1,7 +1,7 @@
 use Rattle.std.proofs.Common.{◌++◌}
 use Rattle.link_bundle_types.specs.BundleView.{viewed_info}
-use Rattle.link_run_over_bundles.specs.Telling.{with_bytes}
-use Rattle.link_run_over_bundles.proofs.Told.{told_known, told_then}
+use Rattle.link_run_over_bundle_files.specs.Telling.{with_bytes}
+use Rattle.link_run_over_bundle_files.proofs.Told.{told_known, told_then}
 use Rattle.link_tool_check.proofs.BundleTexts.{tells_lost, tells_on}
 use Rattle.link_tool_check.proofs.bundles.BundleCheckerBundleConsumer.run.Goals as goal
 

@@ -1,14 +1,14 @@
 use Rattle.std.proofs.Common.{◌≡◌, Bool, Option, Some, ◌+◌, ◌<◌, ◌≤◌, ◌^◌, ◌++◌, ◌∷◌, [], length, List, true, false, refl, ap, sym, ◌∙◌, arith}
 use Rattle.std.proofs.lemmas.Bool.{false≢true}
 use Rattle.link_session_rules.specs.Remembered.{IsMessageHistoryAt}
-use Rattle.link_report_rules.specs.declared.line.RuleText.{RuleText}
+use Rattle.link_report_broken_rules.specs.declared.line.RuleText.{RuleText}
 use Rattle.link_run_over_transfers.specs.Telling.{HeadComes, data_ends, viewed_head}
 use Rattle.link_run_over_transfers.specs.Walk.{Head, WalkEvent, ContactHeader, LeftOpen, MessageHead, closes, has_open, is_beginning}
 use Rattle.link_tool_check.specs.Checker.{IsCheckedTransferAtLatest, IsCheckerAt, closed_due, kept_of}
 use Rattle.link_tool_check.specs.Checking.{Begun, begun_by, broken_by, head_rules, judged, with_bytes}
 use Rattle.link_tool_check.specs.declared.checker.Checker.{Checker}
 use Rattle.link_tool_option_types.specs.declared.check.CheckOptions.{CheckOptions}
-use Rattle.link_run_over_bundles.proofs.Told.{on_ok_by}
+use Rattle.link_run_over_bundle_files.proofs.Told.{on_ok_by}
 use Rattle.link_tool_check.proofs.Writing.{part_written, quiet_written, then_written}
 use Rattle.link_tool_check.proofs.Kept.{IsLatestRead, closes_read, data_said, inner_said, known_data, known_inner, known_one, opens_read, read_after, said_one, tells}
 use Rattle.link_tool_check.proofs.checker.CheckerConsumer.event.Given.{Over}

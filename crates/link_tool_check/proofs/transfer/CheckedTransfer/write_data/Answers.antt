@@ -2,8 +2,8 @@ use Rattle.std.proofs.Common.{◌≡◌, [], ◌∷◌, map, Ok, Err, refl, sym,
 use Rattle.link_bundle_types.specs.BundleView.{viewed_info}
 use Rattle.link_bundle_blocks.specs.Bundle.{verdict}
 use Rattle.link_bundle.proofs.Pieces.{verdict_judged}
-use Rattle.link_report_rules.specs.declared.rule.BrokenRule.TheVariants.{Bundle, Transfer}
-use Rattle.link_report_rules.specs.declared.rule.BundlePlace.TheVariants as place
+use Rattle.link_report_broken_rules.specs.declared.rule.BrokenRule.TheVariants.{Bundle, Transfer}
+use Rattle.link_report_broken_rules.specs.declared.rule.BundlePlace.TheVariants as place
 use Rattle.link_tool_check.specs.{BundleRules.bundle_rules, Checker.IsCheckedTransferAt}
 use Rattle.link_tool_check.specs.{Checking.{Begun, data_rules}, Lines.at_offset}
 use Rattle.link_tool_check.proofs.transfer.CheckedTransfer.write_data.Goals as goal

@@ -1,4 +1,4 @@
-use Rattle.link_run_over_bundles.proofs.Told.{told_none}
+use Rattle.link_run_over_bundle_files.proofs.Told.{told_none}
 use Rattle.link_tool_pack.proofs.MoreOutcomes.{nothing_yet}
 use Rattle.link_tool_pack.proofs.more.MorePackerBundleConsumer.begin.Goals as goal
 

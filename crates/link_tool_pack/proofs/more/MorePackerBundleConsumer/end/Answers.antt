@@ -1,5 +1,5 @@
 use Rattle.std.proofs.Common.{refl}
-use Rattle.link_run_over_bundles.proofs.Told.{told_none}
+use Rattle.link_run_over_bundle_files.proofs.Told.{told_none}
 use Rattle.link_tool_pack.proofs.more.MorePackerBundleConsumer.end.Goals as goal
 
 pub returns : goal.returns

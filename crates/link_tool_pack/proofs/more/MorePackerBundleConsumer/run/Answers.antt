@@ -1,6 +1,6 @@
 use Rattle.std.proofs.Common.{◌++◌, refl, ap, ◌∙◌}
 use Rattle.link_bundle_types.specs.BundleView.{viewed_info}
-use Rattle.link_run_over_bundles.specs.Bundles.{Packed}
+use Rattle.link_run_over_bundle_files.specs.Bundles.{Packed}
 use Rattle.link_tool_pack.specs.{More.id_at, MoreRun.more_texts_of}
 use Rattle.link_tool_pack.proofs.{MoreOutcomes.{texts_grown, texts_whole}, Outcomes.{went_on, lost, with_line}}
 use Rattle.link_tool_pack.proofs.more.MorePackerBundleConsumer.run.Goals as goal

@@ -1,5 +1,5 @@
 use Rattle.std.proofs.Common.{ap, ◌∙◌}
-use Rattle.link_run_over_bundles.proofs.Told.{told_known}
+use Rattle.link_run_over_bundle_files.proofs.Told.{told_known}
 use Rattle.link_tool_pack.specs.{More.id_at, MoreRun.more_texts_of}
 use Rattle.link_tool_pack.proofs.{MoreOutcomes.texts_grown, Outcomes.went_on}
 use Rattle.link_tool_pack.proofs.more.MorePackerBundleConsumer.stop.Goals as goal

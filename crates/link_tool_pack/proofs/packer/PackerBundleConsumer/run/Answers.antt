@@ -1,6 +1,6 @@
 use Rattle.std.proofs.Common.{◌++◌, refl}
 use Rattle.link_bundle_types.specs.BundleView.{viewed_info}
-use Rattle.link_run_over_bundles.specs.Bundles.{Packed}
+use Rattle.link_run_over_bundle_files.specs.Bundles.{Packed}
 use Rattle.link_tool_pack.specs.PackRun.{texts_of}
 use Rattle.link_tool_pack.proofs.Outcomes.{grown_at, whole_at, went_on, lost, with_line}
 use Rattle.link_tool_pack.proofs.packer.PackerBundleConsumer.run.Goals as goal

@@ -1,4 +1,4 @@
-use Rattle.link_run_over_bundles.proofs.Told.{told_known}
+use Rattle.link_run_over_bundle_files.proofs.Told.{told_known}
 use Rattle.link_tool_pack.specs.PackRun.{texts_of}
 use Rattle.link_tool_pack.proofs.Outcomes.{grown_at, went_on}
 use Rattle.link_tool_pack.proofs.packer.PackerBundleConsumer.stop.Goals as goal

@@ -1,0 +1,173 @@
+-- The words of rules: what broke a rule.
+
+use Rattle.std.specs.Prelude.{ℕ, ◌==◌, List, [], ◌++◌, map, codes, Option, Some, None, if◌then◌else◌}
+use Rattle.link_bundle_types.specs.declared.fault.BundleFault.{BundleFault}
+use Rattle.link_transfer.specs.declared.fault.OrderFault.{OrderFault}
+use Rattle.link_session_rules.specs.declared.rule.{AnswerFault.AnswerFault, MessageRule.MessageRule}
+use Rattle.link_session_rules.specs.declared.rule.AnswerFault.TheVariants.{NotTheLast, StartRepeats, AfterEnd, AfterRefusal, RefusedAfterEnd}
+use Rattle.link_session_rules.specs.declared.rule.MessageRule.TheVariants as message
+use Rattle.link_session_rules.specs.declared.rule.TransferRule.{TransferRule}
+use Rattle.link_session_rules.specs.declared.rule.TransferRule.TheVariants as transfer
+use Rattle.link_bundle_rules.specs.declared.rule.BundleRule.{BundleRule}
+use Rattle.link_bundle_rules.specs.declared.rule.BundleRule.TheVariants as bundle
+use Rattle.link_bundle_rules.specs.declared.rule.Endpoint.{Endpoint}
+use Rattle.link_bundle_rules.specs.declared.rule.Endpoint.TheVariants.{Destination, Source, ReportTo, PreviousNode, SecuritySource, ReportSource}
+use Rattle.link_report.specs.BundleFault.{code_text}
+use Rattle.link_report.specs.Fault.{order_text}
+use Rattle.link_report.specs.Message.{flags_text}
+use Rattle.link_report.specs.Text.{hex2, hex4, number_text}
+use Rattle.link_report_blocks.specs.Fields as fields
+use Rattle.link_report_blocks.specs.Words.{integer_text}
+use Rattle.link_report_broken_rules.specs.declared.rule.BrokenRule.{BrokenRule}
+use Rattle.link_report_broken_rules.specs.declared.rule.BrokenRule.TheVariants.{Message, Transfer, Bundle}
+
+-- a text with hyphens for its spaces
+unfoldable pub hyphenated : List ℕ → List ℕ
+hyphenated text = map (λ byte. if byte == 0x20 then 0x2d else byte) text
+
+-- a fault of the order of messages, as one word
+unfoldable pub order_words : OrderFault → List ℕ
+order_words fault = codes " fault=" ++ hyphenated (order_text fault)
+
+unfoldable pub answer_text : AnswerFault → List ℕ
+answer_text NotTheLast = codes "not-the-last"
+answer_text StartRepeats = codes "start-repeats"
+answer_text AfterEnd = codes "after-end"
+answer_text AfterRefusal = codes "after-refusal"
+answer_text RefusedAfterEnd = codes "refused-after-end"
+
+-- the words of a rule of messages
+unfoldable pub message_words : MessageRule → List ℕ
+message_words (message.ContactFlags flags) = flags_text flags
+message_words (message.NodeId size) = number_text (codes " length=") size
+message_words (message.ItemFlags item flags) = number_text (codes " item=") item ++ flags_text flags
+message_words (message.Order fault level) = order_words fault
+message_words (message.BeforeSession type) = codes " type=" ++ hex2 type
+message_words (message.Interleaved id open_id) =
+    number_text (codes " id=") id ++ number_text (codes " open=") open_id
+message_words (message.SegmentFlags flags) = flags_text flags
+message_words (message.TransferId id) = number_text (codes " id=") id
+message_words (message.PeerSegment size limit) =
+    number_text (codes " length=") size ++ number_text (codes " limit=") limit
+message_words (message.PeerTransferAnnounced announced limit) =
+    number_text (codes " announced=") announced ++ number_text (codes " limit=") limit
+message_words (message.PeerTransferLength size limit) =
+    number_text (codes " length=") size ++ number_text (codes " limit=") limit
+message_words (message.AckLength size before) =
+    number_text (codes " length=") size ++ number_text (codes " before=") before
+message_words message.Keepalive = []
+message_words (message.TermFlags flags) = flags_text flags
+message_words (message.NodeName size level) = number_text (codes " length=") size
+message_words (message.KeepaliveInterval interval) = number_text (codes " interval=") interval
+message_words (message.ItemType item type) =
+    number_text (codes " item=") item ++ codes " type=" ++ hex4 type
+message_words (message.TransferIdOrder id) = number_text (codes " id=") id
+message_words (message.AnswerOrder id fault) =
+    number_text (codes " id=") id ++ codes " fault=" ++ answer_text fault
+message_words (message.AfterReject type level) = codes " type=" ++ hex2 type
+message_words (message.RejectKnown reason header) =
+    codes " reason=" ++ hex2 reason ++ codes " header=" ++ hex2 header
+message_words (message.Reason type reason) =
+    codes " type=" ++ hex2 type ++ codes " reason=" ++ hex2 reason
+message_words (message.TermOrder type) = codes " type=" ++ hex2 type
+
+-- the code of a fault of a bundle, and its offset in the bundle
+unfoldable pub fault_words : BundleFault → ℕ → List ℕ
+fault_words fault byte = codes " code=" ++ code_text fault ++ number_text (codes " byte=") byte
+
+unfoldable pub transfer_words : TransferRule → List ℕ
+transfer_words (transfer.Unfinished size) = number_text (codes " length=") size
+transfer_words transfer.LengthItem = []
+transfer_words (transfer.LengthDiffers announced size) =
+    number_text (codes " announced=") announced ++ number_text (codes " length=") size
+transfer_words transfer.LengthOfOneSegment = []
+transfer_words (transfer.Bundle fault byte) = fault_words fault byte
+transfer_words (transfer.NotRead fault byte) = fault_words fault byte
+
+-- the flags of a bundle or of a block, as in the lines of blocks
+unfoldable pub control_words : ℕ → List ℕ
+control_words flags = codes " flags=" ++ fields.flags_text flags
+
+unfoldable pub endpoint_name : Endpoint → List ℕ
+endpoint_name Destination = codes "destination"
+endpoint_name Source = codes "source"
+endpoint_name ReportTo = codes "report-to"
+endpoint_name (PreviousNode block) = codes "previous-node"
+endpoint_name (SecuritySource block) = codes "security-source"
+endpoint_name ReportSource = codes "report-source"
+
+-- the number of the block that has the endpoint ID, if more than one may have it
+unfoldable pub endpoint_block : Endpoint → List ℕ
+endpoint_block (PreviousNode block) = number_text (codes " block=") block
+endpoint_block (SecuritySource block) = number_text (codes " block=") block
+endpoint_block _ = []
+
+-- a hop limit, if the data of the block says one
+unfoldable pub limit_words : Option ℕ → List ℕ
+limit_words None = []
+limit_words (Some limit) = number_text (codes " limit=") limit
+
+-- a target, if there is one
+unfoldable pub target_words : Option ℕ → List ℕ
+target_words None = []
+target_words (Some target) = number_text (codes " target=") target
+
+unfoldable pub bundle_words : BundleRule → List ℕ
+bundle_words (bundle.LongHead byte level) = number_text (codes " byte=") byte
+bundle_words (bundle.BundleFlags flags) = control_words flags
+bundle_words (bundle.PrimaryCheck level) = []
+bundle_words (bundle.Anonymous flags) = control_words flags
+bundle_words (bundle.RecordReports flags) = control_words flags
+bundle_words (bundle.BlockReports block) = number_text (codes " block=") block
+bundle_words (bundle.BlockFlags block flags) =
+    number_text (codes " block=") block ++ control_words flags
+bundle_words (bundle.DtnName of) = codes " of=" ++ endpoint_name of ++ endpoint_block of
+bundle_words (bundle.Fragment offset size total) =
+    number_text (codes " offset=") offset ++ number_text (codes " length=") size
+    ++ number_text (codes " total=") total
+bundle_words (bundle.WholeFragment total) = number_text (codes " total=") total
+bundle_words (bundle.Age blocks level) = number_text (codes " blocks=") blocks
+bundle_words (bundle.PreviousNode blocks) = number_text (codes " blocks=") blocks
+bundle_words (bundle.HopCount blocks limit) =
+    number_text (codes " blocks=") blocks ++ limit_words limit
+bundle_words (bundle.ConfidentialPrimary block) = number_text (codes " block=") block
+bundle_words (bundle.Hops limit count) =
+    number_text (codes " limit=") limit ++ number_text (codes " count=") count
+bundle_words (bundle.BlockData block byte) =
+    number_text (codes " block=") block ++ number_text (codes " byte=") byte
+bundle_words (bundle.DataNotRead block byte) =
+    number_text (codes " block=") block ++ number_text (codes " byte=") byte
+bundle_words (bundle.Record byte) = number_text (codes " byte=") byte
+bundle_words bundle.SourceNode = []
+bundle_words (bundle.PreviousNodeId block level) = number_text (codes " block=") block
+bundle_words (bundle.Expired lifetime age) =
+    number_text (codes " lifetime=") lifetime ++ number_text (codes " age=") age
+bundle_words (bundle.BlockType block type) =
+    number_text (codes " block=") block ++ number_text (codes " type=") type
+bundle_words (bundle.RecordType type) = number_text (codes " type=") type
+bundle_words bundle.ReportTimes = []
+bundle_words bundle.ReportEmpty = []
+bundle_words (bundle.ReportReason reason) = number_text (codes " reason=") reason
+bundle_words bundle.ReportSource = []
+bundle_words (bundle.SecurityTargets block target level) =
+    number_text (codes " block=") block ++ target_words target
+bundle_words (bundle.SecurityTwice block target) =
+    number_text (codes " block=") block ++ number_text (codes " target=") target
+bundle_words (bundle.SecurityFlags block flags) =
+    number_text (codes " block=") block ++ control_words flags
+bundle_words (bundle.SecurityContext block context) =
+    number_text (codes " block=") block ++ codes " context=" ++ integer_text context
+bundle_words (bundle.IntegrityTarget block target) =
+    number_text (codes " block=") block ++ number_text (codes " target=") target
+bundle_words (bundle.ConfidentialTarget block target) =
+    number_text (codes " block=") block ++ number_text (codes " target=") target
+bundle_words (bundle.ConfidentialFlags block flags) =
+    number_text (codes " block=") block ++ control_words flags
+bundle_words (bundle.ConfidentialContext block) = number_text (codes " block=") block
+bundle_words (bundle.SharedTarget block target) =
+    number_text (codes " block=") block ++ number_text (codes " target=") target
+
+unfoldable pub rule_words : BrokenRule → List ℕ
+rule_words (Message rule) = message_words rule
+rule_words (Transfer id rule) = transfer_words rule
+rule_words (Bundle place rule) = bundle_words rule

@@ -1,5 +1,0 @@
-use Rattle.link_report_eids.proofs.Texts.{same_eid}
-use Rattle.link_report_eids.proofs.laws.one_text.Goals as goal
-
-pub returns : goal.returns
-returns c = same_eid

@@ -1,0 +1,20 @@
+-- Relations: what a tool is told of the blocks of a bundle, and what it says of them.
+use Rattle.std.specs.Prelude.{◌≡◌, ℕ, List, ◌++◌}
+use Rattle.link_bundle_blocks.specs.Blocks.{Block, PrimaryOf, CanonicalOf}
+use Rattle.link_bundle_data_in_pieces.specs.DataReader.{IsDataReaderAt, IsDataReaderIn}
+use Rattle.link_bundle_data_in_pieces.specs.declared.data.DataReader.{DataReader}
+
+-- the data of this block, if it has any, was read
+abbrev pub HasReadData : DataReader → (seen : List ℕ) → Block → Type 0
+HasReadData reader seen (PrimaryOf primary check end) = Unit {0}
+HasReadData reader seen (CanonicalOf block) = IsDataReaderIn reader seen block
+
+-- the reader has read the bytes `seen` of a bundle, which end with this block
+pub record HasReadTo (reader : DataReader) (seen : List ℕ) (block : Block) : Type 0 where
+  pub reading : IsDataReaderAt reader seen
+  pub whole : HasReadData reader seen block
+
+-- what a tool writes for more bytes begins with what it writes for fewer
+pub record SaysMore (says : List ℕ → List ℕ) (before more : List ℕ) : Type 0 where
+  pub text : List ℕ
+  pub is : says (before ++ more) ≡ says before ++ text

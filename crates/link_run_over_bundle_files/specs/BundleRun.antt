@@ -1,0 +1,209 @@
+-- Relations, but for IsNewBundleWalk, IsBundleWalkAt, by_stage: the state of a walk over bundles,
+-- and what a stretch of bytes shows of the current bundle.
+use Rattle.std.specs.Prelude.{◌≡◌, ℕ, ◌+◌, ◌-◌, ◌^◌, ◌<◌, ◌≤◌, Bool, true, false, List, [], ◌++◌, length, take, Option, Some, None, if◌then◌else◌, Result, Ok}
+use Rattle.link_wire.specs.Device.{Input as Seen, Output}
+use Rattle.link_wire.specs.Source.{window_of, IsSourceAt, IsLive}
+use Rattle.link_wire.specs.declared.{IoFault.IoFault, Source.Source}
+use Rattle.link_bundle_blocks.specs.Bundle.{verdict, blocks_in, bundle_goes}
+use Rattle.link_bundle.specs.Scan.{HasScanned}
+use Rattle.link_bundle.specs.declared.scan.BundleScan.{BundleScan}
+use Rattle.link_bundle_types.specs.declared.fault.State.{State}
+use Rattle.link_bundle_types.specs.declared.fault.State.TheVariants as state
+use Rattle.link_bundle_types.specs.declared.info.BundleInfo.{BundleInfo}
+use Rattle.link_report.specs.declared.fault.{Fault.Fault, Fault.TheVariants.Bundle}
+use Rattle.link_run.specs.Made.{StreamStop, with_fault}
+use Rattle.link_run.specs.Run.{Texts, Outcome, ◌then◌, answer_of, progress_after}
+use Rattle.link_run.specs.Writers.{AfterLastWrite}
+use Rattle.link_run.specs.declared.run.{Progress.Progress, Status.Status}
+use Rattle.link_run.specs.declared.writers.Writers.{Writers}
+use Rattle.link_run_over_bundle_files.specs.Bundles.{Refusal, IsOpen, bundle_prefix, divided, with_bundles, size_of}
+use Rattle.link_run_over_bundle_files.specs.Telling.{SoFar, none_yet, BundleTelling, WritesRest, with_run, with_bytes, HasNoEarlierBlockEnd, refusal_fault, lasting, stop_by, IsViewOf}
+use Rattle.link_run_over_bundle_files.specs.declared.{consumer.WholeView.WholeView, current.Current.Current}
+use Rattle.link_run_over_bundle_files.specs.declared.current.Found.{Found}
+use Rattle.link_run_over_bundle_files.specs.declared.current.Found.TheVariants as found
+use Rattle.link_run_over_bundle_files.specs.declared.walk.Stage.{Stage}
+use Rattle.link_run_over_bundle_files.specs.declared.walk.Stage.TheVariants as stage
+
+-- ---- the current bundle
+
+-- exactly these bytes of the bundle have come
+pub record IsCurrentAt (limit : ℕ) (current : Current) (begun : List ℕ) : Type 0 where
+  pub scanned : HasScanned current.scan begun
+  pub opened : IsOpen limit begun
+
+-- The scan has taken the first `count` bytes of a piece after the bytes `begun`. Before each of
+-- them, more bytes were needed.
+pub record HasScannedPart (by_blocks : Bool) (scan : BundleScan) (begun piece : List ℕ) (count : ℕ)
+    : Type 0 where
+  pub some : 0 < count
+  pub scanned : HasScanned scan (begun ++ take count piece)
+  pub wanted : (fewer : ℕ) → fewer < count → bundle_goes (begun ++ take fewer piece) ≡ true
+  pub blocks : HasNoEarlierBlockEnd by_blocks scan begun (take count piece)
+
+-- the bytes `run` of the current bundle are added to what has come so far
+pub record BytesCome (limit : ℕ) (current : Current) (before : SoFar) (place : ℕ) (run : List ℕ)
+    : Type 0 where
+  pub numbered : current.number ≡ length before.bundles
+  pub placed : place ≡ length before.begun
+  pub opened : IsOpen limit before.begun
+  pub some : 0 < length run
+  pub few : length before.bundles + length (before.begun ++ run) < 2 ^ 63
+  pub sized : size_of before.bundles + length (before.begun ++ run) < 2 ^ 63
+
+-- exactly these bytes of the bundle have come, and they are a bundle that the peer takes
+pub record IsWholeBundle (limit : ℕ) (current : Current) (bundle : List ℕ) : Type 0 where
+  pub scanned : HasScanned current.scan bundle
+  pub front : bundle_prefix bundle ≡ bundle
+  pub within : length bundle ≤ limit
+  pub info : BundleInfo
+  pub is : verdict bundle ≡ Ok info
+
+-- the bytes of a run before its last byte, which shows a fault
+abbrev pub before_last : (run : List ℕ) → List ℕ
+before_last run = take (length run - 1) run
+
+-- The bytes `begun` and then `run` are not the start of a bundle that is accepted, whatever
+-- follows. The last byte shows this: before it, the bundle goes on.
+pub record RefusedBundle (limit : ℕ) (by_blocks : Bool) (number : ℕ) (begun run : List ℕ)
+    (fault : Fault)
+    : Type 0 where
+  pub refusal : Refusal
+  pub is : fault ≡ refusal_fault number refusal
+  pub lasts : lasting refusal ≡ true
+  pub divides : (more : List ℕ)
+      → divided limit ((begun ++ run) ++ more)
+      ≡ record {
+        bundles = [];
+        rest = Some (record { accepted = begun ++ before_last run; refusal = refusal });
+      }
+  pub before : (count : ℕ) → count < length run → IsOpen limit (begun ++ take count run)
+  pub blocks : by_blocks ≡ true → blocks_in (begun ++ before_last run) ≡ blocks_in begun
+
+abbrev pub fault_of : Option StreamStop → Option Fault
+fault_of None = None
+fault_of (Some stop) = Some stop.fault
+
+-- what the bytes `run` show of the bundle, after the bytes `begun`
+abbrev pub AfterJudge : (limit : ℕ) → (by_blocks : Bool) → Current → (begun run : List ℕ) → Found
+    → Type 0
+AfterJudge limit by_blocks current begun run found.Part =
+    IsCurrentAt limit current (begun ++ run) × HasNoEarlierBlockEnd by_blocks current.scan begun run
+AfterJudge limit by_blocks current begun run found.Whole =
+    IsWholeBundle limit current (begun ++ run)
+    × HasNoEarlierBlockEnd by_blocks current.scan begun run
+AfterJudge limit by_blocks current begun run (found.Refused fault) =
+    RefusedBundle limit by_blocks current.number begun run fault
+
+-- How many bytes the scan has seen, `after` a run of `count` bytes that show this. The byte that is
+-- past the limit is not scanned.
+abbrev pub AddsSeen : (before count after : ℕ) → Found → Type 0
+AddsSeen before count after (found.Refused fault) = before ≤ after
+AddsSeen before count after _ = (before + count ≡ after) × (after < 2 ^ 63)
+
+-- what the state of the scan shows of the bundle
+abbrev pub found_by : (number : ℕ) → State → Found
+found_by number state.Going = found.Part
+found_by number state.Ended = found.Whole
+found_by number (state.Failed fault offset) = found.Refused (Bundle number offset fault)
+
+-- the view of a bundle that is whole
+abbrev pub IsSomeViewOf : (bundle : List ℕ) → Option WholeView → Type 0
+IsSomeViewOf bundle None = ⊥
+IsSomeViewOf bundle (Some whole) = IsViewOf bundle whole
+
+-- the fault of an input that ends after the bytes `begun` of a bundle, if there are any
+abbrev pub cut_at : (limit number : ℕ) → (begun : List ℕ) → Option Fault
+cut_at limit number begun = fault_of (stop_by number (divided limit begun).rest)
+
+-- what is known of that fault, or that no byte of the bundle has come
+abbrev pub IsCutFault : (limit number : ℕ) → (begun : List ℕ) → Option Fault → Type 0
+IsCutFault limit number begun None = begun ≡ []
+IsCutFault limit number begun (Some fault) = cut_at limit number begun ≡ Some fault
+
+-- ---- the state of a walk
+
+-- one number for the first step, and one for the others
+abbrev pub by_stage : (first others : ℕ) → Stage → ℕ
+by_stage first others stage.Begin = first
+by_stage first others stage.Bundles = others
+
+-- whether what comes before the first bundle was written
+abbrev pub has_begun : Stage → Bool
+has_begun stage.Begin = false
+has_begun stage.Bundles = true
+
+-- exactly this has come
+pub record HasSoFar (limit : ℕ) (knows : SoFar → Type 0) (current : Current) (now : SoFar)
+    : Type 0 where
+  pub number : current.number ≡ length now.bundles
+  pub reading : IsCurrentAt limit current now.begun
+  pub known : knows now
+
+module _ {R : Type 0} (look : R → Seen) (telling : BundleTelling) (knows : SoFar → Type 0)
+    (current : Current) (source : Source R) (history : List ℕ) where
+  -- The history is some bundles, and then bytes of the next one. Exactly these have come.
+  pub record IsBundleWalkAt : Type 0 where
+    pub source_at : IsSourceAt source history
+    pub live : IsLive look source
+    pub so_far : SoFar
+    pub holds : HasSoFar telling.limit knows current so_far
+    -- whatever bytes follow
+    pub divides : (more : List ℕ)
+        → divided telling.limit (history ++ more)
+        ≡ with_bundles so_far.bundles (divided telling.limit (so_far.begun ++ more))
+    pub few : length so_far.bundles + length so_far.begun ≤ length history
+    pub sized : size_of so_far.bundles + length so_far.begun ≤ length history
+
+  -- a run that has not begun was given nothing, and has read nothing
+  pub record IsNewBundleWalk : Type 0 where
+    pub nothing : history ≡ []
+    pub unread : window_of source ≡ []
+    pub source_at : IsSourceAt source []
+    pub live : IsLive look source
+    pub holds : HasSoFar telling.limit knows current none_yet
+
+  abbrev pub IsBundleWalkAtStage : Stage → Type 0
+  IsBundleWalkAtStage stage.Begin = IsNewBundleWalk
+  IsBundleWalkAtStage stage.Bundles = IsBundleWalkAt
+
+-- ---- what the parts of a step do
+
+-- the texts and the status of an input that ends here, with this fault or without one
+abbrev pub ended_by : BundleTelling → SoFar → Option Fault → Outcome
+ended_by telling now None =
+    record { texts = telling.ended now.bundles; status = if telling.good now.bundles then 0 else 1 }
+ended_by telling now (Some fault) =
+    record { texts = with_fault fault (telling.texts now); status = 3 }
+
+module _ {W E : Type 0} (out_look : W → Output) (report_look : E → Output)
+    (telling : BundleTelling) (old new : Writers W E) (before : SoFar) where
+  -- the texts up to `now` were written, and the step is not the last; or a writer failed
+  pub record WritesUpTo (knows : SoFar → Type 0) (current : Current) (now : SoFar)
+      (result : Result Progress IoFault) : Type 0 where
+    pub written : Result (Unit {0}) IoFault
+    pub is : result ≡ progress_after written
+    pub tells : WritesRest out_look report_look (telling.texts before) (telling.texts now)
+        (knows now)
+        old new written
+    pub number : current.number ≡ length now.bundles
+    pub reading : IsCurrentAt telling.limit current now.begun
+
+  -- the texts of an input with this end were written, or a writer failed while writing them
+  pub record WritesEnd (now : SoFar) (why : Option Fault) (answer : Result Status IoFault)
+      : Type 0 where
+    pub texts : Texts
+    pub said : telling.texts before then texts ≡ (ended_by telling now why).texts
+    pub gives : AfterLastWrite out_look report_look old new texts
+        (ended_by telling now why).status answer
+
+  -- what is written for the bytes `run`, which follow the bytes of `before`
+  abbrev pub WritesFound : (knows : SoFar → Type 0) → Current → (run : List ℕ) → Found
+      → Result Progress IoFault → Type 0
+  WritesFound knows current run found.Part result =
+      WritesUpTo knows current (with_bytes before run) result
+  WritesFound knows current run found.Whole result =
+      (info : BundleInfo) × (verdict (before.begun ++ run) ≡ Ok info)
+      × WritesUpTo knows current (with_run before run (Some info)) result
+  WritesFound knows current run (found.Refused fault) result =
+      (answer : Result Status IoFault) × (result ≡ answer_of answer)
+      × WritesEnd (with_bytes before (before_last run)) (Some fault) answer

@@ -1,0 +1,163 @@
+//! The blocks of a bundle, as its bytes come.
+
+ghost use Rattle.std.specs.Prelude.{◌≡◌, ◌+◌, ◌^◌, ◌≤◌, ◌<◌, ◌++◌, ◌∷◌, [], true, List, ℕ, length};
+ghost use Rattle.link_bundle_blocks.specs.Blocks.{IsShortBlock, viewed_block};
+ghost use Rattle.link_bundle_blocks.specs.Bundle.{blocks_in, bundle_goes};
+ghost use Rattle.link_bundle.specs.Scan.{HasScanned, HasJudged, ending, scan_size};
+ghost use Rattle.link_bundle_data_in_pieces.specs.DataReader.{IsDataReaderAt, read_size};
+ghost use Rattle.link_run.specs.Writers.{on_output};
+ghost use Rattle.link_run_over_bundle_files.specs.Blocks.{HasReadTo, SaysMore};
+ghost use Rattle.link_run_over_bundle_files.specs.Telling.{WritesRest};
+
+use link_bundle::{BlockView, BundleScan};
+use link_bundle_data_in_pieces::DataReader;
+use link_cbor::Piecewise;
+use link_run::Writers;
+use link_wire::{IoFault, OutDevice};
+
+/// What a tool keeps of the whole blocks of a bundle, and what it says of each.
+pub trait BlockConsumer {
+    /// What the tool writes to the output for the whole blocks in the first bytes of the bundle
+    /// with this number.
+    ghost says: { ℕ → List ℕ → List ℕ };
+
+    /// The tool's fields agree with the whole blocks in these bytes of a bundle.
+    ghost knows: { Self → List ℕ → Type 0 };
+
+    /// Writes what the tool says of a block. It has ended with the bytes `run`, which follow the
+    /// bytes `before`, and its data was read.
+    fn block<W: OutDevice, E: OutDevice>(
+        &mut self,
+        number: u64,
+        block: &BlockView<'_>,
+        reader: &DataReader,
+        writers: &mut Writers<W, E>,
+    ) -> Result<(), IoFault>
+        requires read { read_size reader.now < 2 ^ 63 }
+        requires short { IsShortBlock (viewed_block block.now) }
+        ensures { (before run : List ℕ) → knows self.old before → bundle_goes before ≡ true
+            → blocks_in (before ++ run) ≡ blocks_in before ++ viewed_block block.now ∷ []
+            → length (before ++ run) < 2 ^ 63
+            → HasReadTo reader.now (before ++ run) (viewed_block block.now)
+            → WritesRest W.state E.state (on_output (says number before))
+            (on_output (says number (before ++ run))) (knows self.new (before ++ run))
+            writers.old writers.new result };
+
+    // more bytes add to what the tool says
+    ghost grows: { (number : ℕ) (before more : List ℕ) → SaysMore (says number) before more };
+
+    // bytes with which no block ends change nothing
+    ghost steady: { (number : ℕ) (consumer : Self) (before more : List ℕ)
+        → blocks_in (before ++ more) ≡ blocks_in before
+        → (says number (before ++ more) ≡ says number before)
+        × (knows consumer before → knows consumer (before ++ more)) };
+}
+
+/// Reads the data in a run of a bundle, and tells the consumer of the block that ends with it, if
+/// one does. No block ends before. The scan has seen the run, which follows `before` bytes of the
+/// bundle (`seen`).
+#[inline(always)]
+pub fn tell_run<C: BlockConsumer, W: OutDevice, E: OutDevice>(
+    number: u64,
+    before: u64,
+    run: &[u8],
+    scan: &BundleScan,
+    reader: &mut DataReader,
+    consumer: &mut C,
+    writers: &mut Writers<W, E>,
+) -> Result<(), IoFault>
+    requires room { before + length run.now < 2 ^ 63 }
+    requires read { read_size reader.old ≤ before }
+    ensures read { read_size reader.new ≤ before + length run.now }
+    ensures gives { (seen : List ℕ) → length seen ≡ before → bundle_goes seen ≡ true
+        → HasScanned scan.now (seen ++ run.now)
+        → blocks_in (seen ++ run.now) ≡ blocks_in seen ++ ending scan.now
+        → IsDataReaderAt reader.old seen → C.knows consumer.old seen
+        → WritesRest W.state E.state (on_output (C.says number seen))
+        (on_output (C.says number (seen ++ run.now)))
+        (IsDataReaderAt reader.new (seen ++ run.now) × C.knows consumer.new (seen ++ run.now))
+        writers.old writers.new result }
+{
+    match scan.ended_block() {
+        Some(_) => tell_ended(number, before, run, scan, reader, consumer, writers),
+        None => {
+            reader.follow_cut(before, run, scan);
+            Ok(())
+        }
+    }
+}
+
+/// [`tell_run`] for a run that ends with a block.
+//
+// Not inlined: most pieces of a bundle in short segments end no block, and should not pay for it.
+// The block is looked up again, since a caller that hands it over makes room for it in each piece.
+#[inline(never)]
+fn tell_ended<C: BlockConsumer, W: OutDevice, E: OutDevice>(
+    number: u64,
+    before: u64,
+    run: &[u8],
+    scan: &BundleScan,
+    reader: &mut DataReader,
+    consumer: &mut C,
+    writers: &mut Writers<W, E>,
+) -> Result<(), IoFault>
+    requires room { before + length run.now < 2 ^ 63 }
+    requires read { read_size reader.old ≤ before }
+    requires ended { ending scan.now ≡ [] → ⊥ }
+    ensures read { read_size reader.new ≤ before + length run.now }
+    ensures gives { (seen : List ℕ) → length seen ≡ before → bundle_goes seen ≡ true
+        → HasScanned scan.now (seen ++ run.now)
+        → blocks_in (seen ++ run.now) ≡ blocks_in seen ++ ending scan.now
+        → IsDataReaderAt reader.old seen → C.knows consumer.old seen
+        → WritesRest W.state E.state (on_output (C.says number seen))
+        (on_output (C.says number (seen ++ run.now)))
+        (IsDataReaderAt reader.new (seen ++ run.now) × C.knows consumer.new (seen ++ run.now))
+        writers.old writers.new result }
+{
+    let ended = scan.ended_block();
+    let Some(block) = &ended else {
+        // No run comes here without a block, by the condition `ended`.
+        return Ok(());
+    };
+    reader.follow(before, run, block, scan);
+    consumer.block(number, block, reader, writers)
+}
+
+/// Scans the next piece of a bundle, and tells the consumer of each block that ends in it.
+///
+/// The piece comes after the first `before` bytes of the bundle (`seen`). If the scan needs no more
+/// bytes, no block ends in it.
+pub fn tell_piece<C: BlockConsumer, W: OutDevice, E: OutDevice>(
+    number: u64,
+    before: u64,
+    piece: &[u8],
+    scan: &mut BundleScan,
+    reader: &mut DataReader,
+    consumer: &mut C,
+    writers: &mut Writers<W, E>,
+) -> Result<(), IoFault>
+    requires room { before + length piece.now < 2 ^ 63 }
+    requires scanned { scan_size scan.old ≤ before }
+    requires read { read_size reader.old ≤ before }
+    ensures scanned { scan_size scan.new ≤ before + length piece.now }
+    ensures read { read_size reader.new ≤ before + length piece.now }
+    ensures gives { (seen : List ℕ) → length seen ≡ before → HasJudged scan.old seen
+        → IsDataReaderAt reader.old seen → C.knows consumer.old seen
+        → WritesRest W.state E.state (on_output (C.says number seen))
+        (on_output (C.says number (seen ++ piece.now)))
+        (HasJudged scan.new (seen ++ piece.now) × IsDataReaderAt reader.new (seen ++ piece.now)
+        × C.knows consumer.new (seen ++ piece.now)) writers.old writers.new result }
+{
+    let mut taken = 0;
+    while taken < piece.len() && scan.going() {
+        let rest = &piece[taken..];
+        let count = scan.feed_block(rest);
+        let at = before + taken as u64;
+        if let Err(fault) = tell_run(number, at, &rest[..count], scan, reader, consumer, writers) {
+            return Err(fault);
+        }
+        taken += count;
+    }
+    scan.judge_piece(&piece[taken..]);
+    Ok(())
+}
