@@ -10,7 +10,7 @@ use Rattle.link_bundle.specs.declared.{scan.BundleScan.BundleScan, stage.ScanSta
 use Rattle.link_bundle.specs.declared.stage.ScanStage.TheVariants.{BlockHeads, Break}
 use Rattle.link_bundle_blocks.specs.{Blocks.Block, Bundle.{blocks_in, bundle_goes, is_going, state_of, verdict}}
 use Rattle.link_bundle.specs.{Left.stage_last, Stages.{follows_block, takes_bytes}}
-use Rattle.link_bundle.specs.Scan.{HasScannedBy, HasScanned, TakesRun, MayAdvance, Advances, AddsBlock, ending_at, ending, may_scan, part_start, scan_size}
+use Rattle.link_bundle.specs.Scan.{HasScannedBy, HasScanned, TakesRun, MayTakePiece, Advances, AddsBlock, ending_at, ending, may_scan, part_start, scan_size}
 use Rattle.link_cbor.proofs.Joins.{joined_run}
 use Rattle.link_bundle.proofs.{Steps.at_stage, Verdicts.{blocks_of-seen, state_of-seen}}
 
@@ -154,7 +154,7 @@ ends_part {old = old} {new = new} {piece = piece} {count = count} at some within
     (λ before seen come. rw at (goes before seen (at_stage old at come))) in
     (advances_by some within may taken, taken.blocks)
 
-pub one_taken : (old new : BundleScan) (piece : List ℕ) → MayAdvance old piece
+pub one_taken : (old new : BundleScan) (piece : List ℕ) → MayTakePiece old piece
     → TakesRun old new (get_or piece 0 0 ∷ []) → Advances old new piece 1
 one_taken old new [] may taken = absurd (omega (arith, may.some))
 one_taken old new (byte ∷ rest) may taken =

@@ -136,8 +136,9 @@ pub record TakesRun (old new : BundleScan) (run : List ℕ) : Type 0 where
   pub blocks : (seen : List ℕ) → HasScanned old seen
       → blocks_in (seen ++ run) ≡ blocks_in seen ++ ending new
 
--- the scan may take the next bytes of a piece: it needs more bytes, and the piece has some
-pub record MayAdvance (scan : BundleScan) (piece : List ℕ) : Type 0 where
+-- The scan may take bytes of this piece: it needs more bytes, and the piece has some. With all of
+-- the piece, it has seen at most 2^63 - 1 bytes.
+pub record MayTakePiece (scan : BundleScan) (piece : List ℕ) : Type 0 where
   pub goes : (seen : List ℕ) → HasScanned scan seen → bundle_goes seen ≡ true
   pub some : 0 < length piece
   pub room : scan_size scan + length piece ≤ 2 ^ 63 - 1

@@ -10,7 +10,7 @@ impl BundleScan {
     ghost use Rattle.link_bundle_blocks.specs.Blocks.{viewed_blocks, viewed_block, IsShortBlock};
     ghost use Rattle.link_bundle.specs.Stages.{follows_block};
     ghost use Rattle.link_bundle_blocks.specs.Bundle.{cut_block_in, bundle_goes};
-    ghost use Rattle.link_bundle.specs.Scan.{HasScanned, MayAdvance, Advances, AddsBlock, ending, may_scan};
+    ghost use Rattle.link_bundle.specs.Scan.{HasScanned, MayTakePiece, Advances, AddsBlock, ending, may_scan};
 
     /// Takes the next bytes of a piece, until a block ends or no more bytes are needed.
     ///
@@ -18,7 +18,7 @@ impl BundleScan {
     #[inline(always)]
     pub fn feed_block(&mut self, piece: &[u8]) -> usize
         requires may_step { IsTrue (may_scan self.old) }
-        requires may_take { MayAdvance self.old piece.now }
+        requires may_take { MayTakePiece self.old piece.now }
         ensures taken { Advances self.old self.new piece.now result }
         // A block may end with the last byte taken, and none ends before.
         ensures blocks { AddsBlock self.old self.new piece.now result }
@@ -39,7 +39,7 @@ impl BundleScan {
     #[inline(always)]
     fn advance_block(&mut self, piece: &[u8]) -> usize
         requires may_step { IsTrue (may_scan self.old) }
-        requires may_take { MayAdvance self.old piece.now }
+        requires may_take { MayTakePiece self.old piece.now }
         ensures advances { Advances self.old self.new piece.now result }
         ensures blocks { AddsBlock self.old self.new piece.now result }
     {
@@ -56,7 +56,7 @@ impl BundleScan {
     fn advance_primary(&mut self, piece: &[u8]) -> usize
         requires stage { self.old.stage ≡ ScanStage.PrimaryBlock }
         requires begins { self.old.cursor.hold ≡ [] }
-        requires may_take { MayAdvance self.old piece.now }
+        requires may_take { MayTakePiece self.old piece.now }
         ensures advances { Advances self.old self.new piece.now result }
         ensures blocks { AddsBlock self.old self.new piece.now result }
     {
@@ -78,7 +78,7 @@ impl BundleScan {
     fn advance_canonical(&mut self, piece: &[u8]) -> usize
         requires stage { self.old.stage ≡ ScanStage.BlockHeads }
         requires begins { self.old.cursor.hold ≡ [] }
-        requires may_take { MayAdvance self.old piece.now }
+        requires may_take { MayTakePiece self.old piece.now }
         ensures advances { Advances self.old self.new piece.now result }
         ensures blocks { AddsBlock self.old self.new piece.now result }
     {

@@ -31,7 +31,7 @@ fn write_at(buffer: &mut [u8], at: usize, bytes: &[u8])
 }
 
 impl Hold {
-    /// No bytes.
+    /// Makes a hold that holds no bytes.
     pub fn new() -> Hold
         ensures { result ≡ [] }
     {

@@ -183,7 +183,7 @@ impl BundleScan {
 impl BundleScan {
     ghost use Rattle.link_cbor.specs.Pieces.{taken};
     ghost use Rattle.link_bundle_blocks.specs.Bundle.{bundle_goes};
-    ghost use Rattle.link_bundle.specs.Scan.{HasScanned, scan_size, may_scan, MayAdvance, Advances, AddsBlock};
+    ghost use Rattle.link_bundle.specs.Scan.{HasScanned, scan_size, may_scan, MayTakePiece, Advances, AddsBlock};
 
     /// Takes the bytes of a piece while more are needed, and returns how many.
     #[inline(always)]
@@ -209,7 +209,7 @@ impl BundleScan {
     #[inline(always)]
     fn advance(&mut self, piece: &[u8]) -> usize
         requires may_step { IsTrue (may_scan self.old) }
-        requires may_take { MayAdvance self.old piece.now }
+        requires may_take { MayTakePiece self.old piece.now }
         ensures { Advances self.old self.new piece.now result }
     {
         match self.stage {
@@ -224,7 +224,7 @@ impl BundleScan {
     #[inline(always)]
     pub(crate) fn advance_part(&mut self, piece: &[u8]) -> usize
         requires may_step { IsTrue (may_scan self.old) }
-        requires may_take { MayAdvance self.old piece.now }
+        requires may_take { MayTakePiece self.old piece.now }
         ensures advances { Advances self.old self.new piece.now result }
         ensures blocks { AddsBlock self.old self.new piece.now result }
     {
@@ -248,7 +248,7 @@ impl BundleScan {
     fn advance_start(&mut self, piece: &[u8]) -> usize
         requires stage { self.old.stage ≡ ScanStage.PrimaryBlock }
         requires begins { self.old.cursor.hold ≡ [] }
-        requires may_take { MayAdvance self.old piece.now }
+        requires may_take { MayTakePiece self.old piece.now }
         ensures { Advances self.old self.new piece.now result }
     {
         match self.draft.whole(piece) {
@@ -267,7 +267,7 @@ impl BundleScan {
 
 /// The parts that the scan holds.
 impl BundleScan {
-    ghost use Rattle.link_bundle.specs.Scan.{MayAdvance, Advances, AddsBlock};
+    ghost use Rattle.link_bundle.specs.Scan.{MayTakePiece, Advances, AddsBlock};
     ghost use Rattle.link_bundle.specs.Stages.{is_part};
 
     /// Takes bytes of the part that the scan is in, and returns how many, at least one.
@@ -276,7 +276,7 @@ impl BundleScan {
     #[inline(never)]
     pub(crate) fn take_part(&mut self, piece: &[u8]) -> usize
         requires part { IsTrue (is_part self.old.stage) }
-        requires may_take { MayAdvance self.old piece.now }
+        requires may_take { MayTakePiece self.old piece.now }
         ensures advances { Advances self.old self.new piece.now result }
         ensures blocks { AddsBlock self.old self.new piece.now result }
     {

@@ -160,6 +160,7 @@ bytes_of (Some (offset, size)) bytes = take size (drop offset bytes)
 unfoldable pub payload_in : List ℕ → List ℕ
 payload_in bytes = bytes_of (payload_of (judged_bundle bytes)) bytes
 
+-- the offset of a span, with `count` in place of its length
 abbrev pub spanned : Option (ℕ × ℕ) → ℕ → Option (ℕ × ℕ)
 spanned None count = None
 spanned (Some (offset, size)) count = Some (offset, count)

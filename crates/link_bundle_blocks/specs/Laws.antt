@@ -50,9 +50,9 @@ abbrev pub BlocksGrow : Type 0
 BlocksGrow =
     (bytes more : List ℕ) → (new : List Block) × (blocks_in (bytes ++ more) ≡ blocks_in bytes ++ new)
 
--- after the bundle's end, or after a fault that lasts, no more blocks are added
-abbrev pub BlocksEnd : Type 0
-BlocksEnd =
+-- after the bundle's end, or after a fault that lasts, more bytes add no blocks
+abbrev pub NoBlocksAfterEnd : Type 0
+NoBlocksAfterEnd =
     (bytes more : List ℕ) → bundle_goes bytes ≡ false → blocks_in (bytes ++ more) ≡ blocks_in bytes
 
 -- the whole blocks lie within the bytes

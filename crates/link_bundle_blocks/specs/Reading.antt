@@ -21,6 +21,7 @@ pub record Stop : Type 0 where
   -- the block in whose data or check field the bytes end
   pub cut_block : Option CanonicalBlock
 
+-- the fault alone, when no block and no payload was read before it
 abbrev pub stopped : BundleFault → ℕ → Stop
 stopped fault offset =
     record { fault = fault; offset = offset; payload_span = None; blocks = []; cut_block = None }

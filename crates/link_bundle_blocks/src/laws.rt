@@ -3,7 +3,7 @@
 //! The functions do nothing when they run. Their contracts are the laws.
 ghost use Rattle.std.specs.Prelude.{◌≡◌, ℕ, List, take};
 ghost use Rattle.link_bundle_blocks.specs.PrimaryFields.{primary_fields};
-ghost use Rattle.link_bundle_blocks.specs.Laws.{FaultLasts, TrailingLasts, PayloadLasts, PayloadPlaced, PayloadEnds, BlocksGrow, BlocksEnd, BlocksWithin, BlockPlaced, GoodBlocksTile};
+ghost use Rattle.link_bundle_blocks.specs.Laws.{FaultLasts, TrailingLasts, PayloadLasts, PayloadPlaced, PayloadEnds, BlocksGrow, NoBlocksAfterEnd, BlocksWithin, BlockPlaced, GoodBlocksTile};
 
 /// How the verdict on some bytes lasts when more bytes follow.
 ///
@@ -30,7 +30,7 @@ pub fn verdict_lasts()
 /// - The next canonical block is the one that the bytes cut short, or its data begins after them.
 pub fn blocks_last()
     ensures grow { BlocksGrow }
-    ensures end { BlocksEnd }
+    ensures end { NoBlocksAfterEnd }
     ensures within { BlocksWithin }
     ensures placed { BlockPlaced }
 {}

@@ -242,7 +242,9 @@ fn heads_at(
     let check = row::block_check_type(count, head)?;
     let (head, offset) = item_at(row::BYTE_STRING, bytes, offset)?;
     let data_length = row::block_data(head)?;
-    // The call comes last, where little has to be kept over it.
+    // The number's head was read above, but it is judged last: the loop over the earlier numbers
+    // may be long, and few values are in use across it here. Which fault is found first does not
+    // matter, since an error of this module says only that no bundle was read.
     let number = row::block_number(block_type, numbers, number_head)?;
     let block = CanonicalBlock {
         start: start as u64,

@@ -31,6 +31,7 @@ use Rattle.link_bundle_data.specs.BlockData.{is_timed, is_untimed}
 use Rattle.link_bundle_data.specs.DataRows.{integer, assertion, four_or_six, four_or_more, one_or_two}
 use Rattle.link_bundle_data.specs.EidLeft.{numbered}
 
+-- the first head of data of this kind
 abbrev pub first_due : DataKind → Due
 first_due kind.PreviousNode = due.Pair (pair_.Eid owner.PreviousNode)
 first_due kind.BundleAge = due.Number number.Age
@@ -38,32 +39,40 @@ first_due kind.HopCount = due.Pair pair_.HopCount
 first_due kind.Security = due.Targets
 first_due kind.Record = due.Pair pair_.Record
 
+-- the stage after the endpoint ID
 abbrev pub after_eid : Owner → DataStage
 after_eid owner.PreviousNode = Read found.PreviousNode
 after_eid owner.Security = Read found.Security
 after_eid owner.Report = Head (due.Pair pair_.Timestamp)
 
+-- the stage in a dtn name with `left` more bytes, or after the endpoint ID if there are none
 abbrev pub name_due : Owner → ℕ → DataStage
 name_due owner left = if left == 0 then after_eid owner else Name owner left
 
+-- the stage after the type code of an administrative record: only a status report is read further
 abbrev pub after_type : ℕ → DataStage
 after_type type = if type == 1 then Head due.Report else Read (found.OtherRecord type)
 
+-- the head of the specific part in this scheme
 abbrev pub specific : Owner → Scheme → Due
 specific owner scheme_.Dtn = due.DtnPart owner
 specific owner scheme_.Ipn = due.IpnPart owner
 
+-- the first number of an ipn endpoint ID with `count` numbers, two or three
 abbrev pub first_number : Owner → ℕ → Due
 first_number owner count =
     if count == 3 then due.Number (number.Allocator owner) else due.Number (number.Node owner None)
 
+-- the head that is due when `left` more status assertions follow, of which none is kept
 abbrev pub others_due : ℕ → Due
 others_due left =
     if left == 0 then due.Number number.Reason else due.Assertion (status.Other (left - 1))
 
+-- the head that is due when `left` targets of a security block are left
 abbrev pub targets_due : ℕ → Due
 targets_due left = if left == 0 then due.ContextId else due.Number (number.Target (left - 1))
 
+-- the head after the assertion about a status; `others` assertions follow the first four
 abbrev pub after_status : Status → ℕ → Due
 after_status status.Received others = due.Assertion status.Forwarded
 after_status status.Forwarded others = due.Assertion status.Delivered
@@ -71,6 +80,7 @@ after_status status.Delivered others = due.Assertion status.Deleted
 after_status status.Deleted others = others_due others
 after_status (status.Other left) others = others_due left
 
+-- the head of the first element of an array of two
 abbrev pub first_of : Pair → Due
 first_of (pair_.Eid owner) = due.Scheme owner
 first_of pair_.HopCount = due.Number number.HopLimit
@@ -188,6 +198,7 @@ took (number.Node owner allocator) node draft =
 took (number.Service owner allocator node) service draft =
     took_eid owner (numbered allocator node service) draft
 
+-- the specific part of a dtn endpoint ID: the length of its name, or `None` for dtn:none
 abbrev pub took_dtn : Owner → Option ℕ → Draft → DataStage × Draft
 took_dtn owner None draft = took_eid owner DtnNone draft
 took_dtn owner (Some size) draft =

@@ -26,7 +26,9 @@ pub fn array(head: Head) -> Result<u64, BundleFault>
     }
 }
 
-/// The number of elements of a status report's array, four or six.
+/// The number of elements of a status report's array: four, or six for a fragment.
+///
+/// Another number is `BadCount`. A head that is not that of an array with a number is `WrongKind`.
 #[tactic(auto, unfolding(crate::specs::DataRows::four_or_six))]
 pub fn four_or_six(head: Head) -> Result<u64, BundleFault>
     ensures { result ≡ row.four_or_six head }
@@ -37,7 +39,7 @@ pub fn four_or_six(head: Head) -> Result<u64, BundleFault>
     }
 }
 
-/// The number of status assertions, at least four.
+/// The number of status assertions, at least four. A smaller one is `BadCount`.
 #[tactic(auto, unfolding(crate::specs::DataRows::four_or_more))]
 pub fn four_or_more(head: Head) -> Result<u64, BundleFault>
     ensures judged { result ≡ row.four_or_more head }

@@ -13,6 +13,7 @@ abbrev pub size_by : Option DataKind → DataScan → ℕ
 size_by None scan = 0
 size_by (Some kind) scan = scan_size scan
 
+-- the number of bytes that the reader has read of the latest block's data
 abbrev pub read_size : DataReader → ℕ
 read_size now = size_by now.kind now.scan
 

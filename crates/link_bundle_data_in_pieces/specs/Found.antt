@@ -12,7 +12,8 @@ use Rattle.link_report_blocks.specs.Kinds.{kind_of}
 abbrev pub data_in : (content : List ℕ) → CanonicalBlock → List ℕ
 data_in content block = take block.data_length (drop block.data_start content)
 
--- what the data of a block says, if it is read; `flags` are those of the bundle
+-- What the data of a block says, or its fault. It is `None` for a block whose data is not read.
+-- `flags` are those of the bundle.
 abbrev pub found_in : (flags : ℕ) → (content : List ℕ) → CanonicalBlock
     → Option (Result BlockData DataFault)
 found_in flags content block =

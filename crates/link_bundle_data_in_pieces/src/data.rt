@@ -19,7 +19,7 @@ use link_report_blocks::data_kind;
 pub struct DataReader {
     /// The flags of the bundle, once its primary block has come.
     pub(crate) flags: u64,
-    /// The kind of the latest block's data, if it is read.
+    /// The kind of the latest block's data, or `None` if that data is not read.
     kind: Option<DataKind>,
     scan: DataScan,
 }

@@ -62,6 +62,7 @@ expired bundle =
 
 -- ---- the hop limit and the hop count (section 4.4.3)
 
+-- what the data of a hop count block says; `None` for data of another kind
 abbrev pub hops_in : DataFacts → Option Hops
 hops_in (HopCount limit count) = Some (record { limit = limit; count = count })
 hops_in _ = None
@@ -105,6 +106,7 @@ is_reserved type =
     (type == 0) || ((nat_le 2 type && nat_le type 5)
     || ((type == 8) || ((type == 9) || nat_lt 255 type)))
 
+-- the rule that a block breaks by a type that is reserved
 abbrev pub if_reserved : BlockFacts → Option BundleRule
 if_reserved read =
     if is_reserved read.block_type then Some (rule.BlockType read.number read.block_type) else None
@@ -120,10 +122,13 @@ block_type bundle = find_map if_reserved bundle.blocks
 abbrev pub has_read_data : BlockFacts → Bool
 has_read_data read = is_extension read || is_security_block read
 
+-- the rule that malformed data breaks; data that exceeds a limit of this toolkit does not break it
 abbrev pub malformed_rule : (number : ℕ) → DataFacts → Option BundleRule
 malformed_rule number (Malformed byte) = Some (rule.BlockData number byte)
 malformed_rule number _ = None
 
+-- the rule that an extension block or a security block breaks by malformed data, if the data cannot
+-- be ciphertext
 abbrev pub if_malformed_extension : ReadBundle → BlockFacts → Option BundleRule
 if_malformed_extension bundle read =
     if has_read_data read && not (is_hidden_block bundle read.block_type read.number)
@@ -136,10 +141,13 @@ if_malformed_extension bundle read =
 unfoldable pub block_data : ReadBundle → Option BundleRule
 block_data bundle = find_map (if_malformed_extension bundle) bundle.blocks
 
+-- the rule that data breaks if it exceeds a limit of this toolkit
 abbrev pub unread_rule : (number : ℕ) → DataFacts → Option BundleRule
 unread_rule number (NotRead byte) = Some (rule.DataNotRead number byte)
 unread_rule number _ = None
 
+-- the rule that a block breaks by such data, if the data cannot be ciphertext; the payload can
+-- break it too, as an administrative record
 abbrev pub if_unread : ReadBundle → BlockFacts → Option BundleRule
 if_unread bundle read =
     if (has_read_data read || is_of_type block.payload read)

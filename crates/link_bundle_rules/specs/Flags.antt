@@ -39,6 +39,7 @@ block_flags_defined = 0x17
 
 -- ---- the rules
 
+-- whether all bits of `flag` are set
 abbrev pub is_set : (flag flags : ℕ) → Bool
 is_set flag flags = bit_and flags flag == flag
 
@@ -73,6 +74,7 @@ record_reports bundle =
 abbrev pub forbids_reports : PrimaryFacts → Bool
 forbids_reports primary = is_set record_flag primary.flags || primary.is_anonymous
 
+-- the rule that a block breaks if it requests a status report, in a bundle that forbids it
 abbrev pub if_reporting : BlockFacts → Option BundleRule
 if_reporting block =
     if is_set block_report block.flags then Some (rule.BlockReports block.number) else None
@@ -83,6 +85,7 @@ unfoldable pub block_reports : ReadBundle → Option BundleRule
 block_reports bundle =
     if forbids_reports bundle.primary then find_map if_reporting bundle.blocks else None
 
+-- the rule that a block breaks by a flag that is not defined
 abbrev pub if_other_block_flags : BlockFacts → Option BundleRule
 if_other_block_flags block =
     if has_other_flags block_flags_defined block.flags

@@ -18,7 +18,8 @@ level_in bundle = if is_later bundle.primary.fragment then Should else Must
 abbrev pub has_hidden_payload : ReadBundle → Bool
 has_hidden_payload bundle = is_hidden bundle 1
 
--- `part` has the offset and the total length of a fragment, if the bundle is one
+-- The rule that a fragment breaks if it must not be one, or if its payload is empty or ends after
+-- the total length. `part` is the offset of the fragment and the total length.
 abbrev pub if_no_part : ReadBundle → (part : ℕ × ℕ) → Option BundleRule
 if_no_part bundle (offset, total) =
     let size = bundle.payload_length in
@@ -32,6 +33,7 @@ if_no_part bundle (offset, total) =
 unfoldable pub fragment : ReadBundle → Option BundleRule
 fragment bundle = option_and_then (if_no_part bundle) bundle.primary.fragment
 
+-- the rule that a fragment breaks if its payload is all of the original one
 abbrev pub if_all : ReadBundle → (part : ℕ × ℕ) → Option BundleRule
 if_all bundle (offset, total) =
     if (offset == 0) && ((bundle.payload_length == total) && not (has_hidden_payload bundle))

@@ -13,6 +13,8 @@ use Rattle.link_bundle_rules.specs.declared.rule.BundleRule.TheVariants as rule
 abbrev pub record_of : ReadBundle → Option BlockFacts
 record_of bundle = first_readable payload bundle
 
+-- The rule that a malformed record breaks. A record that exceeds a limit of this toolkit breaks
+-- data-not-read in its place.
 abbrev pub malformed_record : DataFacts → Option BundleRule
 malformed_record (Malformed byte) = Some (rule.Record byte)
 malformed_record _ = None
@@ -22,6 +24,7 @@ unfoldable pub administrative_record : ReadBundle → Option BundleRule
 administrative_record bundle =
     option_and_then (λ read. malformed_record read.data) (record_of bundle)
 
+-- the rule that a record breaks if it is no status report
 abbrev pub other_record : DataFacts → Option BundleRule
 other_record (OtherRecord type) = Some (rule.RecordType type)
 other_record _ = None
@@ -32,10 +35,12 @@ record_type bundle = option_and_then (λ read. other_record read.data) (record_o
 
 -- ---- status reports
 
+-- what a status report says; `None` for data of another kind
 abbrev pub report_in : DataFacts → Option ReportFacts
 report_in (StatusReport report) = Some report
 report_in _ = None
 
+-- what the status report in the payload says, unless it may be ciphertext
 unfoldable pub report_of : ReadBundle → Option ReportFacts
 report_of bundle = option_and_then (λ read. report_in read.data) (record_of bundle)
 

@@ -23,6 +23,7 @@ abbrev pub counts : ReadBundle → SecurityFacts → Bool
 counts bundle block =
     not block.is_malformed && not (is_hidden_block bundle block.block_type block.number)
 
+-- the result of `judge` for a block that counts; `None` for any other block
 abbrev pub if_counted : {A : Type 0} → ReadBundle → (SecurityFacts → Option A) → SecurityFacts
     → Option A
 if_counted bundle judge block = if counts bundle block then judge block else None
@@ -36,6 +37,7 @@ abbrev pub first_target : (SecurityFacts → ℕ → Bool) → SecurityFacts →
 first_target test block =
     find_map (λ target. then_some (test block target) (block.number, target)) block.targets.items
 
+-- whether the block with number `target` is among the first 64 targets of a security block
 abbrev pub has_target : (target : ℕ) → SecurityFacts → Bool
 has_target target block = list_any (λ other. other == target) block.targets.items
 

@@ -50,6 +50,7 @@ pub(crate) struct NodeFacts {
 }
 
 impl NodeFacts {
+    /// What the rules need of this node.
     fn of(node: &EidView<'_>) -> NodeFacts
         ensures { result ≡ node_facts (viewed_eid node.now) }
     {
@@ -75,6 +76,7 @@ pub(crate) struct ReportFacts {
 }
 
 impl ReportFacts {
+    /// What the rules need of this status report, about a bundle with this source.
     fn of(report: &Report, source: &EidView<'_>) -> ReportFacts
         ensures { result ≡ report_facts report.now (viewed_eid source.now) }
     {

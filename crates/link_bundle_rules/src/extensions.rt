@@ -207,7 +207,10 @@ impl BundleHistory {
         Hops::of(self.first_readable(HOP_COUNT)?.data)
     }
 
-    /// The rule of hop count blocks, if it is broken. `plain` is whether all blocks are plain.
+    /// The rule of hop count blocks, if it is broken.
+    ///
+    /// `plain` is whether all blocks are plain. The hop limit of a plain block is good, so then
+    /// only the number of hop count blocks can break the rule.
     #[tactic(auto, unfolding(crate::specs::Extensions::hop_count))]
     pub(crate) fn hop_count(&self, plain: bool, counts: Counts) -> Option<BundleRule>
         ensures { (long_head : Option ℕ) (payload_length : ℕ)
@@ -225,7 +228,10 @@ impl BundleHistory {
         is_wrong.then_some(BundleRule::HopCount { blocks, limit })
     }
 
-    /// The rule of the first hop count, if it is broken: never if all are `plain`.
+    /// The rule of the first hop count, if it is broken.
+    ///
+    /// `plain` is whether all blocks are plain. Plain blocks do not break the rule, so then none is
+    /// looked at.
     #[tactic(auto, unfolding(crate::specs::Extensions::hops))]
     pub(crate) fn hops(&self, plain: bool) -> Option<BundleRule>
         ensures { (long_head : Option ℕ) (payload_length : ℕ)
@@ -247,7 +253,10 @@ impl BundleHistory {
         first_found(self.blocks.as_slice(), |block| if_reserved(block))
     }
 
-    /// The rule of the data of extension blocks, if it is broken: never if all are `plain`.
+    /// The rule of the data of extension blocks, if it is broken.
+    ///
+    /// `plain` is whether all blocks are plain. Plain blocks do not break the rule, so then none is
+    /// looked at.
     #[tactic(auto, unfolding(crate::specs::Extensions::block_data))]
     pub(crate) fn block_data(&self, plain: bool) -> Option<BundleRule>
         ensures { (long_head : Option ℕ) (payload_length : ℕ)
@@ -263,7 +272,10 @@ impl BundleHistory {
         )
     }
 
-    /// The rule of data that this toolkit does not read, if it is broken: never if all are `plain`.
+    /// The rule of data that this toolkit does not read, if it is broken.
+    ///
+    /// `plain` is whether all blocks are plain. Plain blocks do not break the rule, so then none is
+    /// looked at.
     #[tactic(auto, unfolding(crate::specs::Extensions::data_not_read))]
     pub(crate) fn data_not_read(&self, plain: bool) -> Option<BundleRule>
         ensures { (long_head : Option ℕ) (payload_length : ℕ)

@@ -39,7 +39,10 @@ pub(crate) fn requests_reports(flags: u64) -> bool
     flags & REPORT_REQUESTS != 0
 }
 
-/// The rule that a block breaks by requesting a status report, in a bundle where none must.
+/// The rule that a block breaks if it requests a status report.
+///
+/// The rule applies only in a bundle in which no block may request one. Whether the bundle is such
+/// a bundle is not judged here.
 pub(crate) fn if_reporting(block: &BlockFacts) -> Option<BundleRule>
     ensures { result ≡ if_reporting block.now }
 {

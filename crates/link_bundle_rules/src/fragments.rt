@@ -6,7 +6,9 @@ use crate::flags::{NO_FRAGMENTS, is_set};
 use crate::history::BundleHistory;
 use crate::rule::BundleRule;
 
-/// Whether a payload of `size` bytes, which begins at an offset, ends after the total length.
+/// Whether a payload of `size` bytes that begins at `offset` ends after `total`.
+///
+/// A sum of more than 64 bits is after every total.
 fn ends_after(total: u64, offset: u64, size: u64) -> bool
     ensures { result ≡ nat_lt total (offset + size) }
 {
@@ -21,7 +23,10 @@ impl BundleHistory {
     ghost use Rattle.link_bundle_rules.specs.Fragments.{if_no_part, fragment, if_all, whole_fragment};
     ghost use Rattle.link_bundle_rules.specs.History.{bundle_of};
 
-    /// The rule of fragments, if it is broken. The payload has `size` bytes; no long head matters.
+    /// The rule of fragments, if a payload of `size` bytes breaks it.
+    ///
+    /// The result is the same for any `long_head`, the offset of the first head that is longer than
+    /// it has to be.
     #[tactic(auto, unfolding(crate::specs::Fragments::fragment))]
     pub(crate) fn fragment(&self, size: u64) -> Option<BundleRule>
         ensures { (long_head : Option ℕ) → result ≡ fragment (bundle_of self.now long_head size) }
@@ -30,8 +35,10 @@ impl BundleHistory {
         self.if_no_part(part, size)
     }
 
-    /// The rule that a fragment breaks if it must not be one, or if its payload is no part of the
-    /// original one.
+    /// The rule that a fragment breaks if the bundle must not be fragmented, or if its payload of
+    /// `size` bytes is no part of the original payload.
+    ///
+    /// `part` is the offset of the fragment and the total length of the original payload.
     fn if_no_part(&self, part: (u64, u64), size: u64) -> Option<BundleRule>
         ensures { result ≡ if_no_part (bundle_of self.now None size) part }
     {
@@ -46,7 +53,7 @@ impl BundleHistory {
         })
     }
 
-    /// The rule of fragments with the whole payload, of `size` bytes, if it is broken.
+    /// The rule of fragments with the whole payload, if a payload of `size` bytes breaks it.
     #[tactic(auto, unfolding(crate::specs::Fragments::whole_fragment))]
     pub(crate) fn whole_fragment(&self, size: u64) -> Option<BundleRule>
         ensures { (long_head : Option ℕ) → result ≡ whole_fragment (bundle_of self.now long_head size) }
@@ -55,7 +62,9 @@ impl BundleHistory {
         self.if_all(part, size)
     }
 
-    /// The rule that a fragment breaks if its payload is all of the original one.
+    /// The rule that a fragment breaks if its payload of `size` bytes is all of the original one.
+    ///
+    /// `part` is the offset of the fragment and the total length of the original payload.
     fn if_all(&self, part: (u64, u64), size: u64) -> Option<BundleRule>
         ensures { result ≡ if_all (bundle_of self.now None size) part }
     {

@@ -41,6 +41,8 @@ impl BundleHistory {
         self.unless_hidden(block)?.long_head
     }
 
+    /// The first long head in the data of a security block. `None` for another block, or if the
+    /// data may be ciphertext.
     fn head_of_security(&self, block: &BlockFacts) -> Option<u64>
         ensures { result ≡ (if is_security_block block.now
             then readable_head (bundle_of self.now None 0) block.now
@@ -53,6 +55,8 @@ impl BundleHistory {
         }
     }
 
+    /// The first long head in the data of an extension block. `None` for another block, or if the
+    /// data may be ciphertext.
     fn head_of_extension(&self, block: &BlockFacts) -> Option<u64>
         ensures { result ≡ (if is_extension block.now
             then readable_head (bundle_of self.now None 0) block.now
@@ -82,8 +86,10 @@ impl BundleHistory {
         )
     }
 
-    /// The rule of long heads, if it is broken. `byte` is the offset of the first long head outside
-    /// the data of blocks. The payload's length does not matter.
+    /// The rule of long heads, if it is broken.
+    ///
+    /// `byte` is the offset of the first long head outside the data of blocks. The result is the
+    /// same for any length of the payload.
     #[tactic(auto, unfolding(crate::specs::Heads::long_head))]
     pub(crate) fn long_head(&self, byte: Option<u64>) -> Option<BundleRule>
         ensures { (size : ℕ) → result ≡ long_head (bundle_of self.now byte size) }

@@ -65,9 +65,10 @@ impl BundleHistory {
 
     /// Whether the bundle is known to break no rule, if it is good and all its blocks came.
     ///
-    /// This takes less time than `rules`. False means that it is not known. It is always false for
-    /// a fragment, and for a bundle without a source, without a check of its primary block, with an
-    /// administrative record that is read or with a security block.
+    /// This takes less time than `rules`. If it returns false, the bundle may break rules or not.
+    ///
+    /// It returns false for each fragment, and for each bundle without a source, without a check of
+    /// its primary block, with an administrative record that is read or with a security block.
     ///
     /// `first_long_head` is as for [`BundleHistory::rules`].
     #[inline(always)]

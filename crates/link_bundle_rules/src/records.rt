@@ -10,6 +10,7 @@ use crate::rule::BundleRule;
 /// The greatest reason code that is assigned (section 9.5).
 const LAST_REASON: u64 = 16;
 
+/// What a status report says. `None` for data of another kind.
 fn report_in(found: DataFacts) -> Option<ReportFacts>
     ensures { result ≡ report_in found }
 {

@@ -127,7 +127,10 @@ impl BundleHistory {
         is_wrong.then_some(BundleRule::RecordReports { flags })
     }
 
-    /// The rule of blocks that request a status report, if it is broken: never if all are `plain`.
+    /// The rule of blocks that request a status report, if it is broken.
+    ///
+    /// `plain` is whether all blocks are plain. Plain blocks do not break the rule, so then none is
+    /// looked at.
     #[tactic(auto, unfolding(crate::specs::Flags::block_reports))]
     fn block_reports(&self, plain: bool) -> Option<BundleRule>
         ensures { (long_head : Option ℕ) (payload_length : ℕ)
@@ -143,7 +146,10 @@ impl BundleHistory {
         first_found(self.blocks.as_slice(), |block| if_reporting(block))
     }
 
-    /// The rule of the flags of blocks, if it is broken: never if all are `plain`.
+    /// The rule of the flags of blocks, if it is broken.
+    ///
+    /// `plain` is whether all blocks are plain. Plain blocks do not break the rule, so then none is
+    /// looked at.
     #[tactic(auto, unfolding(crate::specs::Flags::block_flags))]
     fn block_flags(&self, plain: bool) -> Option<BundleRule>
         ensures { (long_head : Option ℕ) (payload_length : ℕ)

@@ -16,17 +16,19 @@ head_bytes major value =
     else if nat_lt value (2 ^ 32) then first_byte major 26 ∷ be 4 value
     else first_byte major 27 ∷ be 8 value
 
--- an unsigned integer (0), a byte string (2) and a text string (3) of this length, and an array of
--- that many elements (4)
+-- an unsigned integer (major type 0), which is its head alone
 abbrev pub unsigned : ℕ → List ℕ
 unsigned value = head_bytes 0 value
 
+-- the head of a byte string of `size` bytes (major type 2), without the bytes
 abbrev pub byte_string : (size : ℕ) → List ℕ
 byte_string size = head_bytes 2 size
 
+-- the head of a text string of `size` bytes (major type 3), without the bytes
 abbrev pub text_string : (size : ℕ) → List ℕ
 text_string size = head_bytes 3 size
 
+-- the head of an array of `count` elements (major type 4), without the elements
 abbrev pub array : (count : ℕ) → List ℕ
 array count = head_bytes 4 count
 

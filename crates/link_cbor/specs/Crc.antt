@@ -31,8 +31,11 @@ unfoldable pub turn : CheckKind → ℕ → ℕ → ℕ
 turn kind register bit =
     if register % 2 == bit then register / 2 else bit_xor (register / 2) (polynomial kind)
 
+-- the register after these bytes, bit by bit
 unfoldable pub register_after : CheckKind → ℕ → List ℕ → ℕ
 register_after kind register bytes = fold (turn kind) register (all_bits bytes)
 
+-- The check value: the register begins with all ones, and after the last byte all its bits are
+-- inverted.
 unfoldable pub crc : CheckKind → List ℕ → ℕ
 crc kind bytes = bit_xor (register_after kind (all_ones kind) bytes) (all_ones kind)

@@ -26,8 +26,9 @@ JoinsPieces goes =
     taken goes seen (first ++ second) ≡ taken goes seen first
     ++ taken goes (seen ++ taken goes seen first) second
 
--- `taken` is the only list with the properties of `IsShortestPrefix`
-abbrev pub TakesShortest : (List ℕ → Bool) → Type 0
-TakesShortest goes =
+-- A law: `taken` is the shortest prefix. It is the only list with the properties of
+-- `IsShortestPrefix`.
+abbrev pub TakenIsShortest : (List ℕ → Bool) → Type 0
+TakenIsShortest goes =
     (seen bytes front : List ℕ)
     → IsShortestPrefix goes seen bytes front ↔ (front ≡ taken goes seen bytes)

@@ -51,8 +51,9 @@ head_stage_fits count Simple = count == 1
 head_stage_fits count (WholeHead head) = nat_le count 9
 head_stage_fits count NoHead = nat_le count 9
 
--- The stage is that of a scan which has seen `count` bytes. For all bytes `more` that follow,
--- `reading more` is the head that the stage and `more` determine.
+-- The stage is that of a scan which has seen `count` bytes of a head. For all bytes `more` that
+-- follow, the stage and `more` determine `reading more`, the outcome of reading a head from all
+-- bytes: a whole head, an ill-formed one, or one that the bytes cut short.
 pub record IsStageOfHead (count : ℕ) (stage : HeadStage)
     (reading : List ℕ → HeadFront) : Type 0 where
   pub fits : IsTrue (head_stage_fits count stage)

@@ -19,6 +19,7 @@ state_status Going = 2
 state_status Ended = 0
 state_status (Failed fault offset) = 4
 
+-- the fault of a verdict; a good bundle has none
 abbrev pub fault_of : Result BundleInfo (BundleFault × ℕ) → Fault
 fault_of (Ok info) = no_fault
 fault_of (Err (fault, offset)) = bundle_fault fault offset
@@ -61,6 +62,7 @@ abbrev pub eid_or_none : Option Eid → EidNumbers
 eid_or_none None = no_eid
 eid_or_none (Some eid) = eid_shown eid
 
+-- the name of an endpoint ID; it is empty if the ID has no name, or if there is no ID
 abbrev pub name_or_none : Option Eid → List ℕ
 name_or_none None = []
 name_or_none (Some eid) = name_of eid

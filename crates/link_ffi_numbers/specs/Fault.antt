@@ -7,9 +7,12 @@ use Rattle.link_wire.specs.declared.fault.WireFault.{WireFault}
 use Rattle.link_wire.specs.declared.fault.WireFault.TheVariants.{Truncated, BadMagic, BadVersion, UnknownType, NodeIdTooLong, ListTooLong, TooManyItems, ItemsOverrun}
 use Rattle.link_ffi_numbers.specs.declared.fault.Fault.{Fault}
 
+-- no fault, whose code is 0
 abbrev pub no_fault : Fault
 no_fault = record { code = 0; number = 0; offset = 0 }
 
+-- The code of a bundle's fault: 100 and its number in docs/FORMATS.md. Three faults have the code
+-- 105.
 abbrev pub bundle_code : BundleFault → ℕ
 bundle_code Cut = 101
 bundle_code Trailing = 102
@@ -45,6 +48,7 @@ wire_numbers (ListTooLong size) = (6, size)
 wire_numbers TooManyItems = (7, 0)
 wire_numbers ItemsOverrun = (8, 0)
 
+-- the fault of a recording, in the message that begins at `offset`
 abbrev pub wire_fault : WireFault → ℕ → Fault
 wire_fault fault offset =
     record { code = (wire_numbers fault).0; number = (wire_numbers fault).1; offset = offset }

@@ -49,6 +49,7 @@ HasNumbers message.Keepalive it = IsKind 4 it
 HasNumbers (message.SessTerm own reason) it = IsKind 5 it
 HasNumbers (message.MsgReject reason header) it = IsKind 6 it
 
+-- a Boolean, as a number
 abbrev pub bit : Bool → ℕ
 bit true = 1
 bit false = 0
@@ -57,6 +58,8 @@ bit false = 0
 abbrev pub no_turn : Turn
 no_turn = record { fault = 0; turn = 0; last = 0; abandons = 0; abandoned = 0 }
 
+-- the first segment of a transfer, as numbers; the `Option` is the ID of the transfer that it
+-- abandons, if one is open
 abbrev pub begin_shown : Option ℕ → Bool → Turn
 begin_shown None last = record no_turn { turn = 1; last = bit last }
 begin_shown (Some transfer) last =
@@ -101,9 +104,9 @@ abbrev pub fault_shown : Option OrderFault → ℕ × ℕ
 fault_shown None = (0, 0)
 fault_shown (Some fault) = (order_code fault, 4)
 
--- the answer for a message that was taken: the fault of the order, if any, and what the message
--- does
-pub record ReturnsTaken (fault : Option OrderFault) (effect : Option effect.Turn) (answer : Turn)
-    (status : ℕ) : Type 0 where
+-- The turn that is returned for a message that was taken, even out of order: the code of the fault
+-- of the order, or 0, and what the message does.
+pub record ReturnsTakenTurn (fault : Option OrderFault) (effect : Option effect.Turn)
+    (answer : Turn) (status : ℕ) : Type 0 where
   pub numbers : answer ≡ record (effect_shown effect) { fault = (fault_shown fault).0 }
   pub gives : status ≡ (fault_shown fault).1

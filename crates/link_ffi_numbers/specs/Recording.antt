@@ -79,14 +79,16 @@ fields_shown (SessTerm flags reason) =
 fields_shown (MsgReject reason header) =
     record nothing { kind = 6; reason = reason; header = header }
 
+-- where a part lies that the message does not have
 abbrev pub nowhere : Span
 nowhere = record { offset = 0; length = 0 }
 
--- where the node ID of a message is, and where its items are; a message without them has `nowhere`
+-- where the node ID of a message is; only a SESS_INIT has one
 abbrev pub node_of : Fields → Span → Span
 node_of (SessInit interval segment_mru transfer_mru) node = node
 node_of _ node = nowhere
 
+-- where the items of a message are; only a SESS_INIT and a segment have a list
 abbrev pub items_of : Fields → Span → Span
 items_of (SessInit interval segment_mru transfer_mru) items = items
 items_of (Segment flags id size) items = items

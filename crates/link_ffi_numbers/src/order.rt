@@ -5,7 +5,7 @@ ghost use Rattle.link_wire.specs.declared.message.Message.{Message};
 ghost use Rattle.link_transfer.specs.Event.{event_of};
 ghost use Rattle.link_transfer.specs.Order.{judged_message, refusal, effect_of, with_taken};
 ghost use Rattle.link_transfer.specs.Joiner.{IsJoinerAt};
-ghost use Rattle.link_ffi_numbers.specs.Order.{order_code, event_by, no_turn, turn_shown, effect_shown, fault_shown, IsOrderAt, is_in_range, ReturnsTurn, ReturnsTaken};
+ghost use Rattle.link_ffi_numbers.specs.Order.{order_code, event_by, no_turn, turn_shown, effect_shown, fault_shown, IsOrderAt, is_in_range, ReturnsTurn, ReturnsTakenTurn};
 
 use crate::recording;
 use crate::status::{FAULT, OK};
@@ -210,7 +210,7 @@ fn fault_shown(fault: Option<OrderFault>) -> (u64, u32)
 /// fault, or 0, and what the message does to the transfers.
 pub fn take(order: &mut Order, event: Event, answer: &mut Turn) -> u32
     ensures taken { (before : List Message) → IsOrderAt order.old before
-        → ReturnsTaken (refusal before event) (effect_of before event) answer.new result }
+        → ReturnsTakenTurn (refusal before event) (effect_of before event) answer.new result }
     ensures after { (before : List Message) (message : Message) → event_of message ≡ event
         → IsOrderAt order.old before → IsOrderAt order.new (with_taken before message) }
 {

@@ -13,6 +13,7 @@ use Rattle.link_ffi_tools.specs.declared.options.UnpackNumbers.{UnpackNumbers}
 use Rattle.link_ffi_tools.specs.declared.reading.Reading.{Reading}
 use Rattle.link_ffi_tools.specs.declared.reading.Reading.TheVariants as reading
 
+-- whether one of the words is not 0
 abbrev pub has_nonzero : List ℕ → Bool
 has_nonzero words = list_any (λ word. nat_lt 0 word) words
 
@@ -20,7 +21,7 @@ has_nonzero words = list_any (λ word. nat_lt 0 word) words
 abbrev pub number_if : (is_set number : ℕ) → Option ℕ
 number_if is_set number = if is_set == 1 then Some number else None
 
--- the switch of a number is 1, or it is 0 and so is the number
+-- whether a switch and its number fit: the switch is 1, or both are 0
 abbrev pub switch_fits : (is_set number : ℕ) → Bool
 switch_fits is_set number = is_set == 1 || (is_set == 0 && number == 0)
 
@@ -36,6 +37,7 @@ unpack_numbers words =
       keep_going = get_or words 3 0;
     }
 
+-- whether the options are in their ranges
 abbrev pub unpack_numbers_fit : UnpackNumbers → Bool
 unpack_numbers_fit numbers =
     switch_fits numbers.only_one numbers.transfer
@@ -55,6 +57,7 @@ abbrev pub unpack_in_range : List ℕ → Bool
 unpack_in_range words =
     unpack_numbers_fit (unpack_numbers words) && not (has_nonzero (drop 4 words))
 
+-- what is wanted by these words, or `None` if an option is out of its range
 abbrev pub wanted_in : List ℕ → Option Wanted
 wanted_in words = if unpack_in_range words then Some (wanted_of (unpack_numbers words)) else None
 
@@ -70,7 +73,7 @@ blocks_numbers words =
       bundles = get_or words 3 0;
     }
 
--- with `bundles`, the options for a recording are not set
+-- Whether the options are in their ranges. With `bundles`, no option for a recording may be set.
 abbrev pub blocks_numbers_fit : BlocksNumbers → Bool
 blocks_numbers_fit numbers =
     switch_fits numbers.only_one numbers.transfer
@@ -112,7 +115,7 @@ check_numbers words =
       bundles = get_or words 5 0;
     }
 
--- With `bundles`, no limit of the peer is set.
+-- Whether the options are in their ranges. With `bundles`, no limit of the peer may be set.
 abbrev pub check_numbers_fit : CheckNumbers → Bool
 check_numbers_fit numbers =
     nat_le numbers.must 1 && (switch_fits numbers.has_peer_segment numbers.peer_segment

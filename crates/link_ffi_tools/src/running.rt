@@ -156,7 +156,7 @@ fn run_whole<T: SliceTool>(tool: T, bytes: &[u8], output: &mut [u8], report: &mu
     }
 }
 
-/// `OK` if each text that is wanted fits, and else `TOO_SMALL`.
+/// Returns `OK` if each wanted text fits in its slice, and else `TOO_SMALL`.
 fn texts_status(wants: Wants, ended: &Ended) -> u32
     ensures { result ≡ texts_status wants ended.now.output.fits ended.now.report.fits }
 {
@@ -170,7 +170,8 @@ fn texts_status(wants: Wants, ended: &Ended) -> u32
 }
 
 /// Runs the tool over the bytes to its end, into these slices, and describes the run in `answer`.
-/// Returns `OK`, `TOO_SMALL` if a wanted text does not fit, or `MEMORY`.
+/// Returns `OK`, or `TOO_SMALL` if a wanted text does not fit in its slice, or `MEMORY` if the tool
+/// was refused its memory.
 pub fn run_into<T: SliceTool>(
     tool: T,
     bytes: &[u8],

@@ -25,7 +25,10 @@ fn copy_at(slice: &mut [u8], at: usize, bytes: &[u8])
     copy_front(&mut slice[at..], bytes);
 }
 
-/// Copies the bytes of a text that come after its first `count` bytes, as far as there is room.
+/// Appends `bytes` to a text whose beginning is in the slice, as far as there is room.
+///
+/// `count` is the number of the text's bytes so far, or 2^64 - 1 if there are more. The slice may
+/// be shorter than the text.
 #[tactic(auto, using(crate::proofs::Overlays::after_piece))]
 pub fn copy_after(slice: &mut [u8], count: u64, bytes: &[u8])
     ensures { (before text : List ℕ) → slice.old ≡ overlaid before text

@@ -1,8 +1,8 @@
 //! Runs of whole tools over a slice, into two slices.
 //!
-//! A text is wanted if its number is not 0. Of a text that is not wanted, no room is asked.
-//! `options` has a number for each option that the caller's version of the header has, in the order
-//! of the header.
+//! A text is wanted if its number in `wants` is not 0. A text that is not wanted needs no room in
+//! its slice. `options` has a number for each option that the caller's version of the header has,
+//! in the order of the header.
 
 ghost use Rattle.std.specs.Prelude.{◌≡◌, true, false};
 ghost use Rattle.link_tool_list.specs.Listing.{list_tool};
@@ -14,7 +14,7 @@ use crate::reading::Reading;
 use crate::running::{Run, Wants, run_into};
 use link_ffi_numbers::status::RANGE;
 
-/// Runs `list` over the bytes. Returns `OK` or `TOO_SMALL`.
+/// Runs `list` over the bytes. Returns `OK`, or `TOO_SMALL` if a wanted text does not fit.
 pub fn list_into(
     bytes: &[u8],
     wants: Wants,
@@ -30,7 +30,10 @@ pub fn list_into(
     run_into(Reading::List, bytes, wants, output, report, answer)
 }
 
-/// Runs `unpack` over the bytes. Returns `OK`, `TOO_SMALL`, or `RANGE` for bad options.
+/// Runs `unpack` over the bytes.
+///
+/// Returns `OK`, or `TOO_SMALL` if a wanted text does not fit in its slice. If an option is out of
+/// range, writes nothing and returns `RANGE`.
 pub fn unpack_into(
     bytes: &[u8],
     options: &[u64],
@@ -59,7 +62,10 @@ pub fn unpack_into(
     )
 }
 
-/// Runs `blocks` over the bytes. Returns `OK`, `TOO_SMALL`, or `RANGE` for bad options.
+/// Runs `blocks` over the bytes.
+///
+/// Returns `OK`, or `TOO_SMALL` if a wanted text does not fit in its slice. If an option is out of
+/// range, writes nothing and returns `RANGE`.
 #[tactic(auto, using(crate::proofs::Runs::in_range))]
 pub fn blocks_into(
     bytes: &[u8],
@@ -82,7 +88,10 @@ pub fn blocks_into(
     run_into(reading, bytes, wants, output, report, answer)
 }
 
-/// Runs `check` over the bytes. Returns `OK`, `TOO_SMALL`, or `RANGE` for bad options.
+/// Runs `check` over the bytes.
+///
+/// Returns `OK`, or `TOO_SMALL` if a wanted text does not fit in its slice. If an option is out of
+/// range, writes nothing and returns `RANGE`.
 #[tactic(auto, using(crate::proofs::Runs::in_range))]
 pub fn check_into(
     bytes: &[u8],

@@ -11,7 +11,8 @@ use Rattle.link_ffi_numbers.specs.declared.recording.Message.{Message}
 use Rattle.link_wire.specs.declared.message.Fields.{Fields}
 use Rattle.link_wire.specs.declared.message.Fields.TheVariants.{SessInit, Segment, Ack, Refuse, Keepalive, SessTerm, MsgReject}
 
--- the kind and the numbers of a message, without its fault and its places
+-- The kind and the numbers of a message alone. Its fault and the offsets and lengths that say where
+-- its parts lie are set to 0.
 abbrev pub plain : Message → Message
 plain it =
     record it {

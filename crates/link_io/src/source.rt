@@ -169,7 +169,7 @@ impl<R: InDevice> Source<R> {
         self.held_front()
     }
 
-    /// `front` for an empty window.
+    /// Returns what [`Source::front`] returns for an empty window: the bytes that the reader holds.
     #[inline(always)]
     fn held_front(&self) -> &[u8]
         requires { self.now.start ≡ self.now.end }
@@ -200,7 +200,7 @@ impl<R: InDevice> Source<R> {
         }
     }
 
-    /// `give_front` for an empty window.
+    /// Gives the first `size` bytes that the reader holds. The window is empty.
     #[inline(always)]
     fn give_held(&mut self, size: usize)
         requires empty { self.old.start ≡ self.old.end }
@@ -282,7 +282,8 @@ impl<R: InDevice> Source<R> {
         self.read_on(true)
     }
 
-    /// `ready` for an empty window, or `ready_front` (`first`) if nothing is at hand.
+    /// Does the rest of [`Source::ready`], when the window is empty. With `first`, it does the rest
+    /// of [`Source::ready_front`], when nothing is at hand.
     #[cold]
     #[inline(never)]
     fn read_on(&mut self, first: bool) -> Result<usize, IoFault>
@@ -324,7 +325,8 @@ impl<R: InDevice> Source<R> {
         count
     }
 
-    /// Reads once, into an empty window. With `first`, a reader with a buffer may give one byte.
+    /// Reads once, into an empty window. With `first`, a reader with a buffer may give one byte,
+    /// and hold the others.
     fn read(&mut self, first: bool) -> Result<usize, IoFault>
         requires open { self.old.flow ≡ Flow.Open }
         requires empty { self.old.start ≡ self.old.end }
@@ -428,7 +430,7 @@ impl<R: InDevice> Source<R> {
         self.fill_on(buffer)
     }
 
-    /// `fill` for an empty buffer, or for more bytes than the window has.
+    /// Does [`Source::fill`] for an empty buffer, or if the window has fewer bytes than the buffer.
     #[inline(never)]
     fn fill_on(&mut self, buffer: &mut [u8]) -> Result<Filled, IoFault>
         ensures fills { FillsSlice R.state self.old self.new buffer.old buffer.new result }
@@ -452,7 +454,7 @@ impl<R: InDevice> Source<R> {
         Ok(Filled::Whole)
     }
 
-    /// `some` for the part of the buffer from index `at` on.
+    /// Does [`Source::some`] for the part of the buffer from index `at` on.
     #[inline]
     fn some_from(&mut self, buffer: &mut [u8], at: usize) -> Result<usize, IoFault>
         requires { at < length buffer.old }
@@ -473,7 +475,7 @@ impl<R: InDevice> Source<R> {
     }
 }
 
-/// `window[start..end]`, with the clause that its elements are bytes.
+/// Returns `window[start..end]`. The clause `bytes` adds that each number in it is a byte.
 #[inline(always)]
 fn part(window: &[u8], start: usize, end: usize) -> &[u8]
     requires ordered { start ≤ end }
@@ -503,7 +505,8 @@ fn copy_front(window: &mut [u8], bytes: &[u8]) -> usize
     copy_into(window, 0, &bytes[..size])
 }
 
-/// One read, for a whole window. With `first`, a reader with a buffer may give one byte only.
+/// Reads once, into a whole window. With `first`, a reader with a buffer may give one byte, and
+/// hold the others.
 fn read_ahead<R: InDevice>(
     reader: &mut R,
     window: &mut [u8],

@@ -112,7 +112,7 @@ impl<D: OutDevice> TextWriter<D> {
         answer
     }
 
-    /// `write` for many bytes, or for some that the page has no room for.
+    /// Does `write` for at least [`LARGE`] bytes, or for bytes that the page has no room for.
     #[cold]
     #[inline(never)]
     fn write_on(&mut self, bytes: &[u8]) -> Result<usize, DeviceFault>

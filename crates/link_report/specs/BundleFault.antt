@@ -3,6 +3,7 @@ use Rattle.std.specs.Prelude.{ℕ, List, codes}
 use Rattle.link_bundle_types.specs.declared.fault.BundleFault.{BundleFault}
 use Rattle.link_bundle_types.specs.declared.fault.BundleFault.TheVariants.{Cut, Trailing, NotABundle, BadHead, WrongKind, WrongDataKind, WrongCheckKind, BadCount, BadVersion, BadCheckType, BadScheme, BadSpecificPart, EidTooLong, BadCheckLength, CheckDiffers, BadBlockNumber, RepeatedBlockNumber, TooManyBlocks, NoPayloadLast}
 
+-- the code of a fault; three faults have the code B5
 unfoldable pub code_text : BundleFault → List ℕ
 code_text Cut = codes "B1"
 code_text Trailing = codes "B2"

@@ -54,6 +54,9 @@ pub enum JudgementView<'a> {
 
 impl Judgement {
     /// The same judgement by reference.
+    ///
+    /// By the clause `short`, each dtn name in a judgement has at most 1,024 bytes, so the text of
+    /// the judgement fits in a line.
     pub fn view(&self) -> JudgementView<'_>
         ensures view { viewed_judgement result ≡ self.now }
         ensures short { IsShortJudgement self.now }

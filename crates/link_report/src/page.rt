@@ -71,8 +71,9 @@ fn write_long(page: &mut [u8], at: usize, number: u64) -> usize
 
 /// Writes `number` in decimal, without leading zeros, and returns the index after it.
 ///
-/// There has to be room for 20 digits. Most numbers of a line are below 1,000, except its offset.
-/// Where the number of digits is a constant, the compiler leaves only the stores.
+/// There has to be room for 20 digits. Most numbers in a line are below 1,000, apart from its
+/// offset. They have arms of their own: with a constant number of digits, the compiler unrolls the
+/// loop of `write_counted` into plain stores.
 #[tactic(auto, using(crate::proofs::Digits::few_digits))]
 #[inline(always)]
 pub fn write_decimal(page: &mut [u8], at: usize, number: u64) -> usize

@@ -34,7 +34,7 @@ unfoldable pub primary_text : ℕ → Primary → Option CheckKind → ℕ → L
 primary_text id primary check end =
     primary_start_text id primary check end ++ primary_rest_text primary
 
--- a canonical block (RFC 9171 section 4.3.2), before the words of its type
+-- the fields of a canonical block (RFC 9171 section 4.3.2), before the words for its data
 unfoldable pub fields_text : CanonicalBlock → List ℕ
 fields_text block =
     number_text (codes " block ") block.number ++ number_text (codes " at=") block.start
@@ -43,7 +43,7 @@ fields_text block =
     ++ number_text (codes " data-at=") block.data_start
     ++ number_text (codes " data-length=") block.data_length
 
--- the line of a canonical block, with what its data says if it is read
+-- the line of a canonical block; `found` is what its data says, or `None` if its data is not read
 unfoldable pub block_text : ℕ → CanonicalBlock → Option (Result BlockData DataFault) → List ℕ
 block_text id block found =
     decimal id ++ fields_text block ++ words_text block.data_start found ++ newline

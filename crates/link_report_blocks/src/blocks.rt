@@ -48,9 +48,9 @@ pub struct BlockText<'a> {
     pub id: u64,
     /// The block, which is whole.
     pub block: &'a CanonicalBlock,
-    /// What the block's data says, if it is read.
+    /// What the block's data says, or its fault if it is malformed.
     ///
-    /// For malformed data it is the fault.
+    /// It is `None` for a block whose data is not read.
     pub found: Option<Result<DataView<'a>, DataFault>>,
     ghost fits: { WordsFit block.now.data_start (option_map viewed_result found) } by { WordsFit-prop block.now.data_start (option_map viewed_result found) },
 }

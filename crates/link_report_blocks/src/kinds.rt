@@ -18,7 +18,7 @@ fn is_record(flags: u64) -> bool
     flags & RECORD == RECORD && !is_fragment(flags)
 }
 
-/// The kind of the data of a block, if it is read.
+/// The kind of a block's data, or `None` if the data of such a block is not read.
 ///
 /// `bundle_flags` are the bundle processing control flags (RFC 9171 section 4.2.3), and
 /// `block_type` is the block type code (RFC 9171 section 4.4, RFC 9172 section 3). The payload is

@@ -1,4 +1,5 @@
-//! The words of a block's type (RFC 9171 sections 4.4 and 6.1, RFC 9172 section 3.6).
+//! The words that end the line of a block: what its data says (RFC 9171 sections 4.4 and 6.1, RFC
+//! 9172 section 3.6).
 
 ghost use Rattle.std.specs.Prelude.{◌≡◌, ◌+◌, ◌≤◌, ◌++◌, length, take, codes, decimal, option_map};
 ghost use Rattle.link_bundle_types.specs.EidView.{viewed_eid};
@@ -29,7 +30,7 @@ const PART_MAX: usize = 54;
 /// The greatest length in bytes of the text of the bundle that a status report is about.
 const SUBJECT_MAX: usize = 73 + EID_MAX + PART_MAX;
 
-/// The greatest length in bytes of the words of a type: those of a status report.
+/// The greatest length in bytes of the words for a block's data: those for a status report.
 pub const WORDS_MAX: usize = 23 + STATUSES_MAX + SUBJECT_MAX;
 
 /// The name of the reason of a status report, or `?` for other codes.
@@ -203,7 +204,7 @@ fn write_security(page: &mut [u8], at: usize, block: &SecurityBlock, source: &Ei
     write_eid(page, at, source)
 }
 
-/// Writes what the data of a block says.
+/// Writes the words for well-formed data.
 #[tactic(auto, unfolding(crate::specs::Words::data_text))]
 #[inline(always)]
 fn write_data(page: &mut [u8], at: usize, found: &DataView<'_>) -> usize
@@ -230,9 +231,10 @@ fn write_data(page: &mut [u8], at: usize, found: &DataView<'_>) -> usize
     }
 }
 
-/// Writes the words of a block whose data begins at offset `data_start` of its bundle.
+/// Writes the words that end a block's line: what its data says, or where the data has its fault.
 ///
-/// There are none if its data is not read. Returns the index after them.
+/// `found` is `None` for a block whose data is not read: then nothing is written. `data_start` is
+/// the offset in the bundle where the data begins. Returns the index after the words.
 #[tactic(auto, unfolding(crate::specs::Words::words_text))]
 #[inline(always)]
 pub fn write_words(

@@ -39,13 +39,14 @@ begins_octet bytes =
     && (is_ascii_hexdigit (slice_index bytes 0) && is_ascii_hexdigit (slice_index bytes 1))
 
 -- whether two hexadecimal digits come after each `%` (section 2.1)
-abbrev pub has_octets : List ℕ → Bool
-has_octets [] = true
-has_octets (byte ∷ rest) = (not (byte == 0x25) || begins_octet rest) && has_octets rest
+abbrev pub has_whole_escapes : List ℕ → Bool
+has_whole_escapes [] = true
+has_whole_escapes (byte ∷ rest) =
+    (not (byte == 0x25) || begins_octet rest) && has_whole_escapes rest
 
--- whether bytes may be in a URI
+-- whether bytes may be in a URI: each may be in one, and each `%` begins a whole escape
 unfoldable pub are_uri_bytes : List ℕ → Bool
-are_uri_bytes bytes = list_all is_uri_byte bytes && has_octets bytes
+are_uri_bytes bytes = list_all is_uri_byte bytes && has_whole_escapes bytes
 
 -- whether a byte may be in a registered name (section 3.2.2)
 abbrev pub is_name_byte : ℕ → Bool
@@ -53,4 +54,4 @@ is_name_byte byte = is_uri_byte byte && not (list_any (λ other. other == byte) 
 
 -- whether bytes are a registered name, which may be empty
 unfoldable pub is_reg_name : List ℕ → Bool
-is_reg_name bytes = list_all is_name_byte bytes && has_octets bytes
+is_reg_name bytes = list_all is_name_byte bytes && has_whole_escapes bytes

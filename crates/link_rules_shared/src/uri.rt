@@ -2,7 +2,7 @@
 
 ghost use Rattle.std.specs.Prelude.{◌≡◌};
 ghost use Rattle.std.specs.List.{list_all};
-ghost use Rattle.link_rules_shared.specs.Uri.{first_of, after_mark, is_word, is_uri_byte, begins_octet, has_octets, are_uri_bytes, is_name_byte, is_reg_name};
+ghost use Rattle.link_rules_shared.specs.Uri.{first_of, after_mark, is_word, is_uri_byte, begins_octet, has_whole_escapes, are_uri_bytes, is_name_byte, is_reg_name};
 
 /// The bytes from 21 to 7e that are in no URI (section 2).
 const OTHERS: [u8; 9] = *b"\"<>\\^`{|}";
@@ -54,8 +54,8 @@ fn begins_octet(bytes: &[u8]) -> bool
 }
 
 /// Whether two hexadecimal digits come after each `%` (section 2.1).
-fn has_octets(bytes: &[u8]) -> bool
-    ensures { result ≡ has_octets bytes.now }
+fn has_whole_escapes(bytes: &[u8]) -> bool
+    ensures { result ≡ has_whole_escapes bytes.now }
 {
     for (at, byte) in bytes.iter().enumerate() {
         if *byte == b'%' && !begins_octet(&bytes[at + 1..]) {
@@ -65,18 +65,20 @@ fn has_octets(bytes: &[u8]) -> bool
     true
 }
 
+/// Whether each byte may be in a URI. An escape is not judged here.
 fn all_in_uri(bytes: &[u8]) -> bool
     ensures { result ≡ list_all is_uri_byte bytes.now }
 {
     bytes.iter().all(|byte| is_uri_byte(*byte))
 }
 
-/// Whether bytes may be in a URI (sections 2 and 2.1).
+/// Whether bytes may be in a URI: each may be in one (RFC 3986 section 2), and each `%` begins an
+/// escape of two hexadecimal digits (section 2.1).
 #[tactic(auto, unfolding(crate::specs::Uri::are_uri_bytes))]
 pub fn are_uri_bytes(bytes: &[u8]) -> bool
     ensures { result ≡ are_uri_bytes bytes.now }
 {
-    all_in_uri(bytes) && has_octets(bytes)
+    all_in_uri(bytes) && has_whole_escapes(bytes)
 }
 
 /// Whether a byte may be in a registered name (section 3.2.2).
@@ -86,6 +88,7 @@ fn is_name_byte(byte: u8) -> bool
     is_uri_byte(byte) && !DELIMITERS.contains(&byte)
 }
 
+/// Whether each byte may be in a registered name. An escape is not judged here.
 fn all_in_name(bytes: &[u8]) -> bool
     ensures { result ≡ list_all is_name_byte bytes.now }
 {
@@ -97,5 +100,5 @@ fn all_in_name(bytes: &[u8]) -> bool
 pub fn is_reg_name(bytes: &[u8]) -> bool
     ensures { result ≡ is_reg_name bytes.now }
 {
-    all_in_name(bytes) && has_octets(bytes)
+    all_in_name(bytes) && has_whole_escapes(bytes)
 }

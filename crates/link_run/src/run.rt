@@ -74,9 +74,10 @@ pub struct RunEnd<R, W, E> {
 }
 
 impl<R, W, E> RunEnd<R, W, E> {
-    /// The end of a run that has not begun, so its devices are as they were.
+    /// The devices as they were and a fault, for a run that could not begin.
     ///
-    /// No clause says what its log is. So it cannot be passed off as the end of a run.
+    /// No clause says what the log in the field `ran` is. So no caller can prove from this value
+    /// that a run took place.
     pub fn unbegun(reader: R, output: W, report: E, fault: IoFault) -> RunEnd<R, W, E>
         ensures devices { devices_of result ≡ devices reader output report }
         ensures answer { result.answer ≡ Err fault }
@@ -180,7 +181,7 @@ pub trait Run<R: InDevice, W: OutDevice, E: OutDevice>: Sized {
     /// Returns the devices with this answer, which is that of the last step. Bytes that were read
     /// ahead and not given are dropped.
     ///
-    /// Only of a run that has ended a clause says what its log is.
+    /// The contract says what the log is only if the run has ended.
     fn into_end(self, answer: Result<Status, IoFault>) -> RunEnd<R, W, E>
         ensures devices { devices_of result ≡ devices_at (place self) }
         ensures answer { result.answer ≡ answer }

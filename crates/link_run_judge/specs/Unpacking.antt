@@ -63,6 +63,7 @@ abbrev pub line_of : Wanted → Transfer → List Transfer → List ℕ
 line_of wanted transfer earlier =
     transfer_text (entry_of wanted transfer (length (parts_of wanted earlier)))
 
+-- whether this is the judgement on a good bundle
 abbrev pub is_good : Judgement → Bool
 is_good Abandoned = false
 is_good BadLengthItem = false

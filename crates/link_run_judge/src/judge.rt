@@ -55,7 +55,9 @@ impl TransferJudge {
         }
     }
 
-    /// Begins the transfer whose first segment has this head. `closed` does not matter.
+    /// Begins the transfer whose first segment has this head.
+    ///
+    /// The contract holds for any `closed`: a judge does not keep whether its transfer is closed.
     pub fn begin(&mut self, message: &MessageBuffer)
         requires { SegmentTotalsFit message.now }
         ensures follows { (head : SegmentHead) (closed : _) → message_of message.now
@@ -71,7 +73,7 @@ impl TransferJudge {
         }
     }
 
-    /// Judges the next piece of the transfer's data. `closed` does not matter.
+    /// Judges the next piece of the transfer's data. The contract holds for any `closed`.
     #[inline(always)]
     pub fn take(&mut self, piece: &[u8])
         requires { self.old.size + length piece.now < 2 ^ 63 }

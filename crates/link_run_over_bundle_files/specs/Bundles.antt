@@ -37,9 +37,12 @@ pub record Divided : Type 0 where
 abbrev pub bundle_prefix : List ℕ → List ℕ
 bundle_prefix bytes = taken bundle_goes [] bytes
 
--- the bytes are the start of a bundle that is not whole yet, and that the peer takes so far
+-- The bytes begin a bundle that needs more bytes to be whole. They are no longer than `limit`, the
+-- most bytes that a bundle may have for the peer.
 pub record IsOpen (limit : ℕ) (begun : List ℕ) : Type 0 where
+  -- after each shorter prefix, more bytes are needed
   pub front : bundle_prefix begun ≡ begun
+  -- after all of the bytes too
   pub goes : bundle_goes begun ≡ true
   pub within : length begun ≤ limit
 

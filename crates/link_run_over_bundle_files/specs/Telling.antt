@@ -19,6 +19,7 @@ use Rattle.link_run_over_bundle_files.specs.declared.consumer.{RunView.RunView, 
 
 -- ---- where an input stops
 
+-- the fault in the report; `number` is the number of the bundle that is refused
 abbrev pub refusal_fault : (number : ℕ) → Refusal → Fault
 refusal_fault number (Longer limit) = TooLong number limit
 refusal_fault number (Faulty fault offset) = Bundle number offset fault
@@ -29,6 +30,7 @@ abbrev pub lasting : Refusal → Bool
 lasting (Longer limit) = true
 lasting (Faulty fault offset) = lasts fault
 
+-- where an input stops that has `number` whole bundles, and then `rest`
 abbrev pub stop_by : (number : ℕ) → Option Rest → Option StreamStop
 stop_by number None = None
 stop_by number (Some rest) =
@@ -48,6 +50,7 @@ none_yet = record { bundles = []; begun = [] }
 abbrev pub between : List Packed → SoFar
 between bundles = record { bundles = bundles; begun = [] }
 
+-- what a tool says of bundles
 pub record BundleTelling : Type 0 where
   -- the most bytes that a bundle may have
   pub limit : ℕ
@@ -56,10 +59,12 @@ pub record BundleTelling : Type 0 where
   pub ended : List Packed → Texts
   pub good : List Packed → Bool
 
+-- the accepted bytes after the last whole bundle
 abbrev pub accepted_in : Option Rest → List ℕ
 accepted_in None = []
 accepted_in (Some rest) = rest.accepted
 
+-- what has come of a whole input: its bundles, and the accepted bytes after them
 abbrev pub come_in : Divided → SoFar
 come_in input = record { bundles = input.bundles; begun = accepted_in input.rest }
 
@@ -93,6 +98,7 @@ with_run before run (Some info) = record {
   begun = [];
 }
 
+-- what has come with this run too
 abbrev pub come_with : SoFar → RunView → SoFar
 come_with before run = with_run before run.bytes.now (whole_info run.whole)
 

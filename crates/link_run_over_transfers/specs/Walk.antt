@@ -25,6 +25,7 @@ pub record Head : Type 0 where
   -- what it does to the transfers; a stray segment does nothing
   pub turn : Option Turn
 
+-- the head of this message after the messages before it
 abbrev pub head_at : (before : List Message) → (offset : ℕ) → Message → Head
 head_at before offset message = record {
   offset = offset;
@@ -151,6 +152,7 @@ with_entry_unless None manner before entry =
     with_judged (refusal before.taken (event_of entry.message)) manner before entry
 with_entry_unless (Some refused) manner before entry = before
 
+-- one more head; nothing changes after a head at which the run has ended
 abbrev pub with_next : Manner → Walked → Entry → Walked
 with_next manner before entry = with_entry_unless before.refused manner before entry
 
@@ -158,6 +160,7 @@ abbrev pub contact_events : Option Contact → List WalkEvent
 contact_events None = []
 contact_events (Some contact) = ContactHeader contact ∷ []
 
+-- before the first head: only the contact header, if it is whole, is an event
 abbrev pub none_walked : Option Contact → Walked
 none_walked contact = record { taken = []; events = contact_events contact; refused = None }
 
@@ -185,6 +188,8 @@ abbrev pub stop_by : Option (ℕ × OrderFault) → End → Option StreamStop
 stop_by (Some (offset, fault)) end = Some (record { fault = Order offset fault; lasts = true })
 stop_by None end = stop_of end
 
+-- What a tool makes of a stream. `ended` and `good` are about a stream that ends here: then an open
+-- transfer is one more event.
 abbrev pub told_by : Telling → End → Walked → Made
 told_by telling end walked =
     let all = walked.events ++ end_events walked.taken in

@@ -98,7 +98,9 @@ TellsEnd out_look report_look telling taken events old new answer =
 
 -- ---- the state
 
--- the stage, by how the reading of the bytes so far ends; `before` is what its whole messages tell
+-- The stage agrees with how the reading of the bytes so far ends. `before` is what its whole
+-- messages tell. Between two messages, a head comes next. Inside the data of a segment, the effect
+-- of the segment determines the stage. If the reading ends with a fault, no stage fits.
 abbrev pub StageFits : Stage → (before : Walked) → End → Type 0
 StageFits now before Clean = now ≡ stage.Message
 StageFits now before (Cut offset sent content) =

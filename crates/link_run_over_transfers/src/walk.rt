@@ -210,8 +210,10 @@ impl<C: Consumer> Walker<C> {
         }
     }
 
-    /// Takes a message that is not in order, or ends the run there, as the tool's manner says. The
-    /// messages that count before it are `taken`, and their events are `events`.
+    /// Takes a message that is not in order, or ends the run there, as the tool's manner says.
+    ///
+    /// In the contract, `taken` are the messages before it on which its order depends, and `events`
+    /// are the events so far.
     #[cold]
     #[inline(never)]
     fn take_refused<R: InDevice, W: OutDevice, E: OutDevice>(
@@ -246,8 +248,10 @@ impl<C: Consumer> Walker<C> {
     }
 
     /// Tells the consumer of the head of the message, unless the head is plain and the consumer is
-    /// not told of all heads. Returns the next stage, or the end of the run if a writer failed. The
-    /// messages that count before it are `taken`, and their events are `events`.
+    /// not told of all heads. Returns the next stage, or the end of the run if a writer failed.
+    ///
+    /// In the contract, `taken` are the messages before it on which its order depends, and `events`
+    /// are the events so far.
     #[inline(always)]
     fn tell_head<R: InDevice, W: OutDevice, E: OutDevice>(
         &mut self,
@@ -404,7 +408,9 @@ impl<C: Consumer> Walker<C> {
     }
 
     /// Tells the consumer of an inner segment of the open transfer: of its head, if it is told of
-    /// every head, and of its data. The message may be any without items, and may be overwritten.
+    /// every head, and of its data.
+    ///
+    /// `self.message` must have no items. It may be overwritten with the message of the segment.
     #[inline(always)]
     fn tell_inner<W: OutDevice, E: OutDevice>(
         &mut self,

@@ -11,25 +11,26 @@ use Rattle.link_session_rules.specs.declared.rule.{AnswerFault.AnswerFault, Mess
 use Rattle.link_session_rules.specs.declared.rule.AnswerFault.TheVariants.{NotTheLast, StartRepeats, AfterEnd, AfterRefusal, RefusedAfterEnd}
 use Rattle.link_session_rules.specs.declared.rule.MessageRule.TheVariants.{AckLength, AnswerOrder}
 
--- the last XFER_ACK
+-- the last XFER_ACK: the first in the list, which has the newest message first
 abbrev pub last_ack : List Message → Option Ack
 last_ack [] = None
 last_ack (message.Ack flags id size ∷ older) =
     Some (record { id = id; length = size; ends = is_end flags })
-last_ack (last ∷ older) = last_ack older
+last_ack (latest ∷ older) = last_ack older
 
--- the ID of the last XFER_REFUSE
+-- the ID of the last XFER_REFUSE: that of the first in the list, which has the newest message first
 abbrev pub last_refused : List Message → Option ℕ
 last_refused [] = None
 last_refused (message.Refuse reason id ∷ older) = Some id
-last_refused (last ∷ older) = last_refused older
+last_refused (latest ∷ older) = last_refused older
 
--- whether an XFER_ACK of an ID came after the last XFER_REFUSE
+-- Whether an XFER_ACK of an ID came after the last XFER_REFUSE. The list has the newest message
+-- first, so the search ends at the first XFER_REFUSE in it.
 abbrev pub is_acked_since : (id : ℕ) → List Message → Bool
 is_acked_since id [] = false
 is_acked_since id (message.Ack flags acked size ∷ older) = (acked == id) || is_acked_since id older
 is_acked_since id (message.Refuse reason refused ∷ older) = false
-is_acked_since id (last ∷ older) = is_acked_since id older
+is_acked_since id (latest ∷ older) = is_acked_since id older
 
 -- ---- ack-length
 

@@ -21,6 +21,7 @@ abbrev pub viewed_head : JudgedHeadView → JudgedHead
 viewed_head head =
     record { message = message_of head.message.now; fault = head.fault; turn = head.turn }
 
+-- the messages of these heads, in order
 abbrev pub messages_of : List JudgedHead → List Message
 messages_of heads = map (λ head. head.message) heads
 
@@ -32,7 +33,7 @@ newest heads = reverse (messages_of heads)
 -- takes the list of those before a message, and the message.
 abbrev pub held : (List Message → Message → Bool) → List Message → Bool
 held test [] = false
-held test (last ∷ older) = test older last || held test older
+held test (latest ∷ older) = test older latest || held test older
 
 -- ---- what a message is
 

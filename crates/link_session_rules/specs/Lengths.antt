@@ -44,6 +44,7 @@ segments_back (head ∷ older) =
     let so_far = segments_back older in
     joined (segment_of head.message) (earlier_of head.turn so_far) so_far
 
+-- the segments of the transfer that began last, by all heads in order
 abbrev pub segments_of : List JudgedHead → List SegmentHead
 segments_of heads = segments_back (reverse heads)
 
@@ -61,6 +62,7 @@ if_passed limit before size =
     then Some (PeerTransferLength (before + size) limit)
     else None
 
+-- the number of bytes of data in these segments
 abbrev pub size_of : List SegmentHead → ℕ
 size_of segments = sum_by (λ (segment : SegmentHead). segment.length) segments
 

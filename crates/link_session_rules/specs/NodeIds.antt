@@ -9,11 +9,13 @@ use Rattle.link_rules_shared.specs.declared.level.{Level.Level, Level.TheVariant
 use Rattle.link_session_rules.specs.declared.rule.MessageRule.{MessageRule}
 use Rattle.link_session_rules.specs.declared.rule.MessageRule.TheVariants.{NodeId, NodeName}
 
--- a scheme: a letter, and then letters, digits, `+`, `-` and `.` (RFC 3986 section 3.1)
+-- whether a byte may be in a scheme after its first: letters, digits, `+`, `-` and `.` (RFC 3986
+-- section 3.1)
 abbrev pub is_scheme_byte : ℕ → Bool
 is_scheme_byte byte =
     is_ascii_alphanumeric byte || ((byte == 0x2b) || ((byte == 0x2d) || (byte == 0x2e)))
 
+-- whether bytes are a scheme: a letter, and then such bytes
 abbrev pub is_scheme : List ℕ → Bool
 is_scheme [] = false
 is_scheme (first ∷ rest) = is_ascii_alphabetic first && list_all is_scheme_byte rest
@@ -33,6 +35,7 @@ abbrev pub are_two_at : Option ℕ → List ℕ → Bool
 are_two_at None part = false
 are_two_at (Some point) part = is_number (take point part) && is_number (drop (point + 1) part)
 
+-- two decimal numbers with a point between
 abbrev pub are_two : List ℕ → Bool
 are_two part = are_two_at (first_of 0x2e part) part
 
@@ -40,6 +43,7 @@ abbrev pub are_three_at : Option ℕ → List ℕ → Bool
 are_three_at None part = false
 are_three_at (Some point) part = is_number (take point part) && are_two (drop (point + 1) part)
 
+-- whether the part begins with `!`: then it is accepted, whatever follows
 abbrev pub is_unjudged : List ℕ → Bool
 is_unjudged part = starts_with nat_eq part (codes "!")
 
@@ -75,7 +79,7 @@ node_id message = None
 
 -- ---- node-name
 
--- whether the last of two or three numbers is 0 (section 4.2.5.1.2)
+-- whether the last of two or three numbers is 0, in one digit or more (section 4.2.5.1.2)
 abbrev pub ends_in_zero : List ℕ → Bool
 ends_in_zero part = list_all (λ digit. digit == 0x30) (after_mark 0x2e (after_mark 0x2e part))
 
@@ -89,6 +93,8 @@ name_level scheme part =
     then None
     else Some Should)
 
+-- The level for a node ID, by the offset of its first colon. A node ID that is no URI breaks
+-- node-id, and so it is not judged here.
 abbrev pub name_level_at : Option ℕ → List ℕ → Option Level
 name_level_at None node = None
 name_level_at (Some colon) node =

@@ -60,6 +60,7 @@ pub record AreAnswersAt (answers : Answers) (older : List Message) : Type 0 wher
   pub acked_since : (id : ℕ) → answers.refused ≡ Some id
       → answers.acked_since ≡ is_acked_since id older
 
+-- the endings are those of exactly these messages, the newest first
 pub record AreEndingsAt (endings : Endings) (older : List Message) : Type 0 where
   pub terminated : endings.terminated ≡ list_any is_sess_term older
   pub rejected : endings.rejected ≡ list_any rejects_type older

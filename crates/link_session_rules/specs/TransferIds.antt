@@ -15,6 +15,7 @@ abbrev pub abandoned_by : Option Turn → Option ℕ
 abandoned_by (Some (turn.Begin abandoned last)) = abandoned
 abandoned_by _ = None
 
+-- the rule that a first segment breaks by abandoning a transfer of another ID
 abbrev pub if_another : SegmentHead → (open_id : ℕ) → Option MessageRule
 if_another segment open_id =
     if segment.id == open_id then None else Some (Interleaved segment.id open_id)
@@ -35,14 +36,16 @@ with_id id ((last ∷ run) ∷ runs) =
     if id == last + 1 then (id ∷ last ∷ run) ∷ runs else (id ∷ []) ∷ (last ∷ run) ∷ runs
 with_id id runs = (id ∷ []) ∷ runs
 
+-- the runs of these IDs; the newest ID is first
 abbrev pub runs_of : List ℕ → List (List ℕ)
 runs_of [] = []
 runs_of (id ∷ older) = with_id id (runs_of older)
 
--- the IDs of the STARTs among these messages, and then the last 64 runs of them
+-- the IDs of the STARTs among these messages
 abbrev pub ids_of : (older : List Message) → List ℕ
 ids_of older = filter_map start_id older
 
+-- the last 64 runs of these IDs; older IDs are forgotten
 abbrev pub last_runs : (older : List Message) → List (List ℕ)
 last_runs older = take 64 (runs_of (ids_of older))
 

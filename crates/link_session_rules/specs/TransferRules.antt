@@ -11,6 +11,7 @@ use Rattle.link_rules_shared.specs.declared.level.{Level.Level, Level.TheVariant
 use Rattle.link_session_rules.specs.declared.rule.TransferRule.{TransferRule}
 use Rattle.link_session_rules.specs.declared.rule.TransferRule.TheVariants as rule
 
+-- the rule that malformed Transfer Length items break
 abbrev pub if_malformed : Announced → Option TransferRule
 if_malformed Malformed = Some rule.LengthItem
 if_malformed _ = None
@@ -19,6 +20,7 @@ if_malformed _ = None
 unfoldable pub length_item : (first : SegmentHead) → Option TransferRule
 length_item first = if_malformed (announced_of first.items.items)
 
+-- the rule that another length than the announced one breaks; malformed items announce none
 abbrev pub if_different : Announced → (size : ℕ) → Option TransferRule
 if_different (Total total) size =
     if total == size then None else Some (rule.LengthDiffers total size)
@@ -28,6 +30,7 @@ if_different _ size = None
 unfoldable pub length_differs : (first : SegmentHead) → (size : ℕ) → Option TransferRule
 length_differs first size = if_different (announced_of first.items.items) size
 
+-- whether there is a Transfer Length item, malformed or not
 abbrev pub has_length_item : Announced → Bool
 has_length_item Absent = false
 has_length_item _ = true

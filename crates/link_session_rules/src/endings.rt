@@ -103,7 +103,9 @@ impl Endings {
         Some(MessageRule::AfterReject { kind, level })
     }
 
-    /// The rule of messages after a SESS_TERM, if it is broken. `initiated`: a SESS_INIT came.
+    /// The rule of messages after a SESS_TERM, if it is broken.
+    ///
+    /// `initiated` is whether a SESS_INIT came before the message.
     #[tactic(auto, unfolding(crate::specs::Endings::term_order))]
     pub(crate) fn term_order(&self, initiated: bool, message: &MessageBuffer) -> Option<MessageRule>
         ensures { (before : List JudgedHead) → initiated ≡ list_any is_sess_init (newest before)

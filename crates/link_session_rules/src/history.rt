@@ -70,7 +70,8 @@ impl MessageHistory {
 
     /// Whether the next message is known to break no rule. This takes less time than `rules`.
     ///
-    /// False means not known. It is false for each SESS_INIT, SESS_TERM and MSG_REJECT, all rare.
+    /// If it returns false, the message may break rules or not. It returns false for each
+    /// SESS_INIT, SESS_TERM and MSG_REJECT, which are rare.
     #[inline(always)]
     pub fn keeps_rules(&self, limits: &PeerLimits, head: &JudgedHeadView<'_>) -> bool
         requires { SegmentTotalsFit head.now.message.now }
@@ -196,7 +197,8 @@ impl MessageHistory {
     /// Takes an inner segment with `length` bytes of data, if it is known to break no rule, and
     /// returns whether it did. If not, the history stays as it was.
     ///
-    /// It is never known if the peer has a limit. The ID of the segment does not matter.
+    /// If a limit of the peer is known, it takes no segment. The contract holds for any ID of the
+    /// segment.
     #[tactic(auto, using(crate::proofs::Kept::none_if, crate::proofs::Inner::inner_kept))]
     #[inline(always)]
     pub fn take_inner(&mut self, limits: &PeerLimits, length: u64) -> bool

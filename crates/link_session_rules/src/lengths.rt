@@ -35,8 +35,10 @@ pub(crate) fn peer_segment(limit: Option<u64>, message: &MessageBuffer) -> Optio
     }
 }
 
-/// The rule that data of `length` bytes breaks, if it takes its transfer past the limit. `before`
-/// bytes came earlier; with `None`, too many for 64 bits, the limit was exceeded before.
+/// The rule that a segment breaks if its `length` bytes of data take the transfer past the limit.
+///
+/// `before` is the number of bytes of data before it, or `None` if that exceeds 64 bits. An earlier
+/// segment has then passed the limit, so this one breaks no rule.
 fn passed(limit: u64, before: Option<u64>, length: u64) -> Option<MessageRule>
     ensures { (sum : ℕ) → before ≡ within_64_bits sum → result ≡ if_passed limit sum length }
 {
@@ -70,7 +72,7 @@ impl TransferSoFar {
         }
     }
 
-    /// Adds a further segment of `length` bytes. Its other fields do not matter.
+    /// Adds a further segment of `length` bytes. Nothing else of it is kept.
     #[inline(always)]
     pub(crate) fn add(&mut self, length: u64)
         ensures { (segment previous : SegmentHead) (earlier : List SegmentHead)
@@ -80,7 +82,9 @@ impl TransferSoFar {
         self.sent = sum_within(self.sent, length);
     }
 
-    /// The rule that a further segment of `length` bytes breaks, if any, whatever else it has.
+    /// The rule of the peer's Transfer MRU, if a further segment of `length` bytes breaks it.
+    ///
+    /// No other field of the segment is looked at.
     fn exceeded(self, limit: u64, length: u64) -> Option<MessageRule>
         ensures { (segment previous : SegmentHead) (earlier : List SegmentHead)
             → segment.length ≡ length → Some self ≡ so_far_of (previous ∷ earlier)
@@ -104,8 +108,8 @@ fn sum_within(before: Option<u64>, length: u64) -> Option<u64>
     before?.checked_add(length)
 }
 
-/// The rule that the first segment of a transfer breaks, if any. The segment has `length` bytes of
-/// data, and announces the length `announced`.
+/// The rule of the peer's Transfer MRU, if the first segment of a transfer breaks it. The segment
+/// has `length` bytes of data, and announces the length `announced`.
 fn first_exceeded(limit: u64, announced: Announced, length: u64) -> Option<MessageRule>
     ensures { (segment : SegmentHead) → segment.length ≡ length
         → result ≡ if_exceeded limit announced segment [] }

@@ -193,7 +193,9 @@ impl TransferIds {
         self.contains(id).then_some(MessageRule::TransferId { id })
     }
 
-    /// The rule of the order of transfer IDs, if it is broken. `initiated`: a SESS_INIT came.
+    /// The rule of the order of transfer IDs, if it is broken.
+    ///
+    /// `initiated` is whether a SESS_INIT came before the message.
     #[tactic(auto, unfolding(crate::specs::TransferIds::transfer_id_order))]
     #[inline(always)]
     pub(crate) fn transfer_id_order(

@@ -31,7 +31,7 @@ pub struct BlockLister {
 }
 
 impl BlockLister {
-    /// Makes a lister that has had no event, for any options.
+    /// Makes a lister that has had no event. The contract holds for any options.
     pub fn new() -> BlockLister
         ensures { (options : BlockOptions) → IsBlockListerAt options result [] }
     {

@@ -41,7 +41,9 @@ impl TransferBlocks {
         }
     }
 
-    /// Begins the transfer whose first segment has this head. `only` and `closed` do not matter.
+    /// Begins the transfer whose first segment has this head.
+    ///
+    /// The contract holds for any `only` and any `closed`.
     pub(crate) fn begin(&mut self, message: &MessageBuffer)
         requires { SegmentTotalsFit message.now }
         ensures follows { (only : _) (head : SegmentHead) (closed : _)
@@ -57,7 +59,7 @@ impl TransferBlocks {
     /// completes, if the transfer is selected.
     ///
     /// If the data would be longer than any input, it takes nothing. This never happens in a run,
-    /// since the data is part of its input. Whether the transfer is closed makes no difference.
+    /// since the data is part of its input. The contract holds for any `closed`.
     #[inline(always)]
     pub(crate) fn take<W: OutDevice, E: OutDevice>(
         &mut self,

@@ -13,7 +13,7 @@ use Rattle.link_rules_shared.specs.Heads.{first_long}
 use Rattle.link_bundle_rules.specs.BundleRules.{broken_bundle_rules}
 use Rattle.link_bundle_rules.specs.{History.bundle_of, ReadBundle.{ReadBundle, begun, block_facts, with_block}}
 use Rattle.link_bundle_rules.specs.declared.history.BundleHistory.{BundleHistory}
-use Rattle.link_tool_check.specs.BundleReader.{HasHistory}
+use Rattle.link_tool_check.specs.BundleReader.{IsBundleHistoryOnceBegun}
 use Rattle.link_tool_check.specs.BundleRules.{bundle_rules, read_bundle, rules_of, with_next}
 use Rattle.link_tool_check.specs.HistoryLaws.{read_more}
 
@@ -23,7 +23,8 @@ none_read : read_bundle [] ≡ None
 unfolding read_bundle
 none_read = ap (fold (with_next []) None) no_blocks
 
-pub no_history : (history : BundleHistory) → HasHistory false history (read_bundle []) []
+pub no_history : (history : BundleHistory)
+    → IsBundleHistoryOnceBegun false history (read_bundle []) []
 no_history history = rw none_read tt
 
 -- ---- more bytes
@@ -39,7 +40,7 @@ module _ (content more : List ℕ) where
   pub history_begins : (history : BundleHistory) (primary : Primary) (check : Option CheckKind)
       (end : ℕ) → blocks_in (content ++ more) ≡ blocks_in content ++ PrimaryOf primary check end ∷ []
       → bundle_of history None 0 ≡ begun primary check
-      → HasHistory true history (read_bundle (content ++ more)) (content ++ more)
+      → IsBundleHistoryOnceBegun true history (read_bundle (content ++ more)) (content ++ more)
   history_begins history primary check end grown same =
       rw (read_more content more (PrimaryOf primary check end ∷ []) grown) (record {
         same = same;
@@ -63,8 +64,9 @@ module _ (content more : List ℕ) where
         (long_head_in (fold flags_after 0 (blocks_in (content ++ more))) (content ++ more) block)
 
     adds_by : (begins : Bool) (old new : BundleHistory) (read : Option ReadBundle)
-        → HasHistory begins old read content → AddsToHistory old new
-        → HasHistory begins new (with_next (content ++ more) read (CanonicalOf block)) (content ++ more)
+        → IsBundleHistoryOnceBegun begins old read content → AddsToHistory old new
+        → IsBundleHistoryOnceBegun begins new
+        (with_next (content ++ more) read (CanonicalOf block)) (content ++ more)
     adds_by false old new None was adds = tt
     adds_by false old new (Some bundle) was adds = absurd was
     adds_by true old new None was adds = absurd was
@@ -96,8 +98,8 @@ module _ (content more : List ℕ) where
         }
 
     pub history_adds : (begins : Bool) (old new : BundleHistory)
-        → HasHistory begins old (read_bundle content) content → AddsToHistory old new
-        → HasHistory begins new (read_bundle (content ++ more)) (content ++ more)
+        → IsBundleHistoryOnceBegun begins old (read_bundle content) content → AddsToHistory old new
+        → IsBundleHistoryOnceBegun begins new (read_bundle (content ++ more)) (content ++ more)
     history_adds begins old new was adds =
         rw (read_more content more (CanonicalOf block ∷ []) grown)
         (adds_by begins old new (read_bundle content) was adds)
@@ -105,23 +107,23 @@ module _ (content more : List ℕ) where
 -- ---- the rules
 
 module _ (content : List ℕ) (info : BundleInfo) (history : BundleHistory) where
-  none_by : (read : Option ReadBundle) → HasHistory false history read content
+  none_by : (read : Option ReadBundle) → IsBundleHistoryOnceBegun false history read content
       → rules_of content info.payload read ≡ []
   none_by None was = refl
   none_by (Some bundle) was = absurd was
 
-  pub rules_none : HasHistory false history (read_bundle content) content
+  pub rules_none : IsBundleHistoryOnceBegun false history (read_bundle content) content
       → bundle_rules content info ≡ []
   unfolding bundle_rules
   rules_none was = none_by (read_bundle content) was
 
-  some_by : (read : Option ReadBundle) → HasHistory true history read content
+  some_by : (read : Option ReadBundle) → IsBundleHistoryOnceBegun true history read content
       → rules_of content info.payload read
       ≡ broken_bundle_rules (bundle_of history (first_long content) info.payload)
   some_by None was = absurd was
   some_by (Some bundle) was = rw (← was.same) refl
 
-  pub rules_some : HasHistory true history (read_bundle content) content
+  pub rules_some : IsBundleHistoryOnceBegun true history (read_bundle content) content
       → bundle_rules content info
       ≡ broken_bundle_rules (bundle_of history (first_long content) info.payload)
   unfolding bundle_rules

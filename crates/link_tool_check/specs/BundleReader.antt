@@ -18,18 +18,21 @@ pub record IsBundleHistoryAt (history : BundleHistory) (bundle : ReadBundle) (co
   pub flags : bundle.primary.flags ≡ fold flags_after 0 (blocks_in content)
   pub few : suc (length bundle.blocks) ≤ length (blocks_in content)
 
--- once its primary block is whole, the history has `begun` and is that of the bundle
-abbrev pub HasHistory : (begun : Bool) → BundleHistory → Option ReadBundle → (content : List ℕ)
-    → Type 0
-HasHistory false history None content = Unit {0}
-HasHistory false history (Some bundle) content = ⊥
-HasHistory true history None content = ⊥
-HasHistory true history (Some bundle) content = IsBundleHistoryAt history bundle content
+-- `begun` is whether the primary block is whole in the content, so that there is a bundle. If it
+-- is, `history` is that of the bundle. Before, `history` may be anything.
+abbrev pub IsBundleHistoryOnceBegun : (begun : Bool) → BundleHistory → Option ReadBundle
+    → (content : List ℕ) → Type 0
+IsBundleHistoryOnceBegun false history None content = Unit {0}
+IsBundleHistoryOnceBegun false history (Some bundle) content = ⊥
+IsBundleHistoryOnceBegun true history None content = ⊥
+IsBundleHistoryOnceBegun true history (Some bundle) content =
+    IsBundleHistoryAt history bundle content
 
 -- exactly this content of a bundle was read
 pub record IsBundleReaderAt (now : BundleReader) (content : List ℕ) : Type 0 where
   pub reading : IsDataReaderAt now.data content
-  pub history : HasHistory now.blocks.begun now.blocks.history (read_bundle content) content
+  pub history : IsBundleHistoryOnceBegun now.blocks.begun now.blocks.history (read_bundle content)
+      content
   pub walked : HasWalked now.heads content
   pub begins : IsPrefixAt now.prefix content
 

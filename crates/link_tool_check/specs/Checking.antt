@@ -84,6 +84,7 @@ begun_by head latest =
     (segment_of head.message)
     else latest
 
+-- the transfer with more data
 abbrev pub with_bytes : (bytes : List ℕ) → Begun → Begun
 with_bytes bytes begun = record begun { content = begun.content ++ bytes }
 
@@ -114,6 +115,7 @@ latest_with latest (MessageHead head) = begun_by head latest
 latest_with latest (Data byte) = option_map (with_bytes (byte ∷ [])) latest
 latest_with latest _ = latest
 
+-- what is kept after one more event; `kept.good` stays false once a rule that counts was broken
 abbrev pub kept_with : CheckOptions → Kept → WalkEvent → Kept
 kept_with options kept event = record {
   heads = heads_with kept.heads event;

@@ -7,7 +7,7 @@ use Rattle.link_bundle_blocks.proofs.Lying.{BlocksWithin-holds}
 use Rattle.link_bundle_data_in_pieces.proofs.Grown.{all_first, all_rest, data_grown}
 use Rattle.link_bundle_rules.specs.ReadBundle.{ReadBundle}
 use Rattle.link_bundle_rules.specs.declared.history.BundleHistory.{BundleHistory}
-use Rattle.link_tool_check.specs.BundleReader.{HasHistory}
+use Rattle.link_tool_check.specs.BundleReader.{IsBundleHistoryOnceBegun}
 use Rattle.link_tool_check.specs.BundleRules.{read_bundle, with_next}
 
 module _ (content more : List ℕ) where
@@ -42,7 +42,8 @@ module _ (content more : List ℕ) where
 
   same_by : (begins : Bool) (history : BundleHistory) (read : Option ReadBundle)
       → blocks_in (content ++ more) ≡ blocks_in content
-      → HasHistory begins history read content → HasHistory begins history read (content ++ more)
+      → IsBundleHistoryOnceBegun begins history read content
+      → IsBundleHistoryOnceBegun begins history read (content ++ more)
   same_by false history None same was = tt
   same_by false history (Some bundle) same was = absurd was
   same_by true history None same was = absurd was
@@ -54,8 +55,8 @@ module _ (content more : List ℕ) where
 
   pub history_same : (begins : Bool) (history : BundleHistory)
       → blocks_in (content ++ more) ≡ blocks_in content
-      → HasHistory begins history (read_bundle content) content
-      → HasHistory begins history (read_bundle (content ++ more)) (content ++ more)
+      → IsBundleHistoryOnceBegun begins history (read_bundle content) content
+      → IsBundleHistoryOnceBegun begins history (read_bundle (content ++ more)) (content ++ more)
   history_same begins history same was =
       rw (read_more [] (same ∙ sym (append-nil (blocks_in content))))
       (same_by begins history (read_bundle content) same was)

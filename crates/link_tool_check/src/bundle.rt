@@ -38,13 +38,14 @@ struct KeptBlocks {
 
 impl BlockConsumer for KeptBlocks {
     ghost use Rattle.std.specs.Prelude.{refl};
-    ghost use Rattle.link_tool_check.specs.BundleReader.{HasHistory};
+    ghost use Rattle.link_tool_check.specs.BundleReader.{IsBundleHistoryOnceBegun};
     ghost use Rattle.link_tool_check.specs.BundleRules.{read_bundle};
     ghost use Rattle.link_tool_check.specs.HistoryLaws.{history_same};
 
     ghost says = { λ number content. [] };
 
-    ghost knows = { λ kept content. HasHistory kept.begun kept.history (read_bundle content) content };
+    ghost knows = { λ kept content. IsBundleHistoryOnceBegun kept.begun kept.history
+        (read_bundle content) content };
 
     #[inline(always)]
     fn block<W: OutDevice, E: OutDevice>(
@@ -161,7 +162,9 @@ impl BundleReader {
         )
     }
 
-    /// Reads a run of a bundle that the scan has seen. Writes nothing. `limit` does not matter.
+    /// Reads a run of a bundle that the scan has seen. Writes nothing.
+    ///
+    /// The contract holds for any `limit` of a bundle's length.
     #[inline(always)]
     pub(crate) fn take_run<W: OutDevice, E: OutDevice>(
         &mut self,

@@ -33,7 +33,7 @@ impl BundleChecker {
     ghost use Rattle.link_tool_check.specs.BundleChecker.{IsBundleCheckerAt, with_end};
     ghost use Rattle.link_tool_check.specs.Bundles.{bundle_check_telling};
 
-    /// Makes a checker for the first bundle, for either value of `must`.
+    /// Makes a checker for the first bundle. The contract holds for both values of `must`.
     pub fn new() -> BundleChecker
         ensures knows { (must : _) → IsBundleCheckerAt must result none_yet }
         ensures read { data_size result.bundle ≡ 0 }

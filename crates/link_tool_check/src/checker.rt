@@ -35,7 +35,7 @@ pub struct Checker {
 }
 
 impl Checker {
-    /// Makes a checker that has had no event, for any options.
+    /// Makes a checker that has had no event. The contract holds for any options.
     pub fn new() -> Checker
         ensures { (options : CheckOptions) → IsCheckerAt options result [] }
     {
@@ -159,7 +159,9 @@ fn judge<W: OutDevice, E: OutDevice>(
     written
 }
 
-/// [`judge`] for the head of an inner segment with `length` bytes of data. Most break no rule.
+/// Does [`judge`] for the head of an inner segment with `length` bytes of data.
+///
+/// Most inner segments are known to break no rule. They are only added to the history.
 #[inline(always)]
 fn judge_inner<W: OutDevice, E: OutDevice>(
     options: &CheckOptions,
@@ -186,7 +188,7 @@ fn judge_inner<W: OutDevice, E: OutDevice>(
     judge_apart(options, *head, history, writers, good)
 }
 
-/// Judges a head, as [`judge`] does. This one is not inlined.
+/// Does [`judge`] for any head. It is not inlined, since few heads of inner segments need it.
 #[cold]
 #[inline(never)]
 fn judge_apart<W: OutDevice, E: OutDevice>(

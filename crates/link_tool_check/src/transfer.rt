@@ -74,6 +74,9 @@ impl CheckedTransfer {
     }
 
     /// Begins the transfer whose first segment has this head.
+    ///
+    /// A head that is no segment leaves the judge as it is. By the clause `size`, the size of the
+    /// data read never grows here, so a bound on it still holds.
     pub(crate) fn begin(&mut self, head: &HeadView<'_>)
         requires { SegmentTotalsFit head.now.message.now }
         ensures follows { (first : SegmentHead) → message_of head.now.message.now

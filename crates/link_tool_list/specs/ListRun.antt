@@ -46,9 +46,10 @@ may_follow (next.Ended answer) session = true
 abbrev pub latest_line : Latest → List ℕ
 latest_line latest = message_text latest.offset (message_of latest.message)
 
--- The stage and the line that waits, by how the reading of the bytes so far ends. Between two
--- messages, a message comes next, and no line waits. Inside the data of a segment, data comes next,
--- and the segment's line waits.
+-- The stage and `line` agree with how the reading of the bytes so far ends. Between two messages, a
+-- message comes next, and `line` may be anything. Inside the data of a segment, data comes next,
+-- and `line` is the line of the segment, which is written after the data. If the reading ends with
+-- a fault, no stage fits.
 abbrev pub StageFits : Stage → List ℕ → End → Type 0
 StageFits now line Clean = (now ≡ stage.Message)
 StageFits now line (Cut offset message content) =

@@ -131,7 +131,9 @@ fn step<R: InDevice, W: OutDevice, E: OutDevice>(
     }
 }
 
-/// Reads the contact header, and writes its line. No message was read yet, so `line` may be any.
+/// Reads the contact header, and writes its line.
+///
+/// No message was read yet, so the contract holds for any `line`.
 #[cold]
 #[inline(never)]
 fn list_contact<R: InDevice, W: OutDevice, E: OutDevice>(
@@ -190,7 +192,7 @@ fn advance<R: InDevice, W: OutDevice, E: OutDevice>(
     }
 }
 
-/// Reads the head of a message. A head is read whole, so `piece` may be any.
+/// Reads the head of a message. A head is read whole, so the contract holds for any `piece`.
 #[inline(always)]
 fn read_message<R: InDevice, W: OutDevice, E: OutDevice>(
     input: &mut Input<Session<R>, W, E>,
@@ -219,7 +221,9 @@ fn read_message<R: InDevice, W: OutDevice, E: OutDevice>(
     }
 }
 
-/// Passes over a piece of a segment's data, of at most `piece` bytes. `line` is the segment's line.
+/// Passes over a piece of a segment's data, of at most `piece` bytes.
+///
+/// In the contract, `line` is the line of the segment.
 #[inline(always)]
 fn pass_data<R: InDevice, W: OutDevice, E: OutDevice>(
     piece: usize,

@@ -51,6 +51,7 @@ end_bytes options = if options.send_term then sess_term_bytes 0 0 else []
 
 -- ---- the report
 
+-- the line of a bundle; `number` is its number in the input
 abbrev pub report_line : PackOptions → (number : ℕ) → Packed → List ℕ
 report_line options number bundle = packed_text (record {
   number = number;
@@ -59,7 +60,7 @@ report_line options number bundle = packed_text (record {
   info = bundle.info;
 })
 
--- a line for each bundle
+-- a line for each bundle; `number` is the number of the first of them
 unfoldable pub report_lines : PackOptions → (number : ℕ) → List Packed → List ℕ
 report_lines options number [] = []
 report_lines options number (bundle ∷ more) =

@@ -61,10 +61,10 @@ fn write_segments<W: OutDevice, E: OutDevice>(
     Ok(())
 }
 
-/// Writes the segments that become due with a run of bytes. It has no more bytes than the next
-/// chunk needs, and `last` is whether it ends with the bundle's last byte.
+/// Writes the segments that become due with a run of bytes.
 ///
-/// If the run is a whole chunk, it is written from where it lies.
+/// The run has no more bytes than the next chunk needs. `last` is whether the run ends with the
+/// bundle's last byte. If the run is a whole chunk, it is written from where it lies.
 #[inline(always)]
 pub fn write_run<W: OutDevice, E: OutDevice>(
     id: u64,

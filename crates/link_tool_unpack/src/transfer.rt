@@ -53,7 +53,9 @@ impl TransferScan {
     }
 
     /// Begins the transfer whose first segment has this head. Its bytes in the output come after
-    /// those of the transfer before it. Neither `wanted` nor `closed` makes a difference.
+    /// those of the transfer before it.
+    ///
+    /// The contract holds for any `wanted` and any `closed`.
     pub fn begin(&mut self, message: &MessageBuffer)
         requires { SegmentTotalsFit message.now }
         ensures follows { (wanted : Wanted) (head : SegmentHead) (closed : _)
@@ -95,7 +97,9 @@ impl TransferScan {
         part
     }
 
-    /// The bytes to be written of a piece that the judge has seen. `closed` does not matter.
+    /// The bytes to be written of a piece that the judge has seen.
+    ///
+    /// The contract holds for any `closed`.
     fn part<'a>(&self, wanted: &Wanted, piece: &'a [u8]) -> &'a [u8]
         requires { length piece.now ≤ self.now.judge.size }
         ensures part { (transfer : Transfer) (closed : _)

@@ -27,7 +27,7 @@ pub struct Unpacker {
 }
 
 impl Unpacker {
-    /// Makes an unpacker that has had no event, for any options.
+    /// Makes an unpacker that has had no event. The contract holds for any options.
     pub fn new() -> Unpacker
         ensures { (wanted : Wanted) → IsUnpackerAt wanted result [] }
     {

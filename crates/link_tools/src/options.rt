@@ -59,8 +59,8 @@ impl Job {
 
 /// Runs the tool to its end, and returns its devices and its answer.
 ///
-/// If the memory of `pack` was refused, the devices are returned as they were, and the answer is
-/// `IoFault::Memory`.
+/// If the request for the memory of `pack` failed, the devices are returned as they were, and the
+/// answer is `IoFault::Memory`.
 pub fn run_tool<R: InDevice, W: OutDevice, E: OutDevice>(
     job: Job,
     reader: R,

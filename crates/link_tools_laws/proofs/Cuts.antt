@@ -14,7 +14,7 @@ use Rattle.link_run_over_transfers.proofs.Heads.{other_has_none}
 use Rattle.link_run_judge.specs.{Transfers.Transfer, Unpacking.{parts_of, part_of, entry_of}}
 use Rattle.link_run_judge.proofs.{Effects.Does, Texts.parts_more}
 use Rattle.link_run_judge.proofs.Heads.{transfers_same, transfer_begins, transfer_continues}
-use Rattle.link_tools_laws.specs.Cuts.{data_of, prepended_unless, taken_after, HasEveryByte, HasEveryTakenByte, order_of, entries_of, AreConsecutive, total_written, stream_stop, lined, reported, Divides, CutsOutput, stopping, going_on, ReportLine, OfHead, OfTransfer, line_text, entry_in, fault_in, faults_after, CutsOutputOn}
+use Rattle.link_tools_laws.specs.Cuts.{data_of, prepended_unless, taken_after, HasEveryByte, HasEveryTakenByte, order_of, entries_of, AreConsecutive, total_written, stream_stop, lined, reported, Divides, DividesOutput, stopping, going_on, ReportLine, OfHead, OfTransfer, line_text, entry_in, fault_in, faults_after, DividesOutputGoingOn}
 use Rattle.link_tools_laws.specs.RoundTrip.{all}
 use Rattle.link_tools_laws.specs.Transfers.{ordered_after, ordered, transfers_of, Unpacked, transfers_with, with_head, unpacked_of, by_transfers, settled}
 use Rattle.link_tools_laws.proofs.Same.{accepted_in_order, all_kept, AreInOrder, all as in_order, first_may, not_stray, taken_more, unpacked_in_order, whole_is}
@@ -210,7 +210,7 @@ cut_by_lines wanted stop made transfers same is =
     }
 
 -- the report cuts the output, for any stream
-pub cuts : (wanted : Wanted) (bytes : List ℕ) → CutsOutput (stopping wanted) bytes
+pub cuts : (wanted : Wanted) (bytes : List ℕ) → DividesOutput (stopping wanted) bytes
 unfolding by_transfers
 cuts wanted bytes =
     let now = stopping wanted in
@@ -280,7 +280,7 @@ module _ (wanted : Wanted) where
       read
       (record { lines = []; report = refl; entries = refl; faults = refl })
 
-pub cuts_on : (wanted : Wanted) (bytes : List ℕ) → CutsOutputOn (going_on wanted) bytes
+pub cuts_on : (wanted : Wanted) (bytes : List ℕ) → DividesOutputGoingOn (going_on wanted) bytes
 unfolding by_transfers faults_after
 cuts_on wanted bytes =
     let now = going_on wanted in

@@ -24,7 +24,7 @@ use Rattle.link_run_over_bundle_files.specs.Bundles.{Packed, Divided, divided}
 use Rattle.link_tool_check.specs.Checking.{judged, Begun, begun_by, closed_rules, latest_with}
 use Rattle.link_tool_check.specs.{BundleRules.bundle_rules, Lines.at_offset}
 use Rattle.link_tool_pack.specs.{Packing.{segment_size, sending}, Segments.{Sending, cut_at}}
-use Rattle.link_tools_laws.specs.{PackedRules.{AllowsLimits, KeepsRules, BreaksNoMore}, RoundTrip.all}
+use Rattle.link_tools_laws.specs.{PackedRules.{AllowsLimits, KeepsInitRules, BreaksNoMore}, RoundTrip.all}
 use Rattle.link_tools_laws.specs.SameRules.{is_of_bundle, reports}
 use Rattle.link_tools_laws.proofs.Carried.{ToKeep, Come, onto, packed_come, term_come, onto_all, packed_transfers}
 use Rattle.link_tools_laws.proofs.ClearHeads.{segment_clear, init_clear, term_clear, new_id, next_id, IsAtMost, exceeds_none, short_none, fresh, carrying, may_come, turn_at, turn_for, none_abandoned, earlier_is, head_of, last_at, segment_at, heads_back, first_back, size_back, At, now_is, ends_as}
@@ -101,7 +101,7 @@ module _ (options : PackOptions) (peer : PeerLimits) (allows : AllowsLimits opti
         (transfer_within peer.transfer allows.transfer))
 
   -- the messages of a packed stream whose input has no fault
-  pub packed_clear : KeepsRules options → (bundles : List Packed)
+  pub packed_clear : KeepsInitRules options → (bundles : List Packed)
       → AreBundles options.peer_transfer bundles
       → Come Clear Closed [] [] []
       (packed_entries options (record { bundles = bundles; rest = None }))
@@ -236,7 +236,7 @@ module _ (options : PackOptions) (id : ℕ) (bundle : List ℕ) where
 
 module _ (options : PackOptions) (bytes : List ℕ) (is_packed : IsPacked options bytes)
     (status : (packed options bytes).status ≡ 0) (peer : PeerLimits)
-    (allows : AllowsLimits options peer) (keeps : KeepsRules options) where
+    (allows : AllowsLimits options peer) (keeps : KeepsInitRules options) where
   abbrev stream : List ℕ
   stream = (packed options bytes).texts.output
 

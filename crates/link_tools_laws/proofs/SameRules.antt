@@ -31,7 +31,7 @@ use Rattle.link_tool_blocks.specs.Showing.{lines_of, order_line_of, blocks_tool}
 use Rattle.link_tool_check.specs.{BundleRules.bundle_rules, Bundles.bundle_check_telling}
 use Rattle.link_tool_check.specs.Checking.{check_tool}
 use Rattle.link_tools_laws.specs.{RoundTrip.all, Transfers.{are_good, unpacked_of}, Ranges.InputFits}
-use Rattle.link_tools_laws.specs.SameRules.{Carried, broken_in_transfer, is_of_bundle, reports, HasSameRules}
+use Rattle.link_tools_laws.specs.SameRules.{Carried, broken_in_transfer, is_of_bundle, reports, HasSameBundleRules}
 use Rattle.link_tools_laws.specs.SameLines.{shown, unpacked, lines_under, renumbered, HasSameLines}
 use Rattle.link_tools_laws.proofs.Placed.{Placed, passing, all_pass, none_pass, transfers_in, due_of, rules_of, is_closed, told_transfers, AfterAll, from_start, options, broken_from, lines_said, good_kept}
 use Rattle.link_tools_laws.proofs.Cuts.{reading_size, order_size, every_byte}
@@ -372,7 +372,7 @@ module _ (peer : PeerLimits) where
 
   pub same_rules : (bytes : List ℕ)
       → ((bytes : List ℕ) → AreBytes bytes → IsReading bytes (reading_of bytes))
-      → InputFits bytes → ((unpack_tool all).whole bytes).status ≡ 0 → HasSameRules peer bytes
+      → InputFits bytes → ((unpack_tool all).whole bytes).status ≡ 0 → HasSameBundleRules peer bytes
   same_rules bytes spelled input is =
       let so = clean bytes is in
       let carried = carries bytes so in

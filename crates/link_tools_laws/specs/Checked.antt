@@ -35,7 +35,7 @@ MayStop None = Unit {0}
 MayStop (Some stop) = (offset : ℕ) × (stop.fault ≡ Order offset SecondSessInit)
 
 -- The only faults in the reports of `unpack` are abandoned transfers, data that may be bundles, and
--- a second SESS_INIT. `CutsOutput` and `CutsOutputOn` say what the reports are.
+-- a second SESS_INIT. `DividesOutput` and `DividesOutputGoingOn` say what the reports are.
 pub record HasOnlyAllowed (bytes : List ℕ) : Type 0 where
   -- where a fault of the order ends the run
   pub stop : MayStop (stream_stop bytes)

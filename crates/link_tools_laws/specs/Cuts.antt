@@ -50,6 +50,7 @@ abbrev pub prepended_unless : (stray : Bool) → Entry → List Entry → List E
 prepended_unless true head rest = rest
 prepended_unless false head rest = head ∷ rest
 
+-- these heads without stray segments, if they come after the messages `before`
 unfoldable pub taken_after : List Message → List Entry → List Entry
 taken_after before [] = []
 taken_after before (head ∷ more) =
@@ -112,8 +113,8 @@ pub record Divides (wanted : Wanted) (output : List ℕ) (transfers : List Trans
   pub size : length (parts_of wanted transfers) ≡ total_written (entries_of wanted transfers)
 
 -- The report is the lines of the transfers that have one, and then the line of the fault. The lines
--- cut the output.
-pub record CutsOutput (wanted : Wanted) (bytes : List ℕ) : Type 0 where
+-- divide the output into the parts of their transfers.
+pub record DividesOutput (wanted : Wanted) (bytes : List ℕ) : Type 0 where
   pub lines : ((unpack_tool wanted).whole bytes).texts.report
       ≡ flat_map transfer_text (entries_of wanted (reported bytes))
       ++ stop_line (stream_stop bytes)
@@ -138,11 +139,12 @@ abbrev pub fault_in : ReportLine → List (ℕ × OrderFault)
 fault_in (OfHead offset fault) = (offset, fault) ∷ []
 fault_in (OfTransfer entry) = []
 
--- each head that is not in order, and its fault, of the heads that come after the messages `before`
+-- the offset and the fault of a head, or nothing if it is in order
 abbrev pub fault_at : (offset : ℕ) → Option OrderFault → List (ℕ × OrderFault)
 fault_at offset None = []
 fault_at offset (Some fault) = (offset, fault) ∷ []
 
+-- the faults of those of these heads that are not in order; the heads come after `before`
 unfoldable pub faults_after : List Message → List Entry → List (ℕ × OrderFault)
 faults_after before [] = []
 faults_after before (head ∷ more) =
@@ -155,9 +157,9 @@ reported_on wanted bytes =
     let reading = reading_of bytes in
     lined (stop_of reading.end) (unpacked_of wanted (heads_of reading)).transfers
 
--- As `CutsOutput`, where a fault of the order does not end the run. The report has a line for each
--- head that is not in order. Its lines of transfers cut the output.
-pub record CutsOutputOn (wanted : Wanted) (bytes : List ℕ) : Type 0 where
+-- As `DividesOutput`, where a fault of the order does not end the run. The report has a line for
+-- each head that is not in order. Its lines of transfers divide the output.
+pub record DividesOutputGoingOn (wanted : Wanted) (bytes : List ℕ) : Type 0 where
   pub lines : List ReportLine
   pub report : ((unpack_tool wanted).whole bytes).texts.report
       ≡ flat_map line_text lines ++ stop_line (stop_of (reading_of bytes).end)

@@ -38,6 +38,7 @@ segment_lines id sending k (suc count) offset =
     segment_line id sending k offset
     ++ segment_lines id sending (suc k) count (offset + size_of_segment sending k)
 
+-- the number of bytes of `count` segments from chunk number `k` on
 unfoldable pub size_of_segments : Sending → (k count : ℕ) → ℕ
 size_of_segments sending k zero = 0
 size_of_segments sending k (suc count) =

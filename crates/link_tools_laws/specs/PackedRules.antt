@@ -15,15 +15,16 @@ pub record AllowsLimits (options : PackOptions) (peer : PeerLimits) : Type 0 whe
   pub segment : IfSome peer.segment (λ limit. options.peer_segment ≤ limit)
   pub transfer : IfSome peer.transfer (λ limit. options.peer_transfer ≤ limit)
 
--- a SESS_INIT keeps the rules of its node ID and of its interval
+-- a SESS_INIT keeps the rules `node-id`, `node-name` and `keepalive-interval`
 pub record AreInitRulesKept (init : Message) : Type 0 where
   pub id : node_id init ≡ None
   pub name : node_name init ≡ None
   pub interval : keepalive_interval init ≡ None
 
--- the SESS_INIT that `pack` writes with these options keeps those rules
-abbrev pub KeepsRules : PackOptions → Type 0
-KeepsRules options =
+-- the SESS_INIT that `pack` writes with these options keeps the rules `node-id`, `node-name` and
+-- `keepalive-interval`
+abbrev pub KeepsInitRules : PackOptions → Type 0
+KeepsInitRules options =
     AreInitRulesKept (sess_init_with options.keepalive options.segment_mru options.transfer_mru
     options.node.items)
 

@@ -42,11 +42,12 @@ reports must broken = record {
   status = if none_counts must broken then 0 else 1;
 }
 
--- The recording has a good bundle in each transfer. `check` writes the lines of all rules that the
--- recording breaks. The rules of bundles among them are those that these bundles break, each under
--- the offset and the ID of its transfer. `check --bundles`, for what `unpack` writes, writes lines
--- of the same rules of the same bundles, each under the offset and the number of its bundle.
-pub record HasSameRules (peer : PeerLimits) (bytes : List ℕ) : Type 0 where
+-- `check` finds the same rules of bundles broken in a recording and in the bundles that `unpack`
+-- writes of it. Each transfer of the recording carries a good bundle. `check` writes the lines of
+-- all rules that the recording breaks. A rule of a bundle has a line with the offset and the ID of
+-- the bundle's transfer. `check --bundles` reads what `unpack` writes. Its lines are those of the
+-- same rules, with the offset and the number of the bundle.
+pub record HasSameBundleRules (peer : PeerLimits) (bytes : List ℕ) : Type 0 where
   pub transfers : List Carried
   pub good : All (λ (carried : Carried). verdict carried.bundle.bytes ≡ Ok carried.bundle.info)
       transfers

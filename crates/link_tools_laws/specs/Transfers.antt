@@ -20,6 +20,7 @@ pub record Ordered : Type 0 where
   pub heads : List Entry
   pub refused : Option (ℕ × OrderFault)
 
+-- at the first head that is not in order, the heads after it are dropped
 abbrev pub ordered_by : Option OrderFault → Entry → Ordered → Ordered
 ordered_by (Some fault) head rest = record { heads = []; refused = Some (head.offset, fault) }
 ordered_by None head rest = record { heads = head ∷ rest.heads; refused = rest.refused }
@@ -147,6 +148,7 @@ going_on_by wanted end unpacked = record {
 
 -- ---- what is wanted
 
+-- what `unpack` makes of this reading; with `keep_going`, it goes on after a fault of the order
 abbrev pub made_of : (keep_going : Bool) → Wanted → Reading → Made
 made_of false wanted reading = unpacking_by wanted reading.end (ordered (heads_of reading))
 made_of true wanted reading = going_on_by wanted reading.end (unpacked_of wanted (heads_of reading))

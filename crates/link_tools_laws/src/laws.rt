@@ -19,15 +19,15 @@ ghost use Rattle.link_tool_check.specs.Bundles.{bundle_check_tool};
 ghost use Rattle.link_tool_check.specs.Checking.{check_tool};
 ghost use Rattle.link_tool_pack.specs.Packing.{pack_tool};
 ghost use Rattle.link_tools_laws.specs.Checked.{HasOnlyAllowed};
-ghost use Rattle.link_tools_laws.specs.Cuts.{going_on, stopping, HasEveryByte, HasEveryTakenByte, CutsOutput, CutsOutputOn, IsSameIfInOrder};
+ghost use Rattle.link_tools_laws.specs.Cuts.{going_on, stopping, HasEveryByte, HasEveryTakenByte, DividesOutput, DividesOutputGoingOn, IsSameIfInOrder};
 ghost use Rattle.link_tools_laws.specs.Listed.{IsListed};
-ghost use Rattle.link_tools_laws.specs.PackedRules.{AllowsLimits, KeepsRules, BreaksNoMore};
+ghost use Rattle.link_tools_laws.specs.PackedRules.{AllowsLimits, KeepsInitRules, BreaksNoMore};
 ghost use Rattle.link_tools_laws.specs.PackedStream.{IsGoodForPeer};
 ghost use Rattle.link_tools_laws.specs.Prefix.{HasPrefixTexts};
 ghost use Rattle.link_tools_laws.specs.Ranges.{OptionsFit, InputFits};
 ghost use Rattle.link_tools_laws.specs.RoundTrip.{all, UnpacksToBundles};
 ghost use Rattle.link_tools_laws.specs.SameLines.{HasSameLines};
-ghost use Rattle.link_tools_laws.specs.SameRules.{HasSameRules};
+ghost use Rattle.link_tools_laws.specs.SameRules.{HasSameBundleRules};
 ghost use Rattle.link_tools_laws.specs.Transfers.{by_transfers};
 
 use link_tool_pack::PackOptions;
@@ -91,7 +91,7 @@ pub fn unpack_of_pack(options: &PackOptions, bytes: &[u8])
 #[tactic(auto, using(crate::proofs::Packed::is_packed, crate::proofs::PackedRules::breaks_no_more))]
 pub fn check_of_pack(options: &PackOptions, bytes: &[u8])
     ensures { (peer : PeerLimits) → ((pack_tool options.now).whole bytes.now).status ≡ 0
-        → AllowsLimits options.now peer → KeepsRules options.now
+        → AllowsLimits options.now peer → KeepsInitRules options.now
         → BreaksNoMore peer bytes.now ((pack_tool options.now).whole bytes.now).texts.output }
 {
     options_fit(options);
@@ -139,7 +139,7 @@ pub fn bundles_of_unpack(bytes: &[u8])
 #[tactic(auto, using(crate::proofs::SameRules::same_rules))]
 pub fn check_of_unpack(bytes: &[u8])
     ensures { (peer : PeerLimits) → ((unpack_tool all).whole bytes.now).status ≡ 0
-        → HasSameRules peer bytes.now }
+        → HasSameBundleRules peer bytes.now }
 {
     input_fits(bytes);
     exactly_one_reading();
@@ -175,9 +175,9 @@ pub fn every_byte_once()
 /// line for each head that is not in order.
 pub fn report_cuts_output()
     ensures stopping { (wanted : Wanted) (bytes : List ℕ)
-        → CutsOutput (stopping wanted) bytes }
+        → DividesOutput (stopping wanted) bytes }
     ensures going_on { (wanted : Wanted) (bytes : List ℕ)
-        → CutsOutputOn (going_on wanted) bytes }
+        → DividesOutputGoingOn (going_on wanted) bytes }
 {}
 
 /// If all messages of a stream are in order, `--keep-going` changes nothing of what `unpack` makes

@@ -5,17 +5,17 @@ use Rattle.std.specs.List.{flat_map}
 -- `segment` is the greatest number of data bytes in a segment
 
 -- chunk number k, from 0: the bytes after k segments, at most as many as a segment has
-abbrev pub chunk_at : (segment k : ℕ) → List ℕ → List ℕ
+abbrev pub chunk_at : (segment : ℕ) → (k : ℕ) → List ℕ → List ℕ
 chunk_at segment k bundle = take segment (drop (k * segment) bundle)
 
--- the first chunks of a bundle
-unfoldable pub first_chunks : (segment count : ℕ) → List ℕ → List (List ℕ)
+-- the first `count` chunks of a bundle, each of at most `segment` bytes
+unfoldable pub first_chunks : (segment : ℕ) → (count : ℕ) → List ℕ → List (List ℕ)
 first_chunks segment zero bundle = []
 first_chunks segment (suc count) bundle =
     first_chunks segment count bundle ++ chunk_at segment count bundle ∷ []
 
--- the number of chunks of `size` bytes: one for each segment, and one for the rest
-abbrev pub chunk_count : (segment size : ℕ) → ℕ
+-- the number of chunks of a bundle of `size` bytes: one for each full segment, and one for any rest
+abbrev pub chunk_count : (segment : ℕ) → (size : ℕ) → ℕ
 chunk_count segment size = (size + (segment - 1)) / segment
 
 -- all chunks of a bundle

@@ -37,6 +37,7 @@ due_of whole segment hold size =
     else if nat_lt hold size then size / segment
     else 0
 
+-- the number of chunks of the current bundle that are due
 unfoldable pub due : Cutting → ℕ
 due so_far = due_of so_far.whole so_far.segment so_far.hold (length so_far.bundle)
 
@@ -100,6 +101,7 @@ abbrev pub shown_by : Option (List ℕ) → List ℕ → List ℕ
 shown_by (Some chunk) left = chunk
 shown_by None left = left
 
+-- the bytes that the cutter shows
 unfoldable pub shown : Cutting → List ℕ
 shown so_far = shown_by so_far.chunk (uncut so_far)
 

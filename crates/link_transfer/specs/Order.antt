@@ -30,13 +30,14 @@ is_segment SessTerm = false
 is_segment (Segment flags id) = true
 is_segment Other = false
 
--- whether an event is a segment with START, and whether it is one without
+-- whether an event is a segment with START
 abbrev pub begins : Event → Bool
 begins SessInit = false
 begins SessTerm = false
 begins (Segment flags id) = is_start flags
 begins Other = false
 
+-- whether an event is a segment without START
 abbrev pub continues : Event → Bool
 continues event = is_segment event && not (begins event)
 
@@ -44,10 +45,11 @@ continues event = is_segment event && not (begins event)
 abbrev pub events_of : List Message → List Event
 events_of before = map event_of before
 
--- whether a SESS_INIT was accepted, and whether a SESS_TERM was
+-- whether a SESS_INIT was accepted
 unfoldable pub has_sess_init : List Message → Bool
 has_sess_init before = list_any is_sess_init (events_of before)
 
+-- whether a SESS_TERM was accepted
 unfoldable pub has_sess_term : List Message → Bool
 has_sess_term before = list_any is_sess_term (events_of before)
 
@@ -112,6 +114,7 @@ turn_by transfer (Segment flags id) =
     if is_start flags then turn.Begin transfer (is_end flags) else turn.Continue (is_end flags)
 turn_by transfer Other = turn.Other
 
+-- the effect of an accepted message after those before it
 unfoldable pub turn_of : List Message → Event → Turn
 turn_of before event = turn_by (open_of before) event
 
@@ -120,6 +123,7 @@ abbrev pub judged_message_by : Option OrderFault → Turn → Result Turn OrderF
 judged_message_by (Some fault) done = Err fault
 judged_message_by None done = Ok done
 
+-- the effect of a message after those before it, or the reason why it is refused
 unfoldable pub judged_message : List Message → Event → Result Turn OrderFault
 judged_message before event = judged_message_by (refusal before event) (turn_of before event)
 
@@ -130,6 +134,7 @@ judged_message before event = judged_message_by (refusal before event) (turn_of 
 abbrev pub is_stray_by : (transfer : Option ℕ) → Event → Bool
 is_stray_by transfer event = continues event && not (is_of transfer event)
 
+-- whether the event is a stray segment after the messages before it
 unfoldable pub is_stray : List Message → Event → Bool
 is_stray before event = is_stray_by (open_of before) event
 
@@ -138,6 +143,7 @@ abbrev pub effect_by : (stray : Bool) → Turn → Option Turn
 effect_by true done = None
 effect_by false done = Some done
 
+-- the effect of a message that is taken after those before it; `None` for a stray segment
 unfoldable pub effect_of : List Message → Event → Option Turn
 effect_of before event = effect_by (is_stray before event) (turn_of before event)
 
@@ -147,5 +153,6 @@ abbrev pub appended_unless : (stray : Bool) → List Message → Message → Lis
 appended_unless true before message = before
 appended_unless false before message = before ++ message ∷ []
 
+-- the messages before, and then this one, unless it is a stray segment
 unfoldable pub with_taken : List Message → Message → List Message
 with_taken before message = appended_unless (is_stray before (event_of message)) before message

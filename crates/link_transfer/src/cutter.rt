@@ -56,7 +56,7 @@ impl Cutter {
         )
     }
 
-    /// A cutter in this memory, or the error that there is none.
+    /// Makes a cutter that holds its bytes in this memory. If `memory` is an error, returns it.
     fn over(
         memory: Result<Vec<u8>, AllocError>,
         segment: usize,
@@ -255,7 +255,8 @@ impl Cutter {
         self.described(self.is_last(), self.announcement())
     }
 
-    /// The description of a chunk, with whether it is the bundle's last and what it announces.
+    /// The description of the next chunk. `last` is whether it is the bundle's last chunk, and
+    /// `announce` is the length that it announces.
     #[inline(always)]
     fn described(&self, last: bool, announce: Option<u64>) -> Cut
         ensures { result

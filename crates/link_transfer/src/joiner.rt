@@ -80,10 +80,11 @@ impl Joiner {
         self.transfer
     }
 
-    /// The ID of the open transfer, if its next segment may come.
+    /// The ID of the open transfer, if a SESS_INIT was accepted.
     ///
-    /// It may come if a SESS_INIT was accepted. An inner segment of this transfer, which has no
-    /// flags, changes nothing in the joiner.
+    /// While this is `Some(id)`, an inner segment of transfer `id` is in order and changes nothing
+    /// in the joiner. An inner segment is one without flags. So a caller that knows the ID need not
+    /// pass such a segment to [`Joiner::event`].
     #[inline(always)]
     pub fn continuable(&self) -> Option<u64>
         ensures { (before : List Message) → IsJoinerAt self.now before
@@ -175,7 +176,7 @@ impl Joiner {
         self.event(Event::of(message))
     }
 
-    /// Judges any message with this event, as `message` does.
+    /// Does [`Joiner::message`] for any message with this event.
     pub fn event(&mut self, event: Event) -> Result<Turn, OrderFault>
         ensures judged { (before : List Message) → IsJoinerAt self.old before
             → result ≡ judged_message before event }

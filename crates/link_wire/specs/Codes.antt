@@ -31,10 +31,11 @@ msg_reject = 6
 abbrev pub sess_init : ℕ
 sess_init = 7
 
--- flags of XFER_SEGMENT (section 5.2.2): the transfer's last segment, and its first
+-- whether the flags of an XFER_SEGMENT have END: it is the last of its transfer (section 5.2.2)
 abbrev pub is_end : ℕ → Bool
 is_end flags = bit_and flags 1 == 1
 
+-- whether they have START: it is the first of its transfer
 abbrev pub is_start : ℕ → Bool
 is_start flags = bit_and flags 2 == 2
 
@@ -42,9 +43,10 @@ is_start flags = bit_and flags 2 == 2
 abbrev pub item_head : ℕ
 item_head = 5
 
--- the type of a Transfer Length item, and the number of bytes of its value (section 5.2.5.1)
+-- the type of a Transfer Length item (section 5.2.5.1)
 abbrev pub transfer_length : ℕ
 transfer_length = 1
 
+-- the number of bytes of its value
 abbrev pub total_size : ℕ
 total_size = 8

@@ -44,7 +44,8 @@ module _ {R A : Type 0} where
     pub live : IsLive look new
     pub is : IsPart part given value
 
-  -- the bytes given show the fault; if it is a missing field, the input is over
+  -- The bytes given show the fault. If the fault is `Truncated`, a field is cut short or missing,
+  -- and the input is over.
   pub record MetFault (look : R → Input) (part : List ℕ → Part A) (old new : Source R)
       (fault : WireFault) : Type 0 where
     pub given : List ℕ
@@ -80,8 +81,8 @@ module _ {R A : Type 0} where
     -- if the bytes at hand are enough, nothing is read
     pub here : IsEnoughFor part (at_hand look old) → AfterPartAtHand look part old new outcome
 
--- the same result with this value in place of `()`: the function has written the value into its
--- caller's variable
+-- The result of a function that writes its value through a `&mut` argument and returns `()`, as if
+-- it had returned the value.
 abbrev pub with_value : {A : Type 0} → A → Result (Unit {0}) Halt → Result A Halt
 with_value value (Ok done) = Ok value
 with_value value (Err stop) = Err stop

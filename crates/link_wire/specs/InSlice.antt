@@ -109,12 +109,13 @@ pub record SegmentSpansFit (flags : ℕ) (items : Span) (end : ℕ) : Type 0 whe
   pub with_start : is_start flags ≡ true → items.offset + items.length + 8 ≡ end
   pub without_start : is_start flags ≡ false → items ≡ record { offset = 0; length = 0 }
 
--- the node ID and the items lie within the message, whose head ends at `end`
-abbrev pub HasSpans : Fields → (node items : Span) → (end : ℕ) → Type 0
-HasSpans (fields.SessInit interval segment_mru transfer_mru) node items end =
+-- The spans of the node ID and of the items fit the message, whose head ends at `end`. Only a
+-- SESS_INIT and a segment have any.
+abbrev pub SpansFit : Fields → (node items : Span) → (end : ℕ) → Type 0
+SpansFit (fields.SessInit interval segment_mru transfer_mru) node items end =
     SessionSpansFit node items end
-HasSpans (fields.Segment flags id size) node items end = SegmentSpansFit flags items end
-HasSpans _ node items end = Unit {0}
+SpansFit (fields.Segment flags id size) node items end = SegmentSpansFit flags items end
+SpansFit _ node items end = Unit {0}
 
 -- The part is the message that `found` describes: its numbers, and where its node ID and its items
 -- lie. The bytes after the message begin at `found.end`.
@@ -125,7 +126,7 @@ pub record LiesAt (bytes : List ℕ) (part : Part Message) (found : MessageAt) :
     drop found.end bytes,
   )
   pub list : HasList found.fields bytes found.items items
-  pub spans : HasSpans found.fields found.node found.items found.end
+  pub spans : SpansFit found.fields found.node found.items found.end
   pub within : found.end ≤ length bytes
 
 -- the part is the message that lies there, or the fault

@@ -137,7 +137,8 @@ module _ {R : Type 0} where
   abbrev pub HasStopped : Session R → Stop → Type 0
   HasStopped session why = session.phase ≡ phase.Stopped why
 
-  -- the input has ended, and the session has not stopped
+  -- The input has ended, and the session has not stopped. An input that ends inside a message stops
+  -- the session, so this one has ended between two messages.
   abbrev pub HasEndedBetween : Session R → Type 0
   HasEndedBetween session = (session.phase ≡ phase.Reading) × HasEnded session.source
 

@@ -39,15 +39,17 @@ segment_head_bytes flags id size announce =
 unfoldable pub sess_term_bytes : (flags reason : ℕ) → List ℕ
 sess_term_bytes flags reason = be 1 sess_term ++ be 1 flags ++ be 1 reason
 
--- the lengths of an extension list, and of the head of a segment, in bytes
+-- the length in bytes of the extension list of a first segment
 abbrev pub announce_size : Option ℕ → ℕ
 announce_size None = 4
 announce_size (Some total) = 17
 
+-- the length in bytes of the extension list of a segment, which has one only with START
 abbrev pub list_size : (start : Bool) → Option ℕ → ℕ
 list_size true announce = announce_size announce
 list_size false announce = 0
 
+-- the length in bytes of the head of a segment
 abbrev pub segment_head_size : (flags : ℕ) (announce : Option ℕ) → ℕ
 segment_head_size flags announce = 18 + list_size (is_start flags) announce
 

@@ -18,6 +18,7 @@ pub data End : Type 0 where
   Cut : (offset : ℕ) (message : Message) (content : List ℕ) → End
   Fault : (offset : ℕ) (fault : WireFault) → End
 
+-- the whole messages from an offset on, and how the stream ends
 pub record Stream : Type 0 where
   pub entries : List Entry
   pub end : End
@@ -68,6 +69,8 @@ pub record Reading : Type 0 where
   pub entries : List Entry
   pub end : End
 
+-- The reading of a stream, by what was read of its contact header. A fault of the contact header
+-- has offset 0. The messages begin at offset 6.
 abbrev pub reading_by : Result (Contact × List ℕ) WireFault → Reading
 reading_by (Err fault) = record { contact = None; entries = []; end = Fault 0 fault }
 reading_by (Ok (contact, bytes)) =

@@ -54,7 +54,7 @@ fn skip<R: InDevice>(source: &mut Source<R>, count: u16) -> Result<(), Halt>
 ///
 /// A total length is the value of a Transfer Length item of 8 bytes, in the list of a transfer. Any
 /// other value is skipped.
-fn total<R: InDevice>(
+fn item_total<R: InDevice>(
     source: &mut Source<R>,
     owner: ListOf,
     head: &ItemHead,
@@ -98,6 +98,9 @@ fn item_head<R: InDevice>(source: &mut Source<R>, left: u32) -> Result<ItemHead,
 }
 
 /// Reads the items of a list of `length` bytes into `items`.
+///
+/// The total of an item is its value, if that is a total length (see [`item_total`]). Only items of
+/// a transfer's list have one. By the clause `totals`, each of them that must have one has it.
 fn items_of<R: InDevice>(
     source: &mut Source<R>,
     owner: ListOf,
@@ -116,13 +119,14 @@ fn items_of<R: InDevice>(
         if items.is_full() {
             return Err(Halt::Wire(WireFault::TooManyItems));
         }
-        let total = total(source, owner, &head)?;
+        let total = item_total(source, owner, &head)?;
         items.push(Item {
             flags: head.flags,
             kind: head.kind,
             length: head.length,
             total,
         });
+        // `item_head` refuses an item that ends after the list, so this cannot underflow.
         left -= ITEM_HEAD + u32::from(head.length);
     }
     Ok(())

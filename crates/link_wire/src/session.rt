@@ -409,7 +409,8 @@ impl<R: InDevice> Session<R> {
         Ok(count)
     }
 
-    /// `data` for an empty slice.
+    /// Returns what [`Session::data`] returns for an empty slice: 0, or the stop of a session that
+    /// has stopped.
     fn no_data(&self) -> Result<usize, Stop>
         ensures size { IfOk result (λ n. n ≡ 0) }
         ensures stops { IfErr result (HasStopped self.now) }
@@ -453,7 +454,7 @@ impl<R: InDevice> Session<R> {
         }
     }
 
-    /// `load` if no data is at hand, or after a stop.
+    /// Does [`Session::load`] if no data is at hand, or after a stop.
     #[cold]
     #[inline(never)]
     fn load_on(&mut self) -> Result<usize, Stop>

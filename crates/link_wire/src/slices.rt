@@ -8,7 +8,7 @@ ghost use Rattle.std.specs.Prelude.{◌≡◌, ℕ, ◌+◌, ◌≤◌, List, []
 ghost use Rattle.link_wire.specs.Part.{Part, bytes_at, number_at};
 ghost use Rattle.link_wire.specs.MessageBuffer.{message_with};
 ghost use Rattle.link_wire.specs.Message.{is_total_length, contact_at, node_at, total_at, item_head_at, items_of, list_at, segment_at, ack_at, refuse_at, sess_term_at, msg_reject_at, sess_init_at, fields_at, message_at};
-ghost use Rattle.link_wire.specs.InSlice.{read_part, read_node, read_head, LocatesItem, LocatesEnd, HasList, HasSpans, LiesAt, LocatesList, LocatesMessage};
+ghost use Rattle.link_wire.specs.InSlice.{read_part, read_node, read_head, LocatesItem, LocatesEnd, HasList, SpansFit, LiesAt, LocatesList, LocatesMessage};
 
 use crate::codes::{
     ITEM_HEAD, KEEPALIVE, MAGIC, MSG_REJECT, SESS_INIT, SESS_TERM, START, TOTAL_SIZE,
@@ -161,7 +161,7 @@ fn plain_at(fields: Fields, end: usize) -> MessageAt
           drop end bytes,
         )
         → HasList fields bytes result.items (record { items = [] })
-        → HasSpans fields result.node result.items end → end ≤ length bytes
+        → SpansFit fields result.node result.items end → end ≤ length bytes
         → LiesAt bytes part result }
 {
     MessageAt {
@@ -268,6 +268,8 @@ pub fn item_in(bytes: &[u8], offset: usize, left: u32, owner: ListOf) -> Result<
 }
 
 /// Reads the items of a list of `size` bytes, and returns the offset after them.
+///
+/// The items are only checked: nothing of them is kept, not even the total of a transfer's item.
 fn items_of(bytes: &[u8], start: usize, owner: ListOf, size: u32) -> Result<usize, WireFault>
     requires { start ≤ length bytes.now }
     ensures { LocatesEnd bytes.now (start + size)
@@ -283,6 +285,7 @@ fn items_of(bytes: &[u8], start: usize, owner: ListOf, size: u32) -> Result<usiz
         }
         let (_, next) = total_at(bytes, value, owner, &item)?;
         at = next;
+        // `item_head_at` refuses an item that ends after the list, so this cannot underflow.
         left -= ITEM_HEAD + u32::from(item.length);
         room -= 1;
     }

@@ -14,6 +14,7 @@ use Rattle.tcpclkit_c.specs.declared.announced.AnnouncedNumbers.{AnnouncedNumber
 abbrev pub may_announce : (size : ℕ) → Message → Bool
 may_announce size it = it.kind == 1 && has_list_at size it it.items_offset
 
+-- an announcement as numbers; malformed items have kind 2 and no total
 abbrev pub announced_shown : Announced → AnnouncedNumbers
 announced_shown Absent = record { kind = 0; total = 0 }
 announced_shown (Total total) = record { kind = 1; total = total }

@@ -59,6 +59,7 @@ status_after seen piece run =
     if has_room seen piece
     then (if is_late seen piece then 9 else state_status (state_of (verdict (seen ++ run)))) else 6
 
+-- the status after a scan has taken its bytes of the next piece
 abbrev pub fed_status : (seen piece : List ℕ) → ℕ
 fed_status seen piece = status_after seen piece (fed seen piece)
 
@@ -93,18 +94,24 @@ pub record FeedsMarkedScan (old : MarkedScan) (piece : List ℕ) (new : MarkedSc
   pub scan : (seen : List ℕ) → IsMarkedScanAt old seen → Feeds seen piece new taken status
   pub other : (old.mark ≡ mark → ⊥) → (status ≡ 6) × (taken ≡ 0) × (new ≡ old)
 
+-- the verdict on the bytes seen; without the mark, nothing is written
 pub record JudgesMarked (held : MarkedScan) (old new : Verdict) (status : ℕ) : Type 0 where
   pub scan : (seen : List ℕ) → IsMarkedScanAt held seen → ReturnsVerdict seen new status
   pub other : (held.mark ≡ mark → ⊥) → (status ≡ 6) × (new ≡ old)
 
-pub record EndsMarked (held : MarkedScan) (count : ℕ) (old new : Verdict) (status : ℕ) : Type 0 where
+-- The memory had a scan before the call, and the verdict is as `EndsScan` says. Without the mark,
+-- nothing is written.
+pub record EndsMarkedScan (held : MarkedScan) (count : ℕ) (old new : Verdict) (status : ℕ)
+    : Type 0 where
   pub scan : (seen : List ℕ) → IsMarkedScanAt held seen → EndsScan seen count old new status
   pub other : (held.mark ≡ mark → ⊥) → (status ≡ 6) × (new ≡ old)
 
+-- the block in which the bytes seen end; without the mark, no block is written
 pub record JudgesMarkedBlock (held : MarkedScan) (block : BlockNumbers) (status : ℕ) : Type 0 where
   pub scan : (seen : List ℕ) → IsMarkedScanAt held seen → ReturnsCut seen block status
   pub other : (held.mark ≡ mark → ⊥) → (status ≡ 6) × (block ≡ no_block)
 
+-- the verdict and the fields of the bytes seen; without the mark, nothing is written
 pub record DescribesMarked (held : MarkedScan) (old_names names : Names) (old new : Bundle)
     (status : ℕ) : Type 0 where
   pub scan : (seen : List ℕ) → IsMarkedScanAt held seen

@@ -4,7 +4,7 @@ ghost use Rattle.std.specs.Prelude.{◌≡◌, ◌<◌, false, List, ◌++◌, �
 ghost use Rattle.link_wire.specs.declared.message.Message.{Message};
 ghost use Rattle.link_transfer.specs.Event.{event_of};
 ghost use Rattle.link_transfer.specs.Order.{judged_message, refusal, effect_of, with_taken};
-ghost use Rattle.link_ffi_numbers.specs.Order.{HasNumbers, IsOrderAt, is_in_range, ReturnsTurn, ReturnsTaken};
+ghost use Rattle.link_ffi_numbers.specs.Order.{HasNumbers, IsOrderAt, is_in_range, ReturnsTurn, ReturnsTakenTurn};
 
 use link_ffi_numbers::order::{Order, Turn, event_by, is_in_range, judge, new_order, take};
 use link_ffi_numbers::recording;
@@ -20,8 +20,10 @@ pub extern "C" fn tcpclkit_raw_start_order(order: &mut Order) -> u32
     OK
 }
 
-/// Judges whether a message may come now. Returns `OK`, and `order` then counts the message; or
-/// `FAULT` if it may not come; or `RANGE`. Neither of these changes `order`.
+/// Judges whether a message may come now.
+///
+/// If it may, returns `OK`, and `order` then counts the message. If it may not, returns `FAULT`. If
+/// a number is out of its range, returns `RANGE`. Neither `FAULT` nor `RANGE` changes `order`.
 #[unsafe(no_mangle)]
 pub extern "C" fn tcpclkit_raw_judge_message(
     order: &mut Order,
@@ -44,7 +46,10 @@ pub extern "C" fn tcpclkit_raw_judge_message(
     judge(order, event_by(message), answer)
 }
 
-/// Takes a message as `unpack --keep-going` does. Returns `FAULT` if it may not come, or `RANGE`.
+/// Takes a message as `unpack --keep-going` does, even if it may not come.
+///
+/// Returns `OK`, or `FAULT` if it may not come. If a number is out of its range, changes nothing
+/// and returns `RANGE`.
 #[unsafe(no_mangle)]
 pub extern "C" fn tcpclkit_raw_take_message(
     order: &mut Order,
@@ -53,7 +58,7 @@ pub extern "C" fn tcpclkit_raw_take_message(
 ) -> u32
     ensures taken { (before : List Message) (read : Message) → HasNumbers read message.now
         → IsOrderAt order.old before
-        → ReturnsTaken (refusal before (event_of read)) (effect_of before (event_of read))
+        → ReturnsTakenTurn (refusal before (event_of read)) (effect_of before (event_of read))
         answer.new result }
     ensures after { (before : List Message) (read : Message) → HasNumbers read message.now
         → IsOrderAt order.old before → IsOrderAt order.new (with_taken before read) }

@@ -34,7 +34,9 @@ pub extern "C" fn tcpclkit_raw_read_contact(bytes: &[u8], answer: &mut Contact) 
     }
 }
 
-/// Reads the message that begins at an offset, or returns `END` or `RANGE`.
+/// Reads the message that begins at an offset, and returns the status of what was read.
+///
+/// Writes nothing and returns `END` at the end of the bytes, or `RANGE` if the offset is past it.
 #[unsafe(no_mangle)]
 pub extern "C" fn tcpclkit_raw_read_message(bytes: &[u8], offset: u64, answer: &mut Message) -> u32
     ensures range { length bytes.now < offset → (result ≡ 6) × (answer.new ≡ answer.old) }
@@ -65,7 +67,11 @@ pub extern "C" fn tcpclkit_raw_read_message(bytes: &[u8], offset: u64, answer: &
     }
 }
 
-/// Reads the extension item at an offset of a message's list, or returns `END` or `RANGE`.
+/// Reads the extension item at an offset of a message's list, and returns the status of what was
+/// read.
+///
+/// Writes nothing and returns `END` at the end of the list, or `RANGE` if the bytes do not contain
+/// the list or the offset is not in it.
 #[unsafe(no_mangle)]
 pub extern "C" fn tcpclkit_raw_read_item(
     bytes: &[u8],

@@ -11,7 +11,7 @@ ghost use Rattle.link_bundle.specs.Scan.{HasScanned, scan_size};
 ghost use Rattle.link_bundle_blocks.specs.PrimaryFields.{primary_fields};
 ghost use Rattle.link_ffi_numbers.specs.Bundle.{verdict_shown, state_status, ReturnsVerdict};
 ghost use Rattle.tcpclkit_c.specs.Bundle.{three_names, ReturnsInfo};
-ghost use Rattle.tcpclkit_c.specs.Scan.{IsMarkedScanAt, LentScan, ReadsScan, HoldsScan, mark, has_room, is_late, fed, fed_status, may_end, EndsScan, ReturnsCut, FeedsMarkedScan, JudgesMarked, EndsMarked, JudgesMarkedBlock, DescribesMarked};
+ghost use Rattle.tcpclkit_c.specs.Scan.{IsMarkedScanAt, LentScan, ReadsScan, HoldsScan, mark, has_room, is_late, fed, fed_status, may_end, EndsScan, ReturnsCut, FeedsMarkedScan, JudgesMarked, EndsMarkedScan, JudgesMarkedBlock, DescribesMarked};
 ghost use Rattle.tcpclkit_c.specs.NextBlock.{TakesBlock, fed_block, fed_block_status, added_block, FeedsMarkedBlock};
 ghost use Rattle.tcpclkit_c.specs.contracts.scan.MarkedScan.{the_row};
 
@@ -104,7 +104,9 @@ fn piece_status(scan: &BundleScan, late: bool) -> u32
     }
 }
 
-/// Takes bytes of the piece while more are needed. Returns `RANGE` if [`may_feed`] is false.
+/// Takes bytes of the piece while more are needed, and returns the status after them.
+///
+/// If [`may_feed`] is false, takes no byte and returns `RANGE`.
 fn feed(scan: &mut MarkedScan, piece: &[u8], taken: &mut u64) -> u32
     ensures { FeedsMarkedScan scan.old piece.now scan.new taken.new result }
 {
@@ -145,7 +147,9 @@ fn take_block(scan: &mut BundleScan, piece: &[u8]) -> usize
     scan.feed_block(piece)
 }
 
-/// Takes bytes up to the end of a block, and writes this block or none. `RANGE` if not `may_feed`.
+/// Takes bytes up to the end of a block, writes this block or no block, and returns the status.
+///
+/// If [`may_feed`] is false, takes no byte, writes no block and returns `RANGE`.
 fn next_block(scan: &mut MarkedScan, piece: &[u8], taken: &mut u64, block: &mut BlockNumbers) -> u32
     ensures { FeedsMarkedBlock scan.old piece.now scan.new taken.new block.new result }
 {
@@ -185,7 +189,9 @@ pub unsafe extern "C" fn tcpclkit_raw_next_block(
     next_block(&mut *(memory as *mut MarkedScan), piece, taken, block)
 }
 
-/// Writes the verdict on the bytes seen. Returns its status, or `RANGE` without the mark.
+/// Writes the verdict on the bytes that the scan has seen, and returns its status.
+///
+/// If the memory does not begin with [`MARK`], writes nothing and returns `RANGE`.
 #[tactic(auto, using(link_bundle::proofs::Pieces::all_judged))]
 fn judge(scan: &MarkedScan, answer: &mut Verdict) -> u32
     ensures { JudgesMarked scan.now answer.old answer.new result }
@@ -242,9 +248,12 @@ fn give_end(scan: &BundleScan, count: u64, answer: &mut Verdict) -> u32
     give_verdict(scan, answer)
 }
 
-/// Writes the verdict on `count` bytes, of which the scan has seen the first, or returns `RANGE`.
+/// Writes the verdict on `count` bytes, of which the scan has seen the first. Returns its status.
+///
+/// If the memory does not begin with [`MARK`], or if [`may_end`] is false, writes nothing and
+/// returns `RANGE`.
 fn end(scan: &MarkedScan, count: u64, answer: &mut Verdict) -> u32
-    ensures { EndsMarked scan.now count answer.old answer.new result }
+    ensures { EndsMarkedScan scan.now count answer.old answer.new result }
 {
     if scan.mark != MARK {
         return RANGE;
@@ -270,7 +279,10 @@ pub unsafe extern "C" fn tcpclkit_raw_end_scan(
     end(&*(memory as *const MarkedScan), count, answer)
 }
 
-/// Writes the block in whose data or check field the bytes seen end, or returns `END` or `RANGE`.
+/// Writes the block in whose data or check field the bytes seen end, and returns `OK`.
+///
+/// Writes no block and returns `END` if they end elsewhere, or `RANGE` if the memory does not begin
+/// with [`MARK`].
 fn judge_block(scan: &MarkedScan, block: &mut BlockNumbers) -> u32
     ensures { JudgesMarkedBlock scan.now block.new result }
 {
@@ -297,7 +309,9 @@ pub unsafe extern "C" fn tcpclkit_raw_judge_block(
     judge_block(&*(memory as *const MarkedScan), block)
 }
 
-/// Writes the verdict on the bytes seen, and the accepted fields, or returns `RANGE`.
+/// Writes the verdict on the bytes seen, and the accepted fields, and returns the status.
+///
+/// If the memory does not begin with [`MARK`], writes nothing and returns `RANGE`.
 fn describe(
     scan: &MarkedScan,
     destination_name: &mut [u8],

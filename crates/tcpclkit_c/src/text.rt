@@ -99,7 +99,10 @@ fn is_data_of(primary: &BlockNumbers, block: &BlockNumbers, content: &[u8]) -> b
         && block.data_offset <= u64::MAX - block.data_length
 }
 
-/// Writes the words of the data of a block, which begins at `start` in its bundle.
+/// Writes the words for a block's data to the start of the page, and returns their length.
+///
+/// The data begins at offset `start` of the bundle. There are no words if `kind` is `None`: the
+/// data is not read.
 fn write_data(page: &mut [u8], kind: Option<DataKind>, start: u64, content: &[u8]) -> usize
     requires room { WORDS_MAX ≤ length page.old }
     requires start { start ≤ 2 ^ 64 - 1 - length content.now }

@@ -1,8 +1,8 @@
 //! Exports that run a whole tool over a slice, into two slices.
 //!
-//! A text is wanted if its number is not 0. Of a text that is not wanted, no room is asked.
-//! `options` has a number for each option that the caller's version of the header has, in the order
-//! of the header.
+//! A text is wanted if its `wants_` number is not 0. A text that is not wanted needs no room in its
+//! slice. `options` has a number for each option that the caller's version of the header has, in
+//! the order of the header.
 
 ghost use Rattle.std.specs.Prelude.{◌≡◌, true, false, Some, length};
 ghost use Rattle.link_tool_list.specs.Listing.{list_tool};
@@ -21,7 +21,7 @@ use link_tools::{PackOptions, RunEnd, cutter_for, pack};
 use link_transfer::Cutter;
 use std::alloc::{AllocError, Global};
 
-/// Runs `list` over the bytes. Returns `OK` or `TOO_SMALL`.
+/// Runs `list` over the bytes. Returns `OK`, or `TOO_SMALL` if a wanted text does not fit.
 #[unsafe(no_mangle)]
 pub extern "C" fn tcpclkit_raw_list(
     bytes: &[u8],
@@ -44,7 +44,10 @@ pub extern "C" fn tcpclkit_raw_list(
     list_into(bytes, wants, output, report, answer)
 }
 
-/// Runs `unpack` over the bytes. Returns `OK`, `TOO_SMALL`, or `RANGE` for bad options.
+/// Runs `unpack` over the bytes.
+///
+/// Returns `OK`, or `TOO_SMALL` if a wanted text does not fit in its slice. If an option is out of
+/// range, writes nothing and returns `RANGE`.
 #[unsafe(no_mangle)]
 pub extern "C" fn tcpclkit_raw_unpack(
     bytes: &[u8],
@@ -70,7 +73,10 @@ pub extern "C" fn tcpclkit_raw_unpack(
     unpack_into(bytes, options, wants, output, report, answer)
 }
 
-/// Runs `blocks` over the bytes. Returns `OK`, `TOO_SMALL`, or `RANGE` for bad options.
+/// Runs `blocks` over the bytes.
+///
+/// Returns `OK`, or `TOO_SMALL` if a wanted text does not fit in its slice. If an option is out of
+/// range, writes nothing and returns `RANGE`.
 #[unsafe(no_mangle)]
 pub extern "C" fn tcpclkit_raw_blocks(
     bytes: &[u8],
@@ -96,7 +102,10 @@ pub extern "C" fn tcpclkit_raw_blocks(
     blocks_into(bytes, options, wants, output, report, answer)
 }
 
-/// Runs `check` over the bytes. Returns `OK`, `TOO_SMALL`, or `RANGE` for bad options.
+/// Runs `check` over the bytes.
+///
+/// Returns `OK`, or `TOO_SMALL` if a wanted text does not fit in its slice. If an option is out of
+/// range, writes nothing and returns `RANGE`.
 #[unsafe(no_mangle)]
 pub extern "C" fn tcpclkit_raw_check(
     bytes: &[u8],
@@ -144,7 +153,11 @@ impl SliceTool for Packing {
     }
 }
 
-/// Runs `pack` over the bytes. Returns `OK`, `TOO_SMALL`, `RANGE` for bad options, or `MEMORY`.
+/// Runs `pack` over the bytes.
+///
+/// Returns `OK`, or `TOO_SMALL` if a wanted text does not fit in its slice, or `MEMORY` if the
+/// request for memory was refused. If an option or the length of the node ID is out of range,
+/// writes nothing and returns `RANGE`.
 #[unsafe(no_mangle)]
 pub extern "C" fn tcpclkit_raw_pack(
     alloc: Global,

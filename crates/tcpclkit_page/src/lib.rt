@@ -2,7 +2,9 @@
 //!
 //! The host grows the memory, writes the input into it, and lends slices for the texts, as a caller
 //! of the C library does. A slice is an address and a length. `Run` of link_ffi_tools says what a
-//! run writes into the answer. `include/tcpclkit.h` has the order of the options and the statuses.
+//! run writes into the answer. A text is wanted if its `wants_` number is not 0. A text that is not
+//! wanted needs no room in its slice. `include/tcpclkit.h` has the order of the options and the
+//! statuses.
 #![tactic(auto)]
 
 ghost use Rattle.std.specs.Prelude.{◌≡◌, true, false};
@@ -12,7 +14,7 @@ ghost use Rattle.link_ffi_tools.specs.Tool.{ReturnsTexts, ReturnsUnpacked, Retur
 
 use link_ffi_tools::{Run, Wants, blocks_into, check_into, list_into, unpack_into};
 
-/// Runs `list` over the bytes. Returns 0, or 5 if a wanted text does not fit.
+/// Runs `list` over the bytes. Returns 0, or 5 if a wanted text does not fit in its slice.
 #[unsafe(no_mangle)]
 pub extern "C" fn list(
     bytes: &[u8],
@@ -35,7 +37,10 @@ pub extern "C" fn list(
     list_into(bytes, wants, output, report, answer)
 }
 
-/// Runs `unpack` over the bytes. Returns 0, 5 if a wanted text does not fit, or 6 for bad options.
+/// Runs `unpack` over the bytes.
+///
+/// Returns 0, or 5 if a wanted text does not fit in its slice. If an option is out of range, writes
+/// nothing and returns 6.
 #[unsafe(no_mangle)]
 pub extern "C" fn unpack(
     bytes: &[u8],
@@ -61,7 +66,10 @@ pub extern "C" fn unpack(
     unpack_into(bytes, options, wants, output, report, answer)
 }
 
-/// Runs `blocks` over the bytes. Returns 0, 5 if a wanted text does not fit, or 6 for bad options.
+/// Runs `blocks` over the bytes.
+///
+/// Returns 0, or 5 if a wanted text does not fit in its slice. If an option is out of range, writes
+/// nothing and returns 6.
 #[unsafe(no_mangle)]
 pub extern "C" fn blocks(
     bytes: &[u8],
@@ -87,7 +95,10 @@ pub extern "C" fn blocks(
     blocks_into(bytes, options, wants, output, report, answer)
 }
 
-/// Runs `check` over the bytes. Returns 0, 5 if a wanted text does not fit, or 6 for bad options.
+/// Runs `check` over the bytes.
+///
+/// Returns 0, or 5 if a wanted text does not fit in its slice. If an option is out of range, writes
+/// nothing and returns 6.
 #[unsafe(no_mangle)]
 pub extern "C" fn check(
     bytes: &[u8],

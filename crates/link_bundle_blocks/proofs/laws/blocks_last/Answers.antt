@@ -1,11 +1,11 @@
 use Rattle.link_bundle_blocks.proofs.Lying.{BlocksWithin-holds}
-use Rattle.link_bundle_blocks.proofs.Showing.{BlocksGrow-holds, BlocksEnd-holds, BlockPlaced-holds}
+use Rattle.link_bundle_blocks.proofs.Showing.{BlocksGrow-holds, NoBlocksAfterEnd-holds, BlockPlaced-holds}
 use Rattle.link_bundle_blocks.proofs.laws.blocks_last.Goals as goal
 
 pub returns : goal.returns
 returns c = record {
   grow = BlocksGrow-holds;
-  end = BlocksEnd-holds;
+  end = NoBlocksAfterEnd-holds;
   within = BlocksWithin-holds;
   placed = BlockPlaced-holds;
 }

@@ -2,7 +2,7 @@ use Rattle.std.proofs.Common.{◌≡◌, ℕ, ◌+◌, ◌⊎◌, inl, inr, true
 use Rattle.std.proofs.lemmas.List.{drop_all, length-take-le, take_rest}
 use Rattle.link_cbor.proofs.Joins.{joined_run}
 use Rattle.link_bundle_blocks.specs.Bundle.{bundle_goes, blocks_in}
-use Rattle.link_bundle_blocks.proofs.Showing.{BlocksEnd-holds}
+use Rattle.link_bundle_blocks.proofs.Showing.{NoBlocksAfterEnd-holds}
 use Rattle.link_bundle.specs.Scan.{HasScanned, HasJudged, ending}
 use Rattle.link_bundle.proofs.Pieces.{all_judged}
 use Rattle.link_bundle_data_in_pieces.specs.DataReader.{IsDataReaderAt}
@@ -108,7 +108,7 @@ ends g c seen judged = elim c.loop-taken-test.branch [
 no_more : (bytes rest : List ℕ) → (bundle_goes bytes ≡ false) ⊎ (rest ≡ [])
     → blocks_in (bytes ++ rest) ≡ blocks_in bytes
 no_more bytes rest ends = ⊎_elim
-    (λ stops. BlocksEnd-holds bytes rest stops)
+    (λ stops. NoBlocksAfterEnd-holds bytes rest stops)
     (λ none. rw none (ap blocks_in (append-nil bytes)))
     ends
 

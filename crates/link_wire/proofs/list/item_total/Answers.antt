@@ -1,7 +1,7 @@
 use Rattle.link_wire.proofs.Gettings.{exit, exiting, after, pure, is_live, if_true, if_false}
 use Rattle.link_wire.specs.Message.{total_at}
 use Rattle.std.proofs.Common.{sym, ◌∙◌}
-use Rattle.link_wire.proofs.list.total.Goals as goal
+use Rattle.link_wire.proofs.list.item_total.Goals as goal
 
 pub returns-in_err-number64-clause-gets : goal.returns-in_err-number64-clause-gets
 unfolding total_at
