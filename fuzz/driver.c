@@ -5,14 +5,14 @@
  * Each call is made twice, into structs and slices that were filled with other bytes, and both
  * answers have to be the same. A call is made again of a prefix of the bytes, of the bytes from an
  * offset on, or with less room, and the answers have to agree. A bundle is also handed over in
- * pieces, and block by block.
+ * pieces, and block by block. What is written is read back (fuzz/writing.h, fuzz/bundles.h).
  *
  * The archive has no instruments of its own. So each slice that is lent ends at a page that may not
  * be touched, and begins after bytes that are compared afterwards. What the library returned is
  * counted for libFuzzer in place of the branches that it took.
  */
 #define _GNU_SOURCE
-#include "driver.h"
+#include "bundles.h"
 
 /* -- bundles */
 
@@ -309,17 +309,25 @@ static void take_blocks(const uint8_t *bytes, size_t length, size_t size, int fi
 static uint32_t ask_words(const struct tcpclkit_block *primary, const struct tcpclkit_block *block,
                           const uint8_t *data, size_t length, size_t room);
 
-/* The pieces make no difference to the blocks. The data of each has words. */
+/* The pieces make no difference to the blocks. The data of each has words, and each is written
+ * again. */
 static void ask_blocks(const uint8_t *bytes, size_t length, size_t size) {
   static struct blocks whole, pieces;
+  struct names names = {.rooms = WHOLE_NAMES};
   size_t at;
   take_blocks(bytes, length, length + 1, 0x11, &whole);
   take_blocks(bytes, length, size, 0xee, &pieces);
   SAME(whole, pieces);
+  if (whole.count > 0) {
+    ask_info(bytes, length, 0x11, &names);
+    ask_rewritten_primary(bytes, &names.bundle, whole.each, names.bytes[0], names.bytes[1],
+                          names.bytes[2], size);
+  }
   for (at = 1; at < whole.count; at++) {
     const struct tcpclkit_block *it = &whole.each[at];
     CHECK(ask_words(whole.each, it, bytes + it->data_offset, it->data_length, size) ==
           TCPCLKIT_OK);
+    ask_rewritten_block(bytes, it, size);
   }
 }
 
@@ -561,7 +569,7 @@ static void ask_order(struct tcpclkit_order *order, const struct tcpclkit_messag
 
 /* Reads messages from an offset on, and judges their order from some state on. */
 static void ask_recording(const uint8_t *bytes, size_t length, uint64_t offset, size_t cut,
-                          struct tcpclkit_order order) {
+                          const uint64_t *numbers, struct tcpclkit_order order) {
   struct tcpclkit_message it;
   uint32_t status;
   unsigned messages = 0;
@@ -571,6 +579,8 @@ static void ask_recording(const uint8_t *bytes, size_t length, uint64_t offset, 
     count(10, messages < 9 ? messages++ : 9, it.kind, it.flags);
     ask_message_alone(bytes, length, offset, status, &it);
     ask_message_of_prefix(bytes, length, offset, cut, status, &it);
+    ask_rewritten(bytes, offset, &it, cut);
+    ask_answer(&it, numbers);
     if (it.kind == TCPCLKIT_XFER_ACK || it.kind == TCPCLKIT_XFER_REFUSE)
       it.flags &= 255;
     ask_order(&order, &it);
@@ -612,19 +622,25 @@ static uint32_t call_tool(const uint8_t *bytes, size_t length, const uint64_t *n
   struct tcpclkit_pack_options pack = {
       sizeof pack - numbers[5] % 9 * 8, numbers[1] % 65537, numbers[2],           numbers[3],
       numbers[4] % 4096,                numbers[5],         numbers[1] % 1048577, numbers[2] % 3};
+  struct tcpclkit_more_options more = {sizeof more - numbers[5] % 6 * 8,
+                                       numbers[2] >> numbers[3] % 64, numbers[4] % 4096,
+                                       numbers[5], numbers[1] % 1048577};
   size_t node = least(numbers[3] % 1026, length);
-  if (numbers[0] % 5 == 0)
+  if (numbers[0] % 6 == 0)
     return tcpclkit_list(bytes, length, it->bytes[0], it->rooms[0], it->bytes[1], it->rooms[1],
                          &it->run);
-  if (numbers[0] % 5 == 1)
+  if (numbers[0] % 6 == 1)
     return tcpclkit_unpack(bytes, length, &unpack, it->bytes[0], it->rooms[0], it->bytes[1],
                            it->rooms[1], &it->run);
-  if (numbers[0] % 5 == 2)
+  if (numbers[0] % 6 == 2)
     return tcpclkit_blocks(bytes, length, &blocks, it->bytes[0], it->rooms[0], it->bytes[1],
                            it->rooms[1], &it->run);
-  if (numbers[0] % 5 == 3)
+  if (numbers[0] % 6 == 3)
     return tcpclkit_check(bytes, length, &check, it->bytes[0], it->rooms[0], it->bytes[1],
                           it->rooms[1], &it->run);
+  if (numbers[0] % 6 == 4)
+    return tcpclkit_pack_more(bytes, length, &more, it->bytes[0], it->rooms[0], it->bytes[1],
+                              it->rooms[1], &it->run);
   return tcpclkit_pack(bytes, length, &pack, bytes, node, it->bytes[0], it->rooms[0], it->bytes[1],
                        it->rooms[1], &it->run);
 }
@@ -667,7 +683,32 @@ static void ask_tool(const uint8_t *bytes, size_t length, const uint64_t *number
   CHECK(memcmp(kept[0], cut.bytes[0], least(it.run.output_length, cut.rooms[0])) == 0);
   CHECK(memcmp(kept[1], cut.bytes[1], least(it.run.report_length, cut.rooms[1])) == 0);
   if (status == TCPCLKIT_OK)
-    count(22 + numbers[0] % 5, it.run.exit_status, it.run.report_length, it.run.output_length);
+    count(22 + numbers[0] % 6, it.run.exit_status, it.run.report_length, it.run.output_length);
+}
+
+/* After the contact header and a SESS_INIT without a node ID, pack writes what pack_more writes
+ * with the first ID 0. */
+static void ask_more(const uint8_t *bytes, size_t length, const uint64_t *numbers) {
+  const size_t prelude = TCPCLKIT_CONTACT_LENGTH + TCPCLKIT_SESS_INIT_LENGTH;
+  struct tcpclkit_pack_options pack;
+  struct tcpclkit_more_options more;
+  struct tcpclkit_run run, other;
+  uint8_t *output = lend(FIRST, ROOM, 0x11), *report = lend(SECOND, ROOM, 0x11);
+  uint32_t status;
+  tcpclkit_pack_defaults(&pack);
+  tcpclkit_more_defaults(&more);
+  pack.peer_segment = more.peer_segment = 1 + numbers[4] % 4096;
+  pack.peer_transfer = more.peer_transfer = numbers[5];
+  pack.announce = more.announce = numbers[1] % 1048577;
+  status = tcpclkit_pack(bytes, length, &pack, NULL, 0, output, ROOM, report, ROOM, &run);
+  memcpy(kept[0], output, ROOM);
+  memcpy(kept[1], report, ROOM);
+  CHECK(tcpclkit_pack_more(bytes, length, &more, output, ROOM, report, ROOM, &other) == status ||
+        (status == TCPCLKIT_TOO_SMALL && run.output_length - prelude <= ROOM));
+  CHECK(other.output_length + prelude == run.output_length);
+  CHECK(other.report_length == run.report_length && other.exit_status == run.exit_status);
+  CHECK(memcmp(kept[0] + prelude, output, least(other.output_length, ROOM - prelude)) == 0);
+  CHECK(memcmp(kept[1], report, least(run.report_length, ROOM)) == 0);
 }
 
 /* -- any numbers */
@@ -707,12 +748,15 @@ int LLVMFuzzerInitialize(int *count_of_arguments, char ***arguments) {
 int LLVMFuzzerTestOneInput(const uint8_t *data, size_t size) {
   static const struct tcpclkit_order begun = {1, 0, 0, 0};
   struct tcpclkit_order none;
+  struct source from = {0};
   uint64_t numbers[6] = {0};
   size_t length = least(size, MOST), cut;
   uint8_t *bytes = lend(INPUT, length, 0);
   memcpy(bytes, data, length);
   memcpy(numbers, data + (size - least(size, sizeof numbers)), least(size, sizeof numbers));
   cut = (numbers[0] >> 5) % (length + 1);
+  from.bytes = bytes;
+  from.length = length;
   ask_bundle(bytes, length, cut, numbers[1] & 8191);
   ask_scan(bytes, length, length + 1, 0x11);
   ask_no_scan(bytes, length);
@@ -721,10 +765,15 @@ int LLVMFuzzerTestOneInput(const uint8_t *data, size_t size) {
   ask_contact(bytes, length, cut);
   memset(&none, 0x11, sizeof none);
   CHECK(tcpclkit_start_order(&none) == TCPCLKIT_OK);
-  ask_recording(bytes, length, TCPCLKIT_CONTACT_LENGTH, cut, none);
-  ask_recording(bytes, length, 0, cut, begun);
+  ask_recording(bytes, length, TCPCLKIT_CONTACT_LENGTH, cut, numbers, none);
+  ask_recording(bytes, length, 0, cut, numbers, begun);
   ask_numbers(bytes, length, numbers);
+  ask_session(from);
+  ask_made_bundle(from);
+  ask_texts_of_eids(bytes, length, numbers[1], numbers[0] % 1100);
+  ask_names(numbers);
   ask_tool(bytes, length, numbers, numbers[5] & 65535);
+  ask_more(bytes, length, numbers);
   give_back(INPUT, length);
   CHECK(memcmp(bytes, data, length) == 0);
   return 0;

@@ -1,6 +1,6 @@
 /*
  * tcpclkit: bundles of the Bundle Protocol 7 (RFC 9171) and recorded sessions of TCPCLv4 (RFC 9174,
- * without TLS), read by functions that are proved to do what their definitions say.
+ * without TLS), read and written by functions that are proved to do what their definitions say.
  *
  *     struct tcpclkit_verdict verdict;
  *     uint32_t status = tcpclkit_judge_bundle(bytes, length, &verdict);
@@ -24,20 +24,22 @@
  * another thread or from a signal handler. The library cannot see whether this holds. What a
  * function writes overlaps nothing else that it is lent, be it a slice, a struct, a scan or
  * options: otherwise an inline function answers TCPCLKIT_RANGE. Then it writes nothing, but sets
- * `*taken` and a block of a scan to 0 where they overlap nothing. A null pointer with a length of 0
- * is an empty slice. For a null pointer with another length, or in place of a struct, the answer is
- * TCPCLKIT_NULL, and for a length above PTRDIFF_MAX it is TCPCLKIT_RANGE. A caller from another
- * language calls the raw functions. For these no pointer may be null, also where a length is 0, no
- * length may be above PTRDIFF_MAX, and nothing that is written may overlap anything else.
+ * `*taken`, a block of a scan, a check value and a struct tcpclkit_written to 0 where they overlap
+ * nothing. A null pointer with a length of 0 is an empty slice. For a null pointer with another
+ * length, or in place of a struct, the answer is TCPCLKIT_NULL, and for a length above PTRDIFF_MAX
+ * it is TCPCLKIT_RANGE. A caller from another language calls the raw functions. For these no
+ * pointer may be null, also where a length is 0, no length may be above PTRDIFF_MAX, and nothing
+ * that is written may overlap anything else.
  *
  * Threads. The library keeps no state. Every function may be called from any thread at any time,
  * as long as nothing that one call writes is used by another call at that time. A signal handler,
- * and the forked child of a process with threads, may call all functions but tcpclkit_pack.
+ * and the forked child of a process with threads, may call all functions but tcpclkit_pack and
+ * tcpclkit_pack_more.
  *
- * Memory. Only tcpclkit_pack takes memory: it calls malloc and free of the C library for one block.
- * In tests, 120 KiB of stack were enough for a whole tool, and 20 KiB for any other function. An
- * alternate stack for signal handlers often has 8 KiB (SIGSTKSZ), which is too little. The code is
- * for x86-64-v2: it uses SSE 4.2, and no AVX.
+ * Memory. Only tcpclkit_pack and tcpclkit_pack_more take memory: each calls malloc and free of the
+ * C library for one block. In tests, 120 KiB of stack were enough for a whole tool, and 20 KiB for
+ * any other function. An alternate stack for signal handlers often has 8 KiB (SIGSTKSZ), which is
+ * too little. The code is for x86-64-v2: it uses SSE 4.2, and no AVX.
  *
  * Slices. A function writes into a slice from its first byte on. The bytes after that stay.
  *
@@ -82,14 +84,18 @@ enum {
   TCPCLKIT_DATA_TRUNCATED = 3,
   /* A fault, which stays one whatever bytes follow. */
   TCPCLKIT_FAULT = 4,
-  /* A slice that was lent is too small. What was written into it is a prefix of the answer. */
+  /* A slice that was lent is too small. What was written into it is a prefix of the answer. A
+   * writer of messages or of bundles, and tcpclkit_read_eid_text, write nothing into it, and say
+   * which room is enough. */
   TCPCLKIT_TOO_SMALL = 5,
-  /* A number is out of its range, such as an offset past the end, or what is lent overlaps, or the
-   * memory has no scan. Nothing was written, but `*taken` and a block of a scan are all 0. */
+  /* A number is out of its range, such as an offset past the end, or a text is no endpoint ID, or
+   * what is lent overlaps, or the memory has no scan or no check. Nothing was written, but these
+   * are all 0: `*taken`, a block of a scan, a check value and a struct tcpclkit_written, and also a
+   * check of no kind, and the endpoint ID of a text that is none. */
   TCPCLKIT_RANGE = 6,
   /* A pointer is null that may not be. Nothing was written, except as above. */
   TCPCLKIT_NULL = 7,
-  /* The C library refused the memory that tcpclkit_pack asked for. */
+  /* The C library refused the memory that tcpclkit_pack or tcpclkit_pack_more asked for. */
   TCPCLKIT_MEMORY = 8,
   /* The scan has ended, with a good bundle or a fault, and took none of these bytes. */
   TCPCLKIT_SCAN_ENDED = 9
@@ -853,18 +859,437 @@ static inline uint32_t tcpclkit_take_message(struct tcpclkit_order *order,
   return tcpclkit_raw_take_message(order, message, turn);
 }
 
+/* -- the answers to a transfer ----------------------------------------------------------------- */
+
+/* Why a message does not answer what was sent of a transfer (RFC 9174 sections 5.2.3, 5.2.4).
+ * tcpclkit_write_fault_text has words for each of these codes, with the number 0. */
+enum {
+  TCPCLKIT_ANSWER_OTHER_TRANSFER = 71,  /* it has the ID of another transfer */
+  TCPCLKIT_ANSWER_LENGTH_FALLS = 72,    /* it acknowledges less than an XFER_ACK before it */
+  TCPCLKIT_ANSWER_LENGTH_NOT_SENT = 73, /* it acknowledges more than was sent */
+  TCPCLKIT_ANSWER_END_TOO_EARLY = 74    /* it has END, and does not acknowledge the whole */
+};
+
+/*
+ * What was sent of one transfer, and how much of it was acknowledged. It belongs to the caller, who
+ * sets `id`, and 0 in the other fields, before the first segment. With each segment that is sent,
+ * the caller adds the length of its data to `length`. With the last one, which has END, the caller
+ * sets `whole` to 1.
+ */
+struct tcpclkit_sent {
+  uint64_t id;           /* the transfer */
+  uint64_t length;       /* how many bytes of data were sent in its segments */
+  uint64_t whole;        /* 1 once its last segment was sent, and else 0 */
+  uint64_t acknowledged; /* the length in the last XFER_ACK that was accepted, or 0 */
+  uint64_t fault;        /* of the last answer: one of the codes above, or TCPCLKIT_NO_FAULT */
+};
+
+/*
+ * Judges an XFER_ACK or an XFER_REFUSE, by which the peer answers a transfer of the caller.
+ *
+ * The message is one that tcpclkit_read_message gave. TCPCLKIT_OK: it has the ID of the transfer.
+ * An XFER_ACK acknowledges no less than the one before it, and no more than was sent; with END it
+ * acknowledges the whole transfer. `acknowledged` is then its length. TCPCLKIT_FAULT: one of these
+ * does not hold, which `fault` says; the other fields stay. TCPCLKIT_RANGE: the message is no
+ * answer, tcpclkit_write_message would refuse its numbers, or `whole` is above 1. Then `sent` stays
+ * as it was.
+ *
+ * Proved of tcpclkit_raw_judge_answer: the status and `fault` are `judged_answer` of what was sent
+ * and of the message, and `acknowledged` is that of `after_answer`.
+ */
+uint32_t tcpclkit_raw_judge_answer(struct tcpclkit_sent *sent,
+                                   const struct tcpclkit_message *message);
+static inline uint32_t tcpclkit_judge_answer(struct tcpclkit_sent *sent,
+                                             const struct tcpclkit_message *message) {
+  const struct tcpclkit_lent lent[] = {{sent, sizeof *sent}, {message, sizeof *message}};
+  uint32_t status = tcpclkit_lent_status(lent, 2, 1);
+  if (status != TCPCLKIT_OK) return status;
+  return tcpclkit_raw_judge_answer(sent, message);
+}
+
+/* -- writing messages -------------------------------------------------------------------------- */
+
+/*
+ * What a call wrote into a slice. It writes the whole or nothing, so a caller who sends the first
+ * `count` bytes of the slice never sends a part of a message. Whatever the status of a writer is,
+ * this struct is written, unless it overlaps what else is lent. After each status but TCPCLKIT_OK
+ * and TCPCLKIT_TOO_SMALL both fields are 0. With an empty slice, a call says how many bytes it has
+ * to write.
+ */
+struct tcpclkit_written {
+  uint64_t count;  /* how many bytes were written: 0 unless the status is TCPCLKIT_OK */
+  uint64_t needed; /* how many bytes the whole has: after TCPCLKIT_TOO_SMALL a room for them */
+};
+
+static inline void tcpclkit_clear_written(struct tcpclkit_written *written) {
+  static const struct tcpclkit_written none = {0, 0};
+  if (written != NULL) *written = none;
+}
+
+/* The status of a writer before it writes: it is lent a slice, `written`, and what it reads. */
+static inline uint32_t tcpclkit_writer_status(const struct tcpclkit_lent *lent, size_t count,
+                                              struct tcpclkit_written *written) {
+  uint32_t status = tcpclkit_lent_status(lent, count, 2);
+  if (status != TCPCLKIT_OK && tcpclkit_is_apart(lent, count, 1)) tcpclkit_clear_written(written);
+  return status;
+}
+
+/* The room that a message needs, in bytes. A SESS_INIT also needs that of its node ID and of its
+ * items, and a segment with START that of its items. TCPCLKIT_HEAD_LIMIT is enough for each. */
+#define TCPCLKIT_SESS_INIT_LENGTH 25u
+#define TCPCLKIT_SEGMENT_LENGTH 18u /* without START */
+#define TCPCLKIT_START_LENGTH 22u   /* with START */
+#define TCPCLKIT_ACK_LENGTH 18u
+#define TCPCLKIT_REFUSE_LENGTH 10u
+#define TCPCLKIT_KEEPALIVE_LENGTH 1u
+#define TCPCLKIT_SESS_TERM_LENGTH 3u
+#define TCPCLKIT_MSG_REJECT_LENGTH 3u
+
+/* The room that an item needs besides its value, and that of one that announces a length. */
+#define TCPCLKIT_ITEM_LENGTH 5u
+#define TCPCLKIT_TOTAL_LENGTH 13u
+
+/*
+ * Writes a contact header of version 4 (RFC 9174 section 4.2).
+ *
+ * TCPCLKIT_OK: `bytes` begins with its TCPCLKIT_CONTACT_LENGTH bytes. TCPCLKIT_TOO_SMALL: nothing
+ * was written to `bytes`. TCPCLKIT_RANGE: the flags are above 255.
+ *
+ * Proved of tcpclkit_raw_write_contact: the bytes are `contact_bytes`, and those after them stay.
+ * `StreamReadsBack`, below: they are read as these flags.
+ */
+uint32_t tcpclkit_raw_write_contact(uint64_t flags, uint8_t *bytes, size_t room,
+                                    struct tcpclkit_written *written);
+static inline uint32_t tcpclkit_write_contact(uint64_t flags, uint8_t *bytes, size_t room,
+                                              struct tcpclkit_written *written) {
+  const struct tcpclkit_lent lent[] = {{bytes, room}, {written, sizeof *written}};
+  uint32_t status = tcpclkit_writer_status(lent, 2, written);
+  if (status != TCPCLKIT_OK) return status;
+  return tcpclkit_raw_write_contact(flags, tcpclkit_start(bytes), room, written);
+}
+
+/*
+ * Writes an extension item (RFC 9174 sections 4.8 and 5.2.5). Items one after another are the items
+ * of a message. A Transfer Length item (section 5.2.5.1) has type 1, and as its value the length of
+ * the transfer in 8 bytes, the most significant first.
+ *
+ * The statuses are those of tcpclkit_write_contact; TCPCLKIT_RANGE if the flags are above 255, the
+ * type is above 65,535, or the value has more than 65,531 bytes, for which no list has room.
+ *
+ * Proved of tcpclkit_raw_write_item: the bytes are `item_bytes`, and those after them stay.
+ * `ItemsReadBack`: a list of at most 64 items and at most 65,536 bytes is read as these items.
+ */
+uint32_t tcpclkit_raw_write_item(uint64_t flags, uint64_t item_type, const uint8_t *value,
+                                 size_t value_length, uint8_t *bytes, size_t room,
+                                 struct tcpclkit_written *written);
+static inline uint32_t tcpclkit_write_item(uint64_t flags, uint64_t item_type,
+                                           const uint8_t *value, size_t value_length,
+                                           uint8_t *bytes, size_t room,
+                                           struct tcpclkit_written *written) {
+  const struct tcpclkit_lent lent[] = {
+      {bytes, room}, {written, sizeof *written}, {value, value_length}};
+  uint32_t status = tcpclkit_writer_status(lent, 3, written);
+  if (status != TCPCLKIT_OK) return status;
+  return tcpclkit_raw_write_item(flags, item_type, tcpclkit_start(value), value_length,
+                                 tcpclkit_start(bytes), room, written);
+}
+
+/*
+ * Writes a message: the inverse of tcpclkit_read_message.
+ *
+ *     struct tcpclkit_message ack;
+ *     memset(&ack, 0, sizeof ack);
+ *     ack.kind = TCPCLKIT_XFER_ACK;
+ *     ack.flags = segment.flags;
+ *     ack.id = segment.id;
+ *     ack.acknowledged = received;
+ *     if (tcpclkit_write_message(&ack, NULL, 0, NULL, 0, bytes, sizeof bytes, &written) ==
+ *         TCPCLKIT_OK)
+ *       send(bytes, written.count);
+ *
+ * Of a segment it writes the head: its `data_length` bytes of data follow as the caller sends them.
+ * `node` is the node ID of a SESS_INIT. `items` are the items of a SESS_INIT, or of a segment with
+ * START, as tcpclkit_write_item writes them. For a message without them, both are empty slices. Of
+ * the fields from `node_offset` on, only `data_length` is read, and `fault` is not read. So a
+ * message that tcpclkit_read_message gave may be written as it is, with the slices of its parts.
+ *
+ * The statuses are those of tcpclkit_write_contact. TCPCLKIT_RANGE: `kind` is none of a message, a
+ * number does not fit in its field, a number is not 0 or a slice not empty that the message lacks,
+ * or the readers would refuse the message. They refuse a node ID above TCPCLKIT_NODE_ID_LIMIT, a
+ * list above 65,536 bytes or 64 items, and bytes that are no items.
+ *
+ * Proved of tcpclkit_raw_write_message: the bytes are `message_bytes`, and those after them stay.
+ * `MessageReadsBack`: whatever bytes follow, they are read as this message. `StreamReadsBack`: a
+ * contact header and any such messages, each segment with its data, are read as these messages.
+ */
+uint32_t tcpclkit_raw_write_message(const struct tcpclkit_message *message,
+                                    const uint8_t *node, size_t node_length,
+                                    const uint8_t *items, size_t items_length,
+                                    uint8_t *bytes, size_t room,
+                                    struct tcpclkit_written *written);
+static inline uint32_t tcpclkit_write_message(const struct tcpclkit_message *message,
+                                              const uint8_t *node, size_t node_length,
+                                              const uint8_t *items, size_t items_length,
+                                              uint8_t *bytes, size_t room,
+                                              struct tcpclkit_written *written) {
+  const struct tcpclkit_lent lent[] = {{bytes, room},
+                                       {written, sizeof *written},
+                                       {message, sizeof *message},
+                                       {node, node_length},
+                                       {items, items_length}};
+  uint32_t status = tcpclkit_writer_status(lent, 5, written);
+  if (status != TCPCLKIT_OK) return status;
+  return tcpclkit_raw_write_message(message, tcpclkit_start(node), node_length,
+                                    tcpclkit_start(items), items_length, tcpclkit_start(bytes),
+                                    room, written);
+}
+
+/* -- writing bundles --------------------------------------------------------------------------- */
+
+/*
+ * A bundle is TCPCLKIT_BUNDLE_FIRST, its primary block, canonical blocks, and TCPCLKIT_BUNDLE_LAST.
+ * The payload block is the last block. It alone has type 1 and number 1, and each other block has a
+ * number of its own, at least 2. There are at most 64 canonical blocks. The head of a canonical
+ * block is written apart from its data, since a payload may be large. Its check field follows the
+ * data. For a block without a check, the calls for a check return TCPCLKIT_RANGE, and `count` is 0:
+ *
+ *     tcpclkit_write_block_head(&block, bytes, sizeof bytes, &written);
+ *     tcpclkit_start_check(&check, block.check);
+ *     tcpclkit_feed_check(&check, bytes, written.count);
+ *     send(bytes, written.count);
+ *     while ((length = next_piece(piece)) > 0) {
+ *       tcpclkit_feed_check(&check, piece, length);
+ *       send(piece, length);
+ *     }
+ *     tcpclkit_write_check(&check, bytes, sizeof bytes, &written);
+ *     send(bytes, written.count);
+ *
+ * Proved (`BundleReadsBack`): such bytes are a good bundle. tcpclkit_describe_bundle gives the
+ * fields of its primary block back and finds its payload, and tcpclkit_next_block gives its blocks.
+ */
+#define TCPCLKIT_BUNDLE_FIRST 0x9fu
+#define TCPCLKIT_BUNDLE_LAST 0xffu
+
+/* Rooms that are enough for each primary block, for the head and for the check field of each
+ * canonical block, for each endpoint ID, and for the data of an age and of a hop count. */
+#define TCPCLKIT_PRIMARY_ROOM 3248u
+#define TCPCLKIT_BLOCK_HEAD_ROOM 54u
+#define TCPCLKIT_CHECK_ROOM 5u
+#define TCPCLKIT_EID_ROOM 1051u
+#define TCPCLKIT_AGE_ROOM 9u
+#define TCPCLKIT_HOP_COUNT_ROOM 27u
+
+/*
+ * Writes a primary block with its check field (RFC 9171 section 4.3.1).
+ *
+ * Of `bundle` it reads the flags, the endpoint IDs, `time`, `sequence`, `lifetime`, and the fields
+ * of a fragment. `check` is a type of check values. The RFC asks for a check value here, unless an
+ * integrity block protects the primary block. The names are those of dtn endpoint IDs, as
+ * tcpclkit_describe_bundle gives them: each slice has the length `name_length` of its endpoint ID.
+ * The slice for another kind of endpoint ID is not read.
+ *
+ * The statuses are those of tcpclkit_write_contact. TCPCLKIT_RANGE: `check` is no type, an endpoint
+ * ID is refused as by tcpclkit_write_eid_text, `is_fragment` is above 1, it is not bit 0x01 of the
+ * flags, or it is 0 and a field of a fragment is not.
+ *
+ * Proved of tcpclkit_raw_write_primary: the bytes are `primary_bytes`, and those after them stay.
+ */
+uint32_t tcpclkit_raw_write_primary(const struct tcpclkit_bundle *bundle, uint64_t check,
+                                    const uint8_t *destination_name, size_t destination_length,
+                                    const uint8_t *source_name, size_t source_length,
+                                    const uint8_t *report_to_name, size_t report_to_length,
+                                    uint8_t *bytes, size_t room,
+                                    struct tcpclkit_written *written);
+static inline uint32_t tcpclkit_write_primary(
+    const struct tcpclkit_bundle *bundle, uint64_t check,
+    const uint8_t *destination_name, size_t destination_length,
+    const uint8_t *source_name, size_t source_length,
+    const uint8_t *report_to_name, size_t report_to_length,
+    uint8_t *bytes, size_t room, struct tcpclkit_written *written) {
+  const struct tcpclkit_lent lent[] = {{bytes, room},
+                                       {written, sizeof *written},
+                                       {bundle, sizeof *bundle},
+                                       {destination_name, destination_length},
+                                       {source_name, source_length},
+                                       {report_to_name, report_to_length}};
+  uint32_t status = tcpclkit_writer_status(lent, 6, written);
+  if (status != TCPCLKIT_OK) return status;
+  return tcpclkit_raw_write_primary(
+      bundle, check, tcpclkit_start(destination_name), destination_length,
+      tcpclkit_start(source_name), source_length,
+      tcpclkit_start(report_to_name), report_to_length, tcpclkit_start(bytes), room, written);
+}
+
+/*
+ * Writes a canonical block up to its data (RFC 9171 section 4.3.2).
+ *
+ * Of `block` it reads `kind`, `block_type`, `number`, `flags`, `check` and `data_length`. The
+ * statuses are those of tcpclkit_write_contact. TCPCLKIT_RANGE: `kind` is not
+ * TCPCLKIT_BLOCK_CANONICAL, `check` is no type, the number is 0, or one of the number and the type
+ * is 1 and the other is not.
+ *
+ * Proved of tcpclkit_raw_write_block_head: the bytes are `block_head`, and those after them stay.
+ */
+uint32_t tcpclkit_raw_write_block_head(const struct tcpclkit_block *block, uint8_t *bytes,
+                                       size_t room, struct tcpclkit_written *written);
+static inline uint32_t tcpclkit_write_block_head(const struct tcpclkit_block *block,
+                                                 uint8_t *bytes, size_t room,
+                                                 struct tcpclkit_written *written) {
+  const struct tcpclkit_lent lent[] = {
+      {bytes, room}, {written, sizeof *written}, {block, sizeof *block}};
+  uint32_t status = tcpclkit_writer_status(lent, 3, written);
+  if (status != TCPCLKIT_OK) return status;
+  return tcpclkit_raw_write_block_head(block, tcpclkit_start(bytes), room, written);
+}
+
+/* A check value of bytes that come in pieces of any size. It may be copied at any time. */
+struct tcpclkit_check {
+  uint64_t kind;  /* TCPCLKIT_CHECK_CRC16 or TCPCLKIT_CHECK_CRC32 */
+  uint64_t state; /* what the library keeps of the bytes */
+};
+
+/*
+ * Makes a check to which no byte was fed.
+ *
+ * TCPCLKIT_OK, TCPCLKIT_NULL, or TCPCLKIT_RANGE if the kind is none of a check: then each field is
+ * 0.
+ *
+ * Proved of tcpclkit_raw_start_check: no byte was fed to the check (`HasFed`).
+ */
+uint32_t tcpclkit_raw_start_check(struct tcpclkit_check *check, uint64_t kind);
+static inline uint32_t tcpclkit_start_check(struct tcpclkit_check *check, uint64_t kind) {
+  if (check == NULL) return TCPCLKIT_NULL;
+  return tcpclkit_raw_start_check(check, kind);
+}
+
+/*
+ * Feeds a piece.
+ *
+ * TCPCLKIT_OK, or TCPCLKIT_RANGE if the struct is no check: then it stays as it was.
+ *
+ * Proved of tcpclkit_raw_feed_check: if some bytes were fed to the check, these and the piece then
+ * were (`HasFed`).
+ */
+uint32_t tcpclkit_raw_feed_check(struct tcpclkit_check *check, const uint8_t *piece,
+                                 size_t length);
+static inline uint32_t tcpclkit_feed_check(struct tcpclkit_check *check, const uint8_t *piece,
+                                           size_t length) {
+  const struct tcpclkit_lent lent[] = {{check, sizeof *check}, {piece, length}};
+  uint32_t status = tcpclkit_lent_status(lent, 2, 1);
+  if (status != TCPCLKIT_OK) return status;
+  return tcpclkit_raw_feed_check(check, tcpclkit_start(piece), length);
+}
+
+/*
+ * Gives the check value of the bytes that were fed. For a block, use tcpclkit_write_check.
+ *
+ * TCPCLKIT_OK, or TCPCLKIT_RANGE if the struct is no check. After each status but TCPCLKIT_OK the
+ * value is 0, unless it overlaps the check.
+ *
+ * Proved of tcpclkit_raw_end_check: the value is `crc` of the bytes that were fed.
+ */
+uint32_t tcpclkit_raw_end_check(const struct tcpclkit_check *check, uint64_t *value);
+static inline uint32_t tcpclkit_end_check(const struct tcpclkit_check *check, uint64_t *value) {
+  const struct tcpclkit_lent lent[] = {{value, sizeof *value}, {check, sizeof *check}};
+  uint32_t status = tcpclkit_lent_status(lent, 2, 1);
+  if (status == TCPCLKIT_OK) return tcpclkit_raw_end_check(check, value);
+  if (value != NULL && tcpclkit_is_apart(lent, 2, 0)) *value = 0;
+  return status;
+}
+
+/*
+ * Writes the check field of a canonical block (RFC 9171 section 4.2.2). The head of the block and
+ * its data were fed to the check. The field is not fed: its value counts as zeros, as the RFC asks.
+ *
+ * The statuses are those of tcpclkit_write_contact; TCPCLKIT_RANGE if the struct is no check.
+ *
+ * Proved of tcpclkit_raw_write_check: the bytes are `check_field` of the bytes that were fed, and
+ * those after them stay.
+ */
+uint32_t tcpclkit_raw_write_check(const struct tcpclkit_check *check, uint8_t *bytes, size_t room,
+                                  struct tcpclkit_written *written);
+static inline uint32_t tcpclkit_write_check(const struct tcpclkit_check *check, uint8_t *bytes,
+                                            size_t room, struct tcpclkit_written *written) {
+  const struct tcpclkit_lent lent[] = {
+      {bytes, room}, {written, sizeof *written}, {check, sizeof *check}};
+  uint32_t status = tcpclkit_writer_status(lent, 3, written);
+  if (status != TCPCLKIT_OK) return status;
+  return tcpclkit_raw_write_check(check, tcpclkit_start(bytes), room, written);
+}
+
+/*
+ * Writes an endpoint ID in CBOR (RFC 9171 section 4.2.5.1). It is also the data of a previous node
+ * block (section 4.4.1).
+ *
+ * The statuses are those of tcpclkit_write_contact; TCPCLKIT_RANGE as for tcpclkit_write_eid_text.
+ *
+ * Proved of tcpclkit_raw_write_eid: the bytes are `eid_bytes`, and those after them stay.
+ * `NodeReadsBack`: as the data of a previous node block they are read as this endpoint ID.
+ */
+uint32_t tcpclkit_raw_write_eid(const struct tcpclkit_eid *eid, const uint8_t *name,
+                                size_t name_length, uint8_t *bytes, size_t room,
+                                struct tcpclkit_written *written);
+static inline uint32_t tcpclkit_write_eid(const struct tcpclkit_eid *eid, const uint8_t *name,
+                                          size_t name_length, uint8_t *bytes, size_t room,
+                                          struct tcpclkit_written *written) {
+  const struct tcpclkit_lent lent[] = {
+      {bytes, room}, {written, sizeof *written}, {eid, sizeof *eid}, {name, name_length}};
+  uint32_t status = tcpclkit_writer_status(lent, 4, written);
+  if (status != TCPCLKIT_OK) return status;
+  return tcpclkit_raw_write_eid(eid, tcpclkit_start(name), name_length, tcpclkit_start(bytes),
+                                room, written);
+}
+
+/*
+ * Writes the data of a bundle age block, in milliseconds (RFC 9171 section 4.4.2).
+ *
+ * The statuses are those of tcpclkit_write_contact. No age is out of range.
+ *
+ * Proved of tcpclkit_raw_write_age: the bytes are `age_bytes`, and those after them stay.
+ * `AgeReadsBack`: they are read as this age.
+ */
+uint32_t tcpclkit_raw_write_age(uint64_t age, uint8_t *bytes, size_t room,
+                                struct tcpclkit_written *written);
+static inline uint32_t tcpclkit_write_age(uint64_t age, uint8_t *bytes, size_t room,
+                                          struct tcpclkit_written *written) {
+  const struct tcpclkit_lent lent[] = {{bytes, room}, {written, sizeof *written}};
+  uint32_t status = tcpclkit_writer_status(lent, 2, written);
+  if (status != TCPCLKIT_OK) return status;
+  return tcpclkit_raw_write_age(age, tcpclkit_start(bytes), room, written);
+}
+
+/*
+ * Writes the data of a hop count block: the hop limit and the hop count (RFC 9171 section 4.4.3).
+ * The RFC asks for a limit from 1 to 255. This call takes any.
+ *
+ * The statuses are those of tcpclkit_write_contact. No number is out of range.
+ *
+ * Proved of tcpclkit_raw_write_hop_count: the bytes are `hop_count_bytes`, and those after them
+ * stay. `HopCountReadsBack`: they are read as these numbers.
+ */
+uint32_t tcpclkit_raw_write_hop_count(uint64_t limit, uint64_t count, uint8_t *bytes, size_t room,
+                                      struct tcpclkit_written *written);
+static inline uint32_t tcpclkit_write_hop_count(uint64_t limit, uint64_t count, uint8_t *bytes,
+                                                size_t room, struct tcpclkit_written *written) {
+  const struct tcpclkit_lent lent[] = {{bytes, room}, {written, sizeof *written}};
+  uint32_t status = tcpclkit_writer_status(lent, 2, written);
+  if (status != TCPCLKIT_OK) return status;
+  return tcpclkit_raw_write_hop_count(limit, count, tcpclkit_start(bytes), room, written);
+}
+
 /* -- texts ------------------------------------------------------------------------------------- */
 
 /*
  * Writes the words of a fault, as the program's line of the fault has them. Those of a bundle begin
- * with its code: `B13 check differs`.
+ * with its code: `B13 check differs`. The codes of answers, from TCPCLKIT_ANSWER_OTHER_TRANSFER on,
+ * also have words, such as `another transfer`, although no line has them.
  *
  * `*written` is the number of bytes written; there is no 0 after them. TCPCLKIT_TOO_SMALL: the text
  * is longer, and its first bytes were written. TCPCLKIT_RANGE: no fault has this code, or `number`
  * is too great for it; a code without a number takes any. 64 bytes are enough for every text.
  *
- * Proved of tcpclkit_raw_write_fault_text: the text is `wire_text`, `order_text`, or `code_text`
- * and `bundle_fault_text`, and the bytes after it are as they were.
+ * Proved of tcpclkit_raw_write_fault_text: the text is `wire_text`, `order_text`, `answer_text`, or
+ * `code_text` and `bundle_fault_text`, and the bytes after it are as they were.
  */
 uint32_t tcpclkit_raw_write_fault_text(uint64_t code, uint64_t number, uint8_t *text, size_t room,
                                        uint64_t *written);
@@ -899,6 +1324,90 @@ static inline uint32_t tcpclkit_write_eid_text(const struct tcpclkit_eid *eid, c
   if (status != TCPCLKIT_OK) return status;
   return tcpclkit_raw_write_eid_text(eid, tcpclkit_start(name), name_length,
                                      tcpclkit_start(text), room, written);
+}
+
+/*
+ * Reads the text of an endpoint ID: the inverse of tcpclkit_write_eid_text. It accepts exactly the
+ * texts that this call writes. `dtn:none` is read as TCPCLKIT_EID_DTN_NONE, and not as the name
+ * `none`, whose text it is too.
+ *
+ * TCPCLKIT_OK: the name of a TCPCLKIT_EID_DTN is in the slice that is lent for it, without its
+ * escapes. TCPCLKIT_TOO_SMALL: the slice is too small for the name. It stays as it was, `kind` is
+ * TCPCLKIT_EID_DTN, and `name_length` is a room that would do. TCPCLKIT_EID_LIMIT is enough for
+ * every name. TCPCLKIT_RANGE: no endpoint ID has this text. Then each field is 0.
+ *
+ * Proved of tcpclkit_raw_read_eid_text: after TCPCLKIT_OK, `eid_text` of the endpoint ID is the
+ * text (`IsTextOf`), and the bytes of the slice after the name stay. `OneText`: except for the name
+ * `none`, no other endpoint ID has this text. After TCPCLKIT_RANGE, no endpoint ID with a name of
+ * at most TCPCLKIT_EID_LIMIT bytes has this text (`IsNoText`).
+ */
+uint32_t tcpclkit_raw_read_eid_text(const uint8_t *text, size_t length, struct tcpclkit_eid *eid,
+                                    uint8_t *name, size_t name_room);
+static inline uint32_t tcpclkit_read_eid_text(const uint8_t *text, size_t length,
+                                              struct tcpclkit_eid *eid, uint8_t *name,
+                                              size_t name_room) {
+  const struct tcpclkit_lent lent[] = {{eid, sizeof *eid}, {name, name_room}, {text, length}};
+  uint32_t status = tcpclkit_lent_status(lent, 3, 2);
+  if (status != TCPCLKIT_OK) return status;
+  return tcpclkit_raw_read_eid_text(tcpclkit_start(text), length, eid, tcpclkit_start(name),
+                                    name_room);
+}
+
+/*
+ * Writes the name of a reason, as the lines of `tcpclkit list` have it: `no-resources`, or `?` for
+ * a code without a name. `kind` is that of the message that has the reason.
+ *
+ * `*written` is as above. TCPCLKIT_RANGE: the kind is not TCPCLKIT_XFER_REFUSE, TCPCLKIT_SESS_TERM
+ * or TCPCLKIT_MSG_REJECT, or the reason is above 255. 20 bytes are enough for every name.
+ *
+ * Proved of tcpclkit_raw_write_reason_text: the text is `name_of`, and the bytes after it stay.
+ */
+uint32_t tcpclkit_raw_write_reason_text(uint64_t kind, uint64_t reason, uint8_t *text, size_t room,
+                                        uint64_t *written);
+static inline uint32_t tcpclkit_write_reason_text(uint64_t kind, uint64_t reason, uint8_t *text,
+                                                  size_t room, uint64_t *written) {
+  const struct tcpclkit_lent lent[] = {{text, room}, {written, sizeof *written}};
+  uint32_t status = tcpclkit_lent_status(lent, 2, 2);
+  if (status != TCPCLKIT_OK) return status;
+  return tcpclkit_raw_write_reason_text(kind, reason, tcpclkit_start(text), room, written);
+}
+
+/*
+ * Writes the name of the reason of a status report, as the lines of `tcpclkit blocks` have it:
+ * `lifetime-expired`, or `?` for a code without a name.
+ *
+ * `*written` is as above. 34 bytes are enough for every name.
+ *
+ * Proved of tcpclkit_raw_write_report_reason_text: the text is `name_in` of `report_names`, and the
+ * bytes after it stay.
+ */
+uint32_t tcpclkit_raw_write_report_reason_text(uint64_t reason, uint8_t *text, size_t room,
+                                               uint64_t *written);
+static inline uint32_t tcpclkit_write_report_reason_text(uint64_t reason, uint8_t *text,
+                                                         size_t room, uint64_t *written) {
+  const struct tcpclkit_lent lent[] = {{text, room}, {written, sizeof *written}};
+  uint32_t status = tcpclkit_lent_status(lent, 2, 2);
+  if (status != TCPCLKIT_OK) return status;
+  return tcpclkit_raw_write_report_reason_text(reason, tcpclkit_start(text), room, written);
+}
+
+/*
+ * Writes the name of a block type, as the lines of `tcpclkit blocks` have it: `bundle-age`, or `?`
+ * for a code without a name.
+ *
+ * `*written` is as above. 21 bytes are enough for every name.
+ *
+ * Proved of tcpclkit_raw_write_block_type_text: the text is `type_name`, and the bytes after it
+ * stay.
+ */
+uint32_t tcpclkit_raw_write_block_type_text(uint64_t block_type, uint8_t *text, size_t room,
+                                            uint64_t *written);
+static inline uint32_t tcpclkit_write_block_type_text(uint64_t block_type, uint8_t *text,
+                                                      size_t room, uint64_t *written) {
+  const struct tcpclkit_lent lent[] = {{text, room}, {written, sizeof *written}};
+  uint32_t status = tcpclkit_lent_status(lent, 2, 2);
+  if (status != TCPCLKIT_OK) return status;
+  return tcpclkit_raw_write_block_type_text(block_type, tcpclkit_start(text), room, written);
 }
 
 /*
@@ -1002,6 +1511,16 @@ struct tcpclkit_pack_options {
   uint64_t send_term;     /* 1 or 0 */
 };
 
+/* What tcpclkit_pack_more writes into a session that is open. The fields are those of the options
+ * of `pack`, and `first`. tcpclkit_more_defaults fills in the defaults. */
+struct tcpclkit_more_options {
+  uint64_t size;          /* sizeof (struct tcpclkit_more_options), for later versions */
+  uint64_t first;         /* the ID of the first transfer; each bundle has the next one */
+  uint64_t peer_segment;  /* at least 1 */
+  uint64_t peer_transfer;
+  uint64_t announce;      /* at most 1,048,576 */
+};
+
 static inline uint32_t tcpclkit_unpack_defaults(struct tcpclkit_unpack_options *options) {
   const struct tcpclkit_unpack_options defaults = {sizeof defaults, 0, 0, 0, 0};
   if (options == NULL) return TCPCLKIT_NULL;
@@ -1026,6 +1545,13 @@ static inline uint32_t tcpclkit_check_defaults(struct tcpclkit_check_options *op
 static inline uint32_t tcpclkit_pack_defaults(struct tcpclkit_pack_options *options) {
   const struct tcpclkit_pack_options defaults = {
       sizeof defaults, 60, 65536, 1048576, 65536, UINT64_MAX, 0, 0};
+  if (options == NULL) return TCPCLKIT_NULL;
+  *options = defaults;
+  return TCPCLKIT_OK;
+}
+
+static inline uint32_t tcpclkit_more_defaults(struct tcpclkit_more_options *options) {
+  const struct tcpclkit_more_options defaults = {sizeof defaults, 0, 65536, UINT64_MAX, 0};
   if (options == NULL) return TCPCLKIT_NULL;
   *options = defaults;
   return TCPCLKIT_OK;
@@ -1226,6 +1752,49 @@ static inline uint32_t tcpclkit_pack(const uint8_t *bytes, size_t length,
                            tcpclkit_start(output), output_size,
                            tcpclkit_wants(report, report_room),
                            tcpclkit_start(report), report_size, run);
+}
+
+/*
+ * Bundles in turn as the segments of a sender whose session is open, and as the report a line for
+ * each: what `tcpclkit pack` writes, without the contact header, SESS_INIT and SESS_TERM.
+ *
+ * The bundles are the transfers `first`, `first + 1` and so on. The next call begins with the sum
+ * of `first` and the number of lines in the report. After a fault of the input, the output may end
+ * with segments of a transfer that gets no END. The line of the fault counts for this transfer.
+ *
+ * The statuses are those of tcpclkit_pack; TCPCLKIT_RANGE also if `first + length` is above
+ * UINT64_MAX, since the IDs could then run out.
+ *
+ * Proved of tcpclkit_raw_pack_more: as for tcpclkit_raw_pack, of `more_tool` of the options and the
+ * bytes. `IsPackedAlone`: what tcpclkit_pack writes is the contact header and SESS_INIT, then what
+ * this call writes with the first ID 0, and then SESS_TERM, if it is asked for. `IsMoved`: with
+ * another first ID, the segments are the same except for their IDs. All IDs fit, since an input has
+ * no more bundles than bytes (`HasFewBundles`).
+ */
+uint32_t tcpclkit_raw_pack_more(const uint8_t *bytes, size_t length,
+                                const uint64_t *options, size_t option_count,
+                                uint64_t wants_output, uint8_t *output, size_t output_room,
+                                uint64_t wants_report, uint8_t *report, size_t report_room,
+                                struct tcpclkit_run *run);
+static inline uint32_t tcpclkit_pack_more(const uint8_t *bytes, size_t length,
+                                          const struct tcpclkit_more_options *options,
+                                          uint8_t *output, size_t output_room,
+                                          uint8_t *report, size_t report_room,
+                                          struct tcpclkit_run *run) {
+  const size_t output_size = tcpclkit_room(output, output_room);
+  const size_t report_size = tcpclkit_room(report, report_room);
+  const struct tcpclkit_lent lent[] = {
+      {output, output_size}, {report, report_size}, {run, sizeof *run}, {bytes, length},
+      {options, sizeof *options}};
+  uint32_t status = tcpclkit_lent_status(lent, 5, 3);
+  status = tcpclkit_options_status(status, (const uint64_t *)options, sizeof *options);
+  if (status != TCPCLKIT_OK) return status;
+  return tcpclkit_raw_pack_more(tcpclkit_start(bytes), length,
+                                (const uint64_t *)options + 1, (size_t)options->size / 8 - 1,
+                                tcpclkit_wants(output, output_room),
+                                tcpclkit_start(output), output_size,
+                                tcpclkit_wants(report, report_room),
+                                tcpclkit_start(report), report_size, run);
 }
 
 #ifdef __cplusplus

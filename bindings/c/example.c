@@ -7,6 +7,9 @@
  *     example data < RECORDING     writes the data of a recording
  *     example receive < RECORDING  writes the same as it comes, and judges the order of messages
  *     example pack < BUNDLES       writes bundles as the stream of a sender
+ *     example send < BUNDLE        writes a bundle as the segments of a transfer
+ *     example acknowledge < RECORDING  writes the XFER_ACK of each segment of a recording
+ *     example make < PAYLOAD       writes a bundle with this payload
  */
 #include <inttypes.h>
 #include <stdio.h>
@@ -180,6 +183,100 @@ static int pack_bundles(const uint8_t *bytes, size_t length, FILE *output) {
   return run.exit_status == 0;
 }
 
+/* Writes a bundle as the segments of a transfer to a peer that takes 20 bytes in each. */
+static int send_bundle(const uint8_t *bundle, size_t length, uint64_t id, FILE *output) {
+  uint8_t head[TCPCLKIT_START_LENGTH];
+  struct tcpclkit_message segment = {0};
+  struct tcpclkit_written written;
+  size_t at;
+  segment.kind = TCPCLKIT_XFER_SEGMENT;
+  segment.id = id;
+  for (at = 0; at < length; at += segment.data_length) {
+    segment.data_length = length - at < 20 ? length - at : 20;
+    segment.flags = at == 0 ? TCPCLKIT_SEGMENT_START : 0;
+    if (at + segment.data_length == length)
+      segment.flags |= TCPCLKIT_SEGMENT_END;
+    if (tcpclkit_write_message(&segment, NULL, 0, NULL, 0, head, sizeof head, &written) !=
+        TCPCLKIT_OK)
+      return 0;
+    fwrite(head, 1, written.count, output);
+    fwrite(bundle + at, 1, segment.data_length, output);
+  }
+  return 1;
+}
+
+/* Writes the XFER_ACK of a segment. `received` bytes of its transfer have come. */
+static int acknowledge(const struct tcpclkit_message *segment, uint64_t received, FILE *output) {
+  uint8_t bytes[TCPCLKIT_ACK_LENGTH];
+  struct tcpclkit_message ack = {0};
+  struct tcpclkit_written written;
+  ack.kind = TCPCLKIT_XFER_ACK;
+  ack.flags = segment->flags;
+  ack.id = segment->id;
+  ack.acknowledged = received;
+  tcpclkit_write_message(&ack, NULL, 0, NULL, 0, bytes, sizeof bytes, &written);
+  return written.count > 0 && fwrite(bytes, 1, written.count, output) == written.count;
+}
+
+/* Writes the XFER_ACK of each segment of a recording. */
+static int acknowledge_all(const uint8_t *bytes, size_t length, FILE *output) {
+  struct tcpclkit_contact contact;
+  struct tcpclkit_message message;
+  uint64_t received = 0, offset = TCPCLKIT_CONTACT_LENGTH;
+  if (tcpclkit_read_contact(bytes, length, &contact) != TCPCLKIT_OK)
+    return 1;
+  for (; tcpclkit_read_message(bytes, length, offset, &message) == TCPCLKIT_OK;
+       offset = message.next) {
+    if (message.kind != TCPCLKIT_XFER_SEGMENT)
+      continue;
+    if (message.flags & TCPCLKIT_SEGMENT_START)
+      received = 0;
+    received += message.data_length;
+    if (!acknowledge(&message, received, output))
+      return 0;
+  }
+  return 1;
+}
+
+/* Writes a bundle from dtn://node/a to ipn:2.1 with this payload. */
+static int make_bundle(const uint8_t *payload, size_t length, FILE *output) {
+  static const uint8_t source_text[12] = "dtn://node/a", destination_text[7] = "ipn:2.1";
+  uint8_t source[TCPCLKIT_EID_LIMIT], head[TCPCLKIT_BLOCK_HEAD_ROOM];
+  uint8_t field[TCPCLKIT_CHECK_ROOM], primary[TCPCLKIT_PRIMARY_ROOM];
+  struct tcpclkit_bundle bundle = {0};
+  struct tcpclkit_block block = {0};
+  struct tcpclkit_written first, second, third;
+  struct tcpclkit_check check;
+  bundle.time = 800000000000;
+  bundle.sequence = 1;
+  bundle.lifetime = 60000;
+  bundle.report_to.kind = TCPCLKIT_EID_DTN_NONE;
+  block.kind = TCPCLKIT_BLOCK_CANONICAL;
+  block.block_type = block.number = 1;
+  block.check = TCPCLKIT_CHECK_CRC32;
+  block.data_length = length;
+  if (tcpclkit_read_eid_text(destination_text, sizeof destination_text, &bundle.destination, NULL,
+                             0) != TCPCLKIT_OK ||
+      tcpclkit_read_eid_text(source_text, sizeof source_text, &bundle.source, source,
+                             sizeof source) != TCPCLKIT_OK ||
+      tcpclkit_write_primary(&bundle, TCPCLKIT_CHECK_CRC32, NULL, 0, source,
+                             (size_t)bundle.source.name_length, NULL, 0, primary, sizeof primary,
+                             &first) != TCPCLKIT_OK ||
+      tcpclkit_write_block_head(&block, head, sizeof head, &second) != TCPCLKIT_OK)
+    return 0;
+  tcpclkit_start_check(&check, block.check);
+  tcpclkit_feed_check(&check, head, second.count);
+  tcpclkit_feed_check(&check, payload, length);
+  tcpclkit_write_check(&check, field, sizeof field, &third);
+  fputc(TCPCLKIT_BUNDLE_FIRST, output);
+  fwrite(primary, 1, first.count, output);
+  fwrite(head, 1, second.count, output);
+  fwrite(payload, 1, length, output);
+  fwrite(field, 1, third.count, output);
+  fputc(TCPCLKIT_BUNDLE_LAST, output);
+  return 1;
+}
+
 int main(int count, char **words) {
   static uint8_t bytes[1 << 20];
   size_t length;
@@ -194,5 +291,11 @@ int main(int count, char **words) {
     return !show_blocks(bytes, length);
   if (count == 2 && strcmp(words[1], "pack") == 0)
     return !pack_bundles(bytes, length, stdout);
+  if (count == 2 && strcmp(words[1], "send") == 0)
+    return !send_bundle(bytes, length, 0, stdout);
+  if (count == 2 && strcmp(words[1], "acknowledge") == 0)
+    return !acknowledge_all(bytes, length, stdout);
+  if (count == 2 && strcmp(words[1], "make") == 0)
+    return !make_bundle(bytes, length, stdout);
   return !copy_data(bytes, length, stdout);
 }

@@ -6,6 +6,9 @@
     example.py data < RECORDING     writes the data of a recording
     example.py receive < RECORDING  writes the same as it comes, and judges the order of messages
     example.py pack < BUNDLES       writes bundles as the stream of a sender
+    example.py send < BUNDLE        writes a bundle as the segments of a transfer
+    example.py acknowledge < RECORDING  writes the XFER_ACK of each segment of a recording
+    example.py make < PAYLOAD       writes a bundle with this payload
 """
 
 import sys
@@ -80,6 +83,51 @@ def pack_bundles(bundles):
     return tcpclkit.pack(bundles, b"ipn:1.0", peer_segment=20)
 
 
+def send_bundle(bundle, transfer, output):
+    """Writes a bundle as the segments of a transfer to a peer that takes 20 bytes in each."""
+    flags = tcpclkit.SEGMENT_START
+    for at in range(0, len(bundle), 20):
+        flags |= tcpclkit.SEGMENT_END if at + 20 >= len(bundle) else 0
+        segment = tcpclkit.Message(
+            0, tcpclkit.Kind.XFER_SEGMENT, flags, id=transfer, data=bundle[at:at + 20]
+        )
+        output.write(tcpclkit.write_message(segment))
+        flags = 0
+
+
+def acknowledge(segment, received, output):
+    """Writes the XFER_ACK of a segment. `received` bytes of its transfer have come."""
+    fields = segment.flags, None, None, segment.id, received
+    output.write(tcpclkit.write_message(tcpclkit.Message(0, tcpclkit.Kind.XFER_ACK, *fields)))
+
+
+def acknowledge_all(recording, output):
+    """Writes the XFER_ACK of each segment of a recording."""
+    received = 0
+    try:
+        tcpclkit.contact(recording)
+        for message in tcpclkit.messages(recording):
+            if message.kind == tcpclkit.Kind.XFER_SEGMENT and not message.is_cut:
+                if message.flags & tcpclkit.SEGMENT_START:
+                    received = 0
+                received += message.length
+                acknowledge(message, received, output)
+    except tcpclkit.Fault:
+        pass  # What came before it is acknowledged.
+
+
+def make_bundle(payload):
+    """Returns a bundle from dtn://node/a to ipn:2.1 with this payload."""
+    source, destination = map(tcpclkit.read_eid_text, ("dtn://node/a", "ipn:2.1"))
+    primary = tcpclkit.Bundle(
+        flags=0, destination=destination, source=source, report_to=tcpclkit.Dtn(None),
+        time=800_000_000_000, sequence=1, lifetime=60000,
+    )
+    block = tcpclkit.Block(0, 0, flags=0, check=2, block_type=1, number=1, data=payload)
+    blocks = tcpclkit.write_primary(primary, check=2) + tcpclkit.write_block(block)
+    return tcpclkit.BUNDLE_FIRST + blocks + tcpclkit.BUNDLE_LAST
+
+
 def main():
     """Does what the argument asks for. Returns the exit status, or the text of a fault."""
     try:
@@ -99,6 +147,12 @@ def main():
             sys.stdout.buffer.write(run.output)
             sys.stderr.buffer.write(run.report)
             return run.exit_status
+        elif sys.argv[1:] == ["send"]:
+            send_bundle(content, 0, sys.stdout.buffer)
+        elif sys.argv[1:] == ["acknowledge"]:
+            acknowledge_all(content, sys.stdout.buffer)
+        elif sys.argv[1:] == ["make"]:
+            sys.stdout.buffer.write(make_bundle(content))
         else:
             copy_data(content, sys.stdout.buffer)
     except tcpclkit.Fault as fault:

@@ -1,4 +1,4 @@
-"""Bundles of the Bundle Protocol 7 (RFC 9171) and recorded sessions of TCPCLv4 (RFC 9174).
+"""Bundles of the Bundle Protocol 7 (RFC 9171) and sessions of TCPCLv4 (RFC 9174).
 
     import tcpclkit
     try:
@@ -23,6 +23,7 @@ import ctypes
 import os
 import threading
 from ctypes import POINTER, byref, c_char_p, c_size_t, c_uint32, c_uint64, c_void_p, py_object
+from dataclasses import dataclass
 from enum import IntEnum
 from typing import NamedTuple, Optional, Tuple, Union
 
@@ -36,8 +37,11 @@ EID_LIMIT = 1024
 SCAN_WORDS = 1024
 HEAD_LIMIT = 66585
 NODE_ID_LIMIT = 1024
-FAULT_ROOM, EID_ROOM, WORDS_ROOM = 64, 4100, 4500
+ITEM_LIMIT, LIST_LIMIT = 64, 65536  # of the items of a message
+BUNDLE_FIRST, BUNDLE_LAST = b"\x9f", b"\xff"  # before the primary block, after the payload block
+FAULT_ROOM, EID_ROOM, WORDS_ROOM, NAME_ROOM = 64, 4100, 4500, 64
 FIRST_ROOM = 4096  # for each text of a tool, as long as its length is not known
+WRITER_ROOM = 64  # the same for a message or a block
 
 
 class Code(IntEnum):
@@ -55,6 +59,10 @@ class Code(IntEnum):
     ORDER_NO_SUCH_OPEN_TRANSFER = 53
     ORDER_START_REPEATS_OPEN_ID = 54
     ORDER_START_AFTER_SESS_TERM = 55
+    ANSWER_OTHER_TRANSFER = 71
+    ANSWER_LENGTH_FALLS = 72
+    ANSWER_LENGTH_NOT_SENT = 73
+    ANSWER_END_TOO_EARLY = 74
     BUNDLE_CUT = 101
     BUNDLE_TRAILING = 102
     BUNDLE_NOT_A_BUNDLE = 103
@@ -72,6 +80,15 @@ class Code(IntEnum):
     BUNDLE_REPEATED_BLOCK_NUMBER = 115
     BUNDLE_TOO_MANY_BLOCKS = 116
     BUNDLE_NO_PAYLOAD_LAST = 117
+
+
+# The texts of the faults of answers, which the program does not judge
+_ANSWERS = {
+    Code.ANSWER_OTHER_TRANSFER: "another transfer",
+    Code.ANSWER_LENGTH_FALLS: "acknowledged length falls",
+    Code.ANSWER_LENGTH_NOT_SENT: "acknowledged length was not sent",
+    Code.ANSWER_END_TOO_EARLY: "end without the whole transfer",
+}
 
 
 class Kind(IntEnum):
@@ -120,11 +137,15 @@ _Item = _struct(
 _Announced = _struct("_Announced", "kind total")
 _Order = _struct("_Order", "initiated terminated is_open transfer")
 _Turn = _struct("_Turn", "fault turn last abandons abandoned")
+_Sent = _struct("_Sent", "id length whole acknowledged fault")
+_Written = _struct("_Written", "count needed")
+_Check = _struct("_Check", "kind state")
 _Run = _struct("_Run", "exit_status output_length report_length")
 
 _SLICE = [c_void_p, c_size_t]
 _NAMES = [*_SLICE, *_SLICE, *_SLICE]  # for the names of destination, source and report-to endpoint
 _TEXT = [c_uint64, *_SLICE]  # whether it is wanted, and the slice for it
+_WRITTEN = [*_SLICE, POINTER(_Written)]
 _SCAN = c_uint64 * SCAN_WORDS
 _PARAMETERS = {
     "judge_bundle": [*_SLICE, POINTER(_Verdict)],
@@ -143,8 +164,25 @@ _PARAMETERS = {
     "start_order": [POINTER(_Order)],
     "judge_message": [POINTER(_Order), POINTER(_Message), POINTER(_Turn)],
     "take_message": [POINTER(_Order), POINTER(_Message), POINTER(_Turn)],
+    "judge_answer": [POINTER(_Sent), POINTER(_Message)],
+    "write_contact": [c_uint64, *_WRITTEN],
+    "write_item": [c_uint64, c_uint64, *_SLICE, *_WRITTEN],
+    "write_message": [POINTER(_Message), *_SLICE, *_SLICE, *_WRITTEN],
+    "write_primary": [POINTER(_Bundle), c_uint64, *_NAMES, *_WRITTEN],
+    "write_block_head": [POINTER(_Block), *_WRITTEN],
+    "start_check": [POINTER(_Check), c_uint64],
+    "feed_check": [POINTER(_Check), *_SLICE],
+    "end_check": [POINTER(_Check), POINTER(c_uint64)],
+    "write_check": [POINTER(_Check), *_WRITTEN],
+    "write_eid": [POINTER(_Eid), *_SLICE, *_WRITTEN],
+    "write_age": [c_uint64, *_WRITTEN],
+    "write_hop_count": [c_uint64, c_uint64, *_WRITTEN],
     "write_fault_text": [c_uint64, c_uint64, *_SLICE, POINTER(c_uint64)],
     "write_eid_text": [POINTER(_Eid), *_SLICE, *_SLICE, POINTER(c_uint64)],
+    "read_eid_text": [*_SLICE, POINTER(_Eid), *_SLICE],
+    "write_reason_text": [c_uint64, c_uint64, *_SLICE, POINTER(c_uint64)],
+    "write_report_reason_text": [c_uint64, *_SLICE, POINTER(c_uint64)],
+    "write_block_type_text": [c_uint64, *_SLICE, POINTER(c_uint64)],
     "read_block_data": [
         POINTER(_Block), POINTER(_Block), *_SLICE, *_SLICE, POINTER(c_uint64),
     ],
@@ -153,6 +191,7 @@ _PARAMETERS = {
     "blocks": [*_SLICE, *_SLICE, *_TEXT, *_TEXT, POINTER(_Run)],
     "check": [*_SLICE, *_SLICE, *_TEXT, *_TEXT, POINTER(_Run)],
     "pack": [*_SLICE, *_SLICE, *_SLICE, *_TEXT, *_TEXT, POINTER(_Run)],
+    "pack_more": [*_SLICE, *_SLICE, *_TEXT, *_TEXT, POINTER(_Run)],
 }
 
 
@@ -220,6 +259,25 @@ def _room(length):
     return ctypes.create_string_buffer(length or 1)
 
 
+def _text(room, name, *arguments):
+    """Returns the text that the library writes into a buffer of this room, or None."""
+    text, written = _room(room), c_uint64()
+    status = _call(name, *arguments, text, room, byref(written))
+    return text.raw[:written.value].decode() if status == OK else None
+
+
+def _written(name, *arguments, call=_call):
+    """Returns the bytes that a writer writes."""
+    it, room, status = _Written(), WRITER_ROOM, TOO_SMALL
+    while status == TOO_SMALL:
+        content = _room(room)
+        status = call(name, *arguments, content, room, byref(it))
+        room = it.needed
+    if status != OK:
+        raise ValueError("the readers would refuse what is to be written")
+    return content.raw[:it.count]
+
+
 class _State:
     """What the library keeps in memory of its caller. A copy, by the module copy, has its own."""
 
@@ -245,7 +303,7 @@ class _State:
 
 
 class Fault(Exception):
-    """The first fault of some bytes: a code, the number that it is about, and an offset.
+    """The first fault of bytes or of a message: a code, the number that it is about, and an offset.
 
     The offset is that of the fault in a bundle, or that of the message with the fault in a
     recording. The text is that of the program.
@@ -267,12 +325,9 @@ class Fault(Exception):
         return hash(self.args)
 
     def __str__(self):
-        text, written = _room(FAULT_ROOM), c_uint64()
         number = _number("number", self.number)
-        status = _call("write_fault_text", self.code, number, text, FAULT_ROOM, byref(written))
-        if status != OK:
-            return repr(self)
-        return text.raw[:written.value].decode()
+        text = _text(FAULT_ROOM, "write_fault_text", self.code, number)
+        return _ANSWERS.get(self.code) or text or repr(self)
 
 
 def _fault(it):
@@ -288,9 +343,7 @@ class Dtn(NamedTuple):
     name: Optional[bytes]
 
     def __str__(self):
-        if self.name is None:
-            return _eid_text(_Eid(kind=1), b"")
-        return _eid_text(_Eid(kind=2, name_length=len(self.name)), self.name)
+        return _eid_text(self)
 
 
 class Ipn(NamedTuple):
@@ -300,22 +353,47 @@ class Ipn(NamedTuple):
     service: int
 
     def __str__(self):
-        kind = 3 if self.allocator is None else 4
-        values = self._replace(allocator=self.allocator or 0)
-        numbers = map(_number, self._fields, values)
-        return _eid_text(_Eid(kind, *numbers, 0), b"")
+        return _eid_text(self)
 
 
 EndpointId = Union[Dtn, Ipn]
 
 
-def _eid_text(eid, name):
+def _lent_eid(eid):
+    """Returns an endpoint ID as the library takes it, and the slice of its name."""
+    if isinstance(eid, Ipn):
+        kind = 3 if eid.allocator is None else 4
+        values = eid._replace(allocator=eid.allocator or 0)
+        return _Eid(kind, *map(_number, eid._fields, values), 0), _Lent(b"").slice
+    lent = _Lent(eid.name or b"")
+    length = _number("the length of name", len(lent.kept), most=EID_LIMIT)
+    return _Eid(kind=1 if eid.name is None else 2, name_length=length), lent.slice
+
+
+def _eid_text(eid):
     """Returns an endpoint ID as the program shows it."""
-    text, written, lent = _room(EID_ROOM), c_uint64(), _Lent(name)
-    status = _call("write_eid_text", byref(eid), *lent.slice, text, EID_ROOM, byref(written))
-    if status != OK:
-        raise ValueError(f"the name of an endpoint ID has more than {EID_LIMIT} bytes")
-    return text.raw[:written.value].decode()
+    it, name = _lent_eid(eid)
+    return _text(EID_ROOM, "write_eid_text", byref(it), *name)
+
+
+def read_eid_text(text):
+    """Returns the endpoint ID of which `str` returns this text. Raises ValueError if there is none.
+
+    `dtn:none` is Dtn(None), and not Dtn(b"none"), whose text it is too.
+    """
+    lent, it, name = _Lent(text.encode("utf-8", "surrogatepass")), _Eid(), _room(EID_LIMIT)
+    if _call("read_eid_text", *lent.slice, byref(it), name, EID_LIMIT) != OK:
+        raise ValueError("no endpoint ID has this text")
+    return _eid(it, name)
+
+
+def write_eid(eid):
+    """Returns an endpoint ID in CBOR, which is also the data of a previous node block.
+
+    RFC 9171 sections 4.2.5.1 and 4.4.1 define it.
+    """
+    it, name = _lent_eid(eid)
+    return _written("write_eid", byref(it), *name)
 
 
 def _eid(it, name):
@@ -348,9 +426,9 @@ class Bundle(NamedTuple):
     time: int
     sequence: int
     lifetime: int
-    fragment: Optional[Tuple[int, int]]
-    blocks: int
-    payload: Union[bytes, slice]
+    fragment: Optional[Tuple[int, int]] = None
+    blocks: int = 0
+    payload: Union[bytes, slice] = b""
 
 
 class Primary(NamedTuple):
@@ -575,16 +653,18 @@ class Block(NamedTuple):
             return ""
         if primary.block_type is not None:
             raise ValueError("the block that is to be the primary block is another one")
+        lent = self._data()
+        numbers = byref(_numbers(primary)), byref(_numbers(self, len(lent.kept)))
+        text = _text(WORDS_ROOM, "read_block_data", *numbers, *lent.slice)
+        if text is None:
+            raise ValueError("a block has a number that no block has")
+        return text
+
+    def _data(self):
+        """Returns the data of a canonical block as it is lent to the library."""
         if isinstance(self.data, slice):
             raise ValueError("the data of a block of a Scan is not there: with_data adds it")
-        lent, text, written = _Lent(self.data), _room(WORDS_ROOM), c_uint64()
-        status = _call(
-            "read_block_data", byref(_numbers(primary)), byref(_numbers(self, len(lent.kept))),
-            *lent.slice, text, WORDS_ROOM, byref(written),
-        )
-        if status != OK:
-            raise ValueError("a block has a number that no block has")
-        return text.raw[:written.value].decode()
+        return _Lent(self.data)
 
 
 class BlockHead(NamedTuple):
@@ -599,7 +679,7 @@ class BlockHead(NamedTuple):
     block_type: int
     number: int
     data_length: int
-    data: slice
+    data: slice = slice(0, 0)
 
 
 def _block(it):
@@ -651,6 +731,125 @@ def blocks_of(content):
         raise fault
 
 
+# ---- bundles that are written
+
+
+def write_primary(bundle, check=0):
+    """Returns a primary block with its check field (RFC 9171 section 4.3.1).
+
+        content = tcpclkit.BUNDLE_FIRST + tcpclkit.write_primary(bundle, check=2)
+        for it in blocks:
+            content += tcpclkit.write_block(it)
+        content += tcpclkit.BUNDLE_LAST
+
+    The last of the blocks is the payload block, which alone has type 1 and number 1. Each other
+    block has a number of its own, at least 2. There are at most 64 blocks. `check` is a type of
+    check values, as in a Block. The `blocks` and the `payload` of the Bundle are not read.
+    """
+    it, names = _Bundle(is_fragment=bundle.fragment is not None), []
+    for name in ("flags", "time", "sequence", "lifetime"):
+        setattr(it, name, _number(name, getattr(bundle, name)))
+    for name in ("destination", "source", "report_to"):
+        eid, lent = _lent_eid(getattr(bundle, name))
+        setattr(it, name, eid)
+        names += lent
+    if it.is_fragment != it.flags & 1:
+        raise ValueError("flag 0x01 and fragment do not both say whether the bundle is a fragment")
+    if it.is_fragment:
+        ends = map(_number, ("the offset of fragment", "the total of fragment"), bundle.fragment)
+        it.fragment_offset, it.fragment_total = ends
+    return _written("write_primary", byref(it), _number("check", check, most=2), *names)
+
+
+def write_block(block):
+    """Returns a canonical block with its check field (RFC 9171 section 4.3.2).
+
+    The `offset`, `length` and `data_at` of the Block are not read. Its number is 1 if its type is.
+    """
+    if block.block_type is None:
+        raise ValueError("a primary block is written by write_primary")
+    data, check = block._data().kept, Check(block.check)
+    head = write_block_head(
+        BlockHead(0, block.flags, block.check, block.block_type, block.number, len(data))
+    )
+    check.feed(head)
+    check.feed(data)
+    return b"".join([head, data, check.field()])
+
+
+def write_block_head(head):
+    """Returns a canonical block up to its data, whose `data_length` bytes follow, and its check.
+
+        check, head = tcpclkit.Check(block.check), tcpclkit.write_block_head(block)
+        for piece in [head, *pieces]:
+            check.feed(piece)
+            send(piece)
+        send(check.field())
+
+    The `offset` and the `data` of the BlockHead are not read.
+    """
+    numbers = {
+        name: _number(name, getattr(head, name))
+        for name in ("block_type", "flags", "data_length")
+    }
+    numbers["number"] = _number("number", head.number, least=1)
+    numbers["check"] = _number("check", head.check, most=2)
+    if (head.block_type == 1) != (head.number == 1):
+        raise ValueError("a block has type 1 or number 1, and not both")
+    return _written("write_block_head", byref(_Block(kind=2, **numbers)))
+
+
+class Check(_State):
+    """The check value of bytes that come in pieces (RFC 9171 section 4.2.1).
+
+    `kind` is a type of check values, as in a Block. With 0 there is no value. A copy was fed the
+    same bytes.
+    """
+
+    def __init__(self, kind=0):
+        super().__init__(_Check())
+        self._call("start_check", _number("check", kind, most=2))
+
+    def feed(self, piece):
+        """Feeds a piece. Of a block, the head is the first piece, and then comes the data."""
+        self._call("feed_check", *_Lent(piece).slice)
+
+    def value(self):
+        """Returns the check value of the bytes that were fed, or None.
+
+        A block has another, over zeros in place of the field too: that of `field`.
+        """
+        value = c_uint64()
+        return value.value if self._call("end_check", byref(value)) == OK else None
+
+    def field(self):
+        """Returns the check field of a block whose head and data were fed (section 4.2.2)."""
+        return b"" if self.value() is None else _written("write_check", call=self._call)
+
+
+def write_age(age):
+    """Returns the data of a bundle age block, in milliseconds (RFC 9171 section 4.4.2)."""
+    return _written("write_age", _number("age", age))
+
+
+def write_hop_count(limit, count):
+    """Returns the data of a hop count block (RFC 9171 section 4.4.3).
+
+    The RFC asks for a limit from 1 to 255, and this call for none.
+    """
+    return _written("write_hop_count", _number("limit", limit), _number("count", count))
+
+
+def block_type_name(block_type):
+    """Returns the name of a block type, as the lines of `tcpclkit blocks` have it, or `?`."""
+    return _text(NAME_ROOM, "write_block_type_text", _number("block_type", block_type))
+
+
+def report_reason_name(reason):
+    """Returns the name of the reason of a status report, as `tcpclkit blocks` has it, or `?`."""
+    return _text(NAME_ROOM, "write_report_reason_text", _number("reason", reason))
+
+
 # ---- recordings
 
 
@@ -659,7 +858,7 @@ class Item(NamedTuple):
     flags: int
     item_type: int
     value: bytes
-    total: Optional[int]
+    total: Optional[int] = None
 
 
 class Announced(NamedTuple):
@@ -701,6 +900,17 @@ class Message(NamedTuple):
         """Whether the recording ends inside the data of this segment."""
         return self.data is not None and len(self.data) < self.length
 
+    @property
+    def reason_name(self):
+        """The name of the reason, as the lines of `tcpclkit list` have it, or `?`.
+
+        It is None if the message has no reason.
+        """
+        if self.reason is None:
+            return None
+        reason = _number("reason", self.reason, most=255)
+        return _text(NAME_ROOM, "write_reason_text", Kind(self.kind), reason)
+
 
 # The fields of each kind that have the name of the library for them
 _FIELDS = {
@@ -712,6 +922,16 @@ _FIELDS = {
     Kind.MSG_REJECT: ["reason", "header"],
     Kind.SESS_INIT: ["keepalive", "segment_mru", "transfer_mru"],
 }
+
+# Further fields of each kind
+_MORE_FIELDS = {
+    Kind.XFER_SEGMENT: ["length", "items", "data", "announced"],
+    Kind.XFER_ACK: ["length"],
+    Kind.SESS_INIT: ["node", "items"],
+}
+
+# The greatest numbers of fields that have less than 8 bytes
+_MOST = {"flags": 255, "reason": 255, "header": 255, "keepalive": 65535}
 
 
 def contact(content):
@@ -776,6 +996,76 @@ def _items(lent, message):
         offset = it.next
 
 
+# ---- messages that are written
+
+
+def write_contact(flags=0):
+    """Returns a contact header of version 4 (RFC 9174 section 4.2)."""
+    return _written("write_contact", _number("flags", flags, most=255))
+
+
+def write_item(item):
+    """Returns an extension item (RFC 9174 sections 4.8 and 5.2.5). Its `total` is not read.
+
+        total = tcpclkit.Item(flags=0, item_type=1, value=length.to_bytes(8, "big"))
+
+    This one announces the length of a transfer (section 5.2.5.1).
+    """
+    lent = _Lent(item.value)
+    flags = _number("flags", item.flags, most=255)
+    item_type = _number("item_type", item.item_type, most=65535)
+    _number("the length of value", len(lent.kept), most=LIST_LIMIT - 5)
+    return _written("write_item", flags, item_type, *lent.slice)
+
+
+def write_message(message):
+    """Returns the bytes of a message, and of a segment those with its `data`.
+
+    RFC 9174 sections 4.6, 5.1, 5.2 and 6.1 define them.
+
+        ack = tcpclkit.Message(0, tcpclkit.Kind.XFER_ACK, flags=3, id=7, length=5)
+        content = tcpclkit.write_message(ack)
+
+    A segment may have less data than its `length` says, or none. Then the other bytes follow as the
+    caller sends them. Where `length` is None, it is that of `data`. The other numbers of the kind
+    are set. `offset`, `head_end` and `announced` are not read.
+    """
+    node, data = _Lent(message.node or b""), _Lent(message.data or b"")
+    if message.kind == Kind.XFER_SEGMENT and message.length is None:
+        message = message._replace(length=len(data.kept))
+    it = _message_numbers(message)
+    listed = message.items or ()
+    if listed and it.kind == Kind.XFER_SEGMENT and not it.flags & SEGMENT_START:
+        raise ValueError("a segment without SEGMENT_START has no items")
+    items = _Lent(b"".join(map(write_item, listed)))
+    for name, value, most in [
+        ("the length of node", len(node.kept), NODE_ID_LIMIT),
+        ("the number of items", len(listed), ITEM_LIMIT),
+        ("the length of items", len(items.kept), LIST_LIMIT),
+        ("the length of data", len(data.kept), it.data_length),
+    ]:
+        _number(name, value, most=most)
+    return _written("write_message", byref(it), *node.slice, *items.slice) + data.kept
+
+
+def _message_numbers(message):
+    """Returns a message as the library takes it."""
+    kind = Kind(message.kind)
+    known = {"offset", "kind", "head_end", *_FIELDS[kind], *_MORE_FIELDS.get(kind, ())}
+    values = {name: it for name, it in message._asdict().items() if it is not None}
+    for name in values:
+        if name not in known:
+            raise ValueError(f"a message of the kind {kind.name} has no {name}")
+    it, names = _Message(kind=kind), {name: name for name in _FIELDS[kind]}
+    if "length" in known:
+        names["length"] = "acknowledged" if kind == Kind.XFER_ACK else "data_length"
+    for name, own in names.items():
+        if name not in values:
+            raise ValueError(f"a message of the kind {kind.name} has the field {name}")
+        setattr(it, own, _number(name, values[name], most=_MOST.get(name, 2**64 - 1)))
+    return it
+
+
 # ---- the order of messages
 
 
@@ -828,6 +1118,40 @@ def _turn(it):
     """Returns the turn that the library wrote."""
     begins = {0: None, 1: True, 2: False}[it.turn]
     return Turn(begins, it.last == 1, it.abandoned if it.abandons else None)
+
+
+@dataclass
+class Sent:
+    """What was sent of one transfer, and how much of it was acknowledged.
+
+        sent = tcpclkit.Sent(id=7)
+        sent.length += len(data)  # after each segment
+        sent.whole = True         # after the last one, which has END
+        sent.judge(answer)
+
+    `acknowledged` is the length in the last XFER_ACK that was accepted, or 0.
+    """
+    id: int
+    length: int = 0
+    whole: bool = False
+    acknowledged: int = 0
+
+    def judge(self, message):
+        """Judges an XFER_ACK or an XFER_REFUSE of the peer (RFC 9174 sections 5.2.3 and 5.2.4).
+
+        It has the ID of the transfer. An XFER_ACK acknowledges no less than the one before it, and
+        no more than was sent; with END it acknowledges the whole transfer. `acknowledged` is then
+        its length. Raises a Fault if one of these does not hold, and ValueError for another kind.
+        """
+        it, acknowledged = _message_numbers(message), _number("acknowledged", self.acknowledged)
+        numbers = _number("id", self.id), _number("length", self.length), bool(self.whole)
+        sent = _Sent(*numbers, acknowledged, 0)
+        status = _call("judge_answer", byref(sent), byref(it))
+        if status == RANGE:
+            raise ValueError("the message is neither an XFER_ACK nor an XFER_REFUSE")
+        if status != OK:
+            raise Fault(sent.fault, 0, message.offset)
+        self.acknowledged = sent.acknowledged
 
 
 # ---- whole tools
@@ -941,3 +1265,20 @@ def pack(content, node, keepalive=60, segment_mru=65536, transfer_mru=1048576, p
         bool(end),
     )
     return _run("pack", content, *options, *lent.slice)
+
+
+def pack_more(content, first=0, peer_segment=65536, peer_transfer=2**64 - 1, announce=0):
+    """What `pack` writes, without the contact header, SESS_INIT and SESS_TERM.
+
+    So the bundles are segments for a session that is open. Their transfers are `first`, `first + 1`
+    and so on. The next call begins with `first` and the number of lines in the report. Raises
+    ValueError if an option is out of its range; `first` and the length of the bytes are together
+    at most 2^64 - 1.
+    """
+    lent = _Lent(content)
+    options = _options(
+        _number("first", first, most=2**64 - 1 - len(lent.kept)),
+        _number("peer_segment", peer_segment, least=1), _number("peer_transfer", peer_transfer),
+        _number("announce", announce, most=2**20),
+    )
+    return _run("pack_more", lent.kept, *options)

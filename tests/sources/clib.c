@@ -443,7 +443,7 @@ static void texts(void) {
   CHECK(tcpclkit_write_fault_text(3, 256, text, sizeof text, &written) == TCPCLKIT_RANGE);
   for (code = 0; code < 200; code++)
     known += tcpclkit_write_fault_text(code, 0, text, 64, &written) == TCPCLKIT_OK;
-  CHECK(known == 8 + 5 + 17);
+  CHECK(known == 8 + 5 + 4 + 17);
   CHECK(tcpclkit_write_fault_text(UINT64_MAX, 0, text, 64, &written) == TCPCLKIT_RANGE);
   CHECK(tcpclkit_write_eid_text(&eid, NULL, 0, text, sizeof text, &written) == TCPCLKIT_OK);
   CHECK(written == 9 && begins(text, "ipn:1.2.3"));
@@ -753,8 +753,13 @@ int main(int argc, char **argv) {
   longest_words();
   rests();
   rests_of_names();
+  test_texts();
+  test_message_writers();
+  test_bundle_writers();
   test_tools(argc == 1);
+  test_more();
   test_mistakes();
+  test_writer_mistakes();
   test_overlaps();
   test_shown();
   printf("%u passed, %u failed\n", passed, failed);

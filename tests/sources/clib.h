@@ -14,9 +14,19 @@ void count(int holds, const char *file, int line, const char *what);
 /* What the other files test. The first measures stacks if it is told to. */
 void test_tools(int measures_stacks);
 void test_recordings(void);
+void test_texts(void);
+void test_message_writers(void);
+void test_bundle_writers(void);
+void test_more(void);
 void test_mistakes(void);
+void test_writer_mistakes(void);
 void test_overlaps(void);
 void test_shown(void);
+
+/* The calls of three of these files, whose stack the first measures. */
+void call_texts(void);
+void call_message_writers(void);
+void call_bundle_writers(void);
 
 /* Whether the slice begins with these bytes. */
 static inline int begins(const uint8_t *slice, const char *text) {

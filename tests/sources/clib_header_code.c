@@ -227,10 +227,65 @@ static void items(void) {
   CHECK(used_so_far.times == 2 && offset == message.items_offset + message.items_length);
 }
 
+/* -- an acknowledgment */
+
+static void acknowledgments(void) {
+  static const uint8_t wanted[] = {0x02, 0x03, 0, 0, 0, 0, 0, 0, 0, 0, 0, 0, 0, 0, 0, 0, 0, 0x22};
+  struct tcpclkit_message segment;
+  struct tcpclkit_written written;
+  uint8_t bytes[TCPCLKIT_ACK_LENGTH];
+  CHECK(tcpclkit_read_message(recording, sizeof recording, 38, &segment) == TCPCLKIT_OK);
+  {
+    const uint64_t received = segment.data_length;
+    use_none();
+#define send(bytes, count) use_bytes(bytes, count)
+#include "shown_6.h"
+#undef send
+  }
+  CHECK(has_used((const char *)wanted, sizeof wanted) && used_so_far.times == 1);
+}
+
+/* -- a block whose data comes in pieces */
+
+static void write_shown(const struct tcpclkit_block block) {
+  struct tcpclkit_written written;
+  struct tcpclkit_check check;
+  uint8_t bytes[TCPCLKIT_BLOCK_HEAD_ROOM], piece[sizeof several];
+  size_t length;
+  use_none();
+#define send(bytes, count) use_bytes(bytes, count)
+#define next_piece(room) receive_into(room, sizeof(room))
+#include "shown_7.h"
+#undef send
+#undef next_piece
+}
+
+/* Each block of a bundle with a block of each check type. */
+static void written_blocks(void) {
+  struct tcpclkit_scan scan;
+  struct tcpclkit_block block;
+  uint64_t taken;
+  size_t at = 0, size, blocks = 0;
+  tcpclkit_start_scan(&scan);
+  while (tcpclkit_next_block(&scan, several + at, sizeof several - at, &taken, &block) ==
+         TCPCLKIT_GOING_ON) {
+    at += (size_t)taken;
+    for (size = 1; size <= 4 && block.kind == TCPCLKIT_BLOCK_CANONICAL; size++) {
+      will_come(several + block.data_offset, (size_t)block.data_length, size);
+      write_shown(block);
+      CHECK(has_used((const char *)several + block.offset, (size_t)block.length));
+    }
+    blocks++;
+  }
+  CHECK(blocks == 4);
+}
+
 void test_shown(void) {
   verdicts();
   scans();
   blocks();
   messages();
   items();
+  acknowledgments();
+  written_blocks();
 }

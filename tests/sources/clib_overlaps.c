@@ -35,6 +35,11 @@ static struct tcpclkit_unpack_options unpack_options;
 static struct tcpclkit_blocks_options blocks_options;
 static struct tcpclkit_check_options check_options;
 static struct tcpclkit_pack_options pack_options;
+static struct tcpclkit_more_options more_options;
+static struct tcpclkit_message ack, init;
+static struct tcpclkit_bundle fields;
+static struct tcpclkit_check begun;
+static const struct tcpclkit_sent sent = {7, 0, 0, 0, 0};
 static const struct tcpclkit_eid eid = {TCPCLKIT_EID_DTN, 0, 0, 0, 4};
 static const struct tcpclkit_block primary = {1, 1, 21, 0, 0, 4, 0, 0, 0, 0};
 static const struct tcpclkit_block counting = {2, 32, 9, 10, 3, 0, 0, 38, 3, 3};
@@ -49,6 +54,11 @@ static void make_contents(void) {
   tcpclkit_blocks_defaults(&blocks_options);
   tcpclkit_check_defaults(&check_options);
   tcpclkit_pack_defaults(&pack_options);
+  tcpclkit_more_defaults(&more_options);
+  ack = message_of(TCPCLKIT_XFER_ACK, 0, 7);
+  init = message_of(TCPCLKIT_SESS_INIT, 0, 0);
+  fields.destination = fields.source = fields.report_to = eid;
+  tcpclkit_start_check(&begun, TCPCLKIT_CHECK_CRC32);
 }
 
 /* -- the calls */
@@ -106,13 +116,44 @@ CALL(unpack) { return tcpclkit_unpack(S(3), A(unpack_options, 4), S(0), S(1), A(
 CALL(blocks) { return tcpclkit_blocks(S(3), A(blocks_options, 4), S(0), S(1), A(run, 2)); }
 CALL(check) { return tcpclkit_check(S(3), A(check_options, 4), S(0), S(1), A(run, 2)); }
 CALL(pack) { return tcpclkit_pack(S(3), A(pack_options, 4), S(5), S(0), S(1), A(run, 2)); }
+CALL(pack_more) { return tcpclkit_pack_more(S(3), A(more_options, 4), S(0), S(1), A(run, 2)); }
+CALL(judge_answer) {
+  (void)lent;
+  return tcpclkit_judge_answer(A(sent, 0), A(message, 1));
+}
+CALL(write_contact) { return tcpclkit_write_contact(0, S(0), A(written, 1)); }
+CALL(write_item) { return tcpclkit_write_item(0, 1, S(2), S(0), A(written, 1)); }
+CALL(write_message) {
+  return tcpclkit_write_message(A(message, 2), S(3), S(4), S(0), A(written, 1));
+}
+CALL(write_primary) {
+  return tcpclkit_write_primary(A(bundle, 2), 2, S(3), S(4), S(5), S(0), A(written, 1));
+}
+CALL(write_block_head) { return tcpclkit_write_block_head(A(block, 2), S(0), A(written, 1)); }
+CALL(feed_check) { return tcpclkit_feed_check(A(check, 0), S(1)); }
+CALL(end_check) {
+  (void)lent;
+  return tcpclkit_end_check(A(check, 1), N(0));
+}
+CALL(write_check) { return tcpclkit_write_check(A(check, 2), S(0), A(written, 1)); }
+CALL(write_eid) { return tcpclkit_write_eid(A(eid, 2), S(3), S(0), A(written, 1)); }
+CALL(write_age) { return tcpclkit_write_age(5, S(0), A(written, 1)); }
+CALL(write_hop_count) { return tcpclkit_write_hop_count(30, 2, S(0), A(written, 1)); }
+CALL(read_eid_text) { return tcpclkit_read_eid_text(S(2), A(eid, 0), S(1)); }
+CALL(write_reason_text) { return tcpclkit_write_reason_text(3, 2, S(0), N(1)); }
+CALL(write_report_reason_text) { return tcpclkit_write_report_reason_text(1, S(0), N(1)); }
+CALL(write_block_type_text) { return tcpclkit_write_block_type_text(7, S(0), N(1)); }
 
 static const uint8_t node[7] = {'i', 'p', 'n', ':', '1', '.', '0'};
 static const uint8_t name[4] = {'/', '/', 'b', 'c'};
 static const uint8_t hops[3] = {0x82, 4, 1};
+static const uint8_t item[5] = {0, 1, 2, 0, 0};
+static const uint8_t text[8] = {'d', 't', 'n', ':', '/', '/', 'b', 'c'};
 
 #define NAMES ROOM(9), ROOM(9), ROOM(9)
 #define TEXTS ROOM(400), ROOM(200), STRUCT(run, WRITTEN, NULL)
+/* What each writer of messages and bundles writes. */
+#define INTO(room) ROOM(room), STRUCT(written, CLEARED, NULL)
 
 static const struct call calls[] = {
     {"judge_bundle", judge_bundle, 2, {STRUCT(verdict, WRITTEN, NULL), BYTES(bundle)}},
@@ -153,6 +194,27 @@ static const struct call calls[] = {
     {"check", check, 5, {TEXTS, BYTES(recording), STRUCT(check_options, READ, &check_options)}},
     {"pack", pack, 6,
      {TEXTS, BYTES(bundle), STRUCT(pack_options, READ, &pack_options), BYTES(node)}},
+    {"pack_more", pack_more, 5,
+     {TEXTS, BYTES(bundle), STRUCT(more_options, READ, &more_options)}},
+    {"judge_answer", judge_answer, 2,
+     {STRUCT(sent, WRITTEN, &sent), STRUCT(message, READ, &ack)}},
+    {"write_contact", write_contact, 2, {INTO(9)}},
+    {"write_item", write_item, 3, {INTO(19), BYTES(hops)}},
+    {"write_message", write_message, 5,
+     {INTO(99), STRUCT(message, READ, &init), BYTES(node), BYTES(item)}},
+    {"write_primary", write_primary, 6,
+     {INTO(99), STRUCT(bundle, READ, &fields), BYTES(name), BYTES(name), BYTES(name)}},
+    {"write_block_head", write_block_head, 3, {INTO(54), STRUCT(block, READ, &counting)}},
+    {"feed_check", feed_check, 2, {STRUCT(check, WRITTEN, &begun), BYTES(bundle)}},
+    {"end_check", end_check, 2, {NUMBER(CLEARED), STRUCT(check, READ, &begun)}},
+    {"write_check", write_check, 3, {INTO(5), STRUCT(check, READ, &begun)}},
+    {"write_eid", write_eid, 4, {INTO(9), STRUCT(eid, READ, &eid), BYTES(name)}},
+    {"write_age", write_age, 2, {INTO(9)}},
+    {"write_hop_count", write_hop_count, 2, {INTO(27)}},
+    {"read_eid_text", read_eid_text, 3, {STRUCT(eid, WRITTEN, NULL), ROOM(9), BYTES(text)}},
+    {"write_reason_text", write_reason_text, 2, {ROOM(20), NUMBER(WRITTEN)}},
+    {"write_report_reason_text", write_report_reason_text, 2, {ROOM(34), NUMBER(WRITTEN)}},
+    {"write_block_type_text", write_block_type_text, 2, {ROOM(21), NUMBER(WRITTEN)}},
 };
 
 /* -- where the arguments are */

@@ -302,12 +302,15 @@ struct lent {
   struct tcpclkit_run run;
 };
 
-enum tool { LIST, UNPACK, PACK, BLOCKS, CHECKS, TOOLS };
+enum tool { LIST, UNPACK, PACK, MORE, BLOCKS, CHECKS, TOOLS };
 
-/* What a tool reads: bundles for pack, and else a recording. Less than all of it is a fault. */
+/* Whether a tool packs bundles, for which it takes memory. */
+static int packs_bundles(int tool) { return tool == PACK || tool == MORE; }
+
+/* What a tool reads: bundles to pack, and else a recording. Less than all of it is a fault. */
 static const uint8_t *input_of(int tool, size_t *length) {
-  *length = tool == PACK ? BUNDLE_LENGTH : sizeof recording;
-  return tool == PACK ? bundle : recording;
+  *length = packs_bundles(tool) ? BUNDLE_LENGTH : sizeof recording;
+  return packs_bundles(tool) ? bundle : recording;
 }
 
 /* Runs a tool on the first bytes of its input, without `less` of them. */
@@ -317,8 +320,10 @@ static uint32_t run_into(int tool, size_t less, uint8_t *output, size_t output_r
   struct tcpclkit_unpack_options all;
   struct tcpclkit_blocks_options blocks;
   struct tcpclkit_check_options check;
+  struct tcpclkit_more_options more;
   size_t length;
   const uint8_t *input = input_of(tool, &length);
+  tcpclkit_more_defaults(&more);
   tcpclkit_pack_defaults(&usual);
   tcpclkit_unpack_defaults(&all);
   tcpclkit_blocks_defaults(&blocks);
@@ -332,6 +337,8 @@ static uint32_t run_into(int tool, size_t less, uint8_t *output, size_t output_r
     return tcpclkit_blocks(input, length, &blocks, output, output_room, report, report_room, run);
   if (tool == CHECKS)
     return tcpclkit_check(input, length, &check, output, output_room, report, report_room, run);
+  if (tool == MORE)
+    return tcpclkit_pack_more(input, length, &more, output, output_room, report, report_room, run);
   return tcpclkit_pack(input, length, &usual, (const uint8_t *)"ipn:1.0", 7, output, output_room,
                        report, report_room, run);
 }
@@ -609,6 +616,9 @@ static void small_calls(void) {
   tcpclkit_read_block_data(&primary, &reporting, report, sizeof report, text, sizeof text,
                            &written);
   tcpclkit_write_eid_text(&eid, name, sizeof name, text, sizeof text, &written);
+  call_texts();
+  call_message_writers();
+  call_bundle_writers();
 }
 
 static void tool_calls(void) {
@@ -649,7 +659,7 @@ static void stacks(void) {
 }
 
 #ifdef REFUSES_MEMORY
-/* Pack asks for one block, and the other tools for none. */
+/* A tool that packs asks for one block, and the others for none. */
 static void refusals(void) {
   static const struct tcpclkit_run zeros = {0, 0, 0};
   struct lent it;
@@ -657,14 +667,16 @@ static void refusals(void) {
   for (tool = 0; tool < TOOLS; tool++) {
     requests = 0;
     CHECK(run_tool(tool, &it, sizeof it.output, sizeof it.report) == TCPCLKIT_OK);
-    CHECK(requests == (tool == PACK ? 1 : 0));
+    CHECK(requests == (packs_bundles(tool) ? 1 : 0));
   }
-  requests = 0;
-  refused_request = 1;
-  CHECK(run_tool(PACK, &it, sizeof it.output, sizeof it.report) == TCPCLKIT_MEMORY);
-  CHECK(memcmp(&it.run, &zeros, sizeof zeros) == 0);
-  CHECK(IS_MARKED(it.output) && IS_MARKED(it.report));
-  refused_request = 0;
+  for (tool = PACK; tool <= MORE; tool++) {
+    requests = 0;
+    refused_request = 1;
+    CHECK(run_tool(tool, &it, sizeof it.output, sizeof it.report) == TCPCLKIT_MEMORY);
+    CHECK(memcmp(&it.run, &zeros, sizeof zeros) == 0);
+    CHECK(IS_MARKED(it.output) && IS_MARKED(it.report));
+    refused_request = 0;
+  }
 }
 #endif
 

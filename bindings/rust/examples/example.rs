@@ -6,13 +6,18 @@
 //!     example data < RECORDING     writes the data of a recording
 //!     example receive < RECORDING  writes the same as it comes, and judges the order of messages
 //!     example pack < BUNDLES       writes bundles as the stream of a sender
+//!     example send < BUNDLE        writes a bundle as the segments of a transfer
+//!     example acknowledge < RECORDING  writes the XFER_ACK of each segment of a recording
+//!     example make < PAYLOAD       writes a bundle with this payload
 
 use std::error::Error;
 use std::io::{self, Read, Write};
 use std::process::ExitCode;
 use tcpclkit::{
-    blocks_of, bundle, contact, messages, pack, BlockKind, Code, Fault, Fields, Message, Order,
-    PackOptions, Run, Scan, ToolError, CONTACT_LENGTH,
+    blocks_of, bundle, contact, messages, pack, write_block, write_message, write_primary, Block,
+    BlockKind, Bundle, CheckType, Code, Fault, Fields, Items, Message, Order, OutOfRange,
+    PackOptions, Run, Scan, ToolError, BUNDLE_FIRST, BUNDLE_LAST, CONTACT_LENGTH, SEGMENT_END,
+    SEGMENT_START,
 };
 
 /// Returns the endpoint IDs and the length of the payload of a good bundle, as a text.
@@ -133,6 +138,82 @@ fn pack_bundles(bundles: &[u8]) -> Result<Run, ToolError> {
     pack(bundles, b"ipn:1.0", &options)
 }
 
+/// Returns a bundle as the segments of a transfer to a peer that takes 20 bytes in each.
+fn segments_of(bundle: &[u8], id: u64) -> Result<Vec<u8>, OutOfRange> {
+    let (mut segments, mut flags) = (vec![], SEGMENT_START);
+    for (at, data) in bundle.chunks(20).enumerate() {
+        if 20 * at + data.len() == bundle.len() {
+            flags |= SEGMENT_END;
+        }
+        let segment = Fields::Segment {
+            flags,
+            id,
+            items: Items::default(),
+            length: data.len() as u64,
+            data,
+        };
+        write_message(&segment, &mut segments)?;
+        flags = 0;
+    }
+    Ok(segments)
+}
+
+/// Returns the XFER_ACK of each segment of a recording.
+fn acknowledge_all(recording: &[u8]) -> Result<Vec<u8>, OutOfRange> {
+    let (mut answers, mut received) = (vec![], 0);
+    if contact(recording).is_err() {
+        return Ok(answers);
+    }
+    for message in messages(recording, CONTACT_LENGTH).map_while(Result::ok) {
+        match message.fields {
+            Fields::Segment {
+                flags, id, length, ..
+            } if !message.is_cut() => {
+                if flags & SEGMENT_START != 0 {
+                    received = 0;
+                }
+                received += length;
+                let length = received;
+                write_message(&Fields::Ack { flags, id, length }, &mut answers)?;
+            }
+            _ => {}
+        }
+    }
+    Ok(answers)
+}
+
+/// Returns a bundle from dtn://node/a to ipn:2.1 with this payload.
+fn make_bundle(payload: &[u8]) -> Result<Vec<u8>, Box<dyn Error>> {
+    let primary = Bundle {
+        flags: 0,
+        destination: "ipn:2.1".parse()?,
+        source: "dtn://node/a".parse()?,
+        report_to: "dtn:none".parse()?,
+        time: 800_000_000_000,
+        sequence: 1,
+        lifetime: 60000,
+        fragment: None,
+        blocks: 0,
+        payload: (),
+    };
+    let block = Block {
+        place: 0..0,
+        flags: 0,
+        check: CheckType::Crc32,
+        kind: BlockKind::Canonical {
+            block_type: 1,
+            number: 1,
+            data_at: 0,
+            data: payload,
+        },
+    };
+    let mut bytes = vec![BUNDLE_FIRST];
+    write_primary(&primary, CheckType::Crc32, &mut bytes)?;
+    write_block(&block, &mut bytes)?;
+    bytes.push(BUNDLE_LAST);
+    Ok(bytes)
+}
+
 /// Does what the argument asks for. Returns the exit status.
 fn run() -> Result<u8, Box<dyn Error>> {
     let mut bytes = Vec::new();
@@ -154,6 +235,9 @@ fn run() -> Result<u8, Box<dyn Error>> {
             io::stderr().write_all(&run.report)?;
             return Ok(run.exit_status);
         }
+        Some("send") => io::stdout().write_all(&segments_of(&bytes, 0)?)?,
+        Some("acknowledge") => io::stdout().write_all(&acknowledge_all(&bytes)?)?,
+        Some("make") => io::stdout().write_all(&make_bundle(&bytes)?)?,
         _ => copy_data(&bytes, &mut io::stdout())?,
     }
     Ok(0)

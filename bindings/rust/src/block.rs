@@ -54,7 +54,7 @@ pub enum BlockKind<P> {
 
 /// The head of a canonical block that is not whole yet.
 ///
-/// [`Scan::block_head`] returns it.
+/// [`Scan::block_head`] returns it, and [`write_block_head`](crate::write_block_head) writes it.
 #[derive(Clone, Debug, PartialEq, Eq)]
 pub struct BlockHead {
     /// The offset in the bundle where the block begins.
@@ -131,6 +131,15 @@ impl CheckType {
             _ => panic!("libtcpclkit returned the unknown check type {number}"),
         }
     }
+
+    /// The number of the type (RFC 9171 section 4.2.1).
+    pub(crate) fn number(self) -> u64 {
+        match self {
+            CheckType::None => raw::CHECK_NONE,
+            CheckType::Crc16 => raw::CHECK_CRC16,
+            CheckType::Crc32 => raw::CHECK_CRC32,
+        }
+    }
 }
 
 impl BlockHead {
@@ -146,6 +155,19 @@ impl BlockHead {
             data: it.data_offset..it.data_offset + it.data_seen,
         }
     }
+
+    /// The head as the library takes it to write it.
+    pub(crate) fn numbers(&self) -> raw::Block {
+        raw::Block {
+            kind: raw::BLOCK_CANONICAL,
+            block_type: self.block_type,
+            number: self.number,
+            flags: self.flags,
+            check: self.check.number(),
+            data_length: self.data_length,
+            ..Default::default()
+        }
+    }
 }
 
 impl<P> Block<P> {
@@ -156,11 +178,7 @@ impl<P> Block<P> {
             offset: self.place.start,
             length: self.place.end.saturating_sub(self.place.start),
             flags: self.flags,
-            check: match self.check {
-                CheckType::None => raw::CHECK_NONE,
-                CheckType::Crc16 => raw::CHECK_CRC16,
-                CheckType::Crc32 => raw::CHECK_CRC32,
-            },
+            check: self.check.number(),
             ..Default::default()
         };
         match self.kind {

@@ -247,7 +247,7 @@ impl<P> Verdict<P> {
 
 impl EndpointId {
     /// The endpoint ID that the library wrote. `name` begins with its name, if it has one.
-    fn of(it: &raw::Eid, name: &[u8]) -> EndpointId {
+    pub(crate) fn of(it: &raw::Eid, name: &[u8]) -> EndpointId {
         let raw::Eid {
             allocator,
             node,

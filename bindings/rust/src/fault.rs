@@ -50,6 +50,14 @@ codes! {
     OrderStartRepeatsOpenId = 54,
     /// A START after a SESS_TERM.
     OrderStartAfterSessTerm = 55,
+    /// An answer that has the ID of another transfer.
+    AnswerOtherTransfer = 71,
+    /// An XFER_ACK of less than an XFER_ACK before it.
+    AnswerLengthFalls = 72,
+    /// An XFER_ACK of more than was sent.
+    AnswerLengthNotSent = 73,
+    /// An XFER_ACK with END that does not acknowledge the whole transfer.
+    AnswerEndTooEarly = 74,
     /// B1: the bytes end inside the bundle.
     BundleCut = 101,
     /// B2: a byte follows the bundle.
@@ -86,7 +94,7 @@ codes! {
     BundleNoPayloadLast = 117,
 }
 
-/// The first fault of some bytes.
+/// The first fault of some bytes, or of a message.
 #[derive(Clone, Copy, Debug, PartialEq, Eq, Hash)]
 pub struct Fault {
     /// What is wrong.

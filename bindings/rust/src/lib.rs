@@ -1,5 +1,5 @@
-//! Bundles of the Bundle Protocol 7 (RFC 9171) and recorded sessions of TCPCLv4 (RFC 9174), read by
-//! functions that are proved to do what their definitions say.
+//! Bundles of the Bundle Protocol 7 (RFC 9171) and sessions of TCPCLv4 (RFC 9174), read and written
+//! by functions that are proved to do what their definitions say.
 //!
 //! ```
 //! let bytes = std::fs::read("examples/hello.bundle").unwrap();
@@ -18,7 +18,9 @@
 //! folder; without it, the archive is looked for in `/usr/local/lib`, `/usr/lib/x86_64-linux-gnu`
 //! and `/usr/lib`.
 
+mod answer;
 mod block;
+mod building;
 mod bundle;
 mod fault;
 mod order;
@@ -27,8 +29,14 @@ mod recording;
 mod scan;
 mod text;
 mod tools;
+mod writing;
 
+pub use answer::Sent;
 pub use block::{blocks_of, Block, BlockHead, BlockKind, Blocks, CheckType};
+pub use building::{
+    write_age, write_block, write_block_head, write_eid, write_hop_count, write_primary, Check,
+    BUNDLE_FIRST, BUNDLE_LAST,
+};
 pub use bundle::{bundle, primary, verdict, Bundle, EndpointId, Fragment, Primary, Verdict};
 pub use fault::{Code, Fault};
 pub use order::{Order, Taken, Turn};
@@ -37,7 +45,9 @@ pub use recording::{
     HEAD_LIMIT, SEGMENT_END, SEGMENT_START,
 };
 pub use scan::Scan;
+pub use text::{block_type_name, report_reason_name, ParseEndpointIdError};
 pub use tools::{
-    blocks, check, list, pack, unpack, BlocksOptions, CheckOptions, PackOptions, Run, ToolError,
-    UnpackOptions,
+    blocks, check, list, pack, pack_more, unpack, BlocksOptions, CheckOptions, MoreOptions,
+    PackOptions, Run, ToolError, UnpackOptions,
 };
+pub use writing::{write_contact, write_item, write_message, OutOfRange};

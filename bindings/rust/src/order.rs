@@ -2,7 +2,7 @@
 
 use crate::fault::{Code, Fault};
 use crate::raw;
-use crate::recording::{Fields, Message};
+use crate::recording::Message;
 
 /// The messages of a session so far, as far as they decide which may come next.
 ///
@@ -77,21 +77,7 @@ impl Order {
 
     /// Hands a message to a function of the library.
     fn call(&mut self, function: Judge, message: &Message<'_>) -> Taken {
-        let (kind, flags, id) = match message.fields {
-            Fields::Segment { flags, id, .. } => (raw::XFER_SEGMENT, flags, id),
-            Fields::Ack { flags, id, .. } => (raw::XFER_ACK, flags, id),
-            Fields::Refuse { id, .. } => (raw::XFER_REFUSE, 0, id),
-            Fields::Keepalive => (raw::KEEPALIVE, 0, 0),
-            Fields::SessTerm { flags, .. } => (raw::SESS_TERM, flags, 0),
-            Fields::Reject { .. } => (raw::MSG_REJECT, 0, 0),
-            Fields::SessInit { .. } => (raw::SESS_INIT, 0, 0),
-        };
-        let numbers = raw::Message {
-            kind,
-            flags: flags.into(),
-            id,
-            ..Default::default()
-        };
+        let numbers = message.fields.numbers();
         let (status, it) = raw::answer(|turn: &mut raw::Turn| {
             // SAFETY: the structs are valid, and do not overlap.
             unsafe { function(&mut self.0, &numbers, turn) }

@@ -50,6 +50,9 @@ pub const TURN_BEGIN: u64 = 1;
 pub const TURN_CONTINUE: u64 = 2;
 pub const TURN_STRAY: u64 = 3;
 
+pub const BUNDLE_FIRST: u8 = 0x9f;
+pub const BUNDLE_LAST: u8 = 0xff;
+
 /// Declares structs of the header. Each of their fields is a `u64` or such a struct.
 macro_rules! structs {
     ($($name:ident { $($field:ident: $type:ty),* $(,)? })*) => {$(
@@ -86,6 +89,9 @@ structs! {
     Announced { kind: u64, total: u64 }
     Order { initiated: u64, terminated: u64, is_open: u64, transfer: u64 }
     Turn { fault: u64, turn: u64, last: u64, abandons: u64, abandoned: u64 }
+    Sent { id: u64, length: u64, whole: u64, acknowledged: u64, fault: u64 }
+    Written { count: u64, needed: u64 }
+    Check { kind: u64, state: u64 }
     Run { exit_status: u64, output_length: u64, report_length: u64 }
 }
 
@@ -165,6 +171,81 @@ extern "C" {
         message: *const Message,
         turn: *mut Turn,
     ) -> u32;
+    pub fn tcpclkit_raw_judge_answer(sent: *mut Sent, message: *const Message) -> u32;
+    pub fn tcpclkit_raw_write_contact(
+        flags: u64,
+        bytes: *mut u8,
+        room: usize,
+        written: *mut Written,
+    ) -> u32;
+    pub fn tcpclkit_raw_write_item(
+        flags: u64,
+        item_type: u64,
+        value: *const u8,
+        value_length: usize,
+        bytes: *mut u8,
+        room: usize,
+        written: *mut Written,
+    ) -> u32;
+    pub fn tcpclkit_raw_write_message(
+        message: *const Message,
+        node: *const u8,
+        node_length: usize,
+        items: *const u8,
+        items_length: usize,
+        bytes: *mut u8,
+        room: usize,
+        written: *mut Written,
+    ) -> u32;
+    pub fn tcpclkit_raw_write_primary(
+        bundle: *const Bundle,
+        check: u64,
+        destination_name: *const u8,
+        destination_length: usize,
+        source_name: *const u8,
+        source_length: usize,
+        report_to_name: *const u8,
+        report_to_length: usize,
+        bytes: *mut u8,
+        room: usize,
+        written: *mut Written,
+    ) -> u32;
+    pub fn tcpclkit_raw_write_block_head(
+        block: *const Block,
+        bytes: *mut u8,
+        room: usize,
+        written: *mut Written,
+    ) -> u32;
+    pub fn tcpclkit_raw_start_check(check: *mut Check, kind: u64) -> u32;
+    pub fn tcpclkit_raw_feed_check(check: *mut Check, piece: *const u8, length: usize) -> u32;
+    pub fn tcpclkit_raw_end_check(check: *const Check, value: *mut u64) -> u32;
+    pub fn tcpclkit_raw_write_check(
+        check: *const Check,
+        bytes: *mut u8,
+        room: usize,
+        written: *mut Written,
+    ) -> u32;
+    pub fn tcpclkit_raw_write_eid(
+        eid: *const Eid,
+        name: *const u8,
+        name_length: usize,
+        bytes: *mut u8,
+        room: usize,
+        written: *mut Written,
+    ) -> u32;
+    pub fn tcpclkit_raw_write_age(
+        age: u64,
+        bytes: *mut u8,
+        room: usize,
+        written: *mut Written,
+    ) -> u32;
+    pub fn tcpclkit_raw_write_hop_count(
+        limit: u64,
+        count: u64,
+        bytes: *mut u8,
+        room: usize,
+        written: *mut Written,
+    ) -> u32;
     pub fn tcpclkit_raw_write_fault_text(
         code: u64,
         number: u64,
@@ -176,6 +257,32 @@ extern "C" {
         eid: *const Eid,
         name: *const u8,
         name_length: usize,
+        text: *mut u8,
+        room: usize,
+        written: *mut u64,
+    ) -> u32;
+    pub fn tcpclkit_raw_read_eid_text(
+        text: *const u8,
+        length: usize,
+        eid: *mut Eid,
+        name: *mut u8,
+        name_room: usize,
+    ) -> u32;
+    pub fn tcpclkit_raw_write_reason_text(
+        kind: u64,
+        reason: u64,
+        text: *mut u8,
+        room: usize,
+        written: *mut u64,
+    ) -> u32;
+    pub fn tcpclkit_raw_write_report_reason_text(
+        reason: u64,
+        text: *mut u8,
+        room: usize,
+        written: *mut u64,
+    ) -> u32;
+    pub fn tcpclkit_raw_write_block_type_text(
+        block_type: u64,
         text: *mut u8,
         room: usize,
         written: *mut u64,
@@ -246,6 +353,19 @@ extern "C" {
         option_count: usize,
         node: *const u8,
         node_length: usize,
+        wants_output: u64,
+        output: *mut u8,
+        output_room: usize,
+        wants_report: u64,
+        report: *mut u8,
+        report_room: usize,
+        run: *mut Run,
+    ) -> u32;
+    pub fn tcpclkit_raw_pack_more(
+        bytes: *const u8,
+        length: usize,
+        options: *const u64,
+        option_count: usize,
         wants_output: u64,
         output: *mut u8,
         output_room: usize,

@@ -286,6 +286,59 @@ impl<'a> Message<'a> {
     }
 }
 
+impl Fields<'_> {
+    /// The numbers of the message as the library takes them.
+    pub(crate) fn numbers(&self) -> raw::Message {
+        let of = |kind| raw::Message {
+            kind,
+            ..Default::default()
+        };
+        match *self {
+            Fields::Segment {
+                flags, id, length, ..
+            } => raw::Message {
+                flags: flags.into(),
+                id,
+                data_length: length,
+                ..of(raw::XFER_SEGMENT)
+            },
+            Fields::Ack { flags, id, length } => raw::Message {
+                flags: flags.into(),
+                id,
+                acknowledged: length,
+                ..of(raw::XFER_ACK)
+            },
+            Fields::Refuse { reason, id } => raw::Message {
+                reason: reason.into(),
+                id,
+                ..of(raw::XFER_REFUSE)
+            },
+            Fields::Keepalive => of(raw::KEEPALIVE),
+            Fields::SessTerm { flags, reason } => raw::Message {
+                flags: flags.into(),
+                reason: reason.into(),
+                ..of(raw::SESS_TERM)
+            },
+            Fields::Reject { reason, header } => raw::Message {
+                reason: reason.into(),
+                header: header.into(),
+                ..of(raw::MSG_REJECT)
+            },
+            Fields::SessInit {
+                keepalive,
+                segment_mru,
+                transfer_mru,
+                ..
+            } => raw::Message {
+                keepalive: keepalive.into(),
+                segment_mru,
+                transfer_mru,
+                ..of(raw::SESS_INIT)
+            },
+        }
+    }
+}
+
 impl<'a> Items<'a> {
     /// The items of a list, as a segment that begins a transfer has it.
     ///
@@ -333,6 +386,11 @@ impl<'a> Items<'a> {
             raw::ANNOUNCED_TOTAL => Announced::Total(it.total),
             _ => Announced::Badly,
         }
+    }
+
+    /// The list, wherever the iteration is.
+    pub(crate) fn list(&self) -> &'a [u8] {
+        self.bytes
     }
 
     /// The message whose list this is, as far as its list is read.

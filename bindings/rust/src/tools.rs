@@ -87,11 +87,42 @@ impl Default for PackOptions {
     }
 }
 
+/// What [`pack_more`] writes. The fields are those of [`PackOptions`], and `first`.
+#[derive(Clone, Copy, Debug, PartialEq, Eq)]
+pub struct MoreOptions {
+    /// The ID of the first transfer. Each bundle has the next one.
+    pub first: u64,
+    /// The longest data of a segment that the peer receives: at least 1.
+    pub peer_segment: u64,
+    /// The longest transfer that the peer receives.
+    pub peer_transfer: u64,
+    /// The length up to which a bundle's length is announced: at most 1,048,576.
+    pub announce: u64,
+}
+
+impl Default for MoreOptions {
+    /// The ID 0, and the defaults of the program.
+    fn default() -> MoreOptions {
+        let PackOptions {
+            peer_segment,
+            peer_transfer,
+            announce,
+            ..
+        } = PackOptions::default();
+        MoreOptions {
+            first: 0,
+            peer_segment,
+            peer_transfer,
+            announce,
+        }
+    }
+}
+
 /// Why a tool did not run to its end.
 #[derive(Clone, Copy, Debug, PartialEq, Eq, Hash)]
 pub enum ToolError {
-    /// An option of `pack` or `check` or the length of a node ID is out of its range, or `blocks`
-    /// or `check` was given an option for recordings beside `bundles`.
+    /// An option of `pack`, `pack_more` or `check` or the length of a node ID is out of its range,
+    /// or `blocks` or `check` was given an option for recordings beside `bundles`.
     Range,
     /// The memory that the tool asked for was refused.
     Memory,
@@ -302,6 +333,54 @@ pub fn pack(bytes: &[u8], node: &[u8], options: &PackOptions) -> Result<Run, Too
                 lent.len(),
                 node.as_ptr(),
                 node.len(),
+                output.wants,
+                output.start,
+                output.room,
+                report.wants,
+                report.start,
+                report.room,
+                run,
+            )
+        }
+    })
+}
+
+/// Bundles, one after another, as the segments of a sender whose session is open, and a line for
+/// each as the report.
+///
+/// That is what [`pack`] writes without the contact header, SESS_INIT and SESS_TERM. The next call
+/// begins with the ID that is `first` and the number of lines in the report.
+///
+/// ```
+/// use tcpclkit::{messages, pack_more, Fields, MoreOptions};
+/// let bundle = std::fs::read("examples/hello.bundle").unwrap();
+/// let options = MoreOptions { first: 7, peer_segment: 20, ..MoreOptions::default() };
+/// let run = pack_more(&bundle, &options).unwrap();
+/// for message in messages(&run.output, 0) {
+///     assert!(matches!(message?.fields, Fields::Segment { id: 7, .. }));
+/// }
+/// # Ok::<(), tcpclkit::Fault>(())
+/// ```
+///
+/// # Errors
+///
+/// An option is out of its range, or memory was refused. `first` and the length of the bytes are
+/// together at most 2^64 - 1, since the IDs could run out otherwise.
+pub fn pack_more(bytes: &[u8], options: &MoreOptions) -> Result<Run, ToolError> {
+    let lent: [u64; 4] = [
+        options.first,
+        options.peer_segment,
+        options.peer_transfer,
+        options.announce,
+    ];
+    run(bytes.len() + 4096, |output, report, run| {
+        // SAFETY: the slices and the structs are valid, and do not overlap.
+        unsafe {
+            raw::tcpclkit_raw_pack_more(
+                bytes.as_ptr(),
+                bytes.len(),
+                lent.as_ptr(),
+                lent.len(),
                 output.wants,
                 output.start,
                 output.room,

@@ -3,6 +3,8 @@
 use Rattle.std.specs.Prelude.{ℕ}
 use Rattle.link_bundle_types.specs.declared.fault.BundleFault.{BundleFault}
 use Rattle.link_bundle_types.specs.declared.fault.BundleFault.TheVariants.{Cut, Trailing, NotABundle, BadHead, WrongKind, WrongDataKind, WrongCheckKind, BadCount, BadVersion, BadCheckType, BadScheme, BadSpecificPart, EidTooLong, BadCheckLength, CheckDiffers, BadBlockNumber, RepeatedBlockNumber, TooManyBlocks, NoPayloadLast}
+use Rattle.link_transfer_answer_judge.specs.declared.answers.AnswerFault.{AnswerFault}
+use Rattle.link_transfer_answer_judge.specs.declared.answers.AnswerFault.TheVariants.{OtherTransfer, LengthFalls, LengthNotSent, EndTooEarly}
 use Rattle.link_wire.specs.declared.fault.WireFault.{WireFault}
 use Rattle.link_wire.specs.declared.fault.WireFault.TheVariants.{Truncated, BadMagic, BadVersion, UnknownType, NodeIdTooLong, ListTooLong, TooManyItems, ItemsOverrun}
 use Rattle.link_ffi_numbers.specs.declared.fault.Fault.{Fault}
@@ -57,3 +59,10 @@ wire_fault fault offset =
 abbrev pub wire_status : WireFault → ℕ
 wire_status Truncated = 2
 wire_status _ = 4
+
+-- the code of a fault of an answer to a transfer
+abbrev pub answer_code : AnswerFault → ℕ
+answer_code OtherTransfer = 71
+answer_code LengthFalls = 72
+answer_code LengthNotSent = 73
+answer_code EndTooEarly = 74

@@ -4,6 +4,8 @@ use Rattle.link_bundle_types.specs.declared.fault.BundleFault.{BundleFault}
 use Rattle.link_bundle_types.specs.declared.fault.BundleFault.TheVariants.{Cut, Trailing, NotABundle, BadHead, WrongKind, BadCount, BadVersion, BadCheckType, BadScheme, BadSpecificPart, EidTooLong, BadCheckLength, CheckDiffers, BadBlockNumber, RepeatedBlockNumber, TooManyBlocks, NoPayloadLast}
 use Rattle.link_transfer.specs.declared.fault.OrderFault.{OrderFault}
 use Rattle.link_transfer.specs.declared.fault.OrderFault.TheVariants as order
+use Rattle.link_transfer_answer_judge.specs.declared.answers.AnswerFault.{AnswerFault}
+use Rattle.link_transfer_answer_judge.specs.declared.answers.AnswerFault.TheVariants as answer
 use Rattle.link_wire.specs.declared.fault.WireFault.{WireFault}
 use Rattle.link_wire.specs.declared.fault.WireFault.TheVariants as wire
 use Rattle.link_ffi_numbers.specs.declared.named.Named.{Named}
@@ -32,6 +34,15 @@ order_by code =
     else if code == 55 then Some order.StartAfterSessTerm
     else None
 
+-- the fault of an answer to a transfer that has this code, or `None`
+abbrev pub answer_by : ℕ → Option AnswerFault
+answer_by code =
+    if code == 71 then Some answer.OtherTransfer
+    else if code == 72 then Some answer.LengthFalls
+    else if code == 73 then Some answer.LengthNotSent
+    else if code == 74 then Some answer.EndTooEarly
+    else None
+
 -- the fault of a bundle with this code, or `None`; `WrongKind` for 105, which three faults share
 abbrev pub bundle_by : ℕ → Option BundleFault
 bundle_by code =
@@ -58,5 +69,6 @@ bundle_by code =
 abbrev pub named_by : ℕ → ℕ → Option Named
 named_by code number =
     if nat_lt code 51 then option_map named.Wire (wire_by code number)
-    else if nat_lt code 101 then option_map named.Order (order_by code)
+    else if nat_lt code 71 then option_map named.Order (order_by code)
+    else if nat_lt code 101 then option_map named.Answer (answer_by code)
     else option_map named.Bundle (bundle_by code)

@@ -1,10 +1,11 @@
 //! Faults as numbers.
 
 ghost use Rattle.std.specs.Prelude.{◌≡◌};
-ghost use Rattle.link_ffi_numbers.specs.Fault.{no_fault, bundle_code, bundle_fault, wire_numbers, wire_fault, wire_status};
+ghost use Rattle.link_ffi_numbers.specs.Fault.{no_fault, bundle_code, bundle_fault, wire_numbers, wire_fault, wire_status, answer_code};
 
 use crate::status::{FAULT, TRUNCATED};
 use link_bundle_types::BundleFault;
+use link_transfer_answer_judge::AnswerFault;
 use link_wire::WireFault;
 
 /// `struct tcpclkit_fault`: why bytes are refused.
@@ -103,5 +104,17 @@ fn bundle_code(fault: BundleFault) -> u64
         BundleFault::RepeatedBlockNumber => 115,
         BundleFault::TooManyBlocks => 116,
         BundleFault::NoPayloadLast => 117,
+    }
+}
+
+/// The code of a fault of an answer to a transfer.
+pub fn answer_code(fault: AnswerFault) -> u64
+    ensures { result ≡ answer_code fault }
+{
+    match fault {
+        AnswerFault::OtherTransfer => 71,
+        AnswerFault::LengthFalls => 72,
+        AnswerFault::LengthNotSent => 73,
+        AnswerFault::EndTooEarly => 74,
     }
 }

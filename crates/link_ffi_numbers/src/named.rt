@@ -1,10 +1,11 @@
 //! Faults by their numbers.
 
 ghost use Rattle.std.specs.Prelude.{◌≡◌};
-ghost use Rattle.link_ffi_numbers.specs.Named.{wire_by, order_by, bundle_by, named_by};
+ghost use Rattle.link_ffi_numbers.specs.Named.{wire_by, order_by, answer_by, bundle_by, named_by};
 
 use link_bundle_types::BundleFault;
 use link_transfer::OrderFault;
+use link_transfer_answer_judge::AnswerFault;
 use link_wire::WireFault;
 
 /// A fault of any kind.
@@ -14,6 +15,8 @@ pub enum Named {
     Wire(WireFault),
     /// A fault of the order of messages.
     Order(OrderFault),
+    /// A fault of an answer to a transfer.
+    Answer(AnswerFault),
     /// A fault of a bundle.
     Bundle(BundleFault),
 }
@@ -45,6 +48,19 @@ fn order_by(code: u64) -> Option<OrderFault>
         53 => Some(OrderFault::NoSuchOpenTransfer),
         54 => Some(OrderFault::StartRepeatsOpenId),
         55 => Some(OrderFault::StartAfterSessTerm),
+        _ => None,
+    }
+}
+
+/// The fault of an answer to a transfer that has this code, or `None`.
+fn answer_by(code: u64) -> Option<AnswerFault>
+    ensures { result ≡ answer_by code }
+{
+    match code {
+        71 => Some(AnswerFault::OtherTransfer),
+        72 => Some(AnswerFault::LengthFalls),
+        73 => Some(AnswerFault::LengthNotSent),
+        74 => Some(AnswerFault::EndTooEarly),
         _ => None,
     }
 }
@@ -82,8 +98,11 @@ pub fn named_by(code: u64, number: u64) -> Option<Named>
     if code < 51 {
         return wire_by(code, number).map(Named::Wire);
     }
-    if code < 101 {
+    if code < 71 {
         return order_by(code).map(Named::Order);
+    }
+    if code < 101 {
+        return answer_by(code).map(Named::Answer);
     }
     bundle_by(code).map(Named::Bundle)
 }

@@ -1,6 +1,6 @@
 -- The options of the whole tools, as words of a caller. A word that is missing has the default of
 -- the program. A word that this version does not know has to be 0.
-use Rattle.std.specs.Prelude.{◌≡◌, ℕ, ◌^◌, ◌-◌, Bool, not, ◌&&◌, ◌||◌, ◌==◌, nat_lt, nat_le, List, drop, get_or, Option, Some, None, if◌then◌else◌}
+use Rattle.std.specs.Prelude.{◌≡◌, ℕ, ◌^◌, ◌+◌, ◌-◌, Bool, not, ◌&&◌, ◌||◌, ◌==◌, nat_lt, nat_le, List, drop, get_or, Option, Some, None, if◌then◌else◌}
 use Rattle.std.specs.List.{list_any}
 use Rattle.link_tool_option_types.specs.declared.blocks.BlockOptions.{BlockOptions}
 use Rattle.link_tool_option_types.specs.declared.check.CheckOptions.{CheckOptions}
@@ -9,6 +9,7 @@ use Rattle.link_tool_option_types.specs.declared.wanted.Wanted.{Wanted}
 use Rattle.link_ffi_tools.specs.declared.options.BlocksNumbers.{BlocksNumbers}
 use Rattle.link_ffi_tools.specs.declared.options.PackNumbers.{PackNumbers}
 use Rattle.link_ffi_tools.specs.declared.options.CheckNumbers.{CheckNumbers}
+use Rattle.link_ffi_tools.specs.declared.options.MoreNumbers.{MoreNumbers}
 use Rattle.link_ffi_tools.specs.declared.options.UnpackNumbers.{UnpackNumbers}
 use Rattle.link_ffi_tools.specs.declared.reading.Reading.{Reading}
 use Rattle.link_ffi_tools.specs.declared.reading.Reading.TheVariants as reading
@@ -185,3 +186,27 @@ pub record HasOptions (options : PackOptions) (numbers : PackNumbers)
   pub peer_transfer : options.peer_transfer ≡ numbers.peer_transfer
   pub announce : options.announce ≡ numbers.announce
   pub send_term : options.send_term ≡ (numbers.send_term == 1)
+
+-- ---- pack_more
+
+-- the options that the words encode
+abbrev pub more_numbers : List ℕ → MoreNumbers
+more_numbers words =
+    record {
+      first = get_or words 0 0;
+      peer_segment = get_or words 1 65536;
+      peer_transfer = get_or words 2 (2 ^ 64 - 1);
+      announce = get_or words 3 0;
+    }
+
+-- The options are in their ranges. An input has no more bundles than bytes, so all transfer IDs fit
+-- if `first` and the number of bytes together are at most 2^64 - 1.
+abbrev pub more_numbers_fit : MoreNumbers → (size : ℕ) → Bool
+more_numbers_fit numbers size =
+    nat_le 1 numbers.peer_segment
+    && (nat_le numbers.announce 1048576 && nat_le (numbers.first + size) (2 ^ 64 - 1))
+
+-- the words are in their ranges, for an input of this number of bytes
+abbrev pub more_in_range : List ℕ → (size : ℕ) → Bool
+more_in_range words size =
+    more_numbers_fit (more_numbers words) size && not (has_nonzero (drop 4 words))

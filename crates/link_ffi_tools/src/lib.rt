@@ -15,7 +15,9 @@ mod slice;
 mod tool;
 
 pub use device::{SliceReader, SliceWriter};
-pub use options::{pack_in_range, pack_numbers, packing_of};
+pub use options::{
+    MoreNumbers, PackNumbers, more_in_range, more_numbers, pack_in_range, pack_numbers, packing_of,
+};
 pub use running::{Run, SliceTool, Wants, run_into};
 pub use slice::copy_front;
 pub use tool::{blocks_into, check_into, list_into, unpack_into};

@@ -1,7 +1,7 @@
 //! The options of the whole tools, as numbers.
 
 ghost use Rattle.std.specs.Prelude.{◌≡◌, true, List, length, drop, get_or};
-ghost use Rattle.link_ffi_tools.specs.Options.{has_nonzero, number_if, switch_fits, unpack_numbers, unpack_numbers_fit, wanted_of, wanted_in, blocks_numbers, blocks_numbers_fit, blocks_of, blocks_in, check_numbers, check_numbers_fit, check_options_of, check_of, check_in, pack_numbers, pack_numbers_fit, pack_in_range, HasOptions};
+ghost use Rattle.link_ffi_tools.specs.Options.{has_nonzero, number_if, switch_fits, unpack_numbers, unpack_numbers_fit, wanted_of, wanted_in, blocks_numbers, blocks_numbers_fit, blocks_of, blocks_in, check_numbers, check_numbers_fit, check_options_of, check_of, check_in, pack_numbers, pack_numbers_fit, pack_in_range, HasOptions, more_numbers, more_numbers_fit, more_in_range};
 
 use crate::reading::Reading;
 use link_tool_option_types::{BlockOptions, CheckOptions, PackOptions, PeerLimits, Wanted};
@@ -67,6 +67,19 @@ pub struct PackNumbers {
     pub announce: u64,
     /// 1 if the stream ends with SESS_TERM, and else 0.
     pub send_term: u64,
+}
+
+/// The options of `pack_more`, in the order of `struct tcpclkit_more_options`.
+#[derive(Clone, Copy, Debug, PartialEq, Eq)]
+pub struct MoreNumbers {
+    /// The ID of the first transfer.
+    pub first: u64,
+    /// The longest segment that the peer takes.
+    pub peer_segment: u64,
+    /// The longest transfer that the peer takes.
+    pub peer_transfer: u64,
+    /// The greatest length of a bundle whose length is announced.
+    pub announce: u64,
 }
 
 /// The number at this index, or the default if the words end before it.
@@ -323,4 +336,33 @@ pub fn packing_of(numbers: &PackNumbers, node: &[u8]) -> PackOptions
         announce: numbers.announce,
         send_term: numbers.send_term == 1,
     }
+}
+
+/// The options of `pack_more` that these words encode.
+pub fn more_numbers(words: &[u64]) -> MoreNumbers
+    ensures { result ≡ more_numbers words.now }
+{
+    MoreNumbers {
+        first: word(words, 0, 0),
+        peer_segment: word(words, 1, 65_536),
+        peer_transfer: word(words, 2, u64::MAX),
+        announce: word(words, 3, 0),
+    }
+}
+
+/// Whether the options of `pack_more` are in their ranges, for an input of `size` bytes.
+fn more_numbers_fit(numbers: &MoreNumbers, size: usize) -> bool
+    ensures { result ≡ more_numbers_fit numbers.now size }
+{
+    numbers.peer_segment >= 1
+        && numbers.announce <= 1048576
+        && numbers.first.checked_add(size as u64).is_some()
+}
+
+/// Whether the words are in their ranges, for an input of `size` bytes.
+pub fn more_in_range(words: &[u64], size: usize) -> bool
+    ensures { result ≡ more_in_range words.now size }
+{
+    let numbers = more_numbers(words);
+    more_numbers_fit(&numbers, size) && !has_nonzero(words_after(words, 4))
 }

@@ -1,5 +1,6 @@
--- The texts of faults, of endpoint IDs, and of the data of blocks.
-use Rattle.std.specs.Prelude.{◌≡◌, ℕ, ◌-◌, ◌^◌, ◌==◌, ◌&&◌, Bool, nat_le, min, List, ◌++◌, length, drop, codes, Option, Some, None, option_map, if◌then◌else◌}
+-- The texts of faults, of endpoint IDs, of reasons, and of the data of blocks.
+use Rattle.std.specs.Prelude.{◌≡◌, ℕ, ◌-◌, ◌^◌, ◌==◌, ◌&&◌, Bool, nat_lt, nat_le, min, List, ◌++◌, length, drop, codes, Option, Some, None, option_map, if◌then◌else◌}
+use Rattle.std.specs.Option.{option_and_then}
 use Rattle.link_bundle_data.specs.BlockData.{data_of}
 use Rattle.link_report_blocks.specs.Kinds.{kind_of}
 use Rattle.link_report_blocks.specs.Words.{words_text}
@@ -7,15 +8,27 @@ use Rattle.link_bundle_types.specs.declared.eid.Eid.{Eid}
 use Rattle.link_report.specs.BundleFault.{code_text, bundle_fault_text}
 use Rattle.link_report.specs.Eid.{eid_text}
 use Rattle.link_report.specs.Fault.{wire_text, order_text}
+use Rattle.link_report.specs.Reason.{name_of}
+use Rattle.link_transfer_answer_judge.specs.declared.answers.AnswerFault.{AnswerFault}
+use Rattle.link_transfer_answer_judge.specs.declared.answers.AnswerFault.TheVariants as answer
 use Rattle.link_ffi_numbers.specs.declared.block.BlockNumbers.{BlockNumbers}
 use Rattle.link_ffi_numbers.specs.declared.named.Named.{Named}
 use Rattle.link_ffi_numbers.specs.declared.named.Named.TheVariants as named
 use Rattle.link_ffi_tools.specs.Slice.{HoldsPrefix, LeavesRest}
+use Rattle.link_ffi_writer.specs.Messages.{reason_of_by}
+
+-- the words of a fault of an answer to a transfer (RFC 9174 sections 5.2.3 and 5.2.4)
+unfoldable pub answer_text : AnswerFault → List ℕ
+answer_text answer.OtherTransfer = codes "another transfer"
+answer_text answer.LengthFalls = codes "acknowledged length falls"
+answer_text answer.LengthNotSent = codes "acknowledged length was not sent"
+answer_text answer.EndTooEarly = codes "end without the whole transfer"
 
 -- the words of a fault; those of a bundle begin with its code
 abbrev pub named_text : Named → List ℕ
 named_text (named.Wire fault) = wire_text fault
 named_text (named.Order fault) = order_text fault
+named_text (named.Answer fault) = answer_text fault
 named_text (named.Bundle fault) = code_text fault ++ codes " " ++ bundle_fault_text fault
 
 abbrev pub option_text : Option Named → Option (List ℕ)
@@ -25,6 +38,12 @@ option_text (Some fault) = Some (named_text fault)
 abbrev pub option_eid_text : Option Eid → Option (List ℕ)
 option_eid_text None = None
 option_eid_text (Some eid) = Some (eid_text eid)
+
+-- the name of a reason, if the kind of message has one
+abbrev pub reason_text_by : (kind reason : ℕ) → Option (List ℕ)
+reason_text_by kind reason =
+    option_and_then (λ of. if nat_lt reason 256 then Some (name_of of reason) else None)
+    (reason_of_by kind)
 
 -- a primary block, a canonical block, and the number of bytes of its data
 abbrev pub is_data_of : (primary block : BlockNumbers) → (size : ℕ) → Bool

@@ -13,12 +13,14 @@
 ghost use Rattle.std.specs.Prelude.{◌≡◌};
 
 mod announced;
+mod answer;
 mod bundle;
 mod order;
 mod recording;
 mod scan;
 mod text;
 mod tool;
+mod writing;
 
 /// The version of the interface, `TCPCLKIT_ABI`.
 const ABI: u32 = 4;

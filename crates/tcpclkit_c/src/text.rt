@@ -1,20 +1,42 @@
-//! Exports that write the texts of faults, of endpoint IDs, and of the data of blocks.
+//! Exports that write the texts of faults, of endpoint IDs, of codes that have a name, and of the
+//! data of blocks, and one that reads the text of an endpoint ID.
 
 ghost use Rattle.std.specs.Prelude.{◌≡◌, ◌≤◌, ◌-◌, ◌^◌, ◌++◌, true, false, [], length, take, drop, codes, option_map};
 ghost use Rattle.link_bundle_data.specs.BlockData.{data_of};
-ghost use Rattle.link_report_blocks.specs.Words.{words_text};
+ghost use Rattle.link_report.specs.Reason.{name_in};
+ghost use Rattle.link_report_blocks.specs.Fields.{type_name};
+ghost use Rattle.link_report_blocks.specs.Words.{report_names, words_text};
 ghost use Rattle.link_ffi_numbers.specs.Bundle.{eid_by};
 ghost use Rattle.link_ffi_numbers.specs.Named.{named_by};
-ghost use Rattle.tcpclkit_c.specs.Text.{named_text, option_text, option_eid_text, is_data_of, data_words, HoldsText, ReturnsText};
+ghost use Rattle.tcpclkit_c.specs.EidText.{ReturnsEid};
+ghost use Rattle.tcpclkit_c.specs.Text.{answer_text, named_text, option_text, option_eid_text, reason_text_by, is_data_of, data_words, HoldsText, ReturnsText};
 
 use link_bundle_data::{DataKind, DataScan};
+use link_bundle_types::EidForm;
 use link_ffi_numbers::block::BlockNumbers;
 use link_ffi_numbers::bundle::{EidNumbers, eid_by};
 use link_ffi_numbers::named::{Named, named_by};
 use link_ffi_numbers::status::{OK, RANGE, TOO_SMALL};
 use link_ffi_tools::copy_front;
-use link_report::{Line, code_of, order_words, put_eid, put_text, put_wire, words_of};
-use link_report_blocks::{WORDS_MAX, data_kind, write_words};
+use link_ffi_writer::{form_shown, reason_of_by};
+use link_report::{Line, code_of, order_words, put_eid, put_text, put_wire, reason_name, words_of};
+use link_report_blocks::{WORDS_MAX, block_type_name, data_kind, report_reason_name, write_words};
+use link_report_eid_parser::{TextFault, read_eid_text};
+use link_transfer_answer_judge::AnswerFault;
+
+/// The words of a fault of an answer to a transfer.
+#[tactic(auto, unfolding(crate::specs::Text::answer_text))]
+fn answer_words(fault: AnswerFault) -> &'static str
+    ensures words { result.now ≡ answer_text fault }
+    ensures short { length result.now ≤ 40 }
+{
+    match fault {
+        AnswerFault::OtherTransfer => "another transfer",
+        AnswerFault::LengthFalls => "acknowledged length falls",
+        AnswerFault::LengthNotSent => "acknowledged length was not sent",
+        AnswerFault::EndTooEarly => "end without the whole transfer",
+    }
+}
 
 /// Writes the words of a fault into an empty line.
 fn put_named(line: &mut Line, named: Named)
@@ -24,6 +46,7 @@ fn put_named(line: &mut Line, named: Named)
     match named {
         Named::Wire(fault) => put_wire(line, fault),
         Named::Order(fault) => put_text(line, order_words(fault)),
+        Named::Answer(fault) => put_text(line, answer_words(fault)),
         Named::Bundle(fault) => {
             put_text(line, code_of(fault));
             put_text(line, " ");
@@ -86,6 +109,83 @@ pub extern "C" fn tcpclkit_raw_write_eid_text(
             give(line.as_slice(), text, written)
         }
     }
+}
+
+/// Reads the text of an endpoint ID. Returns `OK`, `TOO_SMALL` if the slice is too small for the
+/// name, or `RANGE` if no endpoint ID has this text.
+#[unsafe(no_mangle)]
+pub extern "C" fn tcpclkit_raw_read_eid_text(
+    text: &[u8],
+    eid: &mut EidNumbers,
+    name: &mut [u8],
+) -> u32
+    ensures { ReturnsEid text.now name.old name.new eid.new result }
+{
+    match read_eid_text(text, name) {
+        Ok((form, size)) => {
+            *eid = form_shown(form, size);
+            OK
+        }
+        Err(TextFault::NameTooLong(size)) => {
+            *eid = form_shown(EidForm::Dtn, size);
+            TOO_SMALL
+        }
+        Err(TextFault::NoText) => {
+            *eid = EidNumbers {
+                kind: 0,
+                allocator: 0,
+                node: 0,
+                service: 0,
+                name_length: 0,
+            };
+            RANGE
+        }
+    }
+}
+
+/// Writes the name of a reason of a message of this kind, or returns `RANGE` if the kind has no
+/// reason, or the reason is above 255.
+#[unsafe(no_mangle)]
+pub extern "C" fn tcpclkit_raw_write_reason_text(
+    kind: u64,
+    reason: u64,
+    text: &mut [u8],
+    written: &mut u64,
+) -> u32
+    ensures text { ReturnsText (reason_text_by kind reason) text.old text.new written.new result }
+    ensures range { result ≡ 6 → (text.new ≡ text.old) × (written.new ≡ written.old) }
+{
+    let Some(of) = reason_of_by(kind) else {
+        return RANGE;
+    };
+    if reason > 255 {
+        return RANGE;
+    }
+    give(reason_name(of, reason as u8).as_bytes(), text, written)
+}
+
+/// Writes the name of a reason of a status report.
+#[unsafe(no_mangle)]
+pub extern "C" fn tcpclkit_raw_write_report_reason_text(
+    reason: u64,
+    text: &mut [u8],
+    written: &mut u64,
+) -> u32
+    ensures { HoldsText (name_in report_names reason) text.old text.new written.new result }
+{
+    give(report_reason_name(reason).as_bytes(), text, written)
+}
+
+/// Writes the name of a block type.
+#[unsafe(no_mangle)]
+pub extern "C" fn tcpclkit_raw_write_block_type_text(
+    block_type: u64,
+    text: &mut [u8],
+    written: &mut u64,
+) -> u32
+    ensures { HoldsText (type_name block_type) text.old text.new written.new result }
+{
+    give(block_type_name(block_type).as_bytes(), text, written)
 }
 
 /// Whether these are a primary block, a canonical block, and all of the canonical block's data. The

@@ -4,19 +4,22 @@
 //! slice. `options` has a number for each option that the caller's version of the header has, in
 //! the order of the header.
 
-ghost use Rattle.std.specs.Prelude.{◌≡◌, true, false, Some, length};
+ghost use Rattle.std.specs.Prelude.{◌≡◌, true, false, length, IfOk};
 ghost use Rattle.link_tool_list.specs.Listing.{list_tool};
-ghost use Rattle.link_ffi_tools.specs.Options.{unpack_in_range, blocks_in_range, check_in_range, pack_in_range};
+ghost use Rattle.link_tool_pack.specs.More.{more_tool};
+ghost use Rattle.link_tool_pack.specs.Packer.{IsCutterFor};
+ghost use Rattle.link_tool_pack.specs.Packing.{pack_tool};
+ghost use Rattle.link_ffi_tools.specs.Options.{unpack_in_range, blocks_in_range, check_in_range, pack_in_range, pack_numbers_fit, more_in_range};
 ghost use Rattle.link_ffi_tools.specs.Tool.{ReturnsTexts, ReturnsUnpacked, ReturnsBlocks, ReturnsRules};
-ghost use Rattle.link_tools.specs.Options.{IsReady, job_tool};
-ghost use Rattle.link_tools.specs.declared.options.Job.TheVariants as job;
-ghost use Rattle.tcpclkit_c.specs.Packed.{ReturnsPacked};
+ghost use Rattle.tcpclkit_c.specs.Packed.{tool_with, packed_by, HasMoreOptions, ReturnsPacked, ReturnsMore};
 
 use link_ffi_numbers::status::RANGE;
 use link_ffi_tools::{
-    Run, SliceReader, SliceTool, SliceWriter, Wants, blocks_into, check_into, list_into,
-    pack_in_range, pack_numbers, packing_of, run_into, unpack_into,
+    MoreNumbers, PackNumbers, Run, SliceReader, SliceTool, SliceWriter, Wants, blocks_into,
+    check_into, list_into, more_in_range, more_numbers, pack_in_range, pack_numbers, packing_of,
+    run_into, unpack_into,
 };
+use link_tool_pack::{MoreOptions, pack_more};
 use link_tools::{PackOptions, RunEnd, cutter_for, pack};
 use link_transfer::Cutter;
 use std::alloc::{AllocError, Global};
@@ -139,9 +142,9 @@ struct Packing {
 }
 
 impl SliceTool for Packing {
-    ghost tool = { λ packing. job_tool (job.Pack packing.options packing.memory) };
+    ghost tool = { λ packing. tool_with packing.memory (pack_tool packing.options) };
 
-    ghost ready = { λ packing. IsReady (job.Pack packing.options packing.memory) };
+    ghost ready = { λ packing. IfOk packing.memory (IsCutterFor packing.options) };
 
     fn run<'a, 'b, 'c>(
         self,
@@ -191,6 +194,96 @@ pub extern "C" fn tcpclkit_raw_pack(
     };
     run_into(
         Packing { options, memory },
+        bytes,
+        wants,
+        output,
+        report,
+        answer,
+    )
+}
+
+/// `pack_more`, with the result of its one request for memory.
+#[derive(Drop)]
+struct MorePacking {
+    options: MoreOptions,
+    memory: Result<Cutter, AllocError>,
+}
+
+impl SliceTool for MorePacking {
+    ghost tool = { λ packing. tool_with packing.memory (more_tool packing.options) };
+
+    ghost ready = { λ packing. IfOk packing.memory (IsCutterFor packing.options.pack) };
+
+    fn run<'a, 'b, 'c>(
+        self,
+        reader: SliceReader<'a>,
+        output: SliceWriter<'b>,
+        report: SliceWriter<'c>,
+    ) -> RunEnd<SliceReader<'a>, SliceWriter<'b>, SliceWriter<'c>> {
+        pack_more(self.memory, self.options, reader, output, report)
+    }
+}
+
+/// The options of `pack` with these numbers.
+fn packed_by(numbers: &MoreNumbers) -> PackNumbers
+    ensures { result ≡ packed_by numbers.now }
+{
+    PackNumbers {
+        keepalive: 0,
+        segment_mru: 0,
+        transfer_mru: 0,
+        peer_segment: numbers.peer_segment,
+        peer_transfer: numbers.peer_transfer,
+        announce: numbers.announce,
+        send_term: 0,
+    }
+}
+
+/// The options of `pack_more` with these numbers.
+fn more_options(numbers: &MoreNumbers) -> MoreOptions
+    requires { pack_numbers_fit (packed_by numbers.now) 0 ≡ true }
+    ensures { HasMoreOptions result numbers.now }
+{
+    MoreOptions {
+        first: numbers.first,
+        pack: packing_of(&packed_by(numbers), &[]),
+    }
+}
+
+/// Runs `pack_more` over the bytes. Returns `OK`, `TOO_SMALL`, `MEMORY`, or `RANGE` for bad
+/// options, also if the IDs may run out.
+#[unsafe(no_mangle)]
+pub extern "C" fn tcpclkit_raw_pack_more(
+    alloc: Global,
+    bytes: &[u8],
+    options: &[u64],
+    wants_output: u64,
+    output: &mut [u8],
+    wants_report: u64,
+    report: &mut [u8],
+    answer: &mut Run,
+) -> u32
+    ensures range { more_in_range options.now (length bytes.now) ≡ false
+        → (result ≡ 6) × (answer.new ≡ answer.old) }
+    ensures run { more_in_range options.now (length bytes.now) ≡ true
+        → ReturnsMore options.now bytes.now
+        (record { output = wants_output; report = wants_report })
+        (record { output = output.old; report = report.old })
+        (record { output = output.new; report = report.new })
+        answer.new result }
+    ensures unwritten { result ≡ 6 → (output.new ≡ output.old) × (report.new ≡ report.old) }
+{
+    if !more_in_range(options, bytes.len()) {
+        return RANGE;
+    }
+    let options = more_options(&more_numbers(options));
+    let memory = cutter_for(alloc, &options.pack);
+    let wants = Wants {
+        output: wants_output,
+        report: wants_report,
+    };
+    run_into(
+        MorePacking { options, memory },
         bytes,
         wants,
         output,

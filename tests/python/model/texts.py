@@ -4,7 +4,9 @@ The sections of docs/FORMATS.md are "Report lines", "Fault lines", "Unpacking" a
 lines of `blocks` are here too.
 """
 
-from . import block_data, wire
+import re
+
+from . import block_data, bundle, wire
 
 # The names of reasons, by their codes in RFC 9174 sections 5.2.4, 6.1 and 5.1.2
 REFUSE = ["unknown", "completed", "no-resources", "retransmit", "not-acceptable", "extension-failure", "session-terminating"]
@@ -99,6 +101,24 @@ def endpoint(it):
     if it is None:
         return "dtn:none"
     return f"dtn:{escaped(it)}" if isinstance(it, bytes) else "ipn:" + ".".join(map(str, it))
+
+
+def endpoint_of(content):
+    """The endpoint ID with this text. One without a text of this form is a ValueError."""
+    numbers = re.fullmatch(rb"ipn:(\d+(?:\.\d+){1,2})", content, re.ASCII)
+    if content == b"dtn:none":
+        it = None
+    elif content.startswith(b"dtn:"):
+        unescaped = lambda found: bytes.fromhex(found[1].decode())
+        it = re.sub(rb"\\x([0-9a-f]{2})", unescaped, content[4:])
+    elif numbers:
+        it = tuple(map(int, numbers[1].split(b".")))
+    else:
+        raise ValueError("another scheme, or no numbers")
+    is_long = len(it) > bundle.MAX_NAME if isinstance(it, bytes) else max(it or (0,)) >= 2**64
+    if is_long or endpoint(it).encode() != content:
+        raise ValueError("another spelling, or too long")
+    return it
 
 
 def identity(it):

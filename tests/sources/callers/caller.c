@@ -2,18 +2,24 @@
  * Does what tests/gate/library-callers asks for on standard input, with the C library.
  *
  * A job is a line, `NAME NUMBER.. LENGTH`, and LENGTH bytes. The answer is a line, `STATUS OUTPUT
- * REPORT`, and the bytes of two texts, as long as OUTPUT and REPORT say. Each job but the tools has
- * no number:
+ * REPORT`, and the bytes of two texts, as long as OUTPUT and REPORT say. The jobs are:
  *
  *   show    the blocks of the bundle that the bytes begin with, and its fault if there is one
  *   judge   the verdict on the bytes, where the payload is, and further fields of a good bundle
  *   read    what `list` writes of a recording, made of its messages
  *   walk    what `unpack` writes of a recording, made of its messages and bundles
- *   list, unpack, blocks, check, pack   the tools; NUMBER.. are the options in the order of their
- *           struct. The bytes of `pack` begin with the node ID, and its last number is the length
- *           of that.
- *
- * Reasons are written without their names.
+ *   go-on   what `unpack --keep-going` writes
+ *   answers what the answers of a recording do to a transfer with this ID and this length, which is
+ *           whole if the third number is 1: the offset of each, its fault, and the length that is
+ *           acknowledged
+ *   rewrite a recording, read and written message by message, up to its first fault
+ *   rebuild a good bundle, read and written block by block; each block has the type of check values
+ *           that the number says, or if it is 3 that of the bundle
+ *   texts   the names of the number that is the length; and if the text is that of an endpoint ID,
+ *           the text again, and a bundle that has the endpoint ID wherever it can have one
+ *   list, unpack, blocks, check, pack, more   the tools; NUMBER.. are the options in the order of
+ *           their struct. The bytes of `pack` begin with the node ID, and its last number is the
+ *           length of that.
  */
 #include <inttypes.h>
 #include <stdarg.h>
@@ -261,6 +267,24 @@ static int put_blocks(struct text *text, const struct job *job, size_t size) {
   return status == TCPCLKIT_OK;
 }
 
+/* Appends the name of a reason. `kind` is that of the message that has it. */
+static void put_reason_name(struct text *text, uint64_t kind, uint64_t reason) {
+  uint8_t name[20];
+  uint64_t length;
+  if (tcpclkit_write_reason_text(kind, reason, name, sizeof name, &length) != TCPCLKIT_OK)
+    die("a reason has no name");
+  put_bytes(text, name, (size_t)length);
+}
+
+/* Appends the name of a block type. */
+static void put_type_name(struct text *text, uint64_t block_type) {
+  uint8_t name[21];
+  uint64_t length;
+  if (tcpclkit_write_block_type_text(block_type, name, sizeof name, &length) != TCPCLKIT_OK)
+    die("a block type has no name");
+  put_bytes(text, name, (size_t)length);
+}
+
 /* Appends the end of the line that `blocks` has for a block, from `data-at` on. */
 static void put_words(struct text *text, const struct job *job,
                       const struct tcpclkit_block *primary, const struct tcpclkit_block *it) {
@@ -273,6 +297,16 @@ static void put_words(struct text *text, const struct job *job,
       length > 0 ? " " : "");
   put_bytes(text, words, (size_t)length);
   put(text, "\n");
+}
+
+/* Returns what follows some words in the lines of the tool. */
+static const char *after(const char *lines, struct text *words) {
+  const char *found;
+  put_bytes(words, (const uint8_t *)"", 1);
+  found = strstr(lines, (const char *)words->bytes);
+  if (found == NULL)
+    die("the words of a block are not those of its line");
+  return found + words->length - 1;
 }
 
 /* Compares what the data of the blocks says with the lines of the tool, one after another. */
@@ -301,11 +335,14 @@ static void compare_words(const struct job *job) {
       continue;
     }
     ends.length = 0;
+    put(&ends, " at=%" PRIu64 " length=%" PRIu64 " type=%" PRIu64 "/", block.offset, block.length,
+        block.block_type);
+    put_type_name(&ends, block.block_type);
+    put(&ends, " flags=");
+    line = after(line, &ends);
+    ends.length = 0;
     put_words(&ends, job, &primary, &block);
-    put_bytes(&ends, (const uint8_t *)"", 1);
-    line = strstr(line, (const char *)ends.bytes);
-    if (line == NULL)
-      die("the words of a block are not those of its line");
+    line = after(line, &ends);
   }
   free(lines.bytes);
   free(ends.bytes);
@@ -356,24 +393,35 @@ static void put_init(const struct job *job, const struct tcpclkit_message *it) {
   put_items(&output, job, it);
 }
 
+/* Appends the reason of a message with its name. */
+static void put_reason(const struct tcpclkit_message *it) {
+  put(&output, " reason=%02x/", (unsigned)it->reason);
+  put_reason_name(&output, it->kind, it->reason);
+}
+
 /* Appends the line of a message. */
 static void put_message(const struct job *job, uint64_t offset, const struct tcpclkit_message *it) {
-  unsigned flags = (unsigned)it->flags, reason = (unsigned)it->reason;
+  unsigned flags = (unsigned)it->flags;
   put(&output, "%" PRIu64 " ", offset);
   if (it->kind == TCPCLKIT_XFER_SEGMENT)
     put_segment(job, it);
   else if (it->kind == TCPCLKIT_XFER_ACK)
     put(&output, "xfer-ack flags=%02x id=%" PRIu64 " length=%" PRIu64, flags, it->id,
         it->acknowledged);
-  else if (it->kind == TCPCLKIT_XFER_REFUSE)
-    put(&output, "xfer-refuse reason=%02x id=%" PRIu64, reason, it->id);
-  else if (it->kind == TCPCLKIT_KEEPALIVE)
+  else if (it->kind == TCPCLKIT_XFER_REFUSE) {
+    put(&output, "xfer-refuse");
+    put_reason(it);
+    put(&output, " id=%" PRIu64, it->id);
+  } else if (it->kind == TCPCLKIT_KEEPALIVE)
     put(&output, "keepalive");
-  else if (it->kind == TCPCLKIT_SESS_TERM)
-    put(&output, "sess-term flags=%02x reason=%02x", flags, reason);
-  else if (it->kind == TCPCLKIT_MSG_REJECT)
-    put(&output, "msg-reject reason=%02x header=%02x", reason, (unsigned)it->header);
-  else
+  else if (it->kind == TCPCLKIT_SESS_TERM) {
+    put(&output, "sess-term flags=%02x", flags);
+    put_reason(it);
+  } else if (it->kind == TCPCLKIT_MSG_REJECT) {
+    put(&output, "msg-reject");
+    put_reason(it);
+    put(&output, " header=%02x", (unsigned)it->header);
+  } else
     put_init(job, it);
   put(&output, "\n");
 }
@@ -505,6 +553,201 @@ static int walk(const struct job *job, int goes_on) {
   return 3;
 }
 
+/* -- answers */
+
+static int answers(const struct job *job) {
+  struct tcpclkit_sent sent = {job->numbers[0], job->numbers[1], job->numbers[2], 0, 0};
+  struct tcpclkit_contact contact;
+  struct tcpclkit_message it;
+  uint64_t offset = TCPCLKIT_CONTACT_LENGTH;
+  uint32_t status;
+  if (tcpclkit_read_contact(job->bytes, job->length, &contact) != TCPCLKIT_OK)
+    return 0;
+  while (tcpclkit_read_message(job->bytes, job->length, offset, &it) == TCPCLKIT_OK) {
+    status = tcpclkit_judge_answer(&sent, &it);
+    if (it.kind == TCPCLKIT_XFER_ACK || it.kind == TCPCLKIT_XFER_REFUSE) {
+      if (status != (sent.fault == TCPCLKIT_NO_FAULT ? TCPCLKIT_OK : TCPCLKIT_FAULT))
+        die("an answer has another status");
+      put(&output, "%" PRIu64 " %" PRIu64 " %" PRIu64 "\n", offset, sent.fault,
+          sent.acknowledged);
+    } else if (status != TCPCLKIT_RANGE) {
+      die("a message that is no answer has another status");
+    }
+    offset = it.next;
+  }
+  return 0;
+}
+
+/* -- writing */
+
+static struct tcpclkit_written written;
+
+/* Appends what a writer writes into `slice`: it is called without room, and then with the room that
+ * it asks for. */
+#define WRITE(text, call)                                             \
+  do {                                                                \
+    uint8_t *slice = NULL;                                            \
+    size_t room = 0;                                                  \
+    if ((call) != TCPCLKIT_TOO_SMALL || written.count != 0)           \
+      die("a writer that has no room has another status");            \
+    room = (size_t)written.needed;                                    \
+    make_room(text, room);                                            \
+    slice = (text)->bytes + (text)->length;                           \
+    if ((call) != TCPCLKIT_OK || written.count != (uint64_t)room)     \
+      die("a writer has another status");                             \
+    (text)->length += room;                                           \
+  } while (0)
+
+/* Writes the extension items of a message again, one by one. */
+static void rewrite_items(struct text *items, const struct job *job,
+                          const struct tcpclkit_message *message) {
+  struct tcpclkit_item it;
+  items->length = 0;
+  it.next = message->items_offset;
+  while (tcpclkit_read_item(job->bytes, job->length, message, it.next, &it) == TCPCLKIT_OK)
+    WRITE(items, tcpclkit_write_item(it.flags, it.item_type, job->bytes + it.value_offset,
+                                     (size_t)it.value_length, slice, room, &written));
+}
+
+static int rewrite(const struct job *job) {
+  struct text items = {NULL, 0, 0};
+  struct tcpclkit_message it;
+  uint64_t offset = TCPCLKIT_CONTACT_LENGTH;
+  uint32_t status;
+  int flags = read_contact(job);
+  if (flags < 0)
+    return 3;
+  WRITE(&output, tcpclkit_write_contact((uint64_t)flags, slice, room, &written));
+  while ((status = tcpclkit_read_message(job->bytes, job->length, offset, &it)) == TCPCLKIT_OK) {
+    rewrite_items(&items, job, &it);
+    WRITE(&output, tcpclkit_write_message(&it, job->bytes + it.node_offset, (size_t)it.node_length,
+                                          items.bytes, items.length, slice, room, &written));
+    put_bytes(&output, job->bytes + it.data_offset, (size_t)it.data_length);
+    offset = it.next;
+  }
+  free(items.bytes);
+  if (status == TCPCLKIT_END)
+    return 0;
+  put_fault(&report, &it.fault);
+  return 3;
+}
+
+/* Writes a canonical block. Its bytes are fed to the check in pieces. */
+static void write_block(const struct tcpclkit_block *block, const uint8_t *data) {
+  struct tcpclkit_check check;
+  size_t piece, at = output.length;
+  WRITE(&output, tcpclkit_write_block_head(block, slice, room, &written));
+  put_bytes(&output, data, (size_t)block->data_length);
+  if (block->check == TCPCLKIT_CHECK_NONE)
+    return;
+  tcpclkit_start_check(&check, block->check);
+  for (; at < output.length; at += piece) {
+    piece = output.length - at < 7 ? output.length - at : 7;
+    if (tcpclkit_feed_check(&check, output.bytes + at, piece) != TCPCLKIT_OK)
+      die("a check has another status");
+  }
+  WRITE(&output, tcpclkit_write_check(&check, slice, room, &written));
+}
+
+static int rebuild(const struct job *job) {
+  static uint8_t names[3][TCPCLKIT_EID_LIMIT];
+  const uint64_t check = job->numbers[0];
+  struct tcpclkit_bundle it;
+  struct tcpclkit_block block;
+  struct tcpclkit_scan scan;
+  uint64_t taken, at = 0;
+  if (tcpclkit_describe_bundle(job->bytes, job->length, names[0], sizeof names[0], names[1],
+                               sizeof names[1], names[2], sizeof names[2], &it) != TCPCLKIT_OK)
+    return 1;
+  put(&output, "%c", TCPCLKIT_BUNDLE_FIRST);
+  tcpclkit_start_scan(&scan);
+  for (;;) {
+    tcpclkit_next_block(&scan, job->bytes + at, job->length - at, &taken, &block);
+    at += taken;
+    if (block.kind == 0)
+      break;
+    if (check != 3)
+      block.check = check;
+    if (block.kind == TCPCLKIT_BLOCK_CANONICAL)
+      write_block(&block, job->bytes + block.data_offset);
+    else
+      WRITE(&output,
+            tcpclkit_write_primary(&it, block.check, names[0], (size_t)it.destination.name_length,
+                                   names[1], (size_t)it.source.name_length, names[2],
+                                   (size_t)it.report_to.name_length, slice, room, &written));
+  }
+  put(&output, "%c", TCPCLKIT_BUNDLE_LAST);
+  return 0;
+}
+
+/* -- texts */
+
+/* Appends a line with the names that a number has as a block type and as reasons. */
+static void put_names(uint64_t number) {
+  uint8_t name[34];
+  uint64_t length;
+  put_type_name(&report, number);
+  if (tcpclkit_write_report_reason_text(number, name, sizeof name, &length) != TCPCLKIT_OK)
+    die("the reason of a status report has no name");
+  put(&report, " %.*s ", (int)length, name);
+  put_reason_name(&report, TCPCLKIT_XFER_REFUSE, number % 256);
+  put(&report, " ");
+  put_reason_name(&report, TCPCLKIT_SESS_TERM, number % 256);
+  put(&report, " ");
+  put_reason_name(&report, TCPCLKIT_MSG_REJECT, number % 256);
+  put(&report, "\n");
+}
+
+/* Writes a block whose data is a text. */
+static void write_text_block(uint64_t block_type, uint64_t number, uint64_t check,
+                             const struct text *data) {
+  struct tcpclkit_block block = {TCPCLKIT_BLOCK_CANONICAL, 0, 0, 0, 0, 0, 0, 0, 0, 0};
+  block.block_type = block_type;
+  block.number = number;
+  block.check = check;
+  block.data_length = data->length;
+  write_block(&block, data->bytes);
+}
+
+/* Writes a bundle that has an endpoint ID wherever it can have one. */
+static void write_bundle_of(const struct job *job, const struct tcpclkit_eid *eid,
+                            const uint8_t *name) {
+  const uint64_t length = job->length, check = length % 3;
+  const size_t name_length = (size_t)eid->name_length;
+  struct text data = {NULL, 0, 0};
+  struct tcpclkit_bundle it;
+  memset(&it, 0, sizeof it);
+  it.destination = it.source = it.report_to = *eid;
+  it.time = it.sequence = it.lifetime = length;
+  put(&output, "%c", TCPCLKIT_BUNDLE_FIRST);
+  WRITE(&output, tcpclkit_write_primary(&it, check, name, name_length, name, name_length, name,
+                                        name_length, slice, room, &written));
+  WRITE(&data, tcpclkit_write_eid(eid, name, name_length, slice, room, &written));
+  write_text_block(6, 2, check, &data);
+  data.length = 0;
+  WRITE(&data, tcpclkit_write_age(length, slice, room, &written));
+  write_text_block(7, 3, check, &data);
+  data.length = 0;
+  WRITE(&data, tcpclkit_write_hop_count(length, UINT64_MAX - length, slice, room, &written));
+  write_text_block(10, 4, check, &data);
+  data.length = 0;
+  put_bytes(&data, job->bytes, job->length);
+  write_text_block(1, 1, check, &data);
+  put(&output, "%c", TCPCLKIT_BUNDLE_LAST);
+  free(data.bytes);
+}
+
+static int texts(const struct job *job) {
+  static uint8_t name[TCPCLKIT_EID_LIMIT];
+  struct tcpclkit_eid eid;
+  put_names(job->length);
+  if (tcpclkit_read_eid_text(job->bytes, job->length, &eid, name, sizeof name) != TCPCLKIT_OK)
+    return 1;
+  put_eid(&report, &eid, name);
+  write_bundle_of(job, &eid, name);
+  return 0;
+}
+
 /* -- whole tools */
 
 /* Calls a tool once, with the room that the texts have. */
@@ -518,6 +761,8 @@ static uint32_t call_tool(const struct job *job, struct tcpclkit_run *run) {
                                          numbers[3],   numbers[4], numbers[5]};
   struct tcpclkit_pack_options pack = {sizeof pack, numbers[0], numbers[1], numbers[2],
                                        numbers[3],  numbers[4], numbers[5], numbers[6]};
+  struct tcpclkit_more_options more = {sizeof more, numbers[0], numbers[1], numbers[2],
+                                       numbers[3]};
   size_t node = (size_t)numbers[7];
   if (strcmp(job->name, "list") == 0)
     return tcpclkit_list(job->bytes, job->length, output.bytes, output.room, report.bytes,
@@ -531,6 +776,9 @@ static uint32_t call_tool(const struct job *job, struct tcpclkit_run *run) {
   if (strcmp(job->name, "check") == 0)
     return tcpclkit_check(job->bytes, job->length, &check, output.bytes, output.room,
                           report.bytes, report.room, run);
+  if (strcmp(job->name, "more") == 0)
+    return tcpclkit_pack_more(job->bytes, job->length, &more, output.bytes, output.room,
+                              report.bytes, report.room, run);
   return tcpclkit_pack(job->bytes + node, job->length - node, &pack, job->bytes, node,
                        output.bytes, output.room, report.bytes, report.room, run);
 }
@@ -582,6 +830,14 @@ static int answer(const struct job *job) {
     return walk(job, 0);
   if (strcmp(job->name, "go-on") == 0)
     return walk(job, 1);
+  if (strcmp(job->name, "answers") == 0)
+    return answers(job);
+  if (strcmp(job->name, "rewrite") == 0)
+    return rewrite(job);
+  if (strcmp(job->name, "rebuild") == 0)
+    return rebuild(job);
+  if (strcmp(job->name, "texts") == 0)
+    return texts(job);
   return run_tool(job);
 }
 

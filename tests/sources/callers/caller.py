@@ -118,10 +118,14 @@ def compare_words(content, blocks):
     for it in blocks[1:]:
         data = content[it.data]
         words = it.with_data(data).words(blocks[0])
-        end = f" data-at={it.data_at} data-length={len(data)}{' ' if words else ''}{words}\n"
-        _, found, lines = lines.partition(end)
-        if not found:
-            raise ValueError("the words of a block are not those of its line")
+        name = tcpclkit.block_type_name(it.block_type)
+        for part in (
+            f" at={it.offset} length={it.length} type={it.block_type}/{name} flags=",
+            f" data-at={it.data_at} data-length={len(data)}{' ' if words else ''}{words}\n",
+        ):
+            _, found, lines = lines.partition(part)
+            if not found:
+                raise ValueError("the words of a block are not those of its line")
 
 
 def show(content):
@@ -166,13 +170,13 @@ def line(it):
     elif it.kind == Kind.XFER_ACK:
         words = f"xfer-ack flags={it.flags:02x} id={it.id} length={it.length}"
     elif it.kind == Kind.XFER_REFUSE:
-        words = f"xfer-refuse reason={it.reason:02x} id={it.id}"
+        words = f"xfer-refuse reason={it.reason:02x}/{it.reason_name} id={it.id}"
     elif it.kind == Kind.KEEPALIVE:
         words = "keepalive"
     elif it.kind == Kind.SESS_TERM:
-        words = f"sess-term flags={it.flags:02x} reason={it.reason:02x}"
+        words = f"sess-term flags={it.flags:02x} reason={it.reason:02x}/{it.reason_name}"
     elif it.kind == Kind.MSG_REJECT:
-        words = f"msg-reject reason={it.reason:02x} header={it.header:02x}"
+        words = f"msg-reject reason={it.reason:02x}/{it.reason_name} header={it.header:02x}"
     else:
         words = f"sess-init keepalive={it.keepalive} segment-mru={it.segment_mru}"
         words += f" transfer-mru={it.transfer_mru} node={escaped(it.node)}{items(it)}"
@@ -260,6 +264,109 @@ def go_on(content):
     return walk(content, goes_on=True)
 
 
+# ---- answers
+
+
+def answers(content, of_id, length, whole):
+    """What the answers of a recording do to a transfer."""
+    sent, lines = tcpclkit.Sent(of_id, length, whole == 1), []
+    try:
+        tcpclkit.contact(content)
+        for it in tcpclkit.messages(content):
+            if it.kind not in (Kind.XFER_ACK, Kind.XFER_REFUSE):
+                continue
+            code = 0
+            try:
+                sent.judge(it)
+            except tcpclkit.Fault as fault:
+                code = int(fault.code)
+            lines.append(f"{it.offset} {code} {sent.acknowledged}\n")
+    except tcpclkit.Fault:
+        pass  # The question is about the messages before it.
+    return 0, "".join(lines).encode(), b""
+
+
+# ---- writing
+
+
+def rewrite(content):
+    """A recording, read and written message by message, up to its first fault."""
+    output, status, report = [], 0, ""
+    try:
+        output.append(tcpclkit.write_contact(tcpclkit.contact(content)))
+        for it in tcpclkit.messages(content):
+            if not it.is_cut:
+                output.append(tcpclkit.write_message(it))
+    except tcpclkit.Fault as fault:
+        status, report = 3, fault_line(fault)
+    return status, b"".join(output), report.encode()
+
+
+def written_block(block):
+    """Writes a canonical block in one go. In pieces, the bytes are the same."""
+    head = tcpclkit.write_block_head(tcpclkit.BlockHead(
+        offset=0, flags=block.flags, check=block.check, block_type=block.block_type,
+        number=block.number, data_length=len(block.data),
+    ))
+    check, content = tcpclkit.Check(block.check), head + block.data
+    for at in range(0, len(content), 7):
+        check.feed(content[at:at + 7])
+    if tcpclkit.write_block(block) != content + check.field():
+        raise ValueError("a block in pieces is another one")
+    return content + check.field()
+
+
+def rebuild(content, check):
+    """A good bundle, read and written block by block, with one type of check values or its own."""
+    try:
+        it = tcpclkit.bundle(content)
+    except tcpclkit.Fault:
+        return 1, b"", b""
+    output = [tcpclkit.BUNDLE_FIRST]
+    for block in tcpclkit.blocks_of(content):
+        if check != 3:
+            block = block._replace(check=check)
+        is_primary = block.block_type is None
+        output.append(
+            tcpclkit.write_primary(it, block.check) if is_primary else written_block(block)
+        )
+    return 0, b"".join([*output, tcpclkit.BUNDLE_LAST]), b""
+
+
+# ---- texts
+
+
+def names(number):
+    """Returns the names that a number has as a block type and as reasons."""
+    kinds = Kind.XFER_REFUSE, Kind.SESS_TERM, Kind.MSG_REJECT
+    found = [tcpclkit.block_type_name(number), tcpclkit.report_reason_name(number)]
+    found += [tcpclkit.Message(0, kind, reason=number % 256).reason_name for kind in kinds]
+    return " ".join(found) + "\n"
+
+
+def bundle_of(eid, text):
+    """Returns a bundle that has an endpoint ID wherever it can have one."""
+    length, check = len(text), len(text) % 3
+    it = tcpclkit.Bundle(0, eid, eid, eid, time=length, sequence=length, lifetime=length)
+    output = [tcpclkit.BUNDLE_FIRST, tcpclkit.write_primary(it, check)]
+    for block_type, number, data in [
+        (6, 2, tcpclkit.write_eid(eid)), (7, 3, tcpclkit.write_age(length)),
+        (10, 4, tcpclkit.write_hop_count(length, 2**64 - 1 - length)), (1, 1, text),
+    ]:
+        output.append(written_block(tcpclkit.Block(0, 0, 0, check, block_type, number, data)))
+    return b"".join([*output, tcpclkit.BUNDLE_LAST])
+
+
+def texts(content):
+    """The names of the number that is the length, and what is made of an endpoint ID's text."""
+    report = names(len(content))
+    try:
+        eid = tcpclkit.read_eid_text(content.decode())
+    except ValueError:
+        return 1, b"", report.encode()
+    return 0, bundle_of(eid, content), f"{report}{eid}".encode()
+
+
 # ---- jobs
 
 
@@ -279,6 +386,8 @@ def tool(name, numbers, content):
         must, has_segment, segment, has_transfer, transfer, bundles = numbers
         limits = segment if has_segment else None, transfer if has_transfer else None
         run = tcpclkit.check(content, must == 1, *limits, bundles == 1)
+    elif name == "more":
+        run = tcpclkit.pack_more(content, *numbers)
     else:
         length = numbers[-1]
         run = tcpclkit.pack(content[length:], content[:length], *numbers[:-2], numbers[-2] == 1)
@@ -287,16 +396,19 @@ def tool(name, numbers, content):
 
 def main():
     """Answers each job."""
-    jobs, answers = sys.stdin.buffer, sys.stdout.buffer
-    by_name = {"show": show, "judge": judge, "read": read, "walk": walk, "go-on": go_on}
-    for words in iter(jobs.readline, b""):
+    source, target = sys.stdin.buffer, sys.stdout.buffer
+    by_name = {
+        "show": show, "judge": judge, "read": read, "walk": walk, "go-on": go_on,
+        "answers": answers, "rewrite": rewrite, "rebuild": rebuild, "texts": texts,
+    }
+    for words in iter(source.readline, b""):
         name, *numbers, length = words.decode().split()
-        content = jobs.read(int(length))
+        content, numbers = source.read(int(length)), [*map(int, numbers)]
         by_hand = by_name.get(name)
-        answer = by_hand(content) if by_hand else tool(name, [*map(int, numbers)], content)
+        answer = by_hand(content, *numbers) if by_hand else tool(name, numbers, content)
         status, output, report = answer
-        answers.write(b"%d %d %d\n" % (status, len(output), len(report)) + output + report)
-        answers.flush()
+        target.write(b"%d %d %d\n" % (status, len(output), len(report)) + output + report)
+        target.flush()
 
 
 if __name__ == "__main__":

@@ -6,10 +6,12 @@ use std::fmt::Write as _;
 use std::io::{BufRead, Read, Write};
 use std::ops::Range;
 use tcpclkit::{
-    blocks, blocks_of, bundle, check, contact, list, messages, pack, primary, unpack, verdict,
-    Announced, Block, BlockHead, BlockKind, BlocksOptions, Bundle, CheckOptions, CheckType, Fault,
-    Fields, Items, Message, Order, PackOptions, Primary, Run, Scan, ToolError, Turn, UnpackOptions,
-    CONTACT_LENGTH, SEGMENT_START,
+    block_type_name, blocks, blocks_of, bundle, check, contact, list, messages, pack, pack_more,
+    primary, report_reason_name, unpack, verdict, write_age, write_block, write_block_head,
+    write_contact, write_eid, write_hop_count, write_item, write_message, write_primary, Announced,
+    Block, BlockHead, BlockKind, BlocksOptions, Bundle, Check, CheckOptions, CheckType, EndpointId,
+    Fault, Fields, Items, Message, MoreOptions, Order, PackOptions, Primary, Run, Scan, Sent,
+    ToolError, Turn, UnpackOptions, BUNDLE_FIRST, BUNDLE_LAST, CONTACT_LENGTH, SEGMENT_START,
 };
 
 /// A status and two texts.
@@ -234,9 +236,20 @@ fn lines_in_pieces(bytes: &[u8], size: usize) -> String {
 /// Compares the words of a block's data with the lines of the tool from some line on, and drops the
 /// lines up to that of the block.
 fn compare_words(block: &Block<&[u8]>, primary: &Block<&[u8]>, lines: &mut &str) {
-    let BlockKind::Canonical { data_at, data, .. } = block.kind else {
+    let BlockKind::Canonical {
+        block_type,
+        data_at,
+        data,
+        ..
+    } = block.kind
+    else {
         return;
     };
+    let (at, length) = (block.place.start, block.place.end - block.place.start);
+    let name = block_type_name(block_type);
+    let line_start = format!(" at={at} length={length} type={block_type}/{name} flags=");
+    let at = lines.find(&line_start).expect("the type of a block");
+    *lines = &lines[at + line_start.len()..];
     let words = block.words(primary);
     let space = if words.is_empty() { "" } else { " " };
     let line_end = format!(
@@ -306,6 +319,11 @@ fn session_line(it: &Fields<'_>) -> String {
     format!("sess-init {numbers} transfer-mru={transfer_mru} node={node}{listed}")
 }
 
+/// The name of the reason of a message that has one.
+fn name_of(it: &Fields<'_>) -> String {
+    it.reason_name().expect("the message has a reason")
+}
+
 /// The line of a message after its offset.
 fn line(it: &Message<'_>) -> String {
     match &it.fields {
@@ -326,13 +344,20 @@ fn line(it: &Message<'_>) -> String {
         Fields::Ack { flags, id, length } => {
             format!("xfer-ack flags={flags:02x} id={id} length={length}")
         }
-        Fields::Refuse { reason, id } => format!("xfer-refuse reason={reason:02x} id={id}"),
+        Fields::Refuse { reason, id } => {
+            format!(
+                "xfer-refuse reason={reason:02x}/{} id={id}",
+                name_of(&it.fields)
+            )
+        }
         Fields::Keepalive => "keepalive".to_string(),
         Fields::SessTerm { flags, reason } => {
-            format!("sess-term flags={flags:02x} reason={reason:02x}")
+            let name = name_of(&it.fields);
+            format!("sess-term flags={flags:02x} reason={reason:02x}/{name}")
         }
         Fields::Reject { reason, header } => {
-            format!("msg-reject reason={reason:02x} header={header:02x}")
+            let name = name_of(&it.fields);
+            format!("msg-reject reason={reason:02x}/{name} header={header:02x}")
         }
         Fields::SessInit { .. } => session_line(&it.fields),
     }
@@ -458,6 +483,198 @@ fn walk(bytes: &[u8], goes_on: bool) -> Answer {
     (status, it.output, it.report.into())
 }
 
+/// What the answers of a recording do to a transfer.
+fn answers(bytes: &[u8], numbers: &[u64]) -> Answer {
+    let [id, length, whole] = *numbers else {
+        panic!("a transfer has three numbers");
+    };
+    let (mut sent, mut text) = (Sent::new(id), String::new());
+    (sent.length, sent.whole) = (length, whole == 1);
+    if contact(bytes).is_err() {
+        return (0, vec![], vec![]);
+    }
+    for message in messages(bytes, CONTACT_LENGTH) {
+        let Ok(message) = message else { break };
+        if let Fields::Ack { .. } | Fields::Refuse { .. } = message.fields {
+            let code = match sent.judge(&message) {
+                Ok(()) => 0,
+                Err(fault) => fault.code as u64,
+            };
+            let _ = writeln!(text, "{} {code} {}", message.offset, sent.acknowledged);
+        }
+    }
+    (0, text.into(), vec![])
+}
+
+/// A message with the items of another list.
+fn with_items<'a>(fields: &Fields<'a>, list: &'a [u8]) -> Fields<'a> {
+    let mut fields = fields.clone();
+    match &mut fields {
+        Fields::Segment { items, .. } => *items = Items::of_segment(list).expect("a list"),
+        Fields::SessInit { items, .. } => *items = Items::of_session(list).expect("a list"),
+        _ => {}
+    }
+    fields
+}
+
+/// A recording, read and written message by message, up to its first fault.
+fn rewrite(bytes: &[u8]) -> Answer {
+    let mut output = vec![];
+    let mut write_all = || {
+        write_contact(contact(bytes)?, &mut output);
+        for message in messages(bytes, CONTACT_LENGTH) {
+            let it = message?;
+            if it.is_cut() {
+                continue;
+            }
+            let mut list = vec![];
+            if let Fields::Segment { items, .. } | Fields::SessInit { items, .. } = &it.fields {
+                for item in items.clone() {
+                    write_item(&item, &mut list).expect("an item that was read");
+                }
+            }
+            let fields = with_items(&it.fields, &list);
+            write_message(&fields, &mut output).expect("a message that was read");
+        }
+        Ok(())
+    };
+    match write_all() {
+        Ok(()) => (0, output, vec![]),
+        Err(fault) => (3, output, fault_line(&fault).into()),
+    }
+}
+
+/// Writes a canonical block in one go. In pieces, the bytes are the same.
+fn put_block(block: &Block<&[u8]>, output: &mut Vec<u8>) {
+    let BlockKind::Canonical {
+        block_type,
+        number,
+        data,
+        ..
+    } = block.kind
+    else {
+        return;
+    };
+    let head = BlockHead {
+        offset: 0,
+        block_type,
+        number,
+        flags: block.flags,
+        check: block.check,
+        data_length: data.len() as u64,
+        data: 0..0,
+    };
+    let (mut pieces, mut check) = (vec![], Check::new(block.check));
+    write_block_head(&head, &mut pieces).expect("a block that was read");
+    check.feed(&pieces);
+    for piece in data.chunks(7) {
+        check.feed(piece);
+        pieces.extend(piece);
+    }
+    pieces.extend(check.field());
+    let start = output.len();
+    write_block(block, output).expect("a block that was read");
+    assert_eq!(pieces, output[start..]);
+}
+
+/// The type of check values with this number.
+fn check_type(number: u64) -> Option<CheckType> {
+    [CheckType::None, CheckType::Crc16, CheckType::Crc32]
+        .get(number as usize)
+        .copied()
+}
+
+/// A good bundle, read and written block by block, with one type of check values or its own.
+fn rebuild(bytes: &[u8], check: Option<CheckType>) -> Answer {
+    let Ok(it) = bundle(bytes) else {
+        return (1, vec![], vec![]);
+    };
+    let mut output = vec![BUNDLE_FIRST];
+    for block in blocks_of(bytes) {
+        let mut block = block.expect("a block of a good bundle");
+        block.check = check.unwrap_or(block.check);
+        match block.kind {
+            BlockKind::Primary => {
+                write_primary(&it, block.check, &mut output).expect("a bundle that was read")
+            }
+            BlockKind::Canonical { .. } => put_block(&block, &mut output),
+        }
+    }
+    output.push(BUNDLE_LAST);
+    (0, output, vec![])
+}
+
+/// The names that a number has as a block type and as reasons.
+fn names(number: u64) -> String {
+    let reason = (number % 256) as u8;
+    let names = [
+        Fields::Refuse { reason, id: 0 },
+        Fields::SessTerm { flags: 0, reason },
+        Fields::Reject { reason, header: 0 },
+    ];
+    let [refuse, term, reject] = names.map(|it| name_of(&it));
+    let (block, report) = (block_type_name(number), report_reason_name(number));
+    format!("{block} {report} {refuse} {term} {reject}\n")
+}
+
+/// A bundle that has an endpoint ID wherever it can have one.
+fn bundle_of(eid: &EndpointId, text: &[u8]) -> Vec<u8> {
+    let length = text.len() as u64;
+    let check = check_type(length % 3).expect("a type");
+    let it = Bundle {
+        flags: 0,
+        destination: eid.clone(),
+        source: eid.clone(),
+        report_to: eid.clone(),
+        time: length,
+        sequence: length,
+        lifetime: length,
+        fragment: None,
+        blocks: 0,
+        payload: (),
+    };
+    let (mut node, mut age, mut hops) = (vec![], vec![], vec![]);
+    write_eid(eid, &mut node).expect("an endpoint ID that was read");
+    write_age(length, &mut age);
+    write_hop_count(length, u64::MAX - length, &mut hops);
+    let mut output = vec![BUNDLE_FIRST];
+    write_primary(&it, check, &mut output).expect("an endpoint ID that was read");
+    for (block_type, number, data) in [
+        (6, 2, &node[..]),
+        (7, 3, &age),
+        (10, 4, &hops),
+        (1, 1, text),
+    ] {
+        let kind = BlockKind::Canonical {
+            block_type,
+            number,
+            data_at: 0,
+            data,
+        };
+        let block = Block {
+            place: 0..0,
+            flags: 0,
+            check,
+            kind,
+        };
+        put_block(&block, &mut output);
+    }
+    output.push(BUNDLE_LAST);
+    output
+}
+
+/// The names of the number that is the length, and what is made of the text of an endpoint ID.
+fn texts(bytes: &[u8]) -> Answer {
+    let names = names(bytes.len() as u64);
+    let found = std::str::from_utf8(bytes)
+        .ok()
+        .and_then(|text| text.parse().ok());
+    match found {
+        Some(eid) => (0, bundle_of(&eid, bytes), format!("{names}{eid}").into()),
+        None => (1, vec![], names.into()),
+    }
+}
+
 /// What a tool writes.
 fn tool(name: &str, numbers: &[u64], bytes: &[u8]) -> Result<Run, ToolError> {
     match *numbers {
@@ -478,6 +695,15 @@ fn tool(name: &str, numbers: &[u64], bytes: &[u8]) -> Result<Run, ToolError> {
                 bundles: bundles == 1,
             };
             check(bytes, &options)
+        }
+        [first, peer_segment, peer_transfer, announce] if name == "more" => {
+            let options = MoreOptions {
+                first,
+                peer_segment,
+                peer_transfer,
+                announce,
+            };
+            pack_more(bytes, &options)
         }
         [only_one, transfer, payload, keep_going] => {
             let options = UnpackOptions {
@@ -513,6 +739,10 @@ fn answer(name: &str, numbers: &[u64], bytes: &[u8]) -> Answer {
         "read" => read(bytes),
         "walk" => walk(bytes, false),
         "go-on" => walk(bytes, true),
+        "answers" => answers(bytes, numbers),
+        "rewrite" => rewrite(bytes),
+        "rebuild" => rebuild(bytes, check_type(numbers[0])),
+        "texts" => texts(bytes),
         _ => {
             let run = tool(name, numbers, bytes).expect("the options are in range");
             (run.exit_status, run.output, run.report)

@@ -13,7 +13,7 @@ import tracemalloc
 import unittest
 
 import tcpclkit
-from tcpclkit import Announced, Block, BlockHead, Code, Dtn, Fault, Ipn, Kind
+from tcpclkit import Announced, Block, BlockHead, Code, Dtn, Fault, Ipn, Item, Kind, Message
 
 EXAMPLES = f"{os.path.dirname(os.path.realpath(__file__))}/../../../examples"
 NUMBER = 2**64 - 1
@@ -412,6 +412,227 @@ class Recordings(unittest.TestCase):
         self.assertTrue(strays and strays <= before)
 
 
+INIT = Message(0, Kind.SESS_INIT, keepalive=0, segment_mru=1, transfer_mru=2, node=b"", items=())
+START = Message(0, Kind.XFER_SEGMENT, flags=2, id=7, length=5, items=())
+
+
+class WrittenMessages(unittest.TestCase):
+    """Messages that are written."""
+
+    def test_what_was_read(self):
+        for name in sorted(os.listdir(EXAMPLES)):
+            if not name.endswith(".tcpcl"):
+                continue
+            content = example(name)
+            written = tcpclkit.write_contact(tcpclkit.contact(content))
+            for message in tcpclkit.messages(content):
+                written += tcpclkit.write_message(message)
+            self.assertEqual(written, content)
+
+    def test_contact_headers(self):
+        self.assertEqual(tcpclkit.write_contact(), b"dtn!\4\0")
+        for flags in (-1, 256):
+            with self.assertRaisesRegex(ValueError, f"^flags is {flags}, "):
+                tcpclkit.write_contact(flags)
+
+    def test_what_is_shown(self):
+        names = {"tcpclkit": tcpclkit, "length": 34}
+        exec(shown_in(tcpclkit.write_message), names)
+        self.assertEqual(taken_of(names["content"]), names["ack"]._replace(head_end=18))
+        exec(shown_in(tcpclkit.write_item), names)
+        segment = tcpclkit.write_message(START._replace(items=[names["total"]]))
+        self.assertEqual(taken_of(segment + bytes(5)).announced, Announced(34))
+
+    def test_data(self):
+        head = tcpclkit.write_message(START)
+        self.assertEqual(head, b"\1\2" + bytes(7) + b"\7" + bytes(11) + b"\5")
+        for data in (b"", b"hel", bytearray(b"hello")):
+            self.assertEqual(tcpclkit.write_message(START._replace(data=data)), head + data)
+        whole = START._replace(length=None, data=b"hello")
+        self.assertEqual(tcpclkit.write_message(whole), head + b"hello")
+        with self.assertRaisesRegex(ValueError, "^the length of data is 6, "):
+            tcpclkit.write_message(START._replace(data=b"hello!"))
+
+    def test_lists(self):
+        empty, full = Item(0, 2, b""), Item(255, 65535, bytes(65531))
+        for items in ([], [full], 64 * [empty], [full._replace(value=bytes(65526)), empty]):
+            for message in (INIT, START._replace(length=0)):
+                content = tcpclkit.write_message(message._replace(items=items))
+                self.assertEqual(taken_of(content).items, tuple(items))
+        for items, words in [
+            (65 * [empty], "^the number of items is 65, "),
+            ([full, empty], "^the length of items is 65541, "),
+            ([full._replace(value=bytes(65532))], "^the length of value is 65532, "),
+            ([empty._replace(flags=256)], "^flags is 256, "),
+            ([empty._replace(item_type=65536)], "^item_type is 65536, "),
+        ]:
+            for message in (INIT, START):
+                with self.assertRaisesRegex(ValueError, words):
+                    tcpclkit.write_message(message._replace(items=items))
+        with self.assertRaisesRegex(ValueError, "^a segment without SEGMENT_START has no items"):
+            tcpclkit.write_message(START._replace(flags=1, items=[empty]))
+
+    def test_node_ids(self):
+        longest = INIT._replace(node=bytes(1024))
+        self.assertEqual(taken_of(tcpclkit.write_message(longest)).node, bytes(1024))
+        with self.assertRaisesRegex(ValueError, "^the length of node is 1025, "):
+            tcpclkit.write_message(INIT._replace(node=bytes(1025)))
+
+    def test_ranges(self):
+        ack = Message(0, Kind.XFER_ACK, flags=255, id=NUMBER, length=NUMBER)
+        term = Message(0, Kind.SESS_TERM, flags=255, reason=255)
+        reject = Message(0, Kind.MSG_REJECT, reason=255, header=255)
+        refuse = Message(0, Kind.XFER_REFUSE, reason=255, id=NUMBER)
+        most = INIT._replace(keepalive=65535, segment_mru=NUMBER, transfer_mru=NUMBER)
+        for message in (ack, term, reject, refuse, most, Message(0, Kind.KEEPALIVE)):
+            content = tcpclkit.write_message(message)
+            self.assertEqual(taken_of(content), message._replace(head_end=len(content)))
+            self.assertRaises(ValueError, tcpclkit.write_message, message._replace(kind=8))
+            for name, value in message._asdict().items():
+                is_number = isinstance(value, int) and name not in ("offset", "kind")
+                for wrong in (-1, value + 1) if is_number else ():
+                    with self.assertRaisesRegex(ValueError, f"^{name} is {wrong}, "):
+                        tcpclkit.write_message(message._replace(**{name: wrong}))
+                if is_number:
+                    with self.assertRaisesRegex(ValueError, f"has the field {name}$"):
+                        tcpclkit.write_message(message._replace(**{name: None}))
+                if value is None and name not in ("head_end", "items", "announced"):
+                    with self.assertRaisesRegex(ValueError, f"has no {name}$"):
+                        tcpclkit.write_message(message._replace(**{name: 0}))
+
+
+def written_again(content):
+    """Returns a good bundle that is written from what is read of it."""
+    blocks = [
+        tcpclkit.write_primary(tcpclkit.bundle(content), it.check)
+        if it.block_type is None else tcpclkit.write_block(it) for it in tcpclkit.blocks_of(content)
+    ]
+    return tcpclkit.BUNDLE_FIRST + b"".join(blocks) + tcpclkit.BUNDLE_LAST
+
+
+class WrittenBundles(unittest.TestCase):
+    """Bundles that are written."""
+
+    def test_what_was_read(self):
+        for content in (HELLO, FRAGMENT, SEVERAL):
+            self.assertEqual(written_again(content), content)
+
+    def test_what_is_shown(self):
+        names = {
+            "tcpclkit": tcpclkit, "bundle": tcpclkit.bundle(HELLO),
+            "blocks": list(tcpclkit.blocks_of(HELLO))[1:],
+        }
+        exec(shown_in(tcpclkit.write_primary), names)
+        self.assertEqual(written_again(names["content"]), names["content"])
+        self.assertEqual(tcpclkit.primary(names["content"]).accepted, 8)
+        sent = []
+        head = BlockHead(0, flags=1, check=2, block_type=1, number=1, data_length=2)
+        names = {"tcpclkit": tcpclkit, "block": head, "pieces": [b"h", b"i"], "send": sent.append}
+        exec(shown_in(tcpclkit.write_block_head), names)
+        self.assertEqual(b"".join(sent), SEVERAL[41:54])
+
+    def test_primary_blocks(self):
+        it = tcpclkit.bundle(HELLO)
+        named = it._replace(source=Dtn(bytes(1024)), destination=Ipn(NUMBER, NUMBER, NUMBER))
+        named = named._replace(flags=NUMBER, time=NUMBER, lifetime=NUMBER, fragment=(NUMBER, 0))
+        content = tcpclkit.BUNDLE_FIRST + tcpclkit.write_primary(named, 2)
+        self.assertTrue(tcpclkit.primary(content).is_whole)
+        self.assertEqual(tcpclkit.primary(content).source, named.source)
+        for fields, words in [
+            ({"source": Dtn(bytes(1025))}, "^the length of name is 1025, "),
+            ({"report_to": Ipn(None, -1, 0)}, "^node is -1, "), ({"flags": -1}, "^flags is -1, "),
+            ({"time": NUMBER + 1}, "^time is "), ({"sequence": -1}, "^sequence is "),
+            ({"lifetime": -1}, "^lifetime is "), ({"flags": 1}, "^flag 0x01 and fragment "),
+            ({"fragment": (0, 0)}, "^flag 0x01 and fragment "),
+            ({"flags": 1, "fragment": (-1, 0)}, "^the offset of fragment is "),
+            ({"flags": 1, "fragment": (0, -1)}, "^the total of fragment is "),
+        ]:
+            with self.assertRaisesRegex(ValueError, words):
+                tcpclkit.write_primary(it._replace(**fields))
+        for check in (-1, 3):
+            with self.assertRaisesRegex(ValueError, f"^check is {check}, "):
+                tcpclkit.write_primary(it, check)
+
+    def test_canonical_blocks(self):
+        primary, age, _, payload = SEVERAL_BLOCKS
+        most = age._replace(block_type=NUMBER, number=NUMBER, flags=NUMBER)
+        content = SEVERAL[:22] + tcpclkit.write_block(most) + SEVERAL[41:]
+        self.assertEqual(list(tcpclkit.blocks_of(content))[1].block_type, NUMBER)
+        for block, words in [
+            (primary, "^a primary block is written by write_primary"),
+            (age._replace(number=0), "^number is 0, "), (age._replace(flags=-1), "^flags is -1, "),
+            (age._replace(block_type=NUMBER + 1), "^block_type is "),
+            (age._replace(check=3), "^check is 3, "),
+            (age._replace(number=1), "^a block has type 1"),
+            (payload._replace(number=2), "^a block has type 1"),
+            (age._replace(data=slice(0, 1)), "with_data adds it"),
+        ]:
+            with self.assertRaisesRegex(ValueError, words):
+                tcpclkit.write_block(block)
+
+    def test_checks(self):
+        for kind, value in [(0, None), (1, 0x906E), (2, 0xE3069283)]:
+            check = tcpclkit.Check(kind)
+            check.feed(b"12345")
+            for copied_by in COPIES:
+                other = copied_by(check)
+                other.feed(bytearray(b"6789"))
+                self.assertEqual(other.value(), value)
+            self.assertEqual(len(check.field()), (0, 3, 5)[kind])
+        for kind in (-1, 3):
+            self.assertRaises(ValueError, tcpclkit.Check, kind)
+
+    def test_data_of_blocks(self):
+        primary, *others = SEVERAL_BLOCKS
+        for block_type, data, words in [
+            (7, tcpclkit.write_age(NUMBER), f"age={NUMBER}"),
+            (10, tcpclkit.write_hop_count(30, 2), "limit=30 count=2"),
+            (6, tcpclkit.write_eid(Dtn(b"//a b/")), r"node=dtn://a\x20b/"),
+        ]:
+            block = others[0]._replace(block_type=block_type, data=data)
+            self.assertEqual(block.words(primary), words)
+        for call, arguments in [
+            (tcpclkit.write_age, [-1]), (tcpclkit.write_hop_count, [NUMBER + 1, 0]),
+            (tcpclkit.write_hop_count, [0, -1]), (tcpclkit.write_eid, [Dtn(bytes(1025))]),
+        ]:
+            self.assertRaises(ValueError, call, *arguments)
+
+
+class Answers(unittest.TestCase):
+    """The answers to a transfer that is sent."""
+
+    def test_answers(self):
+        sent = tcpclkit.Sent(7, length=10)
+        ack = Message(3, Kind.XFER_ACK, flags=0, id=7, length=4)
+        refuse = Message(4, Kind.XFER_REFUSE, reason=2, id=7)
+        for message, code, acknowledged in [
+            (ack, None, 4), (ack._replace(id=8), Code.ANSWER_OTHER_TRANSFER, 4),
+            (ack._replace(length=3), Code.ANSWER_LENGTH_FALLS, 4),
+            (ack._replace(length=11), Code.ANSWER_LENGTH_NOT_SENT, 4), (refuse, None, 4),
+            (refuse._replace(id=8), Code.ANSWER_OTHER_TRANSFER, 4),
+            (ack._replace(length=10), None, 10),
+            (ack._replace(flags=1, length=10), Code.ANSWER_END_TOO_EARLY, 10),
+        ]:
+            if code is None:
+                sent.judge(message)
+            else:
+                with self.assertRaises(Fault) as raised:
+                    sent.judge(message)
+                self.assertEqual(raised.exception, Fault(code, 0, message.offset))
+                self.assertRegex(str(raised.exception), "^[a-z ]+$")
+            self.assertEqual(sent.acknowledged, acknowledged)
+        sent.whole = True
+        sent.judge(ack._replace(flags=1, length=10))
+        self.assertRaises(ValueError, sent.judge, Message(0, Kind.KEEPALIVE))
+        self.assertRaises(ValueError, tcpclkit.Sent(-1).judge, ack)
+
+    def test_what_is_shown(self):
+        answer = Message(0, Kind.XFER_ACK, flags=1, id=7, length=5)
+        names = {"tcpclkit": tcpclkit, "data": b"hello", "answer": answer}
+        exec(shown_in(tcpclkit.Sent), names)
+        self.assertEqual(names["sent"], tcpclkit.Sent(7, 5, True, 5))
+
+
 class Texts(unittest.TestCase):
     """Texts of faults and endpoint IDs."""
 
@@ -431,13 +652,37 @@ class Texts(unittest.TestCase):
             (Ipn(None, 0, NUMBER), f"ipn:0.{NUMBER}"), (Ipn(1, 2, 3), "ipn:1.2.3"),
         ]:
             self.assertEqual(str(eid), text)
+            self.assertEqual(tcpclkit.read_eid_text(text), eid)
         self.assertRaises(ValueError, str, Dtn(bytes(1025)))
+        self.assertEqual(tcpclkit.read_eid_text(str(Dtn(b"none"))), Dtn(None))
+        bad = "", "dtn", "ipn:1", "ipn:01.2", "dtn:a b", "dtn:\xe9", "dtn:\ud800", r"dtn:\x41"
+        for text in bad:
+            with self.assertRaisesRegex(ValueError, "^no endpoint ID has this text$"):
+                tcpclkit.read_eid_text(text)
         for eid, name in [
             (Ipn(-1, 1, 0), "allocator"), (Ipn(1, -1, 0), "node"),
             (Ipn(None, 0, NUMBER + 1), "service"),
         ]:
             with self.assertRaisesRegex(ValueError, f"^{name} is "):
                 str(eid)
+
+
+    def test_names(self):
+        refuse = Message(0, Kind.XFER_REFUSE, reason=2, id=0)
+        for message, name in [
+            (refuse, "no-resources"), (refuse._replace(reason=255), "?"),
+            (Message(0, Kind.SESS_TERM, reason=1), "idle-timeout"),
+            (Message(0, Kind.MSG_REJECT, reason=1), "message-type-unknown"),
+            (Message(0, Kind.KEEPALIVE), None),
+        ]:
+            self.assertEqual(message.reason_name, name)
+        self.assertEqual(tcpclkit.report_reason_name(1), "lifetime-expired")
+        self.assertEqual(tcpclkit.block_type_name(7), "bundle-age")
+        self.assertEqual(tcpclkit.block_type_name(NUMBER), "?")
+        with self.assertRaisesRegex(ValueError, "^reason is 256, "):
+            refuse._replace(reason=256).reason_name
+        for call in (tcpclkit.block_type_name, tcpclkit.report_reason_name):
+            self.assertRaises(ValueError, call, NUMBER + 1)
 
 
 class Tools(unittest.TestCase):
@@ -472,6 +717,23 @@ class Tools(unittest.TestCase):
         unpacked = tcpclkit.unpack(packed.output)
         self.assertEqual((unpacked.output, unpacked.exit_status), (bundles, 0))
         self.assertEqual(tcpclkit.unpack(packed.output, 0, payload=True).output, b"hello")
+
+    def test_pack_more(self):
+        bundles = example("two.bundles")
+        packed = tcpclkit.pack(bundles, b"", peer_segment=20, announce=34)
+        more = tcpclkit.pack_more(bundles, peer_segment=20, announce=34)
+        self.assertEqual((more.output, more.report), (packed.output[31:], packed.report))
+        last = NUMBER - len(bundles)
+        for content in (bundles, bytearray(bundles)):
+            ids = [it.id for it in tcpclkit.messages(tcpclkit.pack_more(content, last).output, 0)]
+            self.assertEqual(ids, [last, last + 1])
+        for options, name in [
+            ({"first": last + 1}, "first"), ({"first": -1}, "first"),
+            ({"peer_segment": 0}, "peer_segment"), ({"peer_transfer": -1}, "peer_transfer"),
+            ({"announce": 2**20 + 1}, "announce"),
+        ]:
+            with self.assertRaisesRegex(ValueError, f"^{name} is "):
+                tcpclkit.pack_more(bundles, **options)
 
     def test_going_on(self):
         late = example("late-transfers.tcpcl")

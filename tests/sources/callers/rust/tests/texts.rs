@@ -1,6 +1,8 @@
-//! Texts of faults and endpoint IDs.
+//! Texts of faults and endpoint IDs, and names.
 
-use tcpclkit::{Code, EndpointId, Fault};
+use tcpclkit::{
+    block_type_name, report_reason_name, Code, EndpointId, Fault, Fields, ParseEndpointIdError,
+};
 
 #[test]
 fn faults_have_the_words_of_the_program() {
@@ -69,5 +71,56 @@ fn endpoint_ids_are_shown_as_by_the_program() {
         (longest, &format!("dtn:{}", r"\x00".repeat(1024))),
     ] {
         assert_eq!(eid.to_string(), text);
+        assert_eq!(text.parse(), Ok(eid));
     }
+    let none = EndpointId::Dtn(b"none"[..].into());
+    assert_eq!(none.to_string().parse(), Ok(EndpointId::DtnNone));
+}
+
+#[test]
+fn another_text_is_that_of_no_endpoint_id() {
+    let longer = format!("dtn:{}", "n".repeat(1025));
+    for text in [
+        "",
+        "dtn",
+        "ipn:1",
+        "ipn:01.2",
+        "dtn:a b",
+        "dtn:\u{e9}",
+        r"dtn:\x41",
+        &longer,
+    ] {
+        assert_eq!(text.parse::<EndpointId>(), Err(ParseEndpointIdError));
+    }
+}
+
+#[test]
+fn reasons_and_block_types_have_names() {
+    for (fields, name) in [
+        (Fields::Refuse { reason: 2, id: 0 }, Some("no-resources")),
+        (Fields::Refuse { reason: 255, id: 0 }, Some("?")),
+        (
+            Fields::SessTerm {
+                flags: 0,
+                reason: 1,
+            },
+            Some("idle-timeout"),
+        ),
+        (
+            Fields::Reject {
+                reason: 1,
+                header: 0,
+            },
+            Some("message-type-unknown"),
+        ),
+        (Fields::Keepalive, None),
+    ] {
+        assert_eq!(fields.reason_name().as_deref(), name);
+    }
+    assert_eq!(report_reason_name(2), "forwarded-over-unidirectional-link");
+    assert_eq!(
+        (report_reason_name(u64::MAX), block_type_name(u64::MAX)),
+        ("?".into(), "?".into())
+    );
+    assert_eq!(block_type_name(12), "block-confidentiality");
 }

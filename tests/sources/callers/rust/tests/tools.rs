@@ -1,6 +1,9 @@
 //! The tools, over slices.
 
-use tcpclkit::{check, list, pack, unpack, CheckOptions, PackOptions, ToolError, UnpackOptions};
+use tcpclkit::{
+    check, list, messages, pack, pack_more, unpack, CheckOptions, Fields, MoreOptions, PackOptions,
+    ToolError, UnpackOptions,
+};
 
 fn example(name: &str) -> Vec<u8> {
     let path = format!("{}/../../../../examples/{name}", env!("CARGO_MANIFEST_DIR"));
@@ -135,4 +138,60 @@ fn pack_refuses_options_out_of_range() {
     };
     assert!(pack(b"", &[b'n'; 1024], &longest).is_ok());
     assert_eq!(pack(b"", &[b'n'; 1025], &longest), Err(ToolError::Range));
+}
+
+#[test]
+fn pack_more_writes_the_segments_of_pack() {
+    let bundles = example("two.bundles");
+    let options = PackOptions {
+        peer_segment: 20,
+        announce: 34,
+        ..PackOptions::default()
+    };
+    let more = MoreOptions {
+        peer_segment: 20,
+        announce: 34,
+        ..MoreOptions::default()
+    };
+    let packed = pack(&bundles, b"", &options).unwrap();
+    let run = pack_more(&bundles, &more).unwrap();
+    assert_eq!(
+        (&run.output[..], run.report),
+        (&packed.output[31..], packed.report)
+    );
+
+    let first = u64::MAX - bundles.len() as u64;
+    let moved = MoreOptions { first, ..more };
+    let run = pack_more(&bundles, &moved).unwrap();
+    let ids = messages(&run.output, 0).map(|it| match it.unwrap().fields {
+        Fields::Segment { id, .. } => id - first,
+        other => panic!("{other:?}"),
+    });
+    assert_eq!(ids.collect::<Vec<_>>(), [0, 0, 1, 1]);
+}
+
+#[test]
+fn pack_more_has_the_ranges_of_pack() {
+    let default = MoreOptions::default();
+    for wrong in [
+        MoreOptions {
+            first: u64::MAX,
+            ..default
+        },
+        MoreOptions {
+            peer_segment: 0,
+            ..default
+        },
+        MoreOptions {
+            announce: 1048577,
+            ..default
+        },
+    ] {
+        assert_eq!(pack_more(b"x", &wrong), Err(ToolError::Range));
+    }
+    let last = MoreOptions {
+        first: u64::MAX,
+        ..default
+    };
+    assert_eq!(pack_more(b"", &last).unwrap().output, b"");
 }

@@ -1,0 +1,244 @@
+//! Exports that write messages, and parts of bundles, into a slice of the caller.
+
+ghost use Rattle.std.specs.Prelude.{◌≡◌, ℕ, List, [], ◌++◌, Some, None, nat_lt, if◌then◌else◌};
+ghost use Rattle.std.specs.Option.{option_and_then};
+ghost use Rattle.link_bundle_writer.specs.EndpointIds.{eid_of};
+ghost use Rattle.link_bundle_writer.specs.NewBlocks.{check_field};
+ghost use Rattle.link_bundle_writer.specs.NewData.{age_bytes, hop_count_bytes};
+ghost use Rattle.link_cbor.specs.Crc.{crc};
+ghost use Rattle.link_cbor.specs.declared.check.CheckKind.{CheckKind};
+ghost use Rattle.link_ffi_numbers.specs.Bundle.{eid_by};
+ghost use Rattle.link_ffi_writer.specs.Bundles.{primary_bytes_by, block_bytes_by};
+ghost use Rattle.link_ffi_writer.specs.Checks.{kind_by, kind_of, HasFed};
+ghost use Rattle.link_ffi_writer.specs.Messages.{HasFields, IsNoMessage, item_by};
+ghost use Rattle.link_ffi_writer.specs.Written.{written_shown, ReturnsWritten};
+ghost use Rattle.link_wire.specs.Spelling.{contact_bytes};
+ghost use Rattle.link_wire.specs.declared.message.Fields.{Fields};
+ghost use Rattle.link_wire_writer.specs.MessageBytes.{message_of};
+
+use link_bundle_writer::{write_age, write_block_head, write_eid, write_hop_count, write_primary};
+use link_ffi_numbers::block::BlockNumbers;
+use link_ffi_numbers::bundle::{Bundle, EidNumbers, eid_by};
+use link_ffi_numbers::recording::Message;
+use link_ffi_numbers::status::{OK, RANGE};
+use link_ffi_writer::{
+    KeptCheck, Written, block_head_by, check_by, fields_by, item_numbers, primary_by, written_shown,
+};
+use link_wire_writer::{write_contact, write_item, write_message};
+use link_writing::WriteFault;
+
+/// Shows what a writer returned.
+fn give(outcome: Result<usize, WriteFault>, written: &mut Written) -> u32
+    ensures { (written.new, result) ≡ written_shown outcome }
+{
+    let (shown, status) = written_shown(outcome);
+    *written = shown;
+    status
+}
+
+/// Writes a contact header.
+#[unsafe(no_mangle)]
+pub extern "C" fn tcpclkit_raw_write_contact(
+    flags: u64,
+    bytes: &mut [u8],
+    written: &mut Written,
+) -> u32
+    ensures { ReturnsWritten (if nat_lt flags 256 then Some (contact_bytes flags) else None)
+        bytes.old bytes.new written.new result }
+{
+    let outcome = if flags < 256 {
+        write_contact(flags as u8, bytes)
+    } else {
+        Err(WriteFault::OutOfRange)
+    };
+    give(outcome, written)
+}
+
+/// Writes an extension item.
+#[unsafe(no_mangle)]
+pub extern "C" fn tcpclkit_raw_write_item(
+    flags: u64,
+    item_type: u64,
+    value: &[u8],
+    bytes: &mut [u8],
+    written: &mut Written,
+) -> u32
+    ensures { ReturnsWritten (item_by flags item_type value.now) bytes.old bytes.new written.new
+        result }
+{
+    let outcome = match item_numbers(flags, item_type) {
+        Some((flags, kind)) => write_item(flags, kind, value, bytes),
+        None => Err(WriteFault::OutOfRange),
+    };
+    give(outcome, written)
+}
+
+/// Writes a message, without the data of a segment.
+#[unsafe(no_mangle)]
+pub extern "C" fn tcpclkit_raw_write_message(
+    message: &Message,
+    node: &[u8],
+    items: &[u8],
+    bytes: &mut [u8],
+    written: &mut Written,
+) -> u32
+    ensures message { (fields : Fields) → HasFields message.now fields
+        → ReturnsWritten (message_of fields node.now items.now) bytes.old bytes.new written.new
+        result }
+    ensures none { IsNoMessage message.now
+        → ReturnsWritten None bytes.old bytes.new written.new result }
+{
+    let outcome = match fields_by(message) {
+        Some(fields) => write_message(fields, node, items, bytes),
+        None => Err(WriteFault::OutOfRange),
+    };
+    give(outcome, written)
+}
+
+/// Writes a primary block with its check field.
+#[unsafe(no_mangle)]
+pub extern "C" fn tcpclkit_raw_write_primary(
+    bundle: &Bundle,
+    check: u64,
+    destination: &[u8],
+    source: &[u8],
+    report_to: &[u8],
+    bytes: &mut [u8],
+    written: &mut Written,
+) -> u32
+    ensures { ReturnsWritten (primary_bytes_by bundle.now check (record {
+      destination = destination.now;
+      source = source.now;
+      report_to = report_to.now;
+    })) bytes.old bytes.new written.new result }
+{
+    let primary = match check_by(check) {
+        Some(check) => primary_by(bundle, check, destination, source, report_to),
+        None => None,
+    };
+    let outcome = match primary {
+        Some(primary) => write_primary(&primary, bytes),
+        None => Err(WriteFault::OutOfRange),
+    };
+    give(outcome, written)
+}
+
+/// Writes a canonical block up to its data.
+#[unsafe(no_mangle)]
+pub extern "C" fn tcpclkit_raw_write_block_head(
+    block: &BlockNumbers,
+    bytes: &mut [u8],
+    written: &mut Written,
+) -> u32
+    ensures { ReturnsWritten (block_bytes_by block.now) bytes.old bytes.new written.new result }
+{
+    let outcome = match block_head_by(block) {
+        Some(head) => write_block_head(&head, bytes),
+        None => Err(WriteFault::OutOfRange),
+    };
+    give(outcome, written)
+}
+
+/// Makes a check to which no byte was fed.
+#[unsafe(no_mangle)]
+pub extern "C" fn tcpclkit_raw_start_check(check: &mut KeptCheck, kind: u64) -> u32
+    ensures started { (known : CheckKind) → kind_by kind ≡ Some known
+        → (result ≡ 0) × HasFed known check.new [] }
+    ensures range { kind_by kind ≡ None
+        → (result ≡ 6) × (check.new ≡ record { kind = 0; state = 0 }) }
+{
+    match KeptCheck::new(kind) {
+        Some(started) => {
+            *check = started;
+            OK
+        }
+        None => {
+            *check = KeptCheck { kind: 0, state: 0 };
+            RANGE
+        }
+    }
+}
+
+/// Feeds a piece to a check.
+#[unsafe(no_mangle)]
+pub extern "C" fn tcpclkit_raw_feed_check(check: &mut KeptCheck, piece: &[u8]) -> u32
+    ensures fed { (kind : CheckKind) (before : List ℕ) → HasFed kind check.old before
+        → (result ≡ 0) × HasFed kind check.new (before ++ piece.now) }
+    ensures range { kind_of check.old ≡ None → (result ≡ 6) × (check.new ≡ check.old) }
+{
+    if check.feed(piece) { OK } else { RANGE }
+}
+
+/// The check value of the bytes that were fed.
+#[unsafe(no_mangle)]
+pub extern "C" fn tcpclkit_raw_end_check(check: &KeptCheck, value: &mut u64) -> u32
+    ensures value { (kind : CheckKind) (bytes : List ℕ) → HasFed kind check.now bytes
+        → (result ≡ 0) × (value.new ≡ crc kind bytes) }
+    ensures range { kind_of check.now ≡ None → (result ≡ 6) × (value.new ≡ 0) }
+{
+    match check.value() {
+        Some(found) => {
+            *value = u64::from(found);
+            OK
+        }
+        None => {
+            *value = 0;
+            RANGE
+        }
+    }
+}
+
+/// Writes the check field of a block whose bytes before the field were fed.
+#[unsafe(no_mangle)]
+pub extern "C" fn tcpclkit_raw_write_check(
+    check: &KeptCheck,
+    bytes: &mut [u8],
+    written: &mut Written,
+) -> u32
+    ensures field { (kind : CheckKind) (block : List ℕ) → HasFed kind check.now block
+        → ReturnsWritten (Some (check_field kind block)) bytes.old bytes.new written.new result }
+    ensures range { kind_of check.now ≡ None
+        → ReturnsWritten None bytes.old bytes.new written.new result }
+{
+    give(check.write_field(bytes), written)
+}
+
+/// Writes an endpoint ID in CBOR.
+#[unsafe(no_mangle)]
+pub extern "C" fn tcpclkit_raw_write_eid(
+    eid: &EidNumbers,
+    name: &[u8],
+    bytes: &mut [u8],
+    written: &mut Written,
+) -> u32
+    ensures { ReturnsWritten (option_and_then eid_of (eid_by eid.now name.now)) bytes.old bytes.new
+        written.new result }
+{
+    let outcome = match eid_by(eid, name) {
+        Some(eid) => write_eid(&eid, bytes),
+        None => Err(WriteFault::OutOfRange),
+    };
+    give(outcome, written)
+}
+
+/// Writes the data of a bundle age block.
+#[unsafe(no_mangle)]
+pub extern "C" fn tcpclkit_raw_write_age(age: u64, bytes: &mut [u8], written: &mut Written) -> u32
+    ensures { ReturnsWritten (Some (age_bytes age)) bytes.old bytes.new written.new result }
+{
+    give(write_age(age, bytes), written)
+}
+
+/// Writes the data of a hop count block.
+#[unsafe(no_mangle)]
+pub extern "C" fn tcpclkit_raw_write_hop_count(
+    limit: u64,
+    count: u64,
+    bytes: &mut [u8],
+    written: &mut Written,
+) -> u32
+    ensures { ReturnsWritten (Some (hop_count_bytes limit count)) bytes.old bytes.new written.new
+        result }
+{
+    give(write_hop_count(limit, count, bytes), written)
+}
