@@ -82,15 +82,6 @@ class Code(IntEnum):
     BUNDLE_NO_PAYLOAD_LAST = 117
 
 
-# The texts of the faults of answers, which the program does not judge
-_ANSWERS = {
-    Code.ANSWER_OTHER_TRANSFER: "another transfer",
-    Code.ANSWER_LENGTH_FALLS: "acknowledged length falls",
-    Code.ANSWER_LENGTH_NOT_SENT: "acknowledged length was not sent",
-    Code.ANSWER_END_TOO_EARLY: "end without the whole transfer",
-}
-
-
 class Kind(IntEnum):
     """The kind of a message, which is its type byte."""
     XFER_SEGMENT = 1
@@ -326,8 +317,7 @@ class Fault(Exception):
 
     def __str__(self):
         number = _number("number", self.number)
-        text = _text(FAULT_ROOM, "write_fault_text", self.code, number)
-        return _ANSWERS.get(self.code) or text or repr(self)
+        return _text(FAULT_ROOM, "write_fault_text", self.code, number) or repr(self)
 
 
 def _fault(it):

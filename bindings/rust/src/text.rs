@@ -2,7 +2,7 @@
 
 use crate::block::{Block, BlockKind};
 use crate::bundle::EndpointId;
-use crate::fault::{Code, Fault};
+use crate::fault::Fault;
 use crate::raw;
 use crate::recording::Fields;
 use std::fmt;
@@ -30,25 +30,11 @@ fn text(room: &mut [u8], call: impl FnOnce(*mut u8, usize, &mut u64) -> u32) -> 
 impl fmt::Display for Fault {
     /// Writes the words that the program has for the fault, without the offset.
     fn fmt(&self, formatter: &mut fmt::Formatter<'_>) -> fmt::Result {
-        // The program judges no answers.
-        let words = match self.code {
-            Code::AnswerOtherTransfer => Some("another transfer".to_string()),
-            Code::AnswerLengthFalls => Some("acknowledged length falls".to_string()),
-            Code::AnswerLengthNotSent => Some("acknowledged length was not sent".to_string()),
-            Code::AnswerEndTooEarly => Some("end without the whole transfer".to_string()),
-            code => text(&mut [0; FAULT_ROOM], |text, room, written| {
-                // SAFETY: the text has that room, and nothing else is lent.
-                unsafe {
-                    raw::tcpclkit_raw_write_fault_text(
-                        code as u64,
-                        self.number,
-                        text,
-                        room,
-                        written,
-                    )
-                }
-            }),
-        };
+        let (code, number) = (self.code as u64, self.number);
+        let words = text(&mut [0; FAULT_ROOM], |text, room, written| {
+            // SAFETY: the text has that room, and nothing else is lent.
+            unsafe { raw::tcpclkit_raw_write_fault_text(code, number, text, room, written) }
+        });
         match words {
             Some(words) => formatter.write_str(&words),
             None => write!(formatter, "{:?} {}", self.code, self.number),

@@ -619,7 +619,6 @@ class Answers(unittest.TestCase):
                 with self.assertRaises(Fault) as raised:
                     sent.judge(message)
                 self.assertEqual(raised.exception, Fault(code, 0, message.offset))
-                self.assertRegex(str(raised.exception), "^[a-z ]+$")
             self.assertEqual(sent.acknowledged, acknowledged)
         sent.whole = True
         sent.judge(ack._replace(flags=1, length=10))
@@ -641,6 +640,7 @@ class Texts(unittest.TestCase):
             (Code.WIRE_TRUNCATED, 0, "truncated"),
             (Code.WIRE_UNKNOWN_TYPE, 0x16, "unknown message type 16"),
             (Code.ORDER_NO_SUCH_OPEN_TRANSFER, 0, "no such open transfer"),
+            (Code.ANSWER_LENGTH_FALLS, 0, "acknowledged length falls"),
             (Code.BUNDLE_CHECK_DIFFERS, 0, "B13 check differs"),
         ]:
             self.assertEqual(str(Fault(code, number, 7)), text)

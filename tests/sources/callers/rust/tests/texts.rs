@@ -25,6 +25,7 @@ fn faults_have_the_words_of_the_program() {
             0,
             "start repeats the open transfer",
         ),
+        (Code::AnswerLengthFalls, 0, "acknowledged length falls"),
         (Code::BundleCheckDiffers, 0, "B13 check differs"),
         (
             Code::BundleNoPayloadLast,
