@@ -17,14 +17,15 @@ size_by (Some kind) scan = scan_size scan
 abbrev pub read_size : DataReader → ℕ
 read_size now = size_by now.kind now.scan
 
--- the reader has read the data of this block that is in `seen`, the bytes of the bundle so far
+-- `seen` is the bytes of the bundle so far. If data of this block's type is read, the reader has
+-- read exactly the bytes of the data that are in `seen`.
 pub record IsDataReaderIn (now : DataReader) (seen : List ℕ) (block : CanonicalBlock) : Type 0 where
   pub kind : now.kind ≡ kind_of now.flags block.block_type
   pub scanned : (kind : DataKind) → now.kind ≡ Some kind
       → HasScanned kind now.scan (data_in seen block)
 
--- The reader has the flags of the bundle, if its primary block is whole. If the bytes end inside
--- the data of a block, the reader has read the data so far.
+-- The reader has the flags of the bundle, or 0 if its primary block is not whole. If the bytes end
+-- inside the data or the check field of a block, the reader has read this data so far.
 pub record IsDataReaderAt (now : DataReader) (seen : List ℕ) : Type 0 where
   pub flags : now.flags ≡ fold flags_after 0 (blocks_in seen)
   pub at_cut : bundle_goes seen ≡ true → (block : CanonicalBlock)

@@ -19,14 +19,15 @@ abbrev pub found_in : (flags : ℕ) → (content : List ℕ) → CanonicalBlock
 found_in flags content block =
     option_map (λ kind. data_of kind (data_in content block)) (kind_of flags block.block_type)
 
--- the offset in a block's data of the first head that is longer than its number needs, of the heads
--- that are read
+-- The offset, in a block's data, of the first head that is longer than its number needs. Only the
+-- heads that are read count. It is `None` if there is no such head, or the data is not read.
 abbrev pub long_head_in : (flags : ℕ) → (content : List ℕ) → CanonicalBlock → Option ℕ
 long_head_in flags content block =
     option_and_then (λ kind. long_head kind (data_in content block))
     (kind_of flags block.block_type)
 
--- the flags of the bundle, if `flags` were known before this block: the primary block has them
+-- the flags of the bundle after a block, if they were `flags` before it; only the primary block
+-- sets them
 abbrev pub flags_after : ℕ → Block → ℕ
 flags_after flags (PrimaryOf primary check end) = primary.flags
 flags_after flags (CanonicalOf block) = flags

@@ -38,6 +38,7 @@ impl DataReader {
         DataReader {
             flags: 0,
             kind: None,
+            // Any kind would do: `begin` restarts the scan before it reads a byte.
             scan: DataScan::new(DataKind::Record),
         }
     }
@@ -51,7 +52,7 @@ impl DataReader {
         self.kind = None;
     }
 
-    /// Begins the data of a block.
+    /// Begins the data of a block. If data of its type is not read, the kind is then `None`.
     fn begin(&mut self, block: &CanonicalBlock)
         ensures kind { self.new.kind ≡ kind_of self.old.flags block.now.block_type }
         ensures scan { (kind : DataKind) → self.new.kind ≡ Some kind
@@ -66,7 +67,7 @@ impl DataReader {
     }
 
     /// Reads those bytes of a block's data that are in `run`, which follows the first `before`
-    /// bytes of the bundle.
+    /// bytes of the bundle. If no byte of the data came before the run, it begins the data.
     #[inline(always)]
     fn take(&mut self, block: &CanonicalBlock, before: u64, run: &[u8])
         requires room { before + length run.now < 2 ^ 63 }
@@ -88,10 +89,10 @@ impl DataReader {
         }
     }
 
-    /// Reads the data in a run of the bundle that ends with this block. The run comes after the
-    /// bundle's first `before` bytes.
+    /// Reads the data in `run`, whose last byte is the last byte of the block `ended`. The run
+    /// comes after the bundle's first `before` bytes.
     ///
-    /// The scan has seen the run, and no block ends before the last byte of the run.
+    /// The scan has seen the run. No other block ends in it.
     #[inline(always)]
     pub fn follow(&mut self, before: u64, run: &[u8], ended: &BlockView<'_>, scan: &BundleScan)
         requires room { before + length run.now < 2 ^ 63 }
@@ -151,7 +152,8 @@ impl DataReader {
     }
 
     /// The offset of the first head that is longer than its number needs, in the data of the latest
-    /// block. Only the heads that are read count.
+    /// block. Only the heads that are read count. It is `None` if there is no such head, or the
+    /// data is not read.
     pub fn long_head(&self) -> Option<u64>
         ensures found { (seen : List ℕ) (block : CanonicalBlock)
             → IsDataReaderIn self.now seen block

@@ -5,6 +5,7 @@ use Rattle.link_bundle_types.specs.declared.fault.BundleFault.{BundleFault}
 use Rattle.link_bundle_types.specs.declared.info.{BundleInfo.BundleInfo, BundleView.BundleView}
 use Rattle.link_bundle_types.specs.EidView.{viewed_eid}
 
+-- the bundle that a view shows: the same fields, with the endpoint IDs that their views show
 abbrev pub viewed_info : BundleView → BundleInfo
 viewed_info view =
     record {
@@ -20,7 +21,7 @@ viewed_info view =
       payload = view.payload;
     }
 
--- the verdict whose bundle is shown by a view
+-- the verdict that has the bundle itself in place of its view; a fault stays
 abbrev pub viewed_verdict : Result BundleView (BundleFault × ℕ)
     → Result BundleInfo (BundleFault × ℕ)
 viewed_verdict (Ok view) = Ok (viewed_info view)

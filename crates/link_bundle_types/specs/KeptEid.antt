@@ -6,7 +6,7 @@ use Rattle.link_bundle_types.specs.declared.eid.Eid.TheVariants as eid
 use Rattle.link_bundle_types.specs.declared.kept_eid.EidForm.{EidForm}
 use Rattle.link_bundle_types.specs.declared.kept_eid.EidForm.TheVariants.{DtnNone, Dtn, Ipn, Ipn3}
 
--- the endpoint ID of this form; only the form `Dtn` has the name
+-- the endpoint ID of this form, with the name `name` if the form is `Dtn`; other forms have no name
 abbrev pub formed : EidForm → List ℕ → Eid
 formed DtnNone name = eid.DtnNone
 formed Dtn name = eid.Dtn (record { items = name })

@@ -4,7 +4,7 @@ use Rattle.std.specs.Prelude.{◌≤◌, length}
 use Rattle.link_bundle_types.specs.declared.eid.{Eid.Eid, Eid.TheVariants.{DtnNone, Dtn, Ipn, Ipn3}}
 use Rattle.link_bundle_types.specs.declared.info.BundleInfo.{BundleInfo}
 
--- the name of a dtn endpoint ID has at most 1,024 bytes
+-- the name of a dtn endpoint ID has at most 1,024 bytes; other endpoint IDs have no name
 abbrev pub IsShort : Eid → Type 0
 IsShort DtnNone = Unit {0}
 IsShort (Dtn name) = length name.items ≤ 1024

@@ -26,7 +26,7 @@ pub enum Eid {
 }
 
 impl Eid {
-    /// The endpoint ID that a view shows, whose dtn name has at most 1,024 bytes.
+    /// The endpoint ID that a view shows. If it has a dtn name, this has at most 1,024 bytes.
     pub fn of(view: EidView<'_>) -> Eid
         requires { IsShort (viewed_eid view) }
         ensures { result ≡ viewed_eid view.entry }

@@ -76,7 +76,8 @@ impl KeptEid {
 
     /// Appends bytes to the dtn name.
     ///
-    /// The endpoint ID must have a dtn name. With these bytes, the name must have at most 1,024.
+    /// The endpoint ID must have a dtn name. With the new bytes, the name must have at most 1,024
+    /// bytes.
     // Kept out of line: dtn names are rare, and copying one calls a function anyway.
     #[cold]
     #[inline(never)]

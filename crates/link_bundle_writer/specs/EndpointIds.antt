@@ -11,15 +11,16 @@ eid_bytes (Ipn node service) = array 2 ++ unsigned 2 ++ array 2 ++ unsigned node
 eid_bytes (Ipn3 allocator node service) =
     array 2 ++ unsigned 2 ++ array 3 ++ unsigned allocator ++ unsigned node ++ unsigned service
 
--- whether a dtn name has at most 1,024 bytes
+-- whether a dtn name has at most 1,024 bytes; other endpoint IDs have no name
 abbrev pub is_short : Eid → Bool
 is_short (Dtn name) = nat_le (length name.items) 1024
 is_short _ = true
 
+-- the bytes of an endpoint ID, or `None` if its dtn name is too long to be written
 abbrev pub eid_of : Eid → Option (List ℕ)
 eid_of eid = if is_short eid then Some (eid_bytes eid) else None
 
--- each number fits in 64 bits
+-- each number of an ipn endpoint ID fits in 64 bits
 abbrev pub EidFits : Eid → Type 0
 EidFits (Ipn node service) = (node < 2 ^ 64) × (service < 2 ^ 64)
 EidFits (Ipn3 allocator node service) =

@@ -14,7 +14,7 @@ use Rattle.link_bundle_writer.specs.NewBundles.{NewBlock, block_bytes, bundle_by
 
 -- ---- what is written
 
--- each number fits in 64 bits
+-- each number of a primary block fits in 64 bits
 pub record PrimaryFits (primary : Primary) : Type 0 where
   pub flags : primary.flags < 2 ^ 64
   pub destination : EidFits primary.destination
@@ -26,28 +26,32 @@ pub record PrimaryFits (primary : Primary) : Type 0 where
   pub fragment : IfSome primary.fragment
       (λ (offset, total). (offset < 2 ^ 64) × (total < 2 ^ 64))
 
+-- Each number of a canonical block fits in 64 bits, the length of its data too. Its number agrees
+-- with its type.
 pub record BlockFits (block : NewBlock) : Type 0 where
   pub type : block.type < 2 ^ 64
   pub number : block.number < 2 ^ 64
   pub flags : block.flags < 2 ^ 64
   pub size : length block.content < 2 ^ 64
-  -- the payload block (type 1) has number 1 and no other block has it, and none has number 0
+  -- Only the payload block (type 1) has number 1, and it has no other. No block has number 0.
   pub fits : fits_type block.type block.number ≡ true
 
 -- canonical blocks before the payload block, and the payload block
 abbrev pub all_blocks : (others : List NewBlock) (payload : NewBlock) → List NewBlock
 all_blocks others payload = others ++ payload ∷ []
 
+-- what `BundleReadsBack` asks of a primary block and of the blocks after it
 pub record IsWellFormed (primary : Primary) (others : List NewBlock)
     (payload : NewBlock) : Type 0 where
   pub fits : PrimaryFits primary
-  -- flag 01 says whether it is a fragment, and dtn names have at most 1,024 bytes
+  -- flag 01 says whether the bundle is a fragment, and dtn names have at most 1,024 bytes
   pub writable : primary_is_writable primary ≡ true
   pub blocks : All BlockFits (all_blocks others payload)
   pub distinct : IsDistinct ◌==◌ (map (λ (block : NewBlock). block.number) (all_blocks others payload))
-  -- a scan takes at most 64 canonical blocks
+  -- with the payload block, at most 64 canonical blocks: a scan accepts no more
   pub few : length others < 64
-  -- So its number is 1. No other block has this number, so none has this type.
+  -- The last block is the payload block, so its number is 1 (`blocks`). No other block has number 1
+  -- (`distinct`), so there is no other payload block.
   pub last : payload.type ≡ 1
 
 -- ---- what is read
@@ -79,6 +83,7 @@ pub record IsReadBack (primary : Primary) (check : Option CheckKind) (others : L
       ≡ PrimaryOf primary check (1 + length (primary_bytes primary check))
       ∷ blocks_from (1 + length (primary_bytes primary check)) (all_blocks others payload)
 
+-- A law: a well-formed bundle is a good one, and what is read of it is what it was written from.
 abbrev pub BundleReadsBack : Type 0
 BundleReadsBack =
     (primary : Primary) (check : Option CheckKind) (others : List NewBlock) (payload : NewBlock) →

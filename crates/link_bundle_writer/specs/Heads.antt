@@ -34,15 +34,15 @@ array count = head_bytes 4 count
 
 -- ---- laws
 
--- A head is read as it was written, whatever bytes follow it. (Major type 7 is that of simple
--- values, which no head of a bundle is but the break.)
+-- A law: a head is read as it was written, whatever bytes follow it. Major type 7 is left out: of
+-- its heads, a bundle has only the break.
 abbrev pub HeadReadsBack : Type 0
 HeadReadsBack =
     (major value : ℕ) (more : List ℕ) → major < 7 → value < 2 ^ 64 →
     head_front (head_bytes major value ++ more)
     ≡ Whole (record { major = major; value = Some value }) (length (head_bytes major value))
 
--- No head of the same meaning is shorter.
+-- A law: no head with the same major type and value is shorter than `head_bytes`.
 abbrev pub HeadIsShortest : Type 0
 HeadIsShortest =
     (bytes : List ℕ) (major value size : ℕ) → AreBytes bytes →

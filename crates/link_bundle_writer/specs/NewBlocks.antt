@@ -10,7 +10,7 @@ use Rattle.link_writing.specs.Numbers.{be}
 
 -- ---- check fields
 
--- the type of a check (section 4.2.1)
+-- the check type of a block, which is 0 if the block has no check (section 4.2.1)
 abbrev pub check_type : Option CheckKind → ℕ
 check_type None = 0
 check_type (Some Crc16) = 1
@@ -23,66 +23,74 @@ check_field kind block =
     let zeros = byte_string (check_width kind) ++ replicate (check_width kind) 0 in
     byte_string (check_width kind) ++ be (check_width kind) (crc kind (block ++ zeros))
 
--- the check field, if the block has one
+-- the check field, or no bytes if the block has no check
 abbrev pub check_bytes : Option CheckKind → (block : List ℕ) → List ℕ
 check_bytes None block = []
 check_bytes (Some kind) block = check_field kind block
 
--- the block with its check field
+-- the whole block: `block` are its bytes before the check field
 abbrev pub checked : Option CheckKind → (block : List ℕ) → List ℕ
 checked check block = block ++ check_bytes check block
 
 -- ---- the primary block
 
--- the fragment offset and the total length, which only a fragment has
+-- the number of elements that a block has only in a fragment: the fragment offset and the total
+-- length
 abbrev pub fragment_elements : Option (ℕ × ℕ) → ℕ
 fragment_elements None = 0
 fragment_elements (Some fragment) = 2
 
+-- the fragment offset and the total length, or no bytes if the bundle is no fragment
 abbrev pub fragment_bytes : Option (ℕ × ℕ) → List ℕ
 fragment_bytes None = []
 fragment_bytes (Some (offset, total)) = unsigned offset ++ unsigned total
 
--- The primary block up to its check field (section 4.3.1): an array of the version, the flags and
--- the check type, ..
+-- the beginning of the primary block (section 4.3.1): the head of its array, and the first
+-- elements, which are the version (7), the flags and the check type
 abbrev pub primary_front : Primary → Option CheckKind → List ℕ
 primary_front primary check =
     array (8 + fragment_elements primary.fragment + check_elements check)
     ++ unsigned 7 ++ unsigned primary.flags ++ unsigned (check_type check)
 
--- .. of the destination, the source node and the report-to endpoint, ..
+-- the next elements: the destination, the source node and the report-to endpoint
 abbrev pub primary_eids : Primary → List ℕ
 primary_eids primary =
     eid_bytes primary.destination ++ eid_bytes primary.source ++ eid_bytes primary.report_to
 
--- .. of the creation timestamp (section 4.2.7) and the lifetime, and in a fragment of its offset
--- and the total length
+-- the last elements before the check field: the creation timestamp (section 4.2.7), which is an
+-- array of two, the lifetime, and in a fragment its offset and the total length
 abbrev pub primary_rest : Primary → List ℕ
 primary_rest primary =
     array 2 ++ unsigned primary.time ++ unsigned primary.sequence
     ++ unsigned primary.lifetime ++ fragment_bytes primary.fragment
 
+-- the primary block up to its check field
 unfoldable pub primary_elements : Primary → Option CheckKind → List ℕ
 primary_elements primary check =
     primary_front primary check ++ primary_eids primary ++ primary_rest primary
 
+-- the primary block, with its check field if it has one
 unfoldable pub primary_bytes : Primary → Option CheckKind → List ℕ
 primary_bytes primary check = checked check (primary_elements primary check)
 
--- whether the flags say what the fragment is: flag 01 is set in a fragment alone (section 4.2.3)
+-- Whether flag 01, which is set in a fragment alone (section 4.2.3), agrees with the fragment
+-- offset and the total length: either the flag is set and both are there, or neither.
 abbrev pub says_fragment : Bool → Option (ℕ × ℕ) → Bool
 says_fragment true (Some fragment) = true
 says_fragment false None = true
 says_fragment _ _ = false
 
+-- whether the dtn names of the three endpoint IDs have at most 1,024 bytes each
 abbrev pub has_short_names : Primary → Bool
 has_short_names primary =
     is_short primary.destination && (is_short primary.source && is_short primary.report_to)
 
+-- whether a primary block with these fields is written; no scan accepts any other
 unfoldable pub primary_is_writable : Primary → Bool
 primary_is_writable primary =
     says_fragment (is_fragment primary.flags) primary.fragment && has_short_names primary
 
+-- the bytes of the primary block, or `None` if it is not writable
 abbrev pub primary_of : Primary → Option CheckKind → Option (List ℕ)
 primary_of primary check =
     if primary_is_writable primary then Some (primary_bytes primary check) else None
@@ -96,7 +104,8 @@ block_head type number flags check size =
     array (5 + check_elements check) ++ unsigned type ++ unsigned number ++ unsigned flags
     ++ unsigned (check_type check) ++ byte_string size
 
--- no block has number 0, and the payload block alone has type 1 and number 1 (section 4.1)
+-- `block_head`, or `None` if the number does not agree with the type: no block has number 0, and
+-- the payload block (type 1) alone has number 1 (section 4.1).
 abbrev pub block_head_of : (type number flags : ℕ) → Option CheckKind → (size : ℕ)
     → Option (List ℕ)
 block_head_of type number flags check size =

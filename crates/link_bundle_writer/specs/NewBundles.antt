@@ -13,14 +13,15 @@ pub record NewBlock : Type 0 where
   pub check : Option CheckKind
   pub content : List ℕ
 
--- its head, its data, and its check field
+-- the bytes of a canonical block: its head, its data, and its check field if it has one
 unfoldable pub block_bytes : NewBlock → List ℕ
 block_bytes block =
     checked block.check
     (block_head block.type block.number block.flags block.check (length block.content)
     ++ block.content)
 
--- an array of indefinite length: its first byte, the primary block, canonical blocks, and the break
+-- a bundle, which is an array of indefinite length: the head of the array (9f), the primary block,
+-- canonical blocks, and the break (ff)
 unfoldable pub bundle_bytes : Primary → Option CheckKind → List NewBlock → List ℕ
 bundle_bytes primary check blocks =
     0x9f ∷ (primary_bytes primary check ++ flat_map block_bytes blocks ++ 0xff ∷ [])

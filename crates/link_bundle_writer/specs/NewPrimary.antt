@@ -3,6 +3,7 @@ use Rattle.link_bundle_types.specs.EidView.{viewed_eid}
 use Rattle.link_bundle_blocks.specs.Blocks.{Primary}
 use Rattle.link_bundle_writer.specs.declared.primary.NewPrimary.{NewPrimary}
 
+-- the fields of the primary block; its check is not among them
 abbrev pub viewed_new : NewPrimary → Primary
 viewed_new new =
     record {

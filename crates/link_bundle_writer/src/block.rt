@@ -40,12 +40,12 @@ fn fits_type(block_type: u64, number: u64) -> bool
     number != 0 && (block_type == PAYLOAD) == (number == PAYLOAD)
 }
 
-/// Writes a canonical block up to its data to the start of the slice.
+/// Writes a canonical block up to its data to the start of the slice. Returns the number of bytes.
 ///
 /// # Errors
 ///
-/// The block number is 0, or it is 1 and the block is no payload block, or the other way round. Or
-/// the slice is too small.
+/// The block number is 0; or it is 1, but the block is no payload block; or the block is the
+/// payload block, but its number is not 1. Or the slice is too small.
 #[tactic(auto, unfolding(crate::specs::NewBlocks::block_head))]
 pub fn write_block_head(head: &BlockHead, slice: &mut [u8]) -> Result<usize, WriteFault>
     ensures { WritesSlice (block_head_of head.now.block_type head.now.number head.now.flags

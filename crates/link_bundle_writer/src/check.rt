@@ -21,7 +21,7 @@ const TWO_BYTES: u8 = 0x42;
 
 const FOUR_BYTES: u8 = 0x44;
 
-/// The type of a check (RFC 9171 section 4.2.1).
+/// The check type of a block, which is 0 if the block has no check (RFC 9171 section 4.2.1).
 pub(crate) fn check_type(check: Option<CheckKind>) -> u64
     ensures { result ≡ check_type check }
 {
@@ -64,7 +64,8 @@ pub(crate) fn check_field(kind: CheckKind, mut check: Check) -> Field
     field
 }
 
-/// The check field of these bytes of a block, if it has one.
+/// The check field of a block whose bytes before the field are `block`. It is empty if the block
+/// has no check.
 pub(crate) fn field_of(check: Option<CheckKind>, block: &[u8]) -> Field
     ensures { result.items ≡ check_bytes check block.now }
 {
@@ -80,12 +81,13 @@ pub(crate) fn field_of(check: Option<CheckKind>, block: &[u8]) -> Field
 
 /// Writes the check field of a block to the start of the slice.
 ///
-/// All bytes of the block before the field were pushed to `check`, which is of this kind: the head
-/// of the block and its data. The field counts itself, as the RFC asks.
+/// `check` is of this kind. All bytes of the block before the field were pushed to it: the head of
+/// the block and its data. The check value also covers the field, where zeros stand in for the
+/// value (RFC 9171 section 4.2.2). Returns the number of bytes written.
 ///
 /// # Errors
 ///
-/// The slice has less than three bytes, or five.
+/// The slice is too small. The field has three bytes for a CRC-16, and five for a CRC-32.
 pub fn write_check(kind: CheckKind, check: &Check, slice: &mut [u8]) -> Result<usize, WriteFault>
     ensures { (block : List ℕ) → HasPushed kind check.now block
         → WritesSlice (Some (check_field kind block)) slice.old slice.new result }

@@ -13,7 +13,10 @@ pub const AGE_MAX: usize = 9;
 /// A room for the data of every hop count block.
 pub const HOP_COUNT_MAX: usize = 27;
 
-/// Writes the data of a bundle age block, in milliseconds (RFC 9171 section 4.4.2).
+/// Writes the data of a bundle age block (RFC 9171 section 4.4.2) to the start of the slice.
+/// Returns the number of bytes.
+///
+/// `age` is in milliseconds.
 ///
 /// # Errors
 ///
@@ -27,7 +30,8 @@ pub fn write_age(age: u64, slice: &mut [u8]) -> Result<usize, WriteFault>
     write_bytes(bytes.as_slice(), slice)
 }
 
-/// Writes the data of a hop count block: the hop limit and the hop count (RFC 9171 section 4.4.3).
+/// Writes the data of a hop count block (RFC 9171 section 4.4.3) to the start of the slice: the hop
+/// limit and the hop count. Returns the number of bytes.
 ///
 /// # Errors
 ///

@@ -19,7 +19,7 @@ const DTN: u64 = 1;
 
 const IPN: u64 = 2;
 
-/// Whether a dtn name has at most 1,024 bytes.
+/// Whether a dtn name has at most 1,024 bytes. Other endpoint IDs have no name.
 pub(crate) fn is_short(eid: &EidView<'_>) -> bool
     ensures { result ≡ is_short (viewed_eid eid.now) }
 {
@@ -64,7 +64,7 @@ pub(crate) fn put_eid<const N: usize>(buffer: &mut ArrayVec<u8, N>, eid: &EidVie
     }
 }
 
-/// Writes an endpoint ID to the start of the slice.
+/// Writes an endpoint ID to the start of the slice. Returns the number of bytes.
 ///
 /// It is also the data of a previous node block (RFC 9171 section 4.4.1).
 ///

@@ -49,7 +49,7 @@ pub struct NewPrimary<'a> {
     pub fragment: Option<(u64, u64)>,
 }
 
-/// Whether the flags say what the fragment is.
+/// Whether flag 01 and `fragment` agree on whether the bundle is a fragment.
 fn says_fragment(flags: u64, fragment: Option<(u64, u64)>) -> bool
     ensures { result ≡ says_fragment (is_fragment flags) fragment }
 {
@@ -80,7 +80,8 @@ fn fragment_elements(fragment: Option<(u64, u64)>) -> u64
     }
 }
 
-/// Appends the array's head, the version, the flags and the check type.
+/// Appends the array's head, the version, the flags and the check type: four heads, of at most nine
+/// bytes each.
 fn put_front(elements: &mut Elements, primary: &NewPrimary<'_>)
     requires { elements.old.items ≡ [] }
     ensures items { elements.new.items ≡ primary_front (viewed_new primary.now) primary.now.check }
@@ -93,7 +94,7 @@ fn put_front(elements: &mut Elements, primary: &NewPrimary<'_>)
     put_unsigned(elements, check_type(primary.check));
 }
 
-/// Appends the three endpoint IDs.
+/// Appends the three endpoint IDs, of at most `EID_MAX` bytes each.
 fn put_eids(elements: &mut Elements, primary: &NewPrimary<'_>)
     requires short { has_short_names (viewed_new primary.now) ≡ true }
     requires room { array_vec_len elements.old ≤ 36 }
@@ -121,7 +122,7 @@ fn put_rest(elements: &mut Elements, primary: &NewPrimary<'_>)
     }
 }
 
-/// The block up to its check field.
+/// The primary block up to its check field.
 #[tactic(auto, unfolding(crate::specs::NewBlocks::primary_elements))]
 fn elements_of(primary: &NewPrimary<'_>) -> Elements
     requires { has_short_names (viewed_new primary.now) ≡ true }
@@ -134,7 +135,8 @@ fn elements_of(primary: &NewPrimary<'_>) -> Elements
     elements
 }
 
-/// Writes a primary block, with its check field, to the start of the slice.
+/// Writes a primary block, with its check field, to the start of the slice. Returns the number of
+/// bytes.
 ///
 /// # Errors
 ///

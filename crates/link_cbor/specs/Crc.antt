@@ -16,7 +16,7 @@ abbrev pub all_ones : CheckKind → ℕ
 all_ones Crc16 = 0xffff
 all_ones Crc32 = 0xffff_ffff
 
--- the lowest bits of a number, the least significant first
+-- the lowest `count` bits of a number, the least significant first
 unfoldable pub low_bits : ℕ → ℕ → List ℕ
 low_bits zero number = []
 low_bits (suc count) number = (number % 2) ∷ low_bits count (number / 2)
@@ -25,13 +25,13 @@ low_bits (suc count) number = (number % 2) ∷ low_bits count (number / 2)
 unfoldable pub all_bits : List ℕ → List ℕ
 all_bits bytes = flat_map (low_bits 8) bytes
 
--- One bit of the message shifts the register right by one. If the bit shifted out differs from the
--- message's bit, the polynomial is exclusive-ored in.
+-- The register after one more bit of the input. It is shifted right by one. If the bit shifted out
+-- differs from the input's bit, the polynomial is exclusive-ored in.
 unfoldable pub turn : CheckKind → ℕ → ℕ → ℕ
 turn kind register bit =
     if register % 2 == bit then register / 2 else bit_xor (register / 2) (polynomial kind)
 
--- the register after these bytes, bit by bit
+-- the register after these bytes, whose bits come one by one; `register` is the one before them
 unfoldable pub register_after : CheckKind → ℕ → List ℕ → ℕ
 register_after kind register bytes = fold (turn kind) register (all_bits bytes)
 

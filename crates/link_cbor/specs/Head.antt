@@ -20,8 +20,9 @@ pub data HeadFront : Type 0 where
   IllFormed : HeadFront
   Whole : Head → ℕ → HeadFront
 
--- A head whose argument is in `size` bytes after the first. A simple value below 32 is ill-formed
--- in two bytes (section 3.3). Every other encoding is a head, even if it is longer than needed.
+-- A head whose argument is in `size` bytes after the first. It is ill-formed if it is a simple
+-- value (major type 7) below 32 in two bytes (section 3.3). Every other encoding is a head, even if
+-- it is longer than needed.
 unfoldable pub with_argument : ℕ → ℕ → ℕ → HeadFront
 with_argument major size argument =
     if (major == 7) && ((size == 1) && nat_lt argument 32) then IllFormed else
@@ -65,7 +66,7 @@ whole_of (Whole head size) = Some (head, size)
 abbrev pub is_indefinite : Head → Bool
 is_indefinite head = not (is_some head.value) && not (head.major == 7)
 
--- the outcome of a scan whose bytes so far begin with this
+-- the outcome of a scan, if this is what its bytes so far begin with
 abbrev pub step_at : HeadFront → HeadStep
 step_at Cut = More
 step_at IllFormed = Bad

@@ -41,8 +41,9 @@ stage_step Simple = More
 stage_step (WholeHead head) = Done head
 stage_step NoHead = Bad
 
--- The bounds that keep the argument in 64 bits. An argument has at most eight bytes, and those seen
--- encode `value`.
+-- Whether this can be the stage of a scan that has seen `count` bytes of a head. A head has at most
+-- nine bytes, and its argument at most eight. In an argument, `value` fits in the bytes of it that
+-- were seen, so the whole argument fits in 64 bits.
 unfoldable pub head_stage_fits : ℕ → HeadStage → Bool
 head_stage_fits count Start = count == 0
 head_stage_fits count (Argument major left value) =

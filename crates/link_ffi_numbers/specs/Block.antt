@@ -6,12 +6,13 @@ use Rattle.link_bundle_blocks.specs.Blocks.{Block, PrimaryOf, CanonicalOf}
 use Rattle.link_bundle_blocks.specs.declared.block.CanonicalBlock.{CanonicalBlock}
 use Rattle.link_ffi_numbers.specs.declared.block.BlockNumbers.{BlockNumbers}
 
--- the check type code (RFC 9171 section 4.2.1)
+-- the code of a block's check type (RFC 9171 section 4.2.1), which is 0 for no check
 abbrev pub check_type : Option CheckKind → ℕ
 check_type None = 0
 check_type (Some Crc16) = 1
 check_type (Some Crc32) = 2
 
+-- the numbers in place of a block, if there is none: all are 0
 abbrev pub no_block : BlockNumbers
 no_block =
     record {
@@ -27,7 +28,8 @@ no_block =
       data_seen = 0;
     }
 
--- a canonical block, of whose data `seen` bytes are there; its length is 0 if it is not whole
+-- A canonical block as numbers. `seen` is how many bytes of its data have come. Its length is 0 if
+-- the block is not whole.
 abbrev pub canonical_shown : CanonicalBlock → (seen : ℕ) → BlockNumbers
 canonical_shown block seen =
     record {
@@ -43,7 +45,8 @@ canonical_shown block seen =
       data_seen = seen;
     }
 
--- a whole block; the primary block begins after the byte that opens the bundle
+-- a whole block as numbers; the primary block begins at offset 1, after the byte that opens the
+-- bundle
 abbrev pub block_shown : Block → BlockNumbers
 block_shown (PrimaryOf primary check end) =
     record no_block {
@@ -55,13 +58,14 @@ block_shown (PrimaryOf primary check end) =
     }
 block_shown (CanonicalOf block) = canonical_shown block block.data_length
 
--- the block in whose data or check field the first `count` bytes of a bundle end, or no block
+-- The numbers of the block in whose data or check field the first `count` bytes of a bundle end, or
+-- of no block. How many bytes of the data have come follows from `count`.
 abbrev pub cut_shown : (count : ℕ) → Option CanonicalBlock → BlockNumbers
 cut_shown count None = no_block
 cut_shown count (Some block) =
     canonical_shown block (min block.data_length (count - block.data_start))
 
--- the first of these blocks, or no block
+-- the numbers of the first of these blocks, or of no block
 abbrev pub first_shown : List Block → BlockNumbers
 first_shown [] = no_block
 first_shown (block ∷ rest) = block_shown block

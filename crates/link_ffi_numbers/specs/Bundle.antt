@@ -13,7 +13,8 @@ use Rattle.link_ffi_numbers.specs.Fault.{no_fault, bundle_fault}
 use Rattle.link_ffi_numbers.specs.declared.{fault.Fault.Fault, bundle.Bundle.Bundle}
 use Rattle.link_ffi_numbers.specs.declared.bundle.{EidNumbers.EidNumbers, Verdict.Verdict}
 
--- TCPCLKIT_TRUNCATED, TCPCLKIT_OK or TCPCLKIT_FAULT
+-- the status that a call returns for a scan in this state: TCPCLKIT_TRUNCATED, TCPCLKIT_OK or
+-- TCPCLKIT_FAULT
 abbrev pub state_status : State → ℕ
 state_status Going = 2
 state_status Ended = 0
@@ -24,14 +25,15 @@ abbrev pub fault_of : Result BundleInfo (BundleFault × ℕ) → Fault
 fault_of (Ok info) = no_fault
 fault_of (Err (fault, offset)) = bundle_fault fault offset
 
--- the fault of a verdict, and the offset and the number of the payload's bytes, if they are known
+-- a verdict as numbers, from its fault and from the offset of the payload with the number of its
+-- bytes that have come; the `Option` is `None` if the payload's offset is not known
 abbrev pub with_span : Fault → Option (ℕ × ℕ) → Verdict
 with_span fault None =
     record { fault = fault; has_payload = 0; payload_offset = 0; payload_seen = 0 }
 with_span fault (Some (offset, count)) =
     record { fault = fault; has_payload = 1; payload_offset = offset; payload_seen = count }
 
--- a verdict, and where the payload's bytes are, as numbers
+-- a verdict as numbers, with the offset of the payload and the number of its bytes that have come
 abbrev pub verdict_shown : Result BundleInfo (BundleFault × ℕ) → Option (ℕ × ℕ) → Verdict
 verdict_shown outcome span = with_span (fault_of outcome) span
 
@@ -40,7 +42,7 @@ pub record ReturnsVerdict (bytes : List ℕ) (answer : Verdict) (status : ℕ) :
   pub numbers : answer ≡ verdict_shown (verdict bytes) (payload_seen bytes)
   pub answers : status ≡ state_status (state_of (verdict bytes))
 
--- the numbers of no endpoint ID
+-- the numbers in place of an endpoint ID, if there is none: all are 0
 abbrev pub no_eid : EidNumbers
 no_eid = record { kind = 0; allocator = 0; node = 0; service = 0; name_length = 0 }
 
@@ -52,7 +54,7 @@ eid_shown (Ipn node service) = record no_eid { kind = 3; node = node; service = 
 eid_shown (Ipn3 allocator node service) =
     record no_eid { kind = 4; allocator = allocator; node = node; service = service }
 
--- the name of a dtn endpoint ID, which the others do not have
+-- the name of an endpoint ID; only those of the kind `Dtn` have one, and for the others it is empty
 abbrev pub name_of : Eid → List ℕ
 name_of (Dtn name) = name.items
 name_of _ = []
@@ -78,6 +80,7 @@ eid_by eid name =
     else if eid.kind == 4 then Some (Ipn3 eid.allocator eid.node eid.service)
     else None
 
+-- the endpoint ID that a view shows, or `None` for no view
 abbrev pub viewed_option : Option EidView → Option Eid
 viewed_option None = None
 viewed_option (Some view) = Some (viewed_eid view)
@@ -104,7 +107,7 @@ primary_shown verdict primary =
       payload_length = 0;
     }
 
--- whether there is a fragment, its offset, and its total length
+-- 1, the offset of a fragment and the total length; or three zeros if the bundle is no fragment
 abbrev pub fragment_shown : Option (ℕ × ℕ) → ℕ × (ℕ × ℕ)
 fragment_shown None = (0, (0, 0))
 fragment_shown (Some fragment) = (1, fragment)

@@ -13,8 +13,8 @@ use Rattle.link_ffi_numbers.specs.declared.fault.Fault.{Fault}
 abbrev pub no_fault : Fault
 no_fault = record { code = 0; number = 0; offset = 0 }
 
--- The code of a bundle's fault: 100 and its number in docs/FORMATS.md. Three faults have the code
--- 105.
+-- The code of a bundle's fault: 100 plus the fault's number in docs/FORMATS.md. Three faults have
+-- the code 105.
 abbrev pub bundle_code : BundleFault → ℕ
 bundle_code Cut = 101
 bundle_code Trailing = 102
@@ -36,10 +36,11 @@ bundle_code RepeatedBlockNumber = 115
 bundle_code TooManyBlocks = 116
 bundle_code NoPayloadLast = 117
 
+-- a bundle's fault as numbers, at this offset in the bundle
 abbrev pub bundle_fault : BundleFault → ℕ → Fault
 bundle_fault fault offset = record { code = bundle_code fault; number = 0; offset = offset }
 
--- the code of a fault of a recording, and the number that it is about
+-- the code of a fault of a recording, and the number that the fault is about, or 0
 abbrev pub wire_numbers : WireFault → ℕ × ℕ
 wire_numbers Truncated = (1, 0)
 wire_numbers BadMagic = (2, 0)
@@ -50,12 +51,12 @@ wire_numbers (ListTooLong size) = (6, size)
 wire_numbers TooManyItems = (7, 0)
 wire_numbers ItemsOverrun = (8, 0)
 
--- the fault of a recording, in the message that begins at `offset`
+-- the fault of a recording as numbers, in the message that begins at `offset`
 abbrev pub wire_fault : WireFault → ℕ → Fault
 wire_fault fault offset =
     record { code = (wire_numbers fault).0; number = (wire_numbers fault).1; offset = offset }
 
--- TCPCLKIT_TRUNCATED or TCPCLKIT_FAULT
+-- the status that a call returns for a fault of a recording: TCPCLKIT_TRUNCATED or TCPCLKIT_FAULT
 abbrev pub wire_status : WireFault → ℕ
 wire_status Truncated = 2
 wire_status _ = 4

@@ -12,6 +12,7 @@ use Rattle.link_transfer.specs.declared.joiner.Turn.TheVariants.{Other, Begin, C
 use Rattle.link_ffi_numbers.specs.declared.order.{Order.Order, Turn.Turn}
 use Rattle.link_ffi_numbers.specs.declared.recording.Message as numbers
 
+-- the code of a fault of the order of messages
 abbrev pub order_code : OrderFault → ℕ
 order_code SecondSessInit = 51
 order_code SegmentBeforeSessInit = 52
@@ -19,7 +20,8 @@ order_code NoSuchOpenTransfer = 53
 order_code StartRepeatsOpenId = 54
 order_code StartAfterSessTerm = 55
 
--- the event of a message with these numbers
+-- the event of a message with these numbers: kind 7 is SESS_INIT, 5 is SESS_TERM, and 1 is
+-- XFER_SEGMENT
 abbrev pub event_by : numbers.Message → Event
 event_by it =
     if it.kind == 7 then event.SessInit
@@ -27,19 +29,20 @@ event_by it =
     else if it.kind == 1 then event.Segment it.flags it.id
     else event.Other
 
--- The message has these numbers: its kind and, if it is a segment, its flags and its ID. The order
--- depends on nothing else. Flags have one byte.
+-- The message has this kind. If it is no segment, the order depends on nothing else. Its flags have
+-- one byte.
 pub record IsKind (wanted : ℕ) (it : numbers.Message) : Type 0 where
   pub same : it.kind ≡ wanted
   pub byte : it.flags ≤ 255
 
+-- the message is an XFER_SEGMENT with these flags and this ID; the order depends on nothing else
 pub record IsSegment (flags id : ℕ) (it : numbers.Message) : Type 0 where
   pub same : it.kind ≡ 1
   pub same_flags : it.flags ≡ flags
   pub same_id : it.id ≡ id
   pub byte : flags ≤ 255
 
--- the message has these numbers, as far as the order depends on them
+-- the numbers `it` are those of the message, as far as the order depends on them
 abbrev pub HasNumbers : Message → numbers.Message → Type 0
 HasNumbers (message.SessInit interval segment_mru transfer_mru node items) it = IsKind 7 it
 HasNumbers (message.Segment head) it = IsSegment head.flags head.id it
@@ -54,7 +57,7 @@ abbrev pub bit : Bool → ℕ
 bit true = 1
 bit false = 0
 
--- a message that does nothing
+-- the numbers of a message that does nothing to the transfers
 abbrev pub no_turn : Turn
 no_turn = record { fault = 0; turn = 0; last = 0; abandons = 0; abandoned = 0 }
 
@@ -65,13 +68,13 @@ begin_shown None last = record no_turn { turn = 1; last = bit last }
 begin_shown (Some transfer) last =
     record no_turn { turn = 1; last = bit last; abandons = 1; abandoned = transfer }
 
--- what an accepted message does, as numbers
+-- what an accepted message does to the transfers, as numbers
 abbrev pub turn_shown : effect.Turn → Turn
 turn_shown Other = no_turn
 turn_shown (Begin transfer last) = begin_shown transfer last
 turn_shown (Continue last) = record no_turn { turn = 2; last = bit last }
 
--- the open transfer of these numbers; `transfer` is read only if `is_open` is 1
+-- the ID of the open transfer, or `None` if none is open; `transfer` is read only if `is_open` is 1
 abbrev pub transfer_by : (is_open transfer : ℕ) → Option ℕ
 transfer_by is_open transfer = if is_open == 1 then Some transfer else None
 
@@ -88,13 +91,15 @@ is_in_range order it =
     nat_le 1 it.kind && (nat_le it.kind 7 && (nat_le it.flags 255
     && (nat_le order.initiated 1 && (nat_le order.terminated 1 && nat_le order.is_open 1))))
 
--- the answer, by the judgement of the message; a refused message does nothing
+-- `answer` and `status` are what a call returns for a message with this judgement; a refused
+-- message does nothing
 abbrev pub ReturnsTurn : Result effect.Turn OrderFault → Turn → ℕ → Type 0
 ReturnsTurn (Ok turn) answer status = (status ≡ 0) × (answer ≡ turn_shown turn)
 ReturnsTurn (Err fault) answer status =
     (status ≡ 4) × (answer ≡ record no_turn { fault = order_code fault })
 
--- what a message does that was taken, as numbers; a stray segment does nothing and has `turn` 3
+-- what a message that was taken does to the transfers, as numbers; `None` is a stray segment, which
+-- does nothing and has `turn` 3
 abbrev pub effect_shown : Option effect.Turn → Turn
 effect_shown (Some turn) = turn_shown turn
 effect_shown None = record no_turn { turn = 3 }

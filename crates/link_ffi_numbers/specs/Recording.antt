@@ -17,14 +17,15 @@ use Rattle.link_ffi_numbers.specs.declared.recording.{Item.Item, Message.Message
 -- A field that does not apply to a status, or to a kind of message, is 0. tcpclkit.h names the
 -- kinds of each field.
 
--- the contact header, or its fault
+-- a contact header with these flags, without a fault
 abbrev pub contact_shown : (flags : ℕ) → Contact
 contact_shown flags = record { fault = no_fault; flags = flags }
 
+-- a fault in place of a contact header
 abbrev pub no_contact : Fault → Contact
 no_contact fault = record { fault = fault; flags = 0 }
 
--- the answer, by the reading of the contact header
+-- `answer` and `status` are what a call returns for this reading of the contact header
 pub record ReturnsContact (part : Part wire.Contact) (answer : Contact) (status : ℕ) : Type 0 where
   pub whole : (contact : wire.Contact) (rest : List ℕ) → part ≡ Ok (contact, rest)
       → (status ≡ 0) × (answer ≡ contact_shown contact.flags)
@@ -79,7 +80,7 @@ fields_shown (SessTerm flags reason) =
 fields_shown (MsgReject reason header) =
     record nothing { kind = 6; reason = reason; header = header }
 
--- where a part lies that the message does not have
+-- the span of a part that the message does not have
 abbrev pub nowhere : Span
 nowhere = record { offset = 0; length = 0 }
 
@@ -94,17 +95,18 @@ items_of (SessInit interval segment_mru transfer_mru) items = items
 items_of (Segment flags id size) items = items
 items_of _ items = nowhere
 
--- the number of data bytes of a message, by its head
+-- the number of data bytes of a message, by its head; 0 if it is no segment
 abbrev pub size_of : MessageAt → ℕ
 size_of found = (fields_shown found.fields).data_length
 
--- no fault, or `Truncated` at the offset of the message if its data is not all within `size` bytes
+-- no fault, or `Truncated` at the offset of the message if its data ends after the first `size`
+-- bytes
 abbrev pub data_fault : (size offset : ℕ) → MessageAt → Fault
 data_fault size offset found =
     if nat_le (size_of found) (size - found.end) then no_fault else wire_fault Truncated offset
 
--- The message at `offset` among `size` bytes, with the offsets of its parts. If its data is cut,
--- the next message begins after all of it, past the bytes. Numbers stop at 2^64 - 1.
+-- The message at `offset` among `size` bytes, with the offsets of its parts. `next` is the offset
+-- after all of its data, also if the bytes end before that. It is at most 2^64 - 1.
 abbrev pub message_shown : (size offset : ℕ) → MessageAt → Message
 message_shown size offset found =
     record (fields_shown found.fields) {
@@ -118,11 +120,12 @@ message_shown size offset found =
       next = min (found.end + size_of found) (2 ^ 64 - 1);
     }
 
--- TCPCLKIT_OK, or TCPCLKIT_DATA_TRUNCATED if the bytes end inside the data
+-- TCPCLKIT_OK, or TCPCLKIT_DATA_TRUNCATED if the first `size` bytes end inside the message's data
 abbrev pub data_status : ℕ → MessageAt → ℕ
 data_status size found = if nat_le (size_of found) (size - found.end) then 0 else 3
 
--- the numbers are those of the message, and its parts lie where they say
+-- the numbers are those of the message that the reading `part` has, and its parts lie where the
+-- numbers say
 pub record DescribesMessage (bytes : List ℕ) (offset : ℕ) (part : Part read.Message)
     (answer : Message) (status : ℕ) : Type 0 where
   pub found : MessageAt
@@ -130,7 +133,7 @@ pub record DescribesMessage (bytes : List ℕ) (offset : ℕ) (part : Part read.
   pub numbers : answer ≡ message_shown (length bytes) offset found
   pub gives : status ≡ data_status (length bytes) found
 
--- the answer, by the reading of the message at the offset
+-- `answer` and `status` are what a call returns for this reading of the message at the offset
 pub record ReturnsMessage (bytes : List ℕ) (offset : ℕ) (part : Part read.Message)
     (answer : Message) (status : ℕ) : Type 0 where
   pub whole : (message : read.Message) (rest : List ℕ) → part ≡ Ok (message, rest)
@@ -138,11 +141,11 @@ pub record ReturnsMessage (bytes : List ℕ) (offset : ℕ) (part : Part read.Me
   pub fault : (fault : WireFault) → part ≡ Err fault
       → (status ≡ wire_status fault) × (answer ≡ no_message (wire_fault fault offset))
 
--- whose list the extension items of a message are
+-- which list the extension items of a message form: that of a SESS_INIT, or that of a segment
 abbrev pub list_of : Message → ListOf
 list_of it = if it.kind == 7 then Session else Transfer
 
--- the offset after these items
+-- the offset after the extension items of a message
 abbrev pub items_end : Message → ℕ
 items_end it = it.items_offset + it.items_length
 
@@ -153,7 +156,7 @@ has_list_at size it offset =
     && (nat_le (items_end it) size
     && (nat_le it.items_offset offset && nat_le offset (items_end it))))
 
--- whether there is a total, and which
+-- 1 and the total, or two zeros if there is none
 abbrev pub total_shown : Option ℕ → ℕ × ℕ
 total_shown None = (0, 0)
 total_shown (Some total) = (1, total)
@@ -186,7 +189,8 @@ item_shown found =
       next = found.value + found.item.length;
     }
 
--- the total of the item that begins some bytes, in a list that has `left` more bytes
+-- The reading of the extension item that begins some bytes, in a list of which `left` bytes remain.
+-- Its value is the total of a Transfer Length item, or `None` for any other item.
 abbrev pub item_part : ListOf → ℕ → List ℕ → Part (Option ℕ)
 item_part owner left bytes = item_head_at left bytes >>= λ (head, rest). total_at owner head.kind head.length rest
 
@@ -198,7 +202,7 @@ pub record DescribesItem (owner : ListOf) (bytes : List ℕ) (offset left : ℕ)
   pub numbers : answer ≡ item_shown found
   pub gives : status ≡ 0
 
--- the answer, by the reading of the item at the offset
+-- `answer` and `status` are what a call returns for this reading of the item at the offset
 pub record ReturnsItem (owner : ListOf) (bytes : List ℕ) (offset left : ℕ)
     (part : Part (Option ℕ)) (answer : Item) (status : ℕ) : Type 0 where
   pub whole : (total : Option ℕ) (rest : List ℕ) → part ≡ Ok (total, rest)

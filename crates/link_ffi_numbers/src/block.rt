@@ -33,7 +33,7 @@ pub struct BlockNumbers {
     pub data_seen: u64,
 }
 
-/// The check type code (RFC 9171 section 4.2.1).
+/// The code of a block's check type (RFC 9171 section 4.2.1), which is 0 for no check.
 fn check_type(check: Option<CheckKind>) -> u64
     ensures { result ≡ check_type check }
 {
@@ -44,7 +44,7 @@ fn check_type(check: Option<CheckKind>) -> u64
     }
 }
 
-/// The numbers of no block.
+/// The numbers in place of a block, if there is none.
 fn no_block() -> BlockNumbers
     ensures { result ≡ no_block }
 {
@@ -77,7 +77,8 @@ fn primary_shown(block: &PrimaryBlock<'_>) -> BlockNumbers
     }
 }
 
-/// The numbers of a canonical block, of whose data that many bytes are there.
+/// The numbers of a canonical block. `data_seen` is how many bytes of its data have come. Its
+/// length is 0 if the block is not whole.
 fn canonical_shown(block: &CanonicalBlock, data_seen: u64) -> BlockNumbers
     ensures { result ≡ canonical_shown block.now data_seen }
 {

@@ -80,7 +80,7 @@ pub struct Bundle {
     pub payload_length: u64,
 }
 
-/// The status of a state.
+/// The status that a call returns for a scan in this state.
 pub fn state_status(state: State) -> u32
     ensures { result ≡ state_status state }
 {
@@ -91,7 +91,7 @@ pub fn state_status(state: State) -> u32
     }
 }
 
-/// The fault of a verdict.
+/// The fault of a verdict, or no fault for a good bundle.
 pub fn fault_of(view: Result<BundleView<'_>, (BundleFault, u64)>) -> Fault
     ensures { result ≡ fault_of (viewed_verdict view.entry) }
 {
@@ -101,7 +101,8 @@ pub fn fault_of(view: Result<BundleView<'_>, (BundleFault, u64)>) -> Fault
     }
 }
 
-/// A verdict, and where the payload's bytes are.
+/// The verdict with this fault, as numbers. `span` is the offset of the payload and the number of
+/// its bytes that have come, or `None` if the offset is not known.
 pub fn with_span(fault: Fault, span: Option<(u64, u64)>) -> Verdict
     ensures { result ≡ with_span fault span }
 {
@@ -121,7 +122,7 @@ pub fn with_span(fault: Fault, span: Option<(u64, u64)>) -> Verdict
     }
 }
 
-/// The numbers of no endpoint ID.
+/// The numbers in place of an endpoint ID, if there is none.
 fn no_eid() -> EidNumbers
     ensures { result ≡ no_eid }
 {

@@ -56,7 +56,7 @@ impl Fault {
     }
 }
 
-/// The code of a fault of a recording, and the number that it is about.
+/// The code of a fault of a recording, and the number that the fault is about, or 0.
 fn wire_numbers(fault: WireFault) -> (u64, u64)
     ensures { result ≡ wire_numbers fault }
 {
@@ -72,7 +72,7 @@ fn wire_numbers(fault: WireFault) -> (u64, u64)
     }
 }
 
-/// The status of a fault of a recording.
+/// The status that a call returns for a fault of a recording.
 pub fn wire_status(fault: WireFault) -> u32
     ensures { result ≡ wire_status fault }
 {
@@ -82,7 +82,7 @@ pub fn wire_status(fault: WireFault) -> u32
     }
 }
 
-/// The code of a bundle's fault: 100 and its number in docs/FORMATS.md.
+/// The code of a bundle's fault: 100 plus the fault's number in docs/FORMATS.md.
 fn bundle_code(fault: BundleFault) -> u64
     ensures { result ≡ bundle_code fault }
 {

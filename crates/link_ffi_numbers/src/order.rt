@@ -70,7 +70,7 @@ fn order_code(fault: OrderFault) -> u64
     }
 }
 
-/// The numbers of a message that does nothing.
+/// The numbers of a message that does nothing to the transfers.
 fn no_turn() -> Turn
     ensures { result ≡ no_turn }
 {
@@ -83,7 +83,7 @@ fn no_turn() -> Turn
     }
 }
 
-/// What an accepted message does, as numbers.
+/// What an accepted message does to the transfers, as numbers.
 fn turn_shown(turn: Effect) -> Turn
     ensures { result ≡ turn_shown turn }
 {
@@ -181,7 +181,8 @@ pub fn judge(order: &mut Order, event: Event, answer: &mut Turn) -> u32
     }
 }
 
-/// What a message does that was taken, as numbers; a stray segment does nothing and has `turn` 3.
+/// What a message that was taken does to the transfers, as numbers. `None` is a stray segment,
+/// which does nothing and has `turn` 3.
 fn effect_shown(effect: Option<Effect>) -> Turn
     ensures { result ≡ effect_shown effect }
 {

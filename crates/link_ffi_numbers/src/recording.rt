@@ -179,7 +179,8 @@ const NOWHERE: Span = Span {
     length: 0,
 };
 
-/// Where the node ID of a message is, and where its items are.
+/// Where the node ID of a message is, and where its extension items are. A part that the message
+/// does not have is `NOWHERE`.
 fn places_of(found: &MessageAt) -> (Span, Span)
     ensures node { result.0 ≡ node_of found.now.fields found.now.node }
     ensures items { result.1 ≡ items_of found.now.fields found.now.items }
@@ -221,7 +222,8 @@ pub fn shown(found: &MessageAt, size: usize, offset: u64) -> (Message, u32)
     }
 }
 
-/// Whether a message has a list of items in these bytes, and the offset is in it or at its end.
+/// Whether the message has a list of extension items in these bytes, and the offset is in the list
+/// or at its end.
 pub fn has_list_at(bytes: &[u8], message: &Message, offset: u64) -> bool
     ensures { result ≡ has_list_at (length bytes.now) message.now offset }
 {
@@ -233,7 +235,8 @@ pub fn has_list_at(bytes: &[u8], message: &Message, offset: u64) -> bool
         && offset <= end
 }
 
-/// Whose list the items of a message are, and how many bytes of it are left at the offset.
+/// Which list the extension items of a message form, and how many bytes of the list come after the
+/// offset.
 pub fn list_left(bytes: &[u8], message: &Message, offset: u64) -> (ListOf, u32)
     requires { has_list_at (length bytes.now) message.now offset ≡ true }
     ensures owner { result.0 ≡ list_of message.now }

@@ -18,7 +18,7 @@ use Rattle.link_ffi_tools.specs.declared.reading.Reading.TheVariants as reading
 abbrev pub has_nonzero : List ℕ → Bool
 has_nonzero words = list_any (λ word. nat_lt 0 word) words
 
--- the number of an option that has a word of its own to say whether it is set
+-- the number of an option that may be unset, or `None` unless `is_set`, a word of its own, is 1
 abbrev pub number_if : (is_set number : ℕ) → Option ℕ
 number_if is_set number = if is_set == 1 then Some number else None
 
@@ -53,12 +53,13 @@ wanted_of numbers =
       keep_going = numbers.keep_going == 1;
     }
 
--- the words are in their ranges
+-- The options are in their ranges, and the words after them are 0. The same holds for each
+-- definition `.._in_range` below.
 abbrev pub unpack_in_range : List ℕ → Bool
 unpack_in_range words =
     unpack_numbers_fit (unpack_numbers words) && not (has_nonzero (drop 4 words))
 
--- what is wanted by these words, or `None` if an option is out of its range
+-- what these words want of the recording, or `None` if an option is out of its range
 abbrev pub wanted_in : List ℕ → Option Wanted
 wanted_in words = if unpack_in_range words then Some (wanted_of (unpack_numbers words)) else None
 
@@ -94,10 +95,12 @@ block_options_of numbers =
       keep_going = numbers.keep_going == 1;
     }
 
+-- the tool `blocks` with these options: of bundles with `bundles`, or else of a recording
 abbrev pub blocks_of : BlocksNumbers → Reading
 blocks_of numbers =
     if numbers.bundles == 1 then reading.BundleBlocks else reading.Blocks (block_options_of numbers)
 
+-- `blocks` with the options that the words encode, or `None` if one is out of its range
 abbrev pub blocks_in : List ℕ → Option Reading
 blocks_in words =
     if blocks_in_range words then Some (blocks_of (blocks_numbers words)) else None
@@ -140,11 +143,13 @@ check_options_of numbers =
       };
     }
 
+-- the tool `check` with these options: of bundles with `bundles`, or else of a recording
 abbrev pub check_of : CheckNumbers → Reading
 check_of numbers =
     if numbers.bundles == 1 then reading.BundleCheck (numbers.must == 1)
     else reading.Check (check_options_of numbers)
 
+-- `check` with the options that the words encode, or `None` if one is out of its range
 abbrev pub check_in : List ℕ → Option Reading
 check_in words =
     if check_in_range words then Some (check_of (check_numbers words)) else None
@@ -164,13 +169,13 @@ pack_numbers words =
       send_term = get_or words 6 0;
     }
 
--- the options and the length of the node ID are in their ranges
+-- the options are in their ranges, and so is `size`, the length of the node ID
 abbrev pub pack_numbers_fit : PackNumbers → ℕ → Bool
 pack_numbers_fit numbers size =
     nat_le numbers.keepalive 65535 && (nat_le 1 numbers.peer_segment
     && (nat_le numbers.announce 1048576 && (nat_le numbers.send_term 1 && nat_le size 1024)))
 
--- the words and the length of the node ID are in their ranges
+-- the words and `size`, the length of the node ID, are in their ranges
 abbrev pub pack_in_range : List ℕ → ℕ → Bool
 pack_in_range words size =
     pack_numbers_fit (pack_numbers words) size && not (has_nonzero (drop 7 words))

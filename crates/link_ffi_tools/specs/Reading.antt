@@ -9,6 +9,7 @@ use Rattle.link_tool_unpack.specs.Unpacking.{unpack_tool}
 use Rattle.link_ffi_tools.specs.declared.reading.Reading.{Reading}
 use Rattle.link_ffi_tools.specs.declared.reading.Reading.TheVariants as reading
 
+-- what this tool, with its options, makes of an input
 abbrev pub reading_tool : Reading → Tool
 reading_tool reading.List = list_tool
 reading_tool (reading.Unpack wanted) = unpack_tool wanted

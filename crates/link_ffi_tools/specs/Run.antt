@@ -14,7 +14,7 @@ use Rattle.link_ffi_tools.specs.declared.running.Written.{Written}
 
 -- ---- how the run has gone
 
--- the texts are those of this outcome, and the run ended with its status
+-- these are the two texts of the outcome, and the run ended with its status
 pub record FinishedTexts (whole : Outcome) (output report : List ℕ) (status : Status) : Type 0 where
   pub output_is : output ≡ whole.texts.output
   pub report_is : report ≡ whole.texts.report
@@ -26,8 +26,8 @@ pub record RefusedTexts (output report : List ℕ) (fault : IoFault) : Type 0 wh
   pub no_report : report ≡ []
   pub lacks : fault ≡ io.Memory
 
--- What a run of the tool over these bytes has written. No device failed, so it has an exit status.
--- `None` is a tool that was refused its memory.
+-- What a run of the tool over these bytes has written. No device failed, so the run has an exit
+-- status. If the tool is `None`, its request for memory was refused.
 abbrev pub AfterSliceRun : Option Tool → (bytes output report : List ℕ) → Result Status IoFault
     → Type 0
 AfterSliceRun (Some tool) bytes output report (Ok status) =
@@ -36,8 +36,9 @@ AfterSliceRun (Some tool) bytes output report (Err fault) = ⊥
 AfterSliceRun None bytes output report (Ok status) = ⊥
 AfterSliceRun None bytes output report (Err fault) = RefusedTexts output report fault
 
--- The slice was `before`, and now is `slice`: the text was written to its start, as far as it fits.
--- `written` has the length of the whole text, up to 2^64 - 1, and whether all of it fits.
+-- The slice had the bytes `before`, and now has the bytes `slice`: the text was written to its
+-- start, as far as it fits. `written` has the length of the whole text, up to 2^64 - 1, and whether
+-- all of it fits.
 pub record IsWrittenOver (text before slice : List ℕ) (written : Written) : Type 0 where
   pub slice_is : slice ≡ overlaid before text
   pub count : written.count ≡ min (length text) (2 ^ 64 - 1)
@@ -54,7 +55,7 @@ pub record WrittenSlices (tool : Option Tool) (bytes : List ℕ) (old new : Slic
 
 -- ---- what a call returns
 
--- what a run of the tool has returned; `None` is a tool that was refused its memory
+-- what a run of the tool has returned; if the tool is `None`, its request for memory was refused
 abbrev pub ReturnsTool : Option Tool → List ℕ → Wants → (old new : Slices) → Run → ℕ → Type 0
 ReturnsTool (Some tool) bytes wants old new run status =
     ReturnsTexts (tool.whole bytes) wants old new run status

@@ -13,7 +13,8 @@ LeavesRest old new text = drop (length text) new ≡ drop (length text) old
 abbrev pub overlaid : (before text : List ℕ) → List ℕ
 overlaid before text = take (length before) text ++ drop (length text) before
 
--- a text that is written to a slice, after a label of this slice: the name of the reference to it,
--- its length, and the bytes that it had before
+-- What counts as written to a slice: a label of the slice, and then the text. The label is the name
+-- of the reference to the slice, its length, and the bytes that it had before. It shows that a run
+-- has returned the same slice.
 abbrev pub labelled : (name : ℕ) → (before text : List ℕ) → List ℕ
 labelled name before text = name ∷ length before ∷ (before ++ text)

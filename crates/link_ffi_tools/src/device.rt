@@ -26,6 +26,7 @@ impl<'a> SliceReader<'a> {
 impl InDevice for SliceReader<'_> {
     ghost state = { λ r. record { left = Some r.left.now; failed = false; held = r.left.now } };
 
+    /// Copies the next bytes into the buffer, as many as it has room for. It never fails.
     fn read(&mut self, buffer: &mut [u8]) -> Result<usize, DeviceFault> {
         let count = self.left.len().min(buffer.len());
         let (given, left) = self.left.split_at(count);
@@ -38,6 +39,7 @@ impl InDevice for SliceReader<'_> {
         false
     }
 
+    /// All bytes that were not read: they are at hand.
     fn held(&self) -> &[u8] {
         self.left
     }
@@ -98,6 +100,7 @@ impl OutDevice for SliceWriter<'_> {
       handed = Some (labelled w.room.ghost_name w.history.before w.history.text);
     } };
 
+    /// Appends bytes to the text. All of them count, also those for which the slice has no room.
     fn write(&mut self, bytes: &[u8]) -> Result<usize, DeviceFault> {
         copy_after(self.room, self.count, bytes);
         self.count = self.count.saturating_add(bytes.len() as u64);
@@ -109,6 +112,7 @@ impl OutDevice for SliceWriter<'_> {
         false
     }
 
+    /// Does nothing: the text is not held back.
     fn settle(&mut self) -> Result<(), DeviceFault> {
         Ok(())
     }

@@ -121,7 +121,7 @@ fn number_if(is_set: u64, number: u64) -> Option<u64>
     if is_set == 1 { Some(number) } else { None }
 }
 
-/// Whether a switch is 1 or 0, and a number that is not set is 0.
+/// Whether a switch and its number fit: the switch is 1, or both are 0.
 fn switch_fits(is_set: u64, number: u64) -> bool
     ensures { result ≡ switch_fits is_set number }
 {
@@ -319,7 +319,7 @@ pub fn pack_in_range(words: &[u64], node_length: usize) -> bool
     pack_numbers_fit(&numbers, node_length) && !has_nonzero(words_after(words, 7))
 }
 
-/// The options of `pack` with these numbers and this node ID.
+/// The `PackOptions` with these numbers and this node ID.
 pub fn packing_of(numbers: &PackNumbers, node: &[u8]) -> PackOptions
     requires { pack_numbers_fit numbers.now (length node.now) ≡ true }
     ensures { HasOptions result numbers.now node.now }

@@ -34,6 +34,7 @@ impl SliceTool for Reading {
 
     ghost ready = { λ reading. ⊤ };
 
+    /// Runs the tool of this name.
     fn run<'a, 'b, 'c>(
         self,
         reader: SliceReader<'a>,

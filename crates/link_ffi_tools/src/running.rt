@@ -95,7 +95,7 @@ fn run_between<'a, 'b, 'c, T: SliceTool>(
     tool.run(SliceReader::new(bytes), output, report)
 }
 
-/// Takes a writer out of its place, and leaves one that has no room there.
+/// Returns the writer, and leaves one without room in its place.
 fn taken<'a>(writer: &mut SliceWriter<'a>) -> SliceWriter<'a>
     ensures same_reference { result.room.ghost_name ≡ writer.old.room.ghost_name }
     ensures before { result.history.before ≡ writer.old.history.before }

@@ -3,7 +3,8 @@
 ghost use Rattle.std.specs.Prelude.{◌≡◌, ℕ, ◌-◌, ◌^◌, ◌≤◌, List, ◌++◌, length, min, nat_le, take, drop};
 ghost use Rattle.link_ffi_tools.specs.Slice.{HoldsPrefix, LeavesRest, overlaid};
 
-/// Copies the text into the slice, as far as there is room, and returns whether there was.
+/// Copies the text into the slice, as far as there is room. Returns whether there was room for all
+/// of it.
 ///
 /// The bytes after the text stay as they were.
 pub fn copy_front(slice: &mut [u8], text: &[u8]) -> bool

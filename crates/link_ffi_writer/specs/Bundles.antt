@@ -11,7 +11,8 @@ use Rattle.link_ffi_numbers.specs.Bundle.{no_eid, eid_by}
 use Rattle.link_ffi_numbers.specs.declared.block.BlockNumbers.{BlockNumbers}
 use Rattle.link_ffi_numbers.specs.declared.bundle.{Bundle.Bundle, EidNumbers.EidNumbers}
 
--- the check of this type (RFC 9171 section 4.2.1), if there is such a type
+-- The check of a block with this check type (RFC 9171 section 4.2.1). Type 0 is `Some None`: the
+-- block has no check. The result is `None` if there is no such type.
 abbrev pub check_by : (type : ℕ) → Option (Option CheckKind)
 check_by type =
     if type == 0 then Some None
@@ -19,7 +20,9 @@ check_by type =
     else if type == 2 then Some (Some Crc32)
     else None
 
--- the fragment of these numbers; a bundle that is no fragment has 0 in both fields
+-- The offset and the total length of a fragment with these numbers. For a bundle that is no
+-- fragment, which has 0 in both fields, it is `Some None`. The result is `None` if no bundle has
+-- these numbers.
 abbrev pub fragment_by : (is_fragment offset total : ℕ) → Option (Option (ℕ × ℕ))
 fragment_by is_fragment offset total =
     if is_fragment == 1 then Some (Some (offset, total))
@@ -32,6 +35,7 @@ pub record Names : Type 0 where
   pub source : List ℕ
   pub report_to : List ℕ
 
+-- the primary block with the numbers of a bundle, these endpoint IDs, and this fragment
 abbrev pub primary_with : Bundle → (destination source report_to : Eid) → Option (ℕ × ℕ) → Primary
 primary_with bundle destination source report_to fragment =
     record {
@@ -45,7 +49,7 @@ primary_with bundle destination source report_to fragment =
       fragment = fragment;
     }
 
--- the primary block of a bundle with these numbers and these names
+-- the primary block of a bundle with these numbers and these names, or `None` if no bundle has them
 abbrev pub primary_by : Bundle → Names → Option Primary
 primary_by bundle names =
     option_and_then (λ destination.
@@ -57,14 +61,14 @@ primary_by bundle names =
     (eid_by bundle.source names.source))
     (eid_by bundle.destination names.destination)
 
--- its bytes, with a check of this type
+-- the bytes of that primary block, with a check of this type; `None` if it cannot be written
 abbrev pub primary_bytes_by : Bundle → (type : ℕ) → Names → Option (List ℕ)
 primary_bytes_by bundle type names =
     option_and_then (λ check.
     option_and_then (λ primary. primary_of primary check) (primary_by bundle names))
     (check_by type)
 
--- the head of a canonical block with these numbers
+-- the head of a canonical block with these numbers, or `None` if no canonical block has them
 abbrev pub head_by : BlockNumbers → Option BlockHead
 head_by block =
     if block.kind == 2
@@ -77,7 +81,7 @@ head_by block =
     }) (check_by block.check)
     else None
 
--- its bytes
+-- the bytes of that head, or `None` if it cannot be written
 abbrev pub block_bytes_by : BlockNumbers → Option (List ℕ)
 block_bytes_by block =
     option_and_then

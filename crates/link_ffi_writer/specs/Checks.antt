@@ -6,11 +6,13 @@ use Rattle.link_cbor.specs.declared.check.{CheckKind.CheckKind, CheckKind.TheVar
 use Rattle.link_bundle_writer.specs.NewBlocks.{check_type}
 use Rattle.link_ffi_writer.specs.declared.check.KeptCheck.{KeptCheck}
 
--- the kind of checks of this type (RFC 9171 section 4.2.1), except that of no check
+-- the kind of check with this type code (RFC 9171 section 4.2.1), or `None` for 0, which is no
+-- check, and for any other code
 abbrev pub kind_by : (type : ℕ) → Option CheckKind
 kind_by type = if type == 1 then Some Crc16 else if type == 2 then Some Crc32 else None
 
--- the kind of the check with these numbers, if the register fits it
+-- the kind of check that these numbers are, or `None`; the state has to fit the register of the
+-- kind
 abbrev pub kind_of : KeptCheck → Option CheckKind
 kind_of check =
     if check.kind == 1 && nat_lt check.state 0x10000 then Some Crc16

@@ -26,8 +26,8 @@ plain it =
       next = 0;
     }
 
--- These are the numbers of a message with these fields, or of none: a field that a kind does not
--- have is 0.
+-- The kind and the numbers of `it` are those of a message with these fields. A number that this
+-- kind of message does not have is 0.
 pub record HasFields (it : Message) (fields : Fields) : Type 0 where
   pub fit : FieldsFit fields
   pub shown : plain it ≡ fields_shown fields
@@ -36,18 +36,21 @@ pub record HasFields (it : Message) (fields : Fields) : Type 0 where
 abbrev pub IsNoMessage : Message → Type 0
 IsNoMessage it = (fields : Fields) → FieldsFit fields → plain it ≢ fields_shown fields
 
+-- What a call says of the message with these numbers: its fields, or `None` if no message has them.
 abbrev pub FieldsBy : Message → Option Fields → Type 0
 FieldsBy it (Some fields) = HasFields it fields
 FieldsBy it None = IsNoMessage it
 
--- a number of one byte, and of two
+-- the number if it fits in one byte, or else `None`
 abbrev pub byte : ℕ → Option ℕ
 byte number = if nat_lt number 256 then Some number else None
 
+-- the number if it fits in two bytes, or else `None`
 abbrev pub two_bytes : ℕ → Option ℕ
 two_bytes number = if nat_lt number 65536 then Some number else None
 
--- the fields of the kind that the numbers have, whatever the other numbers are
+-- The fields of a message of this kind, whatever the numbers are that the kind does not have. It is
+-- `None` for an unknown kind, and if a number is too large for its field.
 unfoldable pub fields_of : Message → Option Fields
 fields_of it =
     if it.kind == 1 then option_map (λ flags. Segment flags it.id it.data_length) (byte it.flags)
@@ -74,12 +77,12 @@ has_same first second =
     && (first.segment_mru == second.segment_mru && (first.transfer_mru == second.transfer_mru
     && first.data_length == second.data_length))))))))
 
--- the bytes of an item with these flags and this type
+-- the bytes of an item with these flags and this type, or `None` if a number is out of its range
 abbrev pub item_by : (flags kind : ℕ) → (value : List ℕ) → Option (List ℕ)
 item_by flags kind value =
     if nat_lt flags 256 && nat_lt kind 65536 then item_of flags kind value else None
 
--- the kind of message that has a reason
+-- the message with this type byte, if it has a reason: XFER_REFUSE, SESS_TERM or MSG_REJECT
 abbrev pub reason_of_by : (kind : ℕ) → Option ReasonOf
 reason_of_by kind =
     if kind == 3 then Some reasons.Refuse

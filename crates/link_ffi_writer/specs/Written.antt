@@ -12,7 +12,8 @@ written_shown (Ok size) = (record { count = size; needed = size }, 0)
 written_shown (Err (TooSmall size)) = (record { count = 0; needed = size }, 5)
 written_shown (Err OutOfRange) = (record { count = 0; needed = 0 }, 6)
 
--- An export had these bytes to write, or none if a number is out of its range.
+-- A function of the C library had these bytes to write, or `None` if a number is out of its range.
+-- It left `new` in the slice `old`, and returned `written` and `status`.
 pub record ReturnsWritten (bytes : Option (List ℕ)) (old new : List ℕ) (written : Written)
     (status : ℕ) : Type 0 where
   pub slice : new ≡ slice_after old bytes

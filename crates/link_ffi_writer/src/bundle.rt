@@ -9,7 +9,8 @@ use link_bundle_writer::{BlockHead, CheckKind, NewPrimary};
 use link_ffi_numbers::block::BlockNumbers;
 use link_ffi_numbers::bundle::{Bundle, EidNumbers, eid_by};
 
-/// The check of this type, if there is such a type.
+/// The check of a block with this check type. Type 0 is `Some(None)`: the block has no check. The
+/// result is `None` if there is no such type.
 pub fn check_by(check: u64) -> Option<Option<CheckKind>>
     ensures { result ≡ check_by check }
 {
@@ -21,7 +22,8 @@ pub fn check_by(check: u64) -> Option<Option<CheckKind>>
     }
 }
 
-/// The fragment of these numbers.
+/// The offset and the total length of a fragment with these numbers. It is `Some(None)` for a
+/// bundle that is no fragment, and `None` if no bundle has these numbers.
 fn fragment_by(is_fragment: u64, offset: u64, total: u64) -> Option<Option<(u64, u64)>>
     ensures { result ≡ fragment_by is_fragment offset total }
 {
@@ -32,7 +34,8 @@ fn fragment_by(is_fragment: u64, offset: u64, total: u64) -> Option<Option<(u64,
     }
 }
 
-/// The primary block of a bundle with these numbers and these names.
+/// The primary block of a bundle with these numbers and these names, or `None` if no bundle has
+/// them.
 pub fn primary_by<'a>(
     bundle: &Bundle,
     check: Option<CheckKind>,
@@ -68,7 +71,7 @@ pub fn primary_by<'a>(
     })
 }
 
-/// The head of a canonical block with these numbers.
+/// The head of a canonical block with these numbers, or `None` if no canonical block has them.
 pub fn block_head_by(block: &BlockNumbers) -> Option<BlockHead>
     ensures { result ≡ head_by block.now }
 {

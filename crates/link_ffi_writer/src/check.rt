@@ -37,7 +37,8 @@ impl KeptCheck {
     ghost use Rattle.link_cbor.specs.Crc.{crc};
     ghost use Rattle.link_writing.specs.Writes.{WritesSlice};
 
-    /// A check to which no byte was fed, by its type.
+    /// A check to which no byte was fed, by its check type: 1 is CRC-16, and 2 is CRC-32. It is
+    /// `None` for any other type.
     pub fn new(kind: u64) -> Option<KeptCheck>
         ensures none { kind_by kind ≡ None → result ≡ None }
         ensures some { (known : CheckKind) → kind_by kind ≡ Some known
@@ -51,7 +52,7 @@ impl KeptCheck {
         Some(check_shown(known, &Check::new(known)))
     }
 
-    /// The kind of the check, if the numbers are those of one.
+    /// The kind of the check, or `None` if the numbers are those of no check.
     fn kind(&self) -> Option<CheckKind>
         ensures kind { result ≡ kind_of self.now }
         ensures fits { IfSome result (λ kind. self.now.state < 2 ^ 32) }
@@ -63,7 +64,7 @@ impl KeptCheck {
         }
     }
 
-    /// The kind of the check, and the check, if the numbers are those of one.
+    /// The kind of the check, and the check. It is `None` if the numbers are those of no check.
     fn check(&self) -> Option<(CheckKind, Check)>
         ensures kind { option_map (λ found. found.0) result ≡ kind_of self.now }
         ensures check { (kind : CheckKind) (bytes : List ℕ) → HasFed kind self.now bytes
@@ -73,7 +74,8 @@ impl KeptCheck {
         Some((kind, Check::from_parts(kind, self.state as u32)))
     }
 
-    /// Feeds the bytes of a piece, and returns whether the numbers are those of a check.
+    /// Feeds the bytes of a piece to the check. Returns false, and changes nothing, if the numbers
+    /// are those of no check.
     pub fn feed(&mut self, piece: &[u8]) -> bool
         ensures fed { (kind : CheckKind) (before : List ℕ) → HasFed kind self.old before
             → HasFed kind self.new (before ++ piece.now) }

@@ -8,7 +8,7 @@ use link_ffi_numbers::recording::{Message, fields_shown};
 use link_report::ReasonOf;
 use link_wire::Fields;
 
-/// A number of one byte.
+/// The number if it fits in one byte.
 fn byte(number: u64) -> Option<u8>
     ensures { result ≡ byte number }
 {
@@ -19,7 +19,7 @@ fn byte(number: u64) -> Option<u8>
     }
 }
 
-/// A number of two bytes.
+/// The number if it fits in two bytes.
 fn two_bytes(number: u64) -> Option<u16>
     ensures { result ≡ two_bytes number }
 {
@@ -30,7 +30,8 @@ fn two_bytes(number: u64) -> Option<u16>
     }
 }
 
-/// The fields of the kind that the numbers have, whatever the other numbers are.
+/// The fields of a message of this kind, whatever the numbers are that the kind does not have. It
+/// is `None` for an unknown kind, and if a number is too large for its field.
 #[tactic(auto, unfolding(crate::specs::Messages::fields_of))]
 fn fields_of(message: &Message) -> Option<Fields>
     ensures fields { result ≡ fields_of message.now }
@@ -111,7 +112,7 @@ pub fn fields_by(message: &Message) -> Option<Fields>
     }
 }
 
-/// The flags and the type of an item, if they fit.
+/// The flags and the type of an item, if they fit in one byte and in two.
 pub fn item_numbers(flags: u64, kind: u64) -> Option<(u8, u16)>
     ensures { result
         ≡ (if nat_lt flags 256 && nat_lt kind 65536 then Some (flags, kind) else None) }
@@ -123,7 +124,7 @@ pub fn item_numbers(flags: u64, kind: u64) -> Option<(u8, u16)>
     }
 }
 
-/// The kind of message that has a reason, by its type byte.
+/// The message with this type byte, if it has a reason.
 pub fn reason_of_by(kind: u64) -> Option<ReasonOf>
     ensures { result ≡ reason_of_by kind }
 {

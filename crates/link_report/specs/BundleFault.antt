@@ -25,6 +25,7 @@ code_text RepeatedBlockNumber = codes "B15"
 code_text TooManyBlocks = codes "B16"
 code_text NoPayloadLast = codes "B17"
 
+-- the text of a fault, which follows its code; it is the same for the three faults with the code B5
 unfoldable pub bundle_fault_text : BundleFault → List ℕ
 bundle_fault_text Cut = codes "input ends inside a bundle"
 bundle_fault_text Trailing = codes "bytes after the bundle"

@@ -47,6 +47,7 @@ unfoldable pub good_text : Judgement → List ℕ
 good_text (Good info) = codes " " ++ identity_text info
 good_text _ = []
 
+-- a judgement as it ends a transfer's line
 unfoldable pub judgement_text : Judgement → List ℕ
 judgement_text judgement = outcome_text judgement ++ good_text judgement
 

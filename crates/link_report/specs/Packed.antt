@@ -5,6 +5,7 @@ use Rattle.link_report.specs.declared.packed.{PackedEntry.PackedEntry, PackedVie
 use Rattle.link_report.specs.Identity.{identity_text}
 use Rattle.link_report.specs.Text.{number_text, newline}
 
+-- the line of a packed bundle
 unfoldable pub packed_text : PackedEntry → List ℕ
 packed_text entry =
     number_text (codes "bundle ") entry.number ++ number_text (codes " segments=") entry.segments

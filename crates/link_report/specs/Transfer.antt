@@ -12,6 +12,7 @@ extent_text id start written size =
     number_text (codes "transfer ") id ++ number_text (codes " start=") start
     ++ number_text (codes " written=") written ++ number_text (codes " length=") size
 
+-- the line of a transfer
 unfoldable pub transfer_text : TransferEntry → List ℕ
 transfer_text entry =
     extent_text entry.id entry.start entry.written entry.length ++ codes " "

@@ -2,7 +2,8 @@
 
 use Rattle.std.specs.Prelude.{◌≡◌, ℕ, ◌+◌, ◌≤◌, List, ◌++◌, length, take}
 
--- The text `written` was written from `at` on. It ends before `end`, and has at most `room` bytes.
+-- A call turned the page `old` into `new`: it wrote the text `written` from `at` on. The text ends
+-- before `end`, and has at most `room` bytes. From `end` on, `new` may hold anything.
 pub record PutsText (old new : List ℕ) (at end room : ℕ) (written : List ℕ) : Type 0 where
   pub text : take end new ≡ take at old ++ written
   pub fits : end ≤ at + room

@@ -42,7 +42,8 @@ pub fn order_words(fault: OrderFault) -> &'static str
     }
 }
 
-/// Appends the text of a fault of the wire, to an empty line or after `tcpclkit: ` and an offset.
+/// Appends the text of a fault of the wire to a line, which is empty, or has `tcpclkit: ` and an
+/// offset (at most 37 bytes).
 #[tactic(auto, unfolding(crate::specs::Fault::wire_text))]
 pub fn put_wire(line: &mut Line, fault: WireFault)
     requires { array_vec_len line.old ≤ 37 }
@@ -72,7 +73,7 @@ pub fn put_wire(line: &mut Line, fault: WireFault)
     }
 }
 
-/// Appends `byte `, the offset and `: `, after `tcpclkit: `.
+/// Appends `byte `, the offset and `: ` to a line that has the 10 bytes `tcpclkit: `.
 #[tactic(auto, unfolding(crate::specs::Fault::offset_text))]
 fn put_offset(line: &mut Line, offset: u64)
     requires { array_vec_len line.old ≤ 10 }
@@ -83,7 +84,8 @@ fn put_offset(line: &mut Line, offset: u64)
     put_text(line, ": ");
 }
 
-/// Appends `bundle `, its number, ` byte `, the offset in it and `: `, after `tcpclkit: `.
+/// Appends `bundle `, the bundle's number, ` byte `, the offset in the bundle and `: ` to a line
+/// that has the 10 bytes `tcpclkit: `.
 #[tactic(auto, unfolding(crate::specs::Fault::bundle_offset_text))]
 fn put_bundle_offset(line: &mut Line, number: u64, offset: u64)
     requires { array_vec_len line.old ≤ 10 }
@@ -95,7 +97,7 @@ fn put_bundle_offset(line: &mut Line, number: u64, offset: u64)
     put_text(line, ": ");
 }
 
-/// Appends the position and the text of a fault, after `tcpclkit: `.
+/// Appends the position and the text of a fault to a line that has the 10 bytes `tcpclkit: `.
 #[tactic(auto, unfolding(crate::specs::Fault::place_text))]
 fn put_place(line: &mut Line, fault: &Fault)
     requires { array_vec_len line.old ≤ 10 }

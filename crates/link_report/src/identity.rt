@@ -25,7 +25,7 @@ pub const FRAGMENT_MAX: usize = 51;
 /// It is two endpoint IDs, 45 bytes, three numbers and the text of a fragment.
 pub(crate) const IDENTITY_MAX: usize = 2 * EID_MAX + 105 + FRAGMENT_MAX;
 
-/// Writes an endpoint ID that is a name.
+/// Writes an endpoint ID with a dtn name from `at` on, and returns the index after it.
 #[cold]
 #[inline(never)]
 fn write_name(page: &mut [u8], at: usize, name: &[u8]) -> usize
@@ -37,7 +37,7 @@ fn write_name(page: &mut [u8], at: usize, name: &[u8]) -> usize
     write_escaped(page, at, name)
 }
 
-/// Writes an endpoint ID of three numbers.
+/// Writes an ipn endpoint ID of three numbers from `at` on, and returns the index after it.
 #[cold]
 #[inline(never)]
 fn write_three(page: &mut [u8], at: usize, allocator: u64, node: u64, service: u64) -> usize
@@ -72,7 +72,7 @@ pub fn write_eid(page: &mut [u8], at: usize, eid: &EidView<'_>) -> usize
     }
 }
 
-/// Writes the fragment offset and the total length of a fragment.
+/// Writes the fragment offset and the total length of a fragment, and returns the index after them.
 #[cold]
 #[inline(never)]
 fn write_part(page: &mut [u8], at: usize, offset: u64, total: u64) -> usize
@@ -84,7 +84,8 @@ fn write_part(page: &mut [u8], at: usize, offset: u64, total: u64) -> usize
     write_number(page, at, *b"/", total)
 }
 
-/// Writes the fragment offset and the total length, or nothing if the bundle is no fragment.
+/// Writes the fragment offset and the total length, or nothing if the bundle is no fragment
+/// (`None`). Returns the index after them.
 #[tactic(auto, unfolding(crate::specs::Identity::fragment_text))]
 #[inline(always)]
 pub fn write_fragment(page: &mut [u8], at: usize, fragment: Option<(u64, u64)>) -> usize
@@ -97,9 +98,9 @@ pub fn write_fragment(page: &mut [u8], at: usize, fragment: Option<(u64, u64)>) 
     }
 }
 
-/// Writes a source and a creation timestamp.
+/// Writes a source and a creation timestamp, and returns the index after them.
 ///
-/// It takes at most 23 bytes, an endpoint ID and two numbers.
+/// They take at most 23 bytes, an endpoint ID, and two numbers of at most 20 digits.
 #[tactic(auto, unfolding(crate::specs::Identity::origin_text))]
 #[inline(always)]
 fn write_origin(page: &mut [u8], at: usize, source: &EidView<'_>, time: u64, sequence: u64) -> usize
@@ -114,7 +115,7 @@ fn write_origin(page: &mut [u8], at: usize, source: &EidView<'_>, time: u64, seq
     write_number(page, at, *b" sequence=", sequence)
 }
 
-/// Writes the text of a bundle.
+/// Writes what a line says of a bundle, and returns the index after it.
 #[tactic(auto, unfolding(crate::specs::Identity::identity_text))]
 #[inline(always)]
 pub(crate) fn write_identity(page: &mut [u8], at: usize, info: &BundleView<'_>) -> usize
@@ -134,7 +135,7 @@ pub(crate) fn write_identity(page: &mut [u8], at: usize, info: &BundleView<'_>) 
 
 /// Appends an endpoint ID.
 ///
-/// It takes at most 4 bytes and an escaped name, or 6 bytes and three numbers.
+/// It takes at most 4,100 bytes: 4 bytes, and a name of 1,024 bytes that are all escaped.
 pub fn put_eid(line: &mut Line, eid: &EidView<'_>)
     requires short { IsShort (viewed_eid eid.now) }
     requires room { array_vec_len line.old + 4100 ≤ LINE_MAX }

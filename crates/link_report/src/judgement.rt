@@ -95,6 +95,9 @@ pub fn judge(
 }
 
 /// Judges a transfer as [`judge`] does, with the bundle by reference.
+///
+/// By the clause `short`, the dtn names of the judgement have at most 1,024 bytes each if those of
+/// the verdict have.
 #[inline(always)]
 pub fn judge_view<'a>(
     abandoned: bool,
@@ -121,9 +124,9 @@ pub fn judge_view<'a>(
     }
 }
 
-/// Writes the fault of data that are no bundle.
+/// Writes the fault of data that are no bundle, and returns the index after it.
 ///
-/// It takes at most 13 bytes and a number.
+/// It takes at most 13 bytes, and a number of at most 20 digits.
 #[cold]
 #[inline(never)]
 fn write_bad(page: &mut [u8], at: usize, fault: BundleFault, offset: u64) -> usize
@@ -155,7 +158,8 @@ pub fn write_outcome(page: &mut [u8], at: usize, judgement: &JudgementView<'_>) 
     }
 }
 
-/// Writes the identity of a good bundle, and nothing for another judgement.
+/// Writes the identity of a good bundle, and nothing for another judgement. Returns the index after
+/// the text.
 #[tactic(auto, unfolding(crate::specs::Judgement::good_text))]
 #[inline(always)]
 fn write_good(page: &mut [u8], at: usize, judgement: &JudgementView<'_>) -> usize
@@ -176,7 +180,7 @@ fn write_good(page: &mut [u8], at: usize, judgement: &JudgementView<'_>) -> usiz
     }
 }
 
-/// Writes a judgement.
+/// Writes a judgement as it ends a transfer's line, and returns the index after it.
 #[tactic(auto, unfolding(crate::specs::Judgement::judgement_text))]
 #[inline(always)]
 pub(crate) fn write_judgement(page: &mut [u8], at: usize, judgement: &JudgementView<'_>) -> usize

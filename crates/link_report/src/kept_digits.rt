@@ -12,8 +12,9 @@ use link_wire::copy_into;
 pub struct KeptDigits {
     /// The multiple of 10,000.
     round: u64,
-    /// Its text, which ends with four zeros, and then bytes without a meaning.
+    /// Its text, which ends with four zeros. The array may hold anything after the text.
     text: [u8; 20],
+    /// The length of the text.
     len: usize,
     ghost some: { 0 < round },
     ghost zeros: { round % 10_000 ≡ 0 },
@@ -27,7 +28,7 @@ impl KeptDigits {
         KeptDigits::of(10_000)
     }
 
-    /// The digits of this multiple of 10,000.
+    /// The digits of this multiple of 10,000, which is not 0.
     fn of(round: u64) -> KeptDigits
         requires some { 0 < round }
         requires zeros { round % 10_000 ≡ 0 }
@@ -57,9 +58,10 @@ impl KeptDigits {
         }
     }
 
-    /// Writes a number in decimal, with the kept digits if they are its own.
+    /// Writes a number in decimal from `at` on, and returns the index after it.
     ///
-    /// With kept digits, only its last four digits are made: they are written over the four zeros.
+    /// If the kept digits are those of the number without its last four, the kept text is copied,
+    /// and only the last four digits are made. They are written over the four zeros at its end.
     #[inline(always)]
     pub(crate) fn write(&self, page: &mut [u8], at: usize, number: u64) -> usize
         requires { at + 20 ≤ length page.old }

@@ -28,7 +28,8 @@ const REASON_MAX: usize = 80;
 /// A SESS_INIT can have this length: 114 bytes, the node ID with each byte escaped, and the list.
 const BODY_MAX: usize = 114 + 4 * MAX_NODE_ID + ITEMS_MAX;
 
-/// Writes ` reason=`, the code of a reason and its name.
+/// Writes ` reason=`, the code of a reason, `/` and its name: 11 bytes and the name. Returns the
+/// index after them.
 #[tactic(auto, unfolding(crate::specs::Message::reason_text))]
 fn write_reason(page: &mut [u8], at: usize, reason: u8, name: &str) -> usize
     requires { at + 11 + length name.now ≤ length page.old }
@@ -57,7 +58,7 @@ fn write_item(page: &mut [u8], at: usize, item: &Item) -> usize
     write_number(page, at, *b":", u64::from(item.length))
 }
 
-/// Writes ` items=`, the number of items, and each item.
+/// Writes ` items=`, the number of items, and each item. Returns the index after them.
 #[cold]
 #[inline(never)]
 #[tactic(auto, unfolding(crate::specs::Message::items_text))]
@@ -102,9 +103,10 @@ fn write_session(
     write_items(page, at, items)
 }
 
-/// Writes the items of a segment with START, and nothing for other segments.
+/// Writes the items of a segment with START, and nothing for other segments. Returns the index
+/// after them.
 ///
-/// Most transfers begin without items.
+/// Most transfers begin without items, so this case is written without a call.
 #[tactic(auto, using(crate::proofs::Segments::no_items), unfolding(crate::specs::Message::start_items_text))]
 #[inline(always)]
 fn write_start_items(page: &mut [u8], at: usize, flags: u8, items: &[Item]) -> usize

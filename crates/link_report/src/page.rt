@@ -30,6 +30,7 @@ pub fn write_bytes<const N: usize>(page: &mut [u8], at: usize, text: [u8; N]) ->
     copy_into(page, at, &text)
 }
 
+/// Writes one byte, and returns the index after it.
 #[tactic(auto, using(std::proofs::lemmas::List::take_more_set))]
 #[inline(always)]
 fn write_byte(page: &mut [u8], at: usize, byte: u8) -> usize
@@ -42,7 +43,7 @@ fn write_byte(page: &mut [u8], at: usize, byte: u8) -> usize
     at + 1
 }
 
-/// Writes `number` in decimal, which has `count` digits.
+/// Writes `number` in decimal. `count` is the number of its digits.
 #[tactic(auto, using(crate::proofs::Pages::text_from))]
 #[inline(always)]
 fn write_counted(page: &mut [u8], at: usize, number: u64, count: usize) -> usize
@@ -57,7 +58,7 @@ fn write_counted(page: &mut [u8], at: usize, number: u64, count: usize) -> usize
     end
 }
 
-/// Writes a number of more than three digits.
+/// Writes a number of more than three digits, and so of at most 20.
 #[tactic(auto, using(crate::proofs::Digits::length_of_decimal, crate::proofs::Digits::length_from_power))]
 #[inline(never)]
 fn write_long(page: &mut [u8], at: usize, number: u64) -> usize

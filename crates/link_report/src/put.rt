@@ -58,7 +58,7 @@ pub(crate) fn put_number(line: &mut Line, label: &str, number: u64)
     put_text(line, Buffer::new().format(number));
 }
 
-/// Writes a text into an empty line.
+/// Writes the text of `text` into an empty line, by way of a page.
 pub(crate) fn put_whole<T: Text>(line: &mut Line, text: &T)
     requires { line.old.items ≡ [] }
     ensures { line.new.items ≡ T.text text.now }

@@ -48,9 +48,10 @@ pub struct TransferText<'a> {
     ghost short: { IsShortJudgement (viewed_judgement entry.judgement) } by { IsShortJudgement-prop (viewed_judgement entry.judgement) },
 }
 
-/// Writes a transfer's ID, and the position of its bytes.
+/// Writes a transfer's ID, the offset of its bytes in the output, their number there, and the
+/// number of its data bytes. Returns the index after them.
 ///
-/// It takes at most 33 bytes and four numbers.
+/// They take at most 33 bytes, and four numbers of at most 20 digits.
 #[tactic(auto, unfolding(crate::specs::Transfer::extent_text))]
 #[inline(always)]
 fn write_extent(page: &mut [u8], at: usize, id: u64, start: u64, written: u64, size: u64) -> usize

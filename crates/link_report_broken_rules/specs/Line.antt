@@ -14,7 +14,8 @@ unfoldable pub place_text : BundlePlace → List ℕ
 place_text (place.Transfer id) = number_text (codes " transfer=") id
 place_text (place.Input number) = number_text (codes " bundle=") number
 
--- the words for the transfer or the bundle that breaks a rule; a message has none
+-- the words for the transfer or the bundle that breaks a rule; for a rule of messages there are
+-- none
 unfoldable pub subject_text : BrokenRule → List ℕ
 subject_text (Message rule) = []
 subject_text (Transfer id rule) = place_text (place.Transfer id)

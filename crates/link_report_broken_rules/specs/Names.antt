@@ -8,15 +8,18 @@ use Rattle.link_bundle_rules.specs.BundleRules.{bundle_level_of, bundle_name_of}
 use Rattle.link_report_broken_rules.specs.declared.rule.BrokenRule.{BrokenRule}
 use Rattle.link_report_broken_rules.specs.declared.rule.BrokenRule.TheVariants.{Message, Transfer, Bundle}
 
+-- the word for a level
 unfoldable pub level_name : Level → List ℕ
 level_name Must = codes "must"
 level_name Should = codes "should"
 
+-- the name of a rule, as in its line
 unfoldable pub rule_name : BrokenRule → List ℕ
 rule_name (Message rule) = name_of rule
 rule_name (Transfer id rule) = transfer_name_of rule
 rule_name (Bundle place rule) = bundle_name_of rule
 
+-- how strictly a rule is meant
 unfoldable pub rule_level : BrokenRule → Level
 rule_level (Message rule) = level_of rule
 rule_level (Transfer id rule) = transfer_level_of rule

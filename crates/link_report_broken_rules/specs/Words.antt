@@ -29,6 +29,7 @@ hyphenated text = map (λ byte. if byte == 0x20 then 0x2d else byte) text
 unfoldable pub order_words : OrderFault → List ℕ
 order_words fault = codes " fault=" ++ hyphenated (order_text fault)
 
+-- the word for what is wrong with an answer
 unfoldable pub answer_text : AnswerFault → List ℕ
 answer_text NotTheLast = codes "not-the-last"
 answer_text StartRepeats = codes "start-repeats"
@@ -36,7 +37,7 @@ answer_text AfterEnd = codes "after-end"
 answer_text AfterRefusal = codes "after-refusal"
 answer_text RefusedAfterEnd = codes "refused-after-end"
 
--- the words of a rule of messages
+-- what the line of a broken rule of messages says after the rule's name
 unfoldable pub message_words : MessageRule → List ℕ
 message_words (message.ContactFlags flags) = flags_text flags
 message_words (message.NodeId size) = number_text (codes " length=") size
@@ -75,6 +76,7 @@ message_words (message.TermOrder type) = codes " type=" ++ hex2 type
 unfoldable pub fault_words : BundleFault → ℕ → List ℕ
 fault_words fault byte = codes " code=" ++ code_text fault ++ number_text (codes " byte=") byte
 
+-- what the line of a broken rule of transfers says after the transfer's ID
 unfoldable pub transfer_words : TransferRule → List ℕ
 transfer_words (transfer.Unfinished size) = number_text (codes " length=") size
 transfer_words transfer.LengthItem = []
@@ -88,6 +90,7 @@ transfer_words (transfer.NotRead fault byte) = fault_words fault byte
 unfoldable pub control_words : ℕ → List ℕ
 control_words flags = codes " flags=" ++ fields.flags_text flags
 
+-- the word for the part of a bundle whose endpoint ID breaks a rule
 unfoldable pub endpoint_name : Endpoint → List ℕ
 endpoint_name Destination = codes "destination"
 endpoint_name Source = codes "source"
@@ -96,13 +99,13 @@ endpoint_name (PreviousNode block) = codes "previous-node"
 endpoint_name (SecuritySource block) = codes "security-source"
 endpoint_name ReportSource = codes "report-source"
 
--- the number of the block that has the endpoint ID, if more than one may have it
+-- the number of the block that has the endpoint ID, if it is of a kind that several blocks may have
 unfoldable pub endpoint_block : Endpoint → List ℕ
 endpoint_block (PreviousNode block) = number_text (codes " block=") block
 endpoint_block (SecuritySource block) = number_text (codes " block=") block
 endpoint_block _ = []
 
--- a hop limit, if the data of the block says one
+-- a hop limit, if one is given
 unfoldable pub limit_words : Option ℕ → List ℕ
 limit_words None = []
 limit_words (Some limit) = number_text (codes " limit=") limit
@@ -112,6 +115,7 @@ unfoldable pub target_words : Option ℕ → List ℕ
 target_words None = []
 target_words (Some target) = number_text (codes " target=") target
 
+-- what the line of a broken rule of bundles says after the bundle's place
 unfoldable pub bundle_words : BundleRule → List ℕ
 bundle_words (bundle.LongHead byte level) = number_text (codes " byte=") byte
 bundle_words (bundle.BundleFlags flags) = control_words flags
@@ -167,6 +171,7 @@ bundle_words (bundle.ConfidentialContext block) = number_text (codes " block=") 
 bundle_words (bundle.SharedTarget block target) =
     number_text (codes " block=") block ++ number_text (codes " target=") target
 
+-- what the line of a broken rule says last: what broke the rule
 unfoldable pub rule_words : BrokenRule → List ℕ
 rule_words (Message rule) = message_words rule
 rule_words (Transfer id rule) = transfer_words rule

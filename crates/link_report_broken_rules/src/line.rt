@@ -78,6 +78,7 @@ impl Text for RuleText {
 
     ghost text = { λ line. rule_line line.offset line.rule };
 
+    /// Writes the line into the page at index `at`, and returns the index after it.
     #[inline(always)]
     fn put(&self, page: &mut [u8], at: usize) -> usize {
         write_rule(page, at, self)

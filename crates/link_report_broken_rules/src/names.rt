@@ -9,6 +9,7 @@ use link_rules_shared::{Level, NAME_MAX};
 /// The greatest length of a level's name in bytes.
 pub(crate) const LEVEL_MAX: usize = 6;
 
+/// The word for a level.
 #[tactic(auto, unfolding(crate::specs::Names::level_name))]
 pub(crate) fn level_name(level: Level) -> &'static str
     ensures name { result.now ≡ level_name level }
@@ -20,6 +21,7 @@ pub(crate) fn level_name(level: Level) -> &'static str
     }
 }
 
+/// The name of a rule, as in its line.
 #[tactic(auto, unfolding(crate::specs::Names::rule_name))]
 pub(crate) fn rule_name(rule: &BrokenRule) -> &'static str
     ensures name { result.now ≡ rule_name rule.now }

@@ -1,4 +1,6 @@
 //! The words of rules: what broke a rule.
+//!
+//! Each function writes to a page from the index `at` on, and returns the index after its text.
 
 ghost use Rattle.std.specs.Prelude.{◌≡◌, ◌+◌, ◌≤◌, ◌++◌, length, take, codes, decimal};
 ghost use Rattle.link_report_blocks.specs.Words.{integer_text};
@@ -27,7 +29,7 @@ const ORDER_MAX: usize = 47;
 /// The greatest length in bytes of the flags of a bundle or of a block.
 const CONTROL_MAX: usize = 23;
 
-/// Writes two labels, each with a number.
+/// Writes two labels, each with a number of at most 20 digits.
 #[inline(always)]
 fn write_two<const N: usize, const M: usize>(
     page: &mut [u8],
@@ -87,6 +89,7 @@ fn write_reason(page: &mut [u8], at: usize, reason: u8) -> usize
     write_hex2(page, at, reason)
 }
 
+/// The word for what is wrong with an answer.
 #[tactic(auto, unfolding(crate::specs::Words::answer_text))]
 fn answer_text(fault: AnswerFault) -> &'static str
     ensures text { result.now ≡ answer_text fault }
@@ -150,7 +153,7 @@ fn write_passed(page: &mut [u8], at: usize, size: u128, limit: u64) -> usize
     write_number(page, at, *b" limit=", limit)
 }
 
-/// Writes the words of a rule of messages.
+/// Writes what the line of a broken rule of messages says after the rule's name.
 #[tactic(auto, unfolding(crate::specs::Words::message_words))]
 fn write_message(page: &mut [u8], at: usize, rule: &MessageRule) -> usize
     requires { at + WORDS_MAX ≤ length page.old }
@@ -217,7 +220,7 @@ fn write_fault(page: &mut [u8], at: usize, fault: BundleFault, byte: u64) -> usi
     write_number(page, at, *b" byte=", byte)
 }
 
-/// Writes the words of a rule of transfers.
+/// Writes what the line of a broken rule of transfers says after the transfer's ID.
 #[tactic(auto, unfolding(crate::specs::Words::transfer_words))]
 fn write_transfer(page: &mut [u8], at: usize, rule: &TransferRule) -> usize
     requires { at + WORDS_MAX ≤ length page.old }
@@ -245,6 +248,7 @@ fn write_control(page: &mut [u8], at: usize, flags: u64) -> usize
     write_flags(page, at, flags)
 }
 
+/// The word for the part of a bundle whose endpoint ID breaks a rule.
 #[tactic(auto, unfolding(crate::specs::Words::endpoint_name))]
 fn endpoint_name(endpoint: Endpoint) -> &'static str
     ensures text { result.now ≡ endpoint_name endpoint }
@@ -260,7 +264,8 @@ fn endpoint_name(endpoint: Endpoint) -> &'static str
     }
 }
 
-/// Writes the number of the block that has an endpoint ID, if more than one may have it.
+/// Writes the number of the block that has an endpoint ID, if it is of a kind that several blocks
+/// may have.
 #[tactic(auto, unfolding(crate::specs::Words::endpoint_block))]
 fn write_endpoint_block(page: &mut [u8], at: usize, endpoint: Endpoint) -> usize
     requires { at + 27 ≤ length page.old }
@@ -345,7 +350,7 @@ fn write_hop_limit(page: &mut [u8], at: usize, blocks: u64, limit: Option<u64>) 
     }
 }
 
-/// Writes the words of a rule of bundles.
+/// Writes what the line of a broken rule of bundles says after the bundle's place.
 #[tactic(auto, unfolding(crate::specs::Words::bundle_words))]
 fn write_bundle(page: &mut [u8], at: usize, rule: &BundleRule) -> usize
     requires { at + WORDS_MAX ≤ length page.old }
@@ -408,7 +413,7 @@ fn write_bundle(page: &mut [u8], at: usize, rule: &BundleRule) -> usize
     }
 }
 
-/// Writes the words of a rule.
+/// Writes what the line of a broken rule says last: what broke the rule.
 #[tactic(auto, unfolding(crate::specs::Words::rule_words))]
 pub(crate) fn write_words(page: &mut [u8], at: usize, rule: &BrokenRule) -> usize
     requires { at + WORDS_MAX ≤ length page.old }

@@ -59,7 +59,8 @@ tool_of made = record {
 
 -- ---- a recorded stream
 
--- Every fault of the wire lasts, except `Truncated`: more bytes may complete the field.
+-- Whether a fault of the wire lasts when more bytes come. Every fault does, except `Truncated`:
+-- more bytes may complete the field.
 abbrev pub is_lasting : WireFault → Bool
 is_lasting Truncated = false
 is_lasting fault = true

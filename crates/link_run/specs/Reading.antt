@@ -144,8 +144,8 @@ pub record FetchesData {R W E : Type 0} (look : Looks R W E)
   pub stopped : (why : Stop) → HasStopped (feed_of old) why
       → (new ≡ old) × (after ≡ before) × (result ≡ Err why)
 
--- A source that has ended or failed returns this again. Or a writer failed to hand on what was
--- written.
+-- The source had ended or failed, and `again` is what it returned then. The call returned it again,
+-- or a writer failed to hand on what was written.
 abbrev pub AfterRepeatedLoad : {R W E : Type 0} → Looks R W E → (before after : Writers W E)
     → (again result : Result ℕ IoFault) → Type 0
 AfterRepeatedLoad look before after again result =

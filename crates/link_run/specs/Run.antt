@@ -16,11 +16,13 @@ pub record Texts : Type 0 where
   pub output : List ℕ
   pub report : List ℕ
 
+-- nothing is written
 abbrev pub no_texts : Texts
 no_texts = record { output = []; report = [] }
 
 -- `first` and then `second`: their outputs joined, and their reports joined
 infixr 30 ◌then◌
+-- the texts `first`, and then the texts `second`
 abbrev pub ◌then◌ : Texts → Texts → Texts
 first then second =
     record { output = first.output ++ second.output; report = first.report ++ second.report }
@@ -44,6 +46,7 @@ pub record Devices (R W E : Type 0) : Type 0 where
   pub output : W
   pub report : E
 
+-- these three devices, as one value
 abbrev pub devices : {R W E : Type 0} → R → W → E → Devices R W E
 devices reader output report = record { reader = reader; output = output; report = report }
 
@@ -53,6 +56,7 @@ pub record Looks (R W E : Type 0) : Type 0 where
   pub output : W → Output
   pub report : E → Output
 
+-- what is known of each of the three devices, as one value
 abbrev pub looks : {R W E : Type 0} → (R → Input) → (W → Output) → (E → Output) → Looks R W E
 looks input output report = record { input = input; output = output; report = report }
 
@@ -62,6 +66,7 @@ pub record Place (R W E : Type 0) : Type 0 where
   pub output : W
   pub report : E
 
+-- the three devices in this state
 abbrev pub devices_at : {R W E : Type 0} → Place R W E → Devices R W E
 devices_at place = devices (reader_of place.source) place.output place.report
 
@@ -89,19 +94,19 @@ pub record IsBehind (tool : Tool) (given : List ℕ) (output_count report_count 
   pub output : length (tool.so_far front).output ≤ output_count
   pub report : report_count ≤ length (tool.so_far front).report
 
--- A wait of a run for its input. `position` is how far the input had been read when it began, and
--- `writers` are the writers then. `reach` is the offset after the bytes that were at hand when it
--- ended.
+-- A wait of a run for its input. When the wait began, the input had been read up to `position`, and
+-- the writers were `writers`. When it ended, `reach` was the offset after the bytes at hand.
 pub record Wait (W E : Type 0) : Type 0 where
   pub position : Position
   pub writers : Writers W E
   pub reach : ℕ
 
--- When a run had to wait for input, since it was made with these devices.
+-- The waits of a run in order, and the devices with which the run was made.
 pub record Waits (R W E : Type 0) : Type 0 where
   pub from : Devices R W E
   pub each : List (Wait W E)
 
+-- no waits, of a run that was made with these devices
 abbrev pub no_waits : {R W E : Type 0} → Devices R W E → Waits R W E
 no_waits start = record { from = start; each = [] }
 
@@ -113,7 +118,8 @@ then_waits waits more = record { from = waits.from; each = waits.each ++ more }
 abbrev pub noted : {R W E : Type 0} → Waits R W E → Wait W E → Waits R W E
 noted waits wait = then_waits waits (wait ∷ [])
 
--- the waits of a run, from those of its input, which knows the feed in place of the reader
+-- The waits of a run, from those in the log of its input. Where the log has a feed, the waits have
+-- the reader of this feed.
 abbrev pub waits_by : {S R W E : Type 0} → (S → R) → Waits S W E → Waits R W E
 waits_by reader_of waits = record {
   from = devices (reader_of waits.from.reader) waits.from.output waits.from.report;
@@ -126,8 +132,9 @@ pub record HasHandedOn (start now : Output) (text : List ℕ) : Type 0 where
   pub handed : now.handed ≡ now.written
 
 module _ {R W E : Type 0} (look : Looks R W E) where
-  -- The run waited at this place: since then nothing was given, and earlier texts were handed on.
-  -- Of the bytes taken from the reader, less than a window was not given.
+  -- The run waited at this place. Between the place and the wait, it was given nothing, added no
+  -- text, and handed on all that was written. Of the bytes that it had taken, less than a window
+  -- was not given.
   pub record IsWaitOfPlace (place : Place R W E) (wait : Wait W E) : Type 0 where
     pub given : wait.position.given ≡ given_by place.source
     pub ahead : wait.position.ahead ≡ length (window_of place.source)
@@ -151,15 +158,16 @@ module _ {R W E : Type 0} (look : Looks R W E) where
       pub output_sound : (look.output wait.writers.output).failed ≡ false
       pub report_sound : (look.report wait.writers.report).failed ≡ false
 
-    -- the same, for a prefix of these bytes
+    -- At this wait, the run was prompt for a prefix of these bytes, which are those given until
+    -- then.
     pub record IsPromptWithin (given : List ℕ) (wait : Wait W E) : Type 0 where
       pub front : List ℕ
       pub rest : List ℕ
       pub parts : given ≡ front ++ rest
       pub prompt : IsPrompt front wait
 
--- There was at most one wait, and `is` holds of it: the input was then at hand as far as it is now.
--- Without a wait, nothing was read.
+-- There was at most one wait, and `is` holds of it. When it ended, the input was at hand as far as
+-- it is now. If there was none, nothing was read.
 abbrev pub WaitsOnce : {R S W E : Type 0} → (R → Input) → (old new : Source R)
     → (before after : Waits S W E) → (is : Wait W E → Type 0) → Type 0
 WaitsOnce {W} {E} look old new before after is =
@@ -337,7 +345,7 @@ module _ {R W E : Type 0} (look : Looks R W E) where
       × (0 < most → 0 < size)
       × AfterStep tool start old new stands size history result
 
--- this is the result of a run's last step
+-- a step with this result was the last of its run
 abbrev pub IsLastResult : Result Progress IoFault → Type 0
 IsLastResult (Ok More) = ⊥
 IsLastResult (Ok (Done status)) = Unit {0}

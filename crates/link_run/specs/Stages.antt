@@ -45,12 +45,12 @@ AfterStageStride look made start begun old new knows most history result =
     × (0 < most → 0 < size)
     × AfterStage look made start begun old new knows size history result
 
--- the step was not the last
+-- a step with this result was not the last of its run
 abbrev pub IsMore : Result Progress IoFault → Type 0
 IsMore (Ok More) = Unit {0}
 IsMore _ = ⊥
 
--- a run that has ended is given no more bytes
+-- the most bytes that a step is given, which is 0 after the run has ended
 abbrev pub most_unless_ended : Option (Result Status IoFault) → ℕ → ℕ
 most_unless_ended None most = most
 most_unless_ended (Some answer) most = 0

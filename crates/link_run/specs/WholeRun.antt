@@ -9,7 +9,7 @@ module _ {R W E : Type 0} where
   abbrev pub devices_of : RunEnd R W E → Devices R W E
   devices_of end = devices end.reader end.output end.report
 
-  -- its log
+  -- the log of a run that has returned
   abbrev pub ran_of : RunEnd R W E → Ran R W E
   ran_of end = end.ran
 

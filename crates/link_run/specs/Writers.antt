@@ -13,9 +13,11 @@ use Rattle.link_run.specs.declared.{run.Status.Status, writers.Writers.Writers}
 
 -- a text for one of the two writers
 
+-- a text that is written to the output, and none to the report
 abbrev pub on_output : List ℕ → Texts
 on_output text = record { output = text; report = [] }
 
+-- a text that is written to the report, and none to the output
 abbrev pub on_report : List ℕ → Texts
 on_report text = record { output = []; report = text }
 
@@ -46,7 +48,8 @@ module _ {W E : Type 0} (out_look : W → Output) (report_look : E → Output) w
     pub none : report_count ≡ 0
     pub report_sound : (report_look new.report).failed ≡ (report_look old.report).failed
 
-  -- the whole text of the output was written, and the report failed before all of its text was
+  -- the whole text of the output was written, and the report failed before all of its own text was
+  -- written; the counts are the numbers of bytes that were written
   pub record LostReport (old new : Writers W E) (texts : Texts)
       (output_count report_count : ℕ) : Type 0 where
     pub failed : (report_look new.report).failed ≡ true
@@ -78,7 +81,8 @@ module _ {W E : Type 0} (out_look : W → Output) (report_look : E → Output) w
   AfterLastWrite old new texts status (Ok ended) = Writes old new texts × (ended.0 ≡ status)
   AfterLastWrite old new texts status (Err fault) = WritesPart old new texts fault
 
-  -- for a fault of the wire, its line was written; any other failure is returned as it is
+  -- A fault of the wire got its line in the report and the status 3, or a writer failed. Any other
+  -- failure is returned as it is, and nothing was written.
   abbrev pub AfterEnd : Stop → Writers W E → Writers W E → Result Status IoFault → Type 0
   AfterEnd (stop.Wire offset fault) old new answer =
       AfterLastWrite old new (on_report (fault_text (Wire offset fault))) 3 answer

@@ -70,6 +70,7 @@ pub struct Input<S, W, E> {
 }
 
 impl<S, W, E> Input<S, W, E> {
+    /// Makes the input of a feed, with the log of its run.
     pub(crate) fn new(feed: S, log: Log<S, W, E>) -> Input<S, W, E>
         ensures feed { feed_of result ≡ feed }
         ensures waits { waits_of result ≡ log.waits }
@@ -280,7 +281,7 @@ impl<R: InDevice, W: OutDevice, E: OutDevice> Input<Source<R>, W, E> {
     }
 }
 
-/// Reads the head of the next message if it is rare, or if the window does not have all of it.
+/// Reads the head of the next message, if it is rare or not all of it is in the window.
 #[cold]
 #[inline(never)]
 fn read_message<R: InDevice, W: OutDevice, E: OutDevice>(

@@ -36,8 +36,8 @@ impl<S, W, E> Log<S, W, E> {
         Log { of: PhantomData }
     }
 
-    /// This log, and then a wait at this position, which ends with this feed. `reach_of` gives how
-    /// far the input of a feed is at hand.
+    /// This log with one more wait, which began at this position with these writers, and ended with
+    /// this feed. `reach_of` gives how far the input of a feed is at hand.
     #[inline(always)]
     pub(crate) fn and(&self, position: &Position, writers: &Writers<W, E>, feed: &S) -> Log<S, W, E>
         ghost reach_of: { S → ℕ }

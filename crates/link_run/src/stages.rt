@@ -181,6 +181,7 @@ impl<S: Feed, W: OutDevice, E: OutDevice, T: Stages<S, W, E> + Drop> Run<S::Read
         progress
     }
 
+    /// Takes the run apart. The stage of the tool and the line are dropped.
     fn into_end(self, answer: Result<Status, IoFault>) -> RunEnd<S::Reader, W, E> {
         let ToolRun {
             input,
@@ -202,7 +203,7 @@ impl<S: Feed, W: OutDevice, E: OutDevice, T: Stages<S, W, E> + Drop> Run<S::Read
     }
 }
 
-/// Keeps the answer of a run whose latest step returned this, if the step was the last.
+/// Keeps the answer of a run in `answer`, if the step that returned `progress` was its last.
 #[inline(always)]
 fn keep(answer: &mut Option<Result<Status, IoFault>>, progress: Result<Progress, IoFault>)
     ensures more { IsMore progress → answer.new ≡ answer.old }

@@ -111,8 +111,8 @@ impl<W: OutDevice, E: OutDevice> Writers<W, E> {
         self.report.write_text(text, &mut self.page)
     }
 
-    /// Hands on what the output still holds back, and then what the report does. If the output
-    /// fails, the report is left as it is.
+    /// Hands on all that was written to the output, and then all that was written to the report. If
+    /// the output fails, the report is left as it is.
     pub fn settle(&mut self) -> Result<(), IoFault>
         ensures gives { AfterSettle W.state E.state self.old self.new result }
         ensures output { OnOk result ((W.state self.new.output).handed

@@ -4,7 +4,8 @@ use Rattle.link_bundle_blocks.specs.Blocks.{Block, PrimaryOf, CanonicalOf}
 use Rattle.link_bundle_data_in_pieces.specs.DataReader.{IsDataReaderAt, IsDataReaderIn}
 use Rattle.link_bundle_data_in_pieces.specs.declared.data.DataReader.{DataReader}
 
--- the data of this block, if it has any, was read
+-- The bytes `seen` end with this block, and the reader has read its data. The primary block has no
+-- data.
 abbrev pub HasReadData : DataReader → (seen : List ℕ) → Block → Type 0
 HasReadData reader seen (PrimaryOf primary check end) = Unit {0}
 HasReadData reader seen (CanonicalOf block) = IsDataReaderIn reader seen block

@@ -26,7 +26,8 @@ use Rattle.link_run_over_bundle_files.specs.declared.walk.Stage.TheVariants as s
 
 -- ---- the current bundle
 
--- exactly these bytes of the bundle have come
+-- Exactly these bytes of the current bundle have come. The bundle goes on after them, and is not
+-- yet longer than the limit.
 pub record IsCurrentAt (limit : ℕ) (current : Current) (begun : List ℕ) : Type 0 where
   pub scanned : HasScanned current.scan begun
   pub opened : IsOpen limit begun
@@ -40,7 +41,8 @@ pub record HasScannedPart (by_blocks : Bool) (scan : BundleScan) (begun piece : 
   pub wanted : (fewer : ℕ) → fewer < count → bundle_goes (begun ++ take fewer piece) ≡ true
   pub blocks : HasNoEarlierBlockEnd by_blocks scan begun (take count piece)
 
--- the bytes `run` of the current bundle are added to what has come so far
+-- What holds when the bytes `run` of the current bundle are added to what has come. `place` is the
+-- number of bytes of this bundle that came before them.
 pub record BytesCome (limit : ℕ) (current : Current) (before : SoFar) (place : ℕ) (run : List ℕ)
     : Type 0 where
   pub numbered : current.number ≡ length before.bundles
@@ -50,7 +52,8 @@ pub record BytesCome (limit : ℕ) (current : Current) (before : SoFar) (place :
   pub few : length before.bundles + length (before.begun ++ run) < 2 ^ 63
   pub sized : size_of before.bundles + length (before.begun ++ run) < 2 ^ 63
 
--- exactly these bytes of the bundle have come, and they are a bundle that the peer takes
+-- Exactly these bytes of the current bundle have come. They are a whole bundle, and no longer than
+-- the limit.
 pub record IsWholeBundle (limit : ℕ) (current : Current) (bundle : List ℕ) : Type 0 where
   pub scanned : HasScanned current.scan bundle
   pub front : bundle_prefix bundle ≡ bundle
@@ -79,6 +82,7 @@ pub record RefusedBundle (limit : ℕ) (by_blocks : Bool) (number : ℕ) (begun 
   pub before : (count : ℕ) → count < length run → IsOpen limit (begun ++ take count run)
   pub blocks : by_blocks ≡ true → blocks_in (begun ++ before_last run) ≡ blocks_in begun
 
+-- the fault at which an input stops, or `None` if it ends without one
 abbrev pub fault_of : Option StreamStop → Option Fault
 fault_of None = None
 fault_of (Some stop) = Some stop.fault
@@ -94,8 +98,9 @@ AfterJudge limit by_blocks current begun run found.Whole =
 AfterJudge limit by_blocks current begun run (found.Refused fault) =
     RefusedBundle limit by_blocks current.number begun run fault
 
--- How many bytes the scan has seen, `after` a run of `count` bytes that show this. The byte that is
--- past the limit is not scanned.
+-- The scan had seen `before` bytes of the bundle, and then `count` more bytes came. `after` is how
+-- many bytes it has seen now. If those bytes show a refusal, it may not have seen all of them: the
+-- byte that is past the limit is not scanned.
 abbrev pub AddsSeen : (before count after : ℕ) → Found → Type 0
 AddsSeen before count after (found.Refused fault) = before ≤ after
 AddsSeen before count after _ = (before + count ≡ after) × (after < 2 ^ 63)
@@ -106,16 +111,18 @@ found_by number state.Going = found.Part
 found_by number state.Ended = found.Whole
 found_by number (state.Failed fault offset) = found.Refused (Bundle number offset fault)
 
--- the view of a bundle that is whole
+-- there is a view, and it is that of this whole bundle
 abbrev pub IsSomeViewOf : (bundle : List ℕ) → Option WholeView → Type 0
 IsSomeViewOf bundle None = ⊥
 IsSomeViewOf bundle (Some whole) = IsViewOf bundle whole
 
--- the fault of an input that ends after the bytes `begun` of a bundle, if there are any
+-- The fault of an input that ends after the bytes `begun` of a bundle. It is `None` if there are no
+-- such bytes. `number` is the number of the bundle.
 abbrev pub cut_at : (limit number : ℕ) → (begun : List ℕ) → Option Fault
 cut_at limit number begun = fault_of (stop_by number (divided limit begun).rest)
 
--- what is known of that fault, or that no byte of the bundle has come
+-- The value is the fault of an input that ends here (`cut_at`). Or it is `None`, and no byte of the
+-- bundle has come.
 abbrev pub IsCutFault : (limit number : ℕ) → (begun : List ℕ) → Option Fault → Type 0
 IsCutFault limit number begun None = begun ≡ []
 IsCutFault limit number begun (Some fault) = cut_at limit number begun ≡ Some fault
@@ -132,7 +139,7 @@ abbrev pub has_begun : Stage → Bool
 has_begun stage.Begin = false
 has_begun stage.Bundles = true
 
--- exactly this has come
+-- Exactly `now` has come: its bundles, and its bytes of the current bundle. The tool knows it.
 pub record HasSoFar (limit : ℕ) (knows : SoFar → Type 0) (current : Current) (now : SoFar)
     : Type 0 where
   pub number : current.number ≡ length now.bundles
@@ -162,6 +169,7 @@ module _ {R : Type 0} (look : R → Seen) (telling : BundleTelling) (knows : SoF
     pub live : IsLive look source
     pub holds : HasSoFar telling.limit knows current none_yet
 
+  -- the state of a run at each stage
   abbrev pub IsBundleWalkAtStage : Stage → Type 0
   IsBundleWalkAtStage stage.Begin = IsNewBundleWalk
   IsBundleWalkAtStage stage.Bundles = IsBundleWalkAt

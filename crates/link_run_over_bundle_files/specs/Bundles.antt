@@ -6,13 +6,13 @@ use Rattle.link_bundle_types.specs.declared.fault.BundleFault.{BundleFault}
 use Rattle.link_bundle_types.specs.declared.info.BundleInfo.{BundleInfo}
 use Rattle.link_bundle_blocks.specs.Bundle.{verdict, bundle_goes}
 
--- Why bytes do not begin with a bundle that the peer takes: the bundle has more bytes than this
--- limit, or it has this fault.
+-- Why bytes do not begin with a bundle that is accepted: the bundle has more bytes than this limit,
+-- which is the most that the peer receives, or it has this fault.
 pub data Refusal : Type 0 where
   Longer : (limit : ℕ) → Refusal
   Faulty : (fault : BundleFault) (offset : ℕ) → Refusal
 
--- a bundle, and what its blocks say about it
+-- a whole bundle: its bytes, and what its blocks say about it
 pub record Packed : Type 0 where
   pub bytes : List ℕ
   pub info : BundleInfo
@@ -21,13 +21,13 @@ pub record Packed : Type 0 where
 unfoldable pub size_of : List Packed → ℕ
 size_of bundles = sum_by (λ (bundle : Packed). length bundle.bytes) bundles
 
--- The end of an input, if it is not a bundle that the peer takes. `accepted` are the bytes before
--- the one that shows this, and `refusal` is the reason.
+-- The end of an input, if it is not a bundle that is accepted. `accepted` are the bytes before the
+-- one that shows this, and `refusal` is the reason.
 pub record Rest : Type 0 where
   pub accepted : List ℕ
   pub refusal : Refusal
 
--- the bundles of an input, and what follows them if it is not a bundle
+-- The accepted bundles of an input, and what follows them. `rest` is `None` if nothing does.
 pub record Divided : Type 0 where
   pub bundles : List Packed
   pub rest : Option Rest
@@ -46,11 +46,12 @@ pub record IsOpen (limit : ℕ) (begun : List ℕ) : Type 0 where
   pub goes : bundle_goes begun ≡ true
   pub within : length begun ≤ limit
 
+-- a verdict, with its fault as the reason of a refusal
 abbrev pub refused_by : Result BundleInfo (BundleFault × ℕ) → Result BundleInfo Refusal
 refused_by (Ok info) = Ok info
 refused_by (Err (fault, offset)) = Err (Faulty fault offset)
 
--- what the bundle `front` says, or why the peer does not take it (RFC 9174 section 4.6)
+-- what the blocks of the bundle `front` say, or why it is refused (RFC 9174 section 4.6)
 abbrev pub judged_front : (limit : ℕ) → (front : List ℕ) → Result BundleInfo Refusal
 judged_front limit front =
     if nat_lt limit (length front) then Err (Longer limit) else refused_by (verdict front)
@@ -62,10 +63,12 @@ accepted_by (Longer limit) front = take limit front
 accepted_by (Faulty fault offset) front =
     if lasts fault then take (length front - 1) front else front
 
+-- this bundle, and then what `more` has
 abbrev pub with_bundle : Packed → Divided → Divided
 with_bundle bundle more = record { bundles = bundle ∷ more.bundles; rest = more.rest }
 
--- the bundle `front`, and the bytes after it as `next` divides them; or the end at a refusal
+-- `bytes` begin with the bundle `front`: this bundle, and the bytes after it as `next` divides
+-- them. Or `front` is refused, and the input ends there.
 abbrev pub divided_by : (next : List ℕ → Divided) → (front bytes : List ℕ)
     → Result BundleInfo Refusal → Divided
 divided_by next front bytes (Ok info) =
@@ -85,6 +88,7 @@ divided_in (suc count) limit (byte ∷ bytes) =
     divided_by (divided_in count limit) (bundle_prefix (byte ∷ bytes)) (byte ∷ bytes)
     (judged_front limit (bundle_prefix (byte ∷ bytes)))
 
+-- an input, divided into its bundles and what follows them
 unfoldable pub divided : (limit : ℕ) → List ℕ → Divided
 divided limit bytes = divided_in (length bytes) limit bytes
 
@@ -92,6 +96,6 @@ divided limit bytes = divided_in (length bytes) limit bytes
 abbrev pub with_bundles : List Packed → Divided → Divided
 with_bundles bundles more = record { bundles = bundles ++ more.bundles; rest = more.rest }
 
--- A bundle may have any number of bytes. No input has as many as this.
+-- The limit if a bundle may have any number of bytes: no input has as many as this.
 abbrev pub bundle_limit : ℕ
 bundle_limit = 2 ^ 64 - 1

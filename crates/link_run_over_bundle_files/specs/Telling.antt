@@ -43,6 +43,7 @@ pub record SoFar : Type 0 where
   pub bundles : List Packed
   pub begun : List ℕ
 
+-- nothing has come
 abbrev pub none_yet : SoFar
 none_yet = record { bundles = []; begun = [] }
 
@@ -68,6 +69,7 @@ accepted_in (Some rest) = rest.accepted
 abbrev pub come_in : Divided → SoFar
 come_in input = record { bundles = input.bundles; begun = accepted_in input.rest }
 
+-- what a tool makes of an input that is divided in this way
 abbrev pub told_by : BundleTelling → Divided → Made
 told_by telling input = record {
   texts = telling.texts (come_in input);
@@ -76,12 +78,13 @@ told_by telling input = record {
   good = telling.good input.bundles;
 }
 
--- what a tool makes of an input
+-- what a tool makes of an input, given by its bytes
 unfoldable pub told_of : BundleTelling → List ℕ → Made
 told_of telling bytes = told_by telling (divided telling.limit bytes)
 
 -- ---- what a consumer is told, and what it writes
 
+-- the fields of the bundle that a run has made whole, or `None` if the bundle goes on
 abbrev pub whole_info : Option WholeView → Option BundleInfo
 whole_info None = None
 whole_info (Some whole) = Some (viewed_info whole.info)
@@ -142,6 +145,7 @@ pub record LastBytesCome (limit : ℕ) (by_blocks : Bool) (before : SoFar) (numb
   pub few : length before.bundles + length (before.begun ++ bytes) < 2 ^ 63
   pub sized : size_of before.bundles + length (before.begun ++ bytes) < 2 ^ 63
 
+-- the number of bytes of the current bundle: `size`, or 0 if the run has made the bundle whole
 abbrev pub read_by : Option WholeView → ℕ → ℕ
 read_by None size = size
 read_by (Some whole) size = 0
@@ -150,8 +154,8 @@ read_by (Some whole) size = 0
 abbrev pub size_after : RunView → ℕ
 size_after run = read_by run.whole (run.before + length run.bytes.now)
 
--- Of the texts `due`, the part `had` was written before. Now the rest was written, and `stands`
--- holds; or a writer failed while writing the rest.
+-- The texts `due` begin with the texts `had`, which were written before. A call wrote the rest, and
+-- then `stands` holds. Or a writer failed while writing the rest.
 pub record WritesRest {W E : Type 0} (out_look : W → Output) (report_look : E → Output)
     (had due : Texts) (stands : Type 0) (old new : Writers W E)
     (result : Result (Unit {0}) IoFault) : Type 0 where

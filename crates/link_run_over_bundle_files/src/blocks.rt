@@ -24,8 +24,10 @@ pub trait BlockConsumer {
     /// The tool's fields agree with the whole blocks in these bytes of a bundle.
     ghost knows: { Self → List ℕ → Type 0 };
 
-    /// Writes what the tool says of a block. It has ended with the bytes `run`, which follow the
-    /// bytes `before`, and its data was read.
+    /// Writes what the tool says of a block of the bundle with this number.
+    ///
+    /// In the contract, the block ends with the bytes `run`, which follow the bytes `before` of the
+    /// bundle. `reader` has read its data.
     fn block<W: OutDevice, E: OutDevice>(
         &mut self,
         number: u64,
@@ -53,9 +55,11 @@ pub trait BlockConsumer {
         × (knows consumer before → knows consumer (before ++ more)) };
 }
 
-/// Reads the data in a run of a bundle, and tells the consumer of the block that ends with it, if
-/// one does. No block ends before. The scan has seen the run, which follows `before` bytes of the
-/// bundle (`seen`).
+/// Reads the block data in a run of the bundle with this number, and tells the consumer of the
+/// block that ends with the run, if one does.
+///
+/// No block ends earlier in the run. The scan has seen the run, which follows the first `before`
+/// bytes of the bundle. In the contract, `seen` are those bytes.
 #[inline(always)]
 pub fn tell_run<C: BlockConsumer, W: OutDevice, E: OutDevice>(
     number: u64,
@@ -125,8 +129,8 @@ fn tell_ended<C: BlockConsumer, W: OutDevice, E: OutDevice>(
 
 /// Scans the next piece of a bundle, and tells the consumer of each block that ends in it.
 ///
-/// The piece comes after the first `before` bytes of the bundle (`seen`). If the scan needs no more
-/// bytes, no block ends in it.
+/// The piece follows the first `before` bytes of the bundle, which are `seen` in the contract. If
+/// the scan needs no more bytes, no block ends in the piece.
 pub fn tell_piece<C: BlockConsumer, W: OutDevice, E: OutDevice>(
     number: u64,
     before: u64,

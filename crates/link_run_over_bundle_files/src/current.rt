@@ -59,9 +59,9 @@ impl Current {
 
     /// Scans the next bytes of a nonempty piece, and returns how many these are and what they show.
     ///
-    /// They are no more bytes than the limit leaves, and no more than are wanted. If the limit
-    /// leaves none, it is one byte, which shows that the bundle is too long. If `by_blocks`, no
-    /// block ends before the last of them.
+    /// There are no more of these bytes than the limit leaves, and at most `wanted`. If the limit
+    /// leaves none, it is one byte, which shows that the bundle is too long. If `by_blocks` is
+    /// true, no block ends before the last of them.
     #[inline(always)]
     pub fn judge(
         &mut self,
@@ -93,8 +93,8 @@ impl Current {
         (count, self.found())
     }
 
-    /// Scans the next bytes of a nonempty piece, until no more are needed, or until a block ends if
-    /// `by_blocks`. Returns how many these are.
+    /// Scans the next bytes of a nonempty piece until no more are needed. If `by_blocks` is true,
+    /// it also stops after the first block that ends. Returns how many bytes were scanned.
     #[inline(always)]
     fn scan_piece(&mut self, by_blocks: bool, piece: &[u8]) -> usize
         requires some { 0 < length piece.now }
@@ -138,7 +138,7 @@ impl Current {
         self.scan.count()
     }
 
-    /// The bundle, if it is whole.
+    /// The view of the current bundle, or `None` if the bundle is not whole.
     #[inline(always)]
     pub fn whole(&self) -> Option<WholeView<'_>>
         ensures short { IfSome result (λ whole. HasShortNames (viewed_info whole.info)) }

@@ -90,7 +90,8 @@ impl<R: InDevice, W: OutDevice, E: OutDevice, C: BundleConsumer> Stages<Source<R
     }
 }
 
-/// Reads bytes of one bundle, at most this many and no more than the consumer wants.
+/// Takes bytes of one bundle, at most `most` and no more than the consumer wants, and tells the
+/// consumer of them. At the end of the input, ends the run.
 fn take_bytes<R: InDevice, W: OutDevice, E: OutDevice, C: BundleConsumer>(
     most: usize,
     options: &C::Options,
@@ -229,7 +230,7 @@ fn finish<W: OutDevice, E: OutDevice, C: BundleConsumer>(
     walker.consumer.end(options, writers).and(Ok(status))
 }
 
-/// The status of a run that ends without a fault.
+/// The status of a run that ends without a fault. `good` is whether all bundles are good.
 fn status(good: bool) -> Status
     ensures { result.0 ≡ (if good then 0 else 1) }
 {

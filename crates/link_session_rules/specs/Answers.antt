@@ -34,6 +34,8 @@ is_acked_since id (latest ∷ older) = is_acked_since id older
 
 -- ---- ack-length
 
+-- the rule that an XFER_ACK of `size` bytes breaks, if the last XFER_ACK has the same ID and more
+-- bytes
 abbrev pub if_less : (id size : ℕ) → Ack → Option MessageRule
 if_less id size last =
     if (last.id == id) && nat_lt size last.length then Some (AckLength size last.length) else None
@@ -53,7 +55,7 @@ abbrev pub is_acked : Option Ack → (id : ℕ) → Bool
 is_acked None id = false
 is_acked (Some ack) id = ack.id == id
 
--- whether it has this ID, with END
+-- whether the last XFER_ACK has this ID, and END
 abbrev pub has_ended : Option Ack → (id : ℕ) → Bool
 has_ended None id = false
 has_ended (Some ack) id = (ack.id == id) && ack.ends
@@ -63,7 +65,8 @@ abbrev pub is_refused : Option ℕ → (id : ℕ) → Bool
 is_refused None id = false
 is_refused (Some refused) id = refused == id
 
--- what is wrong with an XFER_ACK of `id` without START, by the last XFER_ACK and XFER_REFUSE
+-- What is wrong with an XFER_ACK of `id` without START, or `None`. `acked_since` is whether an
+-- XFER_ACK of `id` came after the last XFER_REFUSE.
 abbrev pub fault_of_later : (ack : Option Ack) → (refused : Option ℕ) → (acked_since : Bool)
     → (id : ℕ) → Option AnswerFault
 fault_of_later ack refused acked_since id =
@@ -71,7 +74,9 @@ fault_of_later ack refused acked_since id =
     else (if has_ended ack id then Some AfterEnd
     else (if is_refused refused id && not acked_since then Some AfterRefusal else None))
 
--- what is wrong with an answer after these messages; reason 04 is that the bundle is not acceptable
+-- What is wrong with an answer after these messages, which are in a list, the newest first. A
+-- refusal with reason 04, that the bundle is not acceptable, may come after the end is
+-- acknowledged.
 abbrev pub answer_fault : List Message → Message → Option AnswerFault
 answer_fault older (message.Ack flags id size) =
     if is_start flags

@@ -11,8 +11,9 @@ use Rattle.link_session_rules.specs.declared.rule.MessageRule.TheVariants.{ItemT
 
 -- ---- item-type
 
--- Whether the type of an item is neither assigned nor for private use, which begins at 8000. Only
--- that of Transfer Length items, in segments, is assigned (sections 8.3 and 8.4).
+-- Whether the type of an item of this message is neither assigned nor for private use. Types from
+-- 8000 on are for private use. The only assigned type is that of Transfer Length items, in segments
+-- (sections 8.3 and 8.4).
 abbrev pub is_unassigned : Message → (type : ℕ) → Bool
 is_unassigned (Segment segment) type = nat_lt type 0x8000 && not (type == transfer_length)
 is_unassigned message type = nat_lt type 0x8000
@@ -27,7 +28,8 @@ item_type message =
 
 -- ---- reject-known
 
--- whether a MSG_REJECT's reason (1 unknown, 2 unsupported, 3 unexpected) does not fit its type
+-- Whether a MSG_REJECT's reason (1 unknown, 2 unsupported, 3 unexpected) does not fit the type that
+-- it rejects. `is_known` is whether that type is from 01 to 07.
 abbrev pub does_not_fit : (reason : ℕ) → (is_known : Bool) → Bool
 does_not_fit reason is_known = if is_known then reason == 1 else ((reason == 2) || (reason == 3))
 
@@ -42,12 +44,14 @@ reject_known message = None
 
 -- ---- reason
 
--- whether a reason is neither assigned (sections 8.6 to 8.8) nor for private use, from f0 on
+-- Whether a reason of this message is neither assigned (sections 8.6 to 8.8) nor for private use.
+-- Reasons from f0 on are for private use.
 abbrev pub is_other_reason : Message → (reason : ℕ) → Bool
 is_other_reason (MsgReject reason header) other = (other == 0) || (nat_le 4 other && nat_lt other 0xf0)
 is_other_reason (Refuse reason id) other = nat_le 7 other && nat_lt other 0xf0
 is_other_reason message other = nat_le 6 other && nat_lt other 0xf0
 
+-- the rule that a message breaks with such a reason, or `None`
 abbrev pub if_other_reason : Message → (reason : ℕ) → Option MessageRule
 if_other_reason message reason =
     if is_other_reason message reason then Some (Reason (type_of message) reason) else None

@@ -20,15 +20,19 @@ rejects_type _ = false
 abbrev pub begins_anew : Message → Bool
 begins_anew message = is_sess_init message || (is_sess_term message || begins_transfer message)
 
--- whether `message`, whatever it is, comes after a MSG_REJECT that says that a type is unknown
+-- whether a message, of any kind, comes after a MSG_REJECT that says that a type is unknown
 abbrev pub follows : (older : List Message) → Message → Bool
 follows older message = list_any rejects_type older
 
+-- whether a message comes after such a MSG_REJECT, and begins or ends a session, or begins a
+-- transfer
 abbrev pub begins_after : (older : List Message) → Message → Bool
 begins_after older message = list_any rejects_type older && begins_anew message
 
 -- after-reject: no message comes after a MSG_REJECT that says that a type is unknown (sections
--- 5.1.2 and 8.5). The first such one counts, and the first that begins or ends something.
+-- 5.1.2 and 8.5). The first message after it that begins or ends a session, or begins a transfer,
+-- breaks the rule as a `must`. The first message after it, if it is no such message, breaks the
+-- rule as a `should`. All others keep it.
 unfoldable pub after_reject : List JudgedHead → Message → Option MessageRule
 after_reject before message =
     let older = newest before in

@@ -8,18 +8,19 @@ use Rattle.link_session_rules.specs.Heads.{items_of}
 use Rattle.link_session_rules.specs.declared.rule.MessageRule.{MessageRule}
 use Rattle.link_session_rules.specs.declared.rule.MessageRule.TheVariants.{ContactFlags, ItemFlags, SegmentFlags, TermFlags}
 
--- the flags that are defined: CAN_TLS of a contact header (section 4.2), CRITICAL of an extension
--- item (sections 4.8 and 5.2.5), START and END of XFER_SEGMENT (section 5.2.2), and REPLY of
--- SESS_TERM (section 6.1)
+-- CAN_TLS, the only flag that is defined for a contact header (section 4.2)
 abbrev pub can_tls : ℕ
 can_tls = 1
 
+-- CRITICAL, the only flag that is defined for an extension item (sections 4.8 and 5.2.5)
 abbrev pub critical : ℕ
 critical = 1
 
+-- START and END, the flags that are defined for an XFER_SEGMENT (section 5.2.2)
 abbrev pub start_and_end : ℕ
 start_and_end = 3
 
+-- REPLY, the only flag that is defined for a SESS_TERM (section 6.1)
 abbrev pub reply : ℕ
 reply = 1
 
@@ -46,7 +47,8 @@ segment_flags (Segment segment) =
     if has_other_flags start_and_end segment.flags then Some (SegmentFlags segment.flags) else None
 segment_flags message = None
 
--- term-flags: a SESS_TERM has no flag but REPLY (section 6.1). A reply repeats what it answers.
+-- term-flags: a SESS_TERM has no flag but REPLY (section 6.1). A reply is not judged, since it
+-- repeats the flags of the SESS_TERM that it answers.
 unfoldable pub term_flags : Message → Option MessageRule
 term_flags (SessTerm flags reason) =
     if not (is_reply flags) && has_other_flags reply flags

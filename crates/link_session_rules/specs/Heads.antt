@@ -17,6 +17,7 @@ pub record JudgedHead : Type 0 where
   -- what it does to the transfers; a stray segment does nothing
   pub turn : Option Turn
 
+-- the judged head that a view shows
 abbrev pub viewed_head : JudgedHeadView → JudgedHead
 viewed_head head =
     record { message = message_of head.message.now; fault = head.fault; turn = head.turn }
@@ -25,12 +26,12 @@ viewed_head head =
 abbrev pub messages_of : List JudgedHead → List Message
 messages_of heads = map (λ head. head.message) heads
 
--- their messages, the newest first
+-- the messages of these heads, the newest first
 abbrev pub newest : List JudgedHead → List Message
 newest heads = reverse (messages_of heads)
 
--- Whether a test passed at one of these messages. Their list has the newest first, and the test
--- takes the list of those before a message, and the message.
+-- Whether a test passed at one of these messages, which are in a list, the newest first. The test
+-- takes the messages before one, in such a list, and that message.
 abbrev pub held : (List Message → Message → Bool) → List Message → Bool
 held test [] = false
 held test (latest ∷ older) = test older latest || held test older
@@ -47,6 +48,7 @@ type_of (SessTerm flags reason) = codes.sess_term
 type_of (MsgReject reason header) = codes.msg_reject
 type_of (SessInit interval segment_mru transfer_mru node items) = codes.sess_init
 
+-- the head of a message that is a segment
 abbrev pub segment_of : Message → Option SegmentHead
 segment_of (Segment segment) = Some segment
 segment_of message = None
@@ -56,6 +58,7 @@ abbrev pub start_id : Message → Option ℕ
 start_id (Segment segment) = if is_start segment.flags then Some segment.id else None
 start_id message = None
 
+-- whether a message is a segment with START
 abbrev pub begins_transfer : Message → Bool
 begins_transfer message = is_some (start_id message)
 

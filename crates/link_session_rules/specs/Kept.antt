@@ -32,7 +32,8 @@ pub record AreSegmentRulesKept (limits : PeerLimits) (before : List JudgedHead) 
   pub items : item_flags head.message ≡ None
   pub types : item_type head.message ≡ None
 
--- the head of a segment in the middle of the open transfer: in order, and without flags
+-- the head of a segment without flags, in the middle of the open transfer, with `size` bytes of
+-- data
 abbrev pub inner_head : (id size : ℕ) → JudgedHead
 inner_head id size =
     record { message = inner_segment id size; fault = None; turn = Some (Continue false) }

@@ -12,6 +12,7 @@ use Rattle.link_session_rules.specs.declared.rule.MessageRule.TheVariants.{PeerS
 
 -- ---- peer-segment
 
+-- the rule that a segment breaks if its data is longer than this limit of the peer
 abbrev pub if_longer : (limit : ℕ) → SegmentHead → Option MessageRule
 if_longer limit segment =
     if nat_lt limit segment.length then Some (PeerSegment segment.length limit) else None
@@ -24,20 +25,23 @@ peer_segment (Some limit) message = option_and_then (if_longer limit) (segment_o
 
 -- ---- the segments of a transfer (section 5.2.2), the newest first
 
--- The earlier segments of the transfer of a segment with this turn, or `None` for a stray segment.
--- `so_far` are the segments of the transfer that began last.
+-- The segments before a segment in its transfer, by the turn of this segment: none for the first
+-- one. The result is `None` for a stray segment. `so_far` are the segments of the transfer that
+-- began last.
 abbrev pub earlier_of : Option Turn → (so_far : List SegmentHead) → Option (List SegmentHead)
 earlier_of (Some (turn.Begin abandoned last)) so_far = Some []
 earlier_of (Some (turn.Continue last)) so_far = Some so_far
 earlier_of _ so_far = None
 
--- the segments so far after a message: a segment joins those before it, others change nothing
+-- The segments of the transfer that began last, after one more message. A segment with `earlier`
+-- ones is put before them. A stray segment, or another message, changes nothing.
 abbrev pub joined : Option SegmentHead → (earlier : Option (List SegmentHead))
     → (so_far : List SegmentHead) → List SegmentHead
 joined (Some segment) (Some earlier) so_far = segment ∷ earlier
 joined _ earlier so_far = so_far
 
--- the segments of the transfer that began last, by the heads from the newest on
+-- the segments of the transfer that began last, by all heads so far, in a list that has the newest
+-- first
 abbrev pub segments_back : List JudgedHead → List SegmentHead
 segments_back [] = []
 segments_back (head ∷ older) =
@@ -48,14 +52,16 @@ segments_back (head ∷ older) =
 abbrev pub segments_of : List JudgedHead → List SegmentHead
 segments_of heads = segments_back (reverse heads)
 
--- the first segment of a transfer: the last of `earlier`, or `segment` if there is none
+-- the first segment of a transfer that has `segment` and the segments before it: the last of
+-- `earlier`, or `segment` if there is none
 abbrev pub first_segment : SegmentHead → (earlier : List SegmentHead) → SegmentHead
 first_segment segment [] = segment
 first_segment segment (previous ∷ earlier) = first_segment previous earlier
 
 -- ---- peer-transfer
 
--- the rule that `size` bytes of data break, if they take the `before` bytes past the limit
+-- The rule that a segment of `size` bytes breaks, if its transfer passes the limit with it.
+-- `before` is how many bytes the transfer has before it.
 abbrev pub if_passed : (limit before size : ℕ) → Option MessageRule
 if_passed limit before size =
     if nat_le before limit && nat_lt limit (before + size)
@@ -66,7 +72,7 @@ if_passed limit before size =
 abbrev pub size_of : List SegmentHead → ℕ
 size_of segments = sum_by (λ (segment : SegmentHead). segment.length) segments
 
--- the rule, if the segment with it is the first of its transfer: none is earlier
+-- this rule, if the segment that breaks it is the first of its transfer, so none is earlier
 abbrev pub if_first : List SegmentHead → MessageRule → Option MessageRule
 if_first [] rule = Some rule
 if_first (previous ∷ earlier) rule = None

@@ -14,7 +14,8 @@ use Rattle.link_rules_shared.specs.declared.level.{Level.Level, Level.TheVariant
 use Rattle.link_session_rules.specs.declared.rule.MessageRule.{MessageRule}
 use Rattle.link_session_rules.specs.declared.rule.MessageRule.TheVariants as rule
 
--- the rules for a message after these heads, in order; `None` for one that it keeps
+-- for each rule of messages, in order, how a message after these heads breaks it; `None` if it
+-- keeps the rule
 abbrev pub judged_rules : PeerLimits → (before : List JudgedHead) → JudgedHead
     → List (Option MessageRule)
 judged_rules limits before head =
@@ -32,6 +33,7 @@ unfoldable pub broken_rules : PeerLimits → (before : List JudgedHead) → Judg
     → List MessageRule
 broken_rules limits before head = filter_map (λ judged. judged) (judged_rules limits before head)
 
+-- the name of a rule of messages, as in its line; two rules have the name `peer-transfer`
 unfoldable pub name_of : MessageRule → List ℕ
 name_of (rule.ContactFlags flags) = codes "contact-flags"
 name_of (rule.NodeId size) = codes "node-id"
@@ -57,6 +59,7 @@ name_of (rule.RejectKnown reason header) = codes "reject-known"
 name_of (rule.Reason type reason) = codes "reason"
 name_of (rule.TermOrder type) = codes "term-order"
 
+-- how strictly a rule of messages is meant
 unfoldable pub level_of : MessageRule → Level
 level_of (rule.ContactFlags flags) = Must
 level_of (rule.NodeId size) = Must

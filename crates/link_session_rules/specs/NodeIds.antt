@@ -15,30 +15,34 @@ abbrev pub is_scheme_byte : ℕ → Bool
 is_scheme_byte byte =
     is_ascii_alphanumeric byte || ((byte == 0x2b) || ((byte == 0x2d) || (byte == 0x2e)))
 
--- whether bytes are a scheme: a letter, and then such bytes
+-- whether bytes are a scheme: a letter, and then only bytes that may be in a scheme
 abbrev pub is_scheme : List ℕ → Bool
 is_scheme [] = false
 is_scheme (first ∷ rest) = is_ascii_alphabetic first && list_all is_scheme_byte rest
 
 -- ---- what follows `dtn:` (RFC 9171 section 4.2.5.1.1): `none`, or a dtn name
 
+-- whether bytes may follow `dtn:`
 unfoldable pub is_dtn_part : List ℕ → Bool
 is_dtn_part part = is_word (codes "none") part || is_dtn_name part
 
 -- ---- what follows `ipn:` (section 4.2.5.1.2): two decimal numbers with a point between, or three.
 -- What begins with `!` is not judged.
 
+-- whether bytes are a decimal number: one digit or more
 abbrev pub is_number : List ℕ → Bool
 is_number digits = not (length digits == 0) && list_all is_ascii_digit digits
 
+-- whether bytes are two decimal numbers with a point between, by the offset of their first point
 abbrev pub are_two_at : Option ℕ → List ℕ → Bool
 are_two_at None part = false
 are_two_at (Some point) part = is_number (take point part) && is_number (drop (point + 1) part)
 
--- two decimal numbers with a point between
+-- whether bytes are two decimal numbers with a point between
 abbrev pub are_two : List ℕ → Bool
 are_two part = are_two_at (first_of 0x2e part) part
 
+-- whether bytes are three decimal numbers with points between, by the offset of their first point
 abbrev pub are_three_at : Option ℕ → List ℕ → Bool
 are_three_at None part = false
 are_three_at (Some point) part = is_number (take point part) && are_two (drop (point + 1) part)
@@ -47,24 +51,28 @@ are_three_at (Some point) part = is_number (take point part) && are_two (drop (p
 abbrev pub is_unjudged : List ℕ → Bool
 is_unjudged part = starts_with nat_eq part (codes "!")
 
+-- whether bytes may follow `ipn:`
 unfoldable pub is_ipn_part : List ℕ → Bool
 is_ipn_part part = is_unjudged part || (are_two part || are_three_at (first_of 0x2e part) part)
 
 -- ---- node-id
 
--- whether the part after the colon has the syntax of its scheme; other schemes have none here
+-- whether the part after the colon has the syntax of its scheme; only those of dtn and ipn are
+-- judged
 abbrev pub is_of_scheme : (scheme part : List ℕ) → Bool
 is_of_scheme scheme part =
     if is_word (codes "dtn") scheme then is_dtn_part part
     else (if is_word (codes "ipn") scheme then is_ipn_part part else true)
 
--- a URI: a scheme, a colon, and more bytes or none (RFC 3986 sections 2 and 3)
+-- whether bytes are a URI, by the offset of their first colon: a scheme, the colon, and more bytes
+-- or none (RFC 3986 sections 2 and 3)
 abbrev pub is_uri_at : Option ℕ → List ℕ → Bool
 is_uri_at None node = false
 is_uri_at (Some colon) node =
     is_scheme (take colon node)
     && (are_uri_bytes node && is_of_scheme (take colon node) (drop (colon + 1) node))
 
+-- whether bytes are a URI with the syntax of its scheme
 unfoldable pub is_uri : List ℕ → Bool
 is_uri node = is_uri_at (first_of 0x3a node) node
 
@@ -100,6 +108,7 @@ name_level_at None node = None
 name_level_at (Some colon) node =
     if is_uri node then name_level (take colon node) (drop (colon + 1) node) else None
 
+-- the rule that a node ID of `size` bytes breaks, if there is a level for it
 abbrev pub if_level : (size : ℕ) → Option Level → Option MessageRule
 if_level size None = None
 if_level size (Some level) = Some (NodeName size level)

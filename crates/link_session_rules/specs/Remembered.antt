@@ -16,7 +16,7 @@ use Rattle.link_session_rules.specs.declared.session.Since.TheVariants.{Neither,
 use Rattle.link_session_rules.specs.declared.history.MessageHistory.{MessageHistory}
 use Rattle.link_session_rules.specs.declared.lengths.TransferSoFar.{TransferSoFar}
 
--- the last of `id` and the IDs after it
+-- the last ID of a list that begins with `id`
 abbrev pub end_of : (id : ℕ) → List ℕ → ℕ
 end_of id [] = id
 end_of id (next ∷ more) = end_of next more
@@ -25,10 +25,11 @@ end_of id (next ∷ more) = end_of next more
 abbrev pub between : (first last id : ℕ) → Bool
 between first last id = nat_le first id && nat_le id last
 
+-- whether an ID is in the run
 abbrev pub contains : (id : ℕ) → IdRun → Bool
 contains id run = between run.first run.last id
 
--- the first and the last ID of a run, which is given with the newest ID first
+-- the first and the last ID of a run of IDs, whose list has the newest first
 abbrev pub ends_of : List ℕ → Option IdRun
 ends_of [] = None
 ends_of (last ∷ older) = Some (record { first = end_of last older; last = last })
@@ -37,7 +38,8 @@ ends_of (last ∷ older) = Some (record { first = end_of last older; last = last
 abbrev pub kept_runs : TransferIds → List IdRun
 kept_runs ids = cons_option ids.last ids.earlier.items
 
--- the runs that are kept after one more ID, at most `count` and the last one
+-- The runs that are kept after one more ID, the newest first: the run with this ID, and at most
+-- `count` runs before it.
 abbrev pub kept_with : (id count : ℕ) → List IdRun → List IdRun
 kept_with id count [] = record { first = id; last = id } ∷ []
 kept_with id count (run ∷ kept) =
@@ -45,15 +47,15 @@ kept_with id count (run ∷ kept) =
     then record { first = run.first; last = id } ∷ kept
     else record { first = id; last = id } ∷ take count (run ∷ kept)
 
--- Exactly these messages came. Their list has the newest first. There are no earlier runs without a
--- last one.
+-- `ids` is what is kept after exactly these messages, which are in a list, the newest first. If it
+-- has no last run, it has no earlier ones.
 pub record AreTransferIdsAt (ids : TransferIds) (older : List Message) : Type 0 where
   pub runs : map Some (kept_runs ids) ≡ map ends_of (last_runs older)
   pub none : ids.last ≡ None → ids.earlier.items ≡ []
   pub jumped : ids.jumped ≡ held jumps older
 
--- The answers are the last of exactly these messages, the newest first. `acked_since` is read only
--- after an XFER_REFUSE.
+-- `answers` are the last XFER_ACK and XFER_REFUSE of exactly these messages, which are in a list,
+-- the newest first. `acked_since` is read only after an XFER_REFUSE.
 pub record AreAnswersAt (answers : Answers) (older : List Message) : Type 0 where
   pub ack : answers.ack ≡ last_ack older
   pub refused : answers.refused ≡ last_refused older
@@ -67,14 +69,16 @@ pub record AreEndingsAt (endings : Endings) (older : List Message) : Type 0 wher
   pub followed : endings.followed ≡ held follows older
   pub begun : endings.begun ≡ held begins_after older
 
--- whether a message of one kind came, and one of another kind after the first of it
+-- `First` if a message of the first kind came, `Both` if one of the second kind came after it, and
+-- otherwise `Neither`
 abbrev pub since_of : (first second : Message → Bool) → List Message → Since
 since_of first second messages =
     if not (list_any first messages) then Neither
     else if list_any second (after_first first messages) then Both
     else First
 
--- what holds after one more message, which may be of the first or of the second kind
+-- The state after one more message, from the state before it. The message may be of the first or of
+-- the second kind.
 abbrev pub next_since : Since → (is_first is_second : Bool) → Since
 next_since Neither is_first is_second = if is_first then First else Neither
 next_since First is_first is_second = if is_second then Both else First
@@ -92,7 +96,7 @@ session_of messages = since_of is_sess_init is_of_transfer messages
 abbrev pub within_64_bits : ℕ → Option ℕ
 within_64_bits sum = if nat_lt sum (2 ^ 64) then Some sum else None
 
--- what is kept of the transfer with these segments, the newest first
+-- what is kept of the transfer with these segments, which are in a list, the newest first
 abbrev pub so_far_of : List SegmentHead → Option TransferSoFar
 so_far_of [] = None
 so_far_of (segment ∷ earlier) = Some (record {

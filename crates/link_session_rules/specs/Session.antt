@@ -17,6 +17,7 @@ abbrev pub first_parameters : List Message → Option Parameters
 first_parameters [] = None
 first_parameters (message ∷ more) = option_or (parameters_of message) (first_parameters more)
 
+-- whether two SESS_INITs set the same parameters
 abbrev pub are_same : Parameters → Parameters → Bool
 are_same first second =
     (first.interval == second.interval)
@@ -51,7 +52,8 @@ order before head =
 
 -- ---- messages after SESS_INIT
 
--- the type byte of a message that the sender of a SESS_INIT sends after it (section 4.5)
+-- the type byte of an XFER_ACK, XFER_REFUSE or KEEPALIVE (section 4.5), which a sender sends only
+-- after its SESS_INIT
 abbrev pub type_after_sess_init : Message → Option ℕ
 type_after_sess_init (message.Ack flags id size) = Some codes.xfer_ack
 type_after_sess_init (message.Refuse reason id) = Some codes.xfer_refuse

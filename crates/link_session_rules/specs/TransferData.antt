@@ -9,6 +9,7 @@ use Rattle.link_rules_shared.specs.declared.unread.Unread.{Unread}
 use Rattle.link_session_rules.specs.declared.rule.TransferRule.{TransferRule}
 use Rattle.link_session_rules.specs.declared.rule.TransferRule.TheVariants.{Bundle, NotRead}
 
+-- whether there is an offset, and it is `byte`
 abbrev pub is_offset : Option ℕ → (byte : ℕ) → Bool
 is_offset None byte = false
 is_offset (Some offset) byte = offset == byte

@@ -15,7 +15,7 @@ abbrev pub abandoned_by : Option Turn → Option ℕ
 abandoned_by (Some (turn.Begin abandoned last)) = abandoned
 abandoned_by _ = None
 
--- the rule that a first segment breaks by abandoning a transfer of another ID
+-- the rule that a first segment breaks, if the transfer that it abandons has another ID
 abbrev pub if_another : SegmentHead → (open_id : ℕ) → Option MessageRule
 if_another segment open_id =
     if segment.id == open_id then None else Some (Interleaved segment.id open_id)
@@ -49,11 +49,13 @@ ids_of older = filter_map start_id older
 abbrev pub last_runs : (older : List Message) → List (List ℕ)
 last_runs older = take 64 (runs_of (ids_of older))
 
+-- whether an ID is in one of these runs
 abbrev pub is_in : List (List ℕ) → (id : ℕ) → Bool
 is_in runs id = list_any (λ run. list_any (λ earlier. earlier == id) run) runs
 
 -- ---- transfer-id
 
+-- the rule that a START with this ID breaks, if the ID is in one of these runs
 abbrev pub if_in : List (List ℕ) → (id : ℕ) → Option MessageRule
 if_in runs id = if is_in runs id then Some (TransferId id) else None
 
@@ -64,7 +66,8 @@ transfer_id before message =
 
 -- ---- transfer-id-order
 
--- whether an ID is not the one that has to follow these, given with the newest first
+-- Whether an ID is not the next one. The next ID is one more than the last of these, or 0 if there
+-- is none. Their list has the newest first.
 abbrev pub skips : (ids : List ℕ) → (id : ℕ) → Bool
 skips [] id = not (id == 0)
 skips (last ∷ older) id = not (id == last + 1)
@@ -75,6 +78,7 @@ jumps_to older None = false
 jumps_to older (Some id) =
     list_any is_sess_init older && (not (is_in (last_runs older) id) && skips (ids_of older) id)
 
+-- whether a message is such a START
 abbrev pub jumps : (older : List Message) → Message → Bool
 jumps older message = jumps_to older (start_id message)
 

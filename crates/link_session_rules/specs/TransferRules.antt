@@ -20,7 +20,8 @@ if_malformed _ = None
 unfoldable pub length_item : (first : SegmentHead) → Option TransferRule
 length_item first = if_malformed (announced_of first.items.items)
 
--- the rule that another length than the announced one breaks; malformed items announce none
+-- the rule that a transfer of `size` bytes breaks, if it announced another length; malformed items
+-- announce none
 abbrev pub if_different : Announced → (size : ℕ) → Option TransferRule
 if_different (Total total) size =
     if total == size then None else Some (rule.LengthDiffers total size)
@@ -35,7 +36,8 @@ abbrev pub has_length_item : Announced → Bool
 has_length_item Absent = false
 has_length_item _ = true
 
--- length-of-one-segment: a transfer of one segment has no Transfer Length item, malformed or not
+-- length-of-one-segment: a transfer of one segment has no Transfer Length item, not even a
+-- malformed one
 unfoldable pub length_of_one_segment : (first : SegmentHead) → Option TransferRule
 length_of_one_segment first =
     if (is_start first.flags && is_end first.flags)
@@ -43,12 +45,13 @@ length_of_one_segment first =
     then Some rule.LengthOfOneSegment
     else None
 
--- the rules that are broken, in order
+-- the rules that a closed transfer of `size` bytes breaks, in order
 unfoldable pub broken_transfer_rules : (first : SegmentHead) → (size : ℕ) → List TransferRule
 broken_transfer_rules first size =
     filter_map (λ judged. judged)
     (length_item first ∷ length_differs first size ∷ length_of_one_segment first ∷ [])
 
+-- the name of a rule of transfers, as in its line
 unfoldable pub transfer_name_of : TransferRule → List ℕ
 transfer_name_of (rule.Unfinished size) = codes "unfinished"
 transfer_name_of rule.LengthItem = codes "length-item"
@@ -57,6 +60,7 @@ transfer_name_of rule.LengthOfOneSegment = codes "length-of-one-segment"
 transfer_name_of (rule.Bundle fault byte) = codes "bundle"
 transfer_name_of (rule.NotRead fault byte) = codes "not-read"
 
+-- how strictly a rule of transfers is meant
 unfoldable pub transfer_level_of : TransferRule → Level
 transfer_level_of (rule.Unfinished size) = Should
 transfer_level_of rule.LengthItem = Must

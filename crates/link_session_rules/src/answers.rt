@@ -104,7 +104,8 @@ impl Answers {
         }
     }
 
-    /// What is wrong with an XFER_ACK without START, by the last answers, or `None`.
+    /// What is wrong with an XFER_ACK of this ID without START, by the answers before it, or
+    /// `None`.
     fn fault_of_later(&self, id: u64) -> Option<AnswerFault>
         ensures { result ≡ fault_of_later self.now.ack self.now.refused self.now.acked_since id }
     {

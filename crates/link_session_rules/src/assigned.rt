@@ -61,7 +61,8 @@ pub(crate) fn reject_known(message: &MessageBuffer) -> Option<MessageRule>
     is_wrong.then_some(MessageRule::RejectKnown { reason, header })
 }
 
-/// Whether a reason is neither below `first` nor for private use.
+/// Whether a reason is neither assigned nor for private use. All reasons below `first` count as
+/// assigned, and those from 0xf0 on are for private use.
 fn is_other_reason(first: u8, reason: u8) -> bool
     ensures { result ≡ (nat_le first reason && nat_lt reason 0xf0) }
 {

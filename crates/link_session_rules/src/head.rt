@@ -20,7 +20,8 @@ pub struct JudgedHeadView<'a> {
     pub turn: Option<Turn>,
 }
 
-/// The extension items of a message.
+/// The extension items of a message. A segment without START has none, whatever the buffer still
+/// has.
 #[inline(always)]
 pub(crate) fn items_of(message: &MessageBuffer) -> &[Item]
     ensures { result.now ≡ items_of (message_of message.now) }
@@ -63,7 +64,7 @@ pub(crate) fn is_end(flags: u8) -> bool
     flags & END == END
 }
 
-/// The length that a segment announces. Without START in its `flags`, it announces none.
+/// The length that a segment with these flags announces. Without START, it announces none.
 #[tactic(auto, unfolding(link_transfer::specs::Announced::announced_of))]
 pub(crate) fn announcement(message: &MessageBuffer, flags: u8) -> Announced
     requires { TotalsFit message.now.items.items }

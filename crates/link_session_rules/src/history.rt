@@ -194,10 +194,10 @@ impl MessageHistory {
         ])
     }
 
-    /// Takes an inner segment with `length` bytes of data, if it is known to break no rule, and
-    /// returns whether it did. If not, the history stays as it was.
+    /// Takes an inner segment with `length` bytes of data, if it is known to break no rule. Returns
+    /// whether the segment was taken. If not, the history stays as it was.
     ///
-    /// If a limit of the peer is known, it takes no segment. The contract holds for any ID of the
+    /// If a limit of the peer is known, no segment is taken. The contract holds for any ID of the
     /// segment.
     #[tactic(auto, using(crate::proofs::Kept::none_if, crate::proofs::Inner::inner_kept))]
     #[inline(always)]

@@ -72,7 +72,7 @@ impl TransferSoFar {
         }
     }
 
-    /// Adds a further segment of `length` bytes. Nothing else of it is kept.
+    /// Adds a further segment with `length` bytes of data. Nothing else of the segment is kept.
     #[inline(always)]
     pub(crate) fn add(&mut self, length: u64)
         ensures { (segment previous : SegmentHead) (earlier : List SegmentHead)
@@ -100,7 +100,8 @@ impl TransferSoFar {
     }
 }
 
-/// The sum of two lengths, or `None` if it exceeds 64 bits.
+/// The sum of two lengths, or `None` if it exceeds 64 bits. `before` is `None` if it did so
+/// already.
 #[inline(always)]
 fn sum_within(before: Option<u64>, length: u64) -> Option<u64>
     ensures { (sum : ℕ) → before ≡ within_64_bits sum → result ≡ within_64_bits (length + sum) }
@@ -122,7 +123,7 @@ fn first_exceeded(limit: u64, announced: Announced, length: u64) -> Option<Messa
     }
 }
 
-/// The transfer of a segment with this turn up to the segment before it.
+/// What is kept of a transfer before its segment with this turn.
 ///
 /// It is `Some(None)` for a first segment, and `None` for a stray one. `so_far` is the transfer
 /// that began last.

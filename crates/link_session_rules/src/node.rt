@@ -44,6 +44,7 @@ fn is_dtn_part(part: &[u8]) -> bool
     is_word(b"none", part) || is_dtn_name(part)
 }
 
+/// Whether all bytes are decimal digits. It is true for no bytes.
 fn are_digits(bytes: &[u8]) -> bool
     ensures { result ≡ list_all is_ascii_digit bytes.now }
 {
@@ -77,7 +78,7 @@ fn are_three(part: &[u8]) -> bool
     }
 }
 
-/// Whether what follows `ipn:` is not judged.
+/// Whether what follows `ipn:` is accepted without a look at it, since it begins with `!`.
 fn is_unjudged(part: &[u8]) -> bool
     ensures { result ≡ is_unjudged part.now }
 {

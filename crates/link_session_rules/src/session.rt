@@ -28,7 +28,7 @@ impl Since {
     ghost use Rattle.std.specs.Prelude.{◌≡◌, true, false};
     ghost use Rattle.link_session_rules.specs.Remembered.{next_since};
 
-    /// What holds after a message of the first kind.
+    /// This state after one more message, which is of the first kind.
     pub(crate) fn after_first(self) -> Since
         ensures { result ≡ next_since self true false }
     {
@@ -38,7 +38,7 @@ impl Since {
         }
     }
 
-    /// What holds after a message of the second kind.
+    /// This state after one more message, which is of the second kind.
     #[inline(always)]
     pub(crate) fn after_second(self) -> Since
         ensures { result ≡ next_since self false true }
@@ -59,7 +59,8 @@ pub(crate) struct Parameters {
     transfer_mru: u64,
 }
 
-/// Whether a SESS_INIT came, and a transfer or an answer since, after one more message.
+/// Whether a SESS_INIT came, and a transfer or an answer since. `session` is this state before the
+/// message.
 #[tactic(auto, using(crate::proofs::Since::next_same))]
 #[inline(always)]
 pub(crate) fn session_after(session: Since, message: &MessageBuffer) -> Since
@@ -75,7 +76,8 @@ pub(crate) fn session_after(session: Since, message: &MessageBuffer) -> Since
     }
 }
 
-/// Whether KEEPALIVEs are disabled, and one was sent since, after one more message.
+/// Whether a SESS_INIT disabled KEEPALIVEs, and one was sent since. `keepalives` is this state
+/// before the message.
 #[tactic(auto, using(crate::proofs::Since::next_same))]
 #[inline(always)]
 pub(crate) fn keepalives_after(keepalives: Since, message: &MessageBuffer) -> Since
@@ -176,7 +178,8 @@ fn changes_session(parameters: &Option<Parameters>, session: Since, message: &Me
     matches!(session, Since::Both) && are_other(parameters, &parameters_of(message))
 }
 
-/// The level of a fault of the order. `parameters` and `session` are what came before.
+/// The level of a fault of the order of messages. `parameters` are those of the first SESS_INIT
+/// before the message, and `session` is what came since.
 fn order_level(
     parameters: &Option<Parameters>,
     session: Since,
@@ -212,7 +215,8 @@ pub(crate) fn order(
     Some(MessageRule::Order { fault, level })
 }
 
-/// The type byte (RFC 9174 section 4.5) of an answer or a KEEPALIVE, which follow a SESS_INIT.
+/// The type byte (RFC 9174 section 4.5) of an XFER_ACK, XFER_REFUSE or KEEPALIVE, which a sender
+/// sends only after its SESS_INIT.
 fn type_after_sess_init(message: &MessageBuffer) -> Option<u8>
     ensures { result ≡ type_after_sess_init (message_of message.now) }
 {
@@ -224,7 +228,8 @@ fn type_after_sess_init(message: &MessageBuffer) -> Option<u8>
     }
 }
 
-/// The rule of messages before a SESS_INIT, if it is broken. `parameters` are those of the first.
+/// The rule of messages before a SESS_INIT, if it is broken. `parameters` are those of the first
+/// SESS_INIT, if one came before the message.
 #[tactic(auto, unfolding(crate::specs::Session::before_session))]
 #[inline(always)]
 pub(crate) fn before_session(

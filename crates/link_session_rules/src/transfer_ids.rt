@@ -44,7 +44,7 @@ impl IdRun {
         self.first <= id && id <= self.last
     }
 
-    /// Whether an ID is the next after the run.
+    /// Whether an ID is one more than the last of the run.
     fn is_before(self, id: u64) -> bool
         ensures { result ≡ (id == self.last + 1) }
     {
@@ -63,7 +63,7 @@ pub(crate) struct TransferIds {
     jumped: bool,
 }
 
-/// Puts a run before the others. If there are too many, the oldest is dropped.
+/// Puts a run before the others. If there are then more than `EARLIER`, the oldest is dropped.
 #[cold]
 #[inline(never)]
 fn put_first(runs: &mut ArrayVec<IdRun, EARLIER>, run: IdRun)
@@ -113,7 +113,7 @@ impl TransferIds {
         }
     }
 
-    /// Whether an ID is not the one after the last. The first ID has to be 0.
+    /// Whether an ID is not the next one, which is one more than the last ID, or 0 for the first.
     #[tactic(auto, using(crate::proofs::Runs::skips_by))]
     #[inline(always)]
     fn skips(&self, id: u64) -> bool
@@ -126,7 +126,8 @@ impl TransferIds {
         }
     }
 
-    /// Whether an ID is new and not the next one. `initiated` is whether a SESS_INIT came.
+    /// Whether an ID is new and not the next one. `initiated` is whether a SESS_INIT came before
+    /// it.
     #[inline(always)]
     fn jumps_to(&self, initiated: bool, id: u64) -> bool
         ensures { (older : List Message) → initiated ≡ list_any is_sess_init older
@@ -150,7 +151,7 @@ impl TransferIds {
         self.jumped = jumped;
     }
 
-    /// Whether this ID, or one before it, broke the rule of their order.
+    /// Whether this ID, or one before it, broke the rule of the order of transfer IDs.
     #[inline(always)]
     fn has_jumped(&self, initiated: bool, id: u64) -> bool
         ensures { (older : List Message) → initiated ≡ list_any is_sess_init older
@@ -226,7 +227,7 @@ fn start_id(message: &MessageBuffer) -> Option<u64>
     }
 }
 
-/// The transfer that a message with this effect abandons, if it does.
+/// The ID of the transfer that a message with this turn abandons, or `None` if it abandons none.
 fn abandoned_by(turn: Option<Turn>) -> Option<u64>
     ensures { result ≡ abandoned_by turn }
 {

@@ -24,11 +24,11 @@ by_stage contact head piece stage.Contact = contact
 by_stage contact head piece stage.Message = head
 by_stage contact head piece stage.Data = piece
 
--- the most bytes that a step is given, and at most `piece` bytes of data
+-- the most bytes that a step is given: a contact header (6), the longest head, or `piece` of data
 abbrev pub most_by : (piece : ℕ) → Stage → ℕ
 most_by piece now = by_stage 6 longest_head piece now
 
--- whether the session permits the call of a step at this stage
+-- whether the session permits the call that a step at this stage makes
 abbrev pub may_go_on : {R : Type 0} → Stage → Session R → Bool
 may_go_on stage.Contact session = may_open session
 may_go_on stage.Message session = may_read session
@@ -42,7 +42,7 @@ may_follow (next.Stage stage.Message) session = may_read session
 may_follow (next.Stage stage.Data) session = is_opened session
 may_follow (next.Ended answer) session = true
 
--- the line of the message that was read last
+-- the line of the message that was read last, whole or not
 abbrev pub latest_line : Latest → List ℕ
 latest_line latest = message_text latest.offset (message_of latest.message)
 
@@ -116,7 +116,8 @@ module _ {R : Type 0} (look : R → Input) (first : Texts) where
     pub clean : (reading_of history).end ≡ Clean
     pub texts : first then on_output lines ≡ (listing_of history).texts
 
-  -- some whole messages were given after the history, and these lines make the texts now
+  -- Some whole messages were given after the history. With these lines, the texts `first` become
+  -- the texts of all bytes so far.
   pub record ListsOn (old new : Session R) (lines history : List ℕ) : Type 0 where
     pub given : List ℕ
     pub takes : Takes look (source_of old) (source_of new) given
@@ -130,7 +131,8 @@ AfterLines look first old new before after history result =
     (lines : List ℕ) × AfterWrite look.output look.report before after (on_output lines) result
     × ListsOn look.input first old new lines history
 
--- What holds after a step, or after a stride if `far` is true. Only a step has its bound.
+-- What holds after a step, or after a stride if `far` is true. `size` bounds the bytes that were
+-- given. For a step, it is `most_by`. For a stride, it may be any number.
 abbrev pub AfterStepOrStride : {R W E : Type 0} → Looks R W E → Devices R W E → (piece : ℕ)
     → (far : Bool)
     → (now : Stage) → (old new : Place R W E) → (knows : List ℕ → Type 0) → (history : List ℕ)
@@ -139,7 +141,7 @@ AfterStepOrStride look start piece far now old new knows history result =
     (size : ℕ) × (far ≡ false → size ≡ most_by piece now) × (0 < size)
     × AfterStage look listing_of start true old new knows size history result
 
--- data comes next if some is to come, and else a message
+-- data comes next if `left`, the number of data bytes to come, is not 0; otherwise a message does
 abbrev pub NextFits : (left : ℕ) → Next Stage → Type 0
 NextFits left (next.Stage stage.Message) = left ≡ 0
 NextFits left (next.Stage stage.Data) = 0 < left

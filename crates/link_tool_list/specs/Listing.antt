@@ -16,6 +16,7 @@ contact_lines (Some contact) = contact_text contact
 unfoldable pub message_lines : List Entry → List ℕ
 message_lines entries = flat_map (λ entry. message_text entry.offset entry.message) entries
 
+-- the line of the contact header, and then those of the messages
 abbrev pub listed_lines : Reading → List ℕ
 listed_lines reading = contact_lines reading.contact ++ message_lines reading.entries
 
@@ -32,5 +33,6 @@ listing_by reading = record {
 unfoldable pub listing_of : List ℕ → Made
 listing_of bytes = listing_by (reading_of bytes)
 
+-- the tool that makes `listing_of` of its input
 abbrev pub list_tool : Tool
 list_tool = tool_of listing_of

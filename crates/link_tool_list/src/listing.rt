@@ -84,8 +84,9 @@ impl<R: InDevice, W: OutDevice, E: OutDevice> Stages<Session<R>, W, E> for Listi
     }
 }
 
-/// Does a step that is given at most `piece` bytes of data. If `far` is true and the step has
-/// written a line, it goes on with the messages that lie whole in the window.
+/// Does a step at any stage, which is given at most `piece` bytes of data. If `far` is true and the
+/// step has written the line of a message, it goes on with the messages that lie whole in the
+/// window.
 #[inline(always)]
 fn step<R: InDevice, W: OutDevice, E: OutDevice>(
     tool: &mut Listing,

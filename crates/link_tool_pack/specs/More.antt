@@ -8,23 +8,26 @@ use Rattle.link_run_over_bundle_files.specs.Telling.{stop_by}
 use Rattle.link_tool_pack.specs.Packing.{transfer_bytes, rest_segments, report_line}
 use Rattle.link_tool_pack.specs.declared.more.MoreOptions.{MoreOptions}
 
--- The segments of each bundle. Their transfers have the ID `first` and those after it. Of an ID
--- above 2^64 - 1, a segment has the lowest 64 bits.
+-- The segments of each bundle, and those that are due of the bytes after the last bundle. The
+-- transfers have the ID `first` and those after it. If an ID is above 2^64 - 1, its segments have
+-- its lowest 64 bits.
 abbrev pub more_output : MoreOptions → Divided → List ℕ
 more_output options input =
     transfer_bytes options.pack options.first input.bundles
     ++ rest_segments options.pack (options.first + length input.bundles) input.rest
 
--- the ID in the segments of a bundle that comes after this number of bundles
+-- the ID in the segments of a bundle, which comes after `number` bundles
 abbrev pub id_at : MoreOptions → (number : ℕ) → ℕ
 id_at options number = (options.first + number) % 2 ^ 64
 
--- a line for each bundle, which begins with the ID of its transfer
+-- a line for each bundle, which begins with the ID of its transfer; `number` bundles come before
+-- these
 unfoldable pub more_lines : MoreOptions → (number : ℕ) → List Packed → List ℕ
 more_lines options number [] = []
 more_lines options number (bundle ∷ more) =
     report_line options.pack (id_at options number) bundle ++ more_lines options (suc number) more
 
+-- what `pack_more` writes for an input, without the line of a fault
 abbrev pub more_texts : MoreOptions → Divided → Texts
 more_texts options input = record {
   output = more_output options input;

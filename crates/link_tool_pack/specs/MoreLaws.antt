@@ -9,12 +9,12 @@ use Rattle.link_tool_pack.specs.Packing.{prelude_bytes, end_bytes, report_lines,
 use Rattle.link_tool_pack.specs.More.{more_of}
 use Rattle.link_tool_pack.specs.declared.more.MoreOptions.{MoreOptions}
 
--- these options, with transfer IDs from this one on
+-- the options of `pack_more` with these options of `pack`, and with transfer IDs from `first` on
 abbrev pub from : (first : ℕ) → PackOptions → MoreOptions
 from first options = record { first = first; pack = options }
 
--- What `pack` writes is the prelude, then the segments alone from the ID 0 on, and then SESS_TERM,
--- if it was asked for. The report and the fault are the same.
+-- The output of `pack` is the prelude, then the output of `pack_more` with the first ID 0, and then
+-- SESS_TERM, if the options ask for it. Both write the same report, and stop at the same fault.
 pub record IsPackedAlone (options : PackOptions) (bytes : List ℕ) : Type 0 where
   pub output : (packing_of options bytes).texts.output
       ≡ prelude_bytes options ++ (more_of (from 0 options) bytes).texts.output
@@ -37,11 +37,12 @@ HasLinesFromFirst options bytes =
     options.first + length bundles ≤ 2 ^ 64
     → (more_of options bytes).texts.report ≡ report_lines options.pack options.first bundles
 
--- a message whose transfer has another ID
+-- the message, with `first` added to its transfer ID if it is a segment
 abbrev pub moved : (first : ℕ) → Message → Message
 moved first (Segment head) = Segment (record head { id = first + head.id })
 moved first message = message
 
+-- the entry, with its message moved in this way
 abbrev pub moved_entry : (first : ℕ) → Entry → Entry
 moved_entry first entry = record entry { message = moved first entry.message }
 

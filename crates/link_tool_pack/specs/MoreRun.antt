@@ -17,6 +17,7 @@ more_texts_of options bundles begun = record {
   report = more_lines options 0 bundles;
 }
 
+-- what `pack_more` says of the bundles of an input
 abbrev pub more_telling : MoreOptions → BundleTelling
 more_telling options = record {
   limit = options.pack.peer_transfer;

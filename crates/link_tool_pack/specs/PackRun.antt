@@ -25,6 +25,7 @@ texts_of options bundles begun = record {
   report = report_lines options 0 bundles;
 }
 
+-- what `pack` says of the bundles of an input
 abbrev pub pack_telling : PackOptions → BundleTelling
 pack_telling options = record {
   limit = options.peer_transfer;

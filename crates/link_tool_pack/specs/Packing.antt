@@ -22,7 +22,8 @@ prelude_bytes options =
 abbrev pub segment_size : PackOptions → ℕ
 segment_size options = min options.peer_segment 65536
 
--- the bytes that the segments of a transfer carry: a whole bundle, or those accepted so far
+-- What the segments of a transfer carry. If `whole` is true, `bundle` is a whole bundle. Otherwise
+-- it is those bytes of an incomplete bundle that were accepted so far.
 abbrev pub sending : PackOptions → (whole : Bool) → List ℕ → Sending
 sending options whole bundle =
     record {
@@ -39,8 +40,8 @@ transfer_bytes options number (bundle ∷ more) =
     segments_of number (sending options true bundle.bytes)
     ++ transfer_bytes options (suc number) more
 
--- The due segments of the accepted bytes at the end of an input, if these are not a bundle. None of
--- them is the last of its transfer.
+-- The segments that are due when an input does not end after a whole bundle: those of the accepted
+-- bytes after the last bundle. None of them is the last of its transfer.
 abbrev pub rest_segments : PackOptions → (number : ℕ) → Option Rest → List ℕ
 rest_segments options number None = []
 rest_segments options number (Some rest) = segments_of number (sending options false rest.accepted)
@@ -68,6 +69,7 @@ report_lines options number (bundle ∷ more) =
 
 -- ---- the whole input
 
+-- the output up to the segments of the last bytes, without SESS_TERM
 abbrev pub bundles_output : PackOptions → Divided → List ℕ
 bundles_output options input =
     prelude_bytes options ++ transfer_bytes options 0 input.bundles
@@ -93,5 +95,6 @@ packing_by options input = record {
 unfoldable pub packing_of : PackOptions → List ℕ → Made
 packing_of options bytes = packing_by options (divided options.peer_transfer bytes)
 
+-- `pack` as a tool
 abbrev pub pack_tool : PackOptions → Tool
 pack_tool options = tool_of (packing_of options)

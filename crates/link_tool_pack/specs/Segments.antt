@@ -23,7 +23,7 @@ pub record Sending : Type 0 where
   pub bundle : List ℕ
   pub whole : Bool
 
--- a cutter with these bytes, before any chunk is given
+-- the history of a cutter to which these bytes were pushed, before any chunk is given
 abbrev pub cutting_of : Sending → Cutting
 cutting_of sending =
     record {
@@ -43,7 +43,7 @@ cut_at sending k = record {
   announce = if k == 0 then announcement (cutting_of sending) else None;
 }
 
--- `count` segments from number `k` on
+-- the segments of `count` chunks, from chunk `k` on, counted from 0
 unfoldable pub segments_from : (id : ℕ) → Sending → (k count : ℕ) → List ℕ
 segments_from id sending k zero = []
 segments_from id sending k (suc count) =
@@ -57,6 +57,7 @@ segments_of id sending = segments_from id sending 0 (due (cutting_of sending))
 
 -- ---- the segments that a cutter still has to give
 
+-- the bytes and the sizes of this history of a cutter
 abbrev pub sending_of : Cutting → Sending
 sending_of so_far =
     record {
@@ -66,12 +67,13 @@ sending_of so_far =
       whole = so_far.whole;
     }
 
--- the segments that are due and were not given
+-- the segments of the chunks that are due and were not given
 abbrev pub segments_left : (id : ℕ) → Cutting → List ℕ
 segments_left id so_far =
     segments_from id (sending_of so_far) (length so_far.given) (due so_far - length so_far.given)
 
--- all due chunks were given; after a whole bundle the next one begins
+-- this history after all due chunks were given; after those of a whole bundle, the next bundle
+-- begins
 abbrev pub all_given : Cutting → Cutting
 all_given so_far =
     if so_far.whole then beginning so_far.segment so_far.hold
@@ -80,7 +82,7 @@ all_given so_far =
       chunk = None;
     }
 
--- an incomplete bundle, with all due chunks given
+-- the history of a cutter that has a part of a bundle, and has given all due chunks of it
 abbrev pub going : (segment hold : ℕ) → (bundle : List ℕ) → Cutting
 going segment hold bundle = record {
   segment = segment;

@@ -49,7 +49,7 @@ impl MorePacker {
     }
 }
 
-/// The ID of the transfer of the bundle with this number.
+/// The ID of the transfer of a bundle, which comes after `number` bundles.
 #[inline(always)]
 fn id_of(options: &MoreOptions, number: u64) -> u64
     ensures { result ≡ id_at options.now number }
@@ -77,16 +77,19 @@ impl BundleConsumer for MorePacker {
 
     ghost read = { λ more. 0 };
 
+    /// False: the lines of `pack` say nothing of blocks, so blocks may end anywhere in a run.
     #[inline(always)]
     fn by_blocks() -> bool {
         false
     }
 
+    /// The most bytes that a bundle may have: as many as the peer takes in a transfer.
     #[inline(always)]
     fn limit(options: &MoreOptions) -> u64 {
         options.pack.peer_transfer
     }
 
+    /// The most bytes that the packer takes at once: those that the next chunk still lacks.
     #[inline(always)]
     fn wanted(&self) -> usize {
         self.cutter.wanted()
@@ -120,7 +123,7 @@ impl BundleConsumer for MorePacker {
         }
     }
 
-    /// Writes the segments that the bytes make due.
+    /// Writes the segments that become due with these bytes, the last ones that were accepted.
     fn stop<W: OutDevice, E: OutDevice>(
         &mut self,
         options: &MoreOptions,
@@ -142,6 +145,7 @@ impl BundleConsumer for MorePacker {
         Ok(())
     }
 
+    /// True: at a bundle with a fault, the run stops.
     fn is_good(&self, _options: &MoreOptions) -> bool {
         true
     }

@@ -91,16 +91,19 @@ impl BundleConsumer for Packer {
 
     ghost read = { λ packer. 0 };
 
+    /// False: the lines of `pack` say nothing of blocks, so blocks may end anywhere in a run.
     #[inline(always)]
     fn by_blocks() -> bool {
         false
     }
 
+    /// The most bytes that a bundle may have: as many as the peer takes in a transfer.
     #[inline(always)]
     fn limit(options: &PackOptions) -> u64 {
         options.peer_transfer
     }
 
+    /// The most bytes that the packer takes at once: those that the next chunk still lacks.
     #[inline(always)]
     fn wanted(&self) -> usize {
         self.cutter.wanted()
@@ -135,7 +138,7 @@ impl BundleConsumer for Packer {
         }
     }
 
-    /// Writes the segments that the bytes make due.
+    /// Writes the segments that become due with these bytes, the last ones that were accepted.
     fn stop<W: OutDevice, E: OutDevice>(
         &mut self,
         _options: &PackOptions,
@@ -155,6 +158,7 @@ impl BundleConsumer for Packer {
         write_end(writers, options, &mut self.head)
     }
 
+    /// True: at a bundle with a fault, the run stops.
     fn is_good(&self, _options: &PackOptions) -> bool {
         true
     }

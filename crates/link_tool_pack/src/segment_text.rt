@@ -42,6 +42,7 @@ impl<'a> Text for SegmentText<'a> {
 
     ghost text = { λ segment. segment_bytes segment.id segment.cut segment.chunk.now };
 
+    /// Writes the segment into the page at index `at`, and returns the index after it.
     #[inline(always)]
     fn put(&self, page: &mut [u8], at: usize) -> usize {
         let at = put_head(page, at, self.id, self.cut, self.chunk.len() as u64);
@@ -58,6 +59,7 @@ impl<'a> Text for HeadText<'a> {
         segment_head_bytes (flags_of head.cut.first head.cut.last) head.id
         (length head.chunk.now) head.cut.announce };
 
+    /// Writes only the head into the page at index `at`, and returns the index after it.
     #[inline(always)]
     fn put(&self, page: &mut [u8], at: usize) -> usize {
         put_head(page, at, self.id, self.cut, self.chunk.len() as u64)
@@ -74,7 +76,7 @@ fn flags(cut: Cut) -> u8
     start | end
 }
 
-/// Writes eight bytes, big-endian.
+/// Writes a number as eight bytes, big-endian, and returns the index after them.
 #[inline(always)]
 fn put_number(page: &mut [u8], at: usize, number: u64) -> usize
     requires { at + 8 ≤ length page.old }
@@ -85,8 +87,8 @@ fn put_number(page: &mut [u8], at: usize, number: u64) -> usize
     copy_into(page, at, &number.to_be_bytes())
 }
 
-/// Writes the extension list of a first segment, which announces the length or is empty. Any other
-/// segment has no list.
+/// Writes the extension list of a first segment, which announces the length or is empty, in 17
+/// bytes or in 4. Any other segment has no list.
 #[inline(always)]
 #[tactic(auto, unfolding(link_wire::specs::Spelling::announce_bytes))]
 fn put_list(page: &mut [u8], at: usize, first: bool, announce: Option<u64>) -> usize
@@ -107,7 +109,8 @@ fn put_list(page: &mut [u8], at: usize, first: bool, announce: Option<u64>) -> u
     }
 }
 
-/// Writes the head of a chunk's segment. `size` is the number of bytes of the chunk.
+/// Writes the head of a chunk's segment, which has at most 35 bytes. `size` is the number of bytes
+/// of the chunk.
 #[inline(always)]
 fn put_head(page: &mut [u8], at: usize, id: u64, cut: Cut, size: u64) -> usize
     requires room { at + 35 ≤ length page.old }

@@ -8,12 +8,13 @@ use Rattle.link_transfer.specs.declared.announcement.Announced.TheVariants.{Abse
 abbrev pub is_transfer_length : Item → Bool
 is_transfer_length item = item.kind == 1
 
--- the total, which a Transfer Length item of 8 bytes always has
+-- The total, if the item has one. In items that were read, a Transfer Length item of 8 bytes
+-- always has one (`TotalFits` of link_wire), so `None` does not occur.
 abbrev pub total_or_malformed : Option ℕ → Announced
 total_or_malformed (Some total) = Total total
 total_or_malformed None = Malformed
 
--- the announcement of one Transfer Length item: its value, if that has 8 bytes
+-- the announcement of one Transfer Length item: its total, if its value has 8 bytes
 abbrev pub announced_by : Item → Announced
 announced_by item = if item.length == 8 then total_or_malformed item.total else Malformed
 
@@ -27,13 +28,13 @@ announced_by_all (item ∷ another ∷ more) = Malformed
 unfoldable pub announced_of : List Item → Announced
 announced_of items = announced_by_all (filter is_transfer_length items)
 
--- the announcement with one more Transfer Length item
+-- the announcement of some items, and then of one more Transfer Length item
 abbrev pub announced_after : Announced → Item → Announced
 announced_after Absent item = announced_by item
 announced_after (Total total) item = Malformed
 announced_after Malformed item = Malformed
 
--- the announcement with one more item of any type
+-- the announcement of some items, and then of one more item of any type
 abbrev pub announced_with : Announced → Item → Announced
 announced_with announced item =
     if is_transfer_length item then announced_after announced item else announced

@@ -4,7 +4,7 @@ use Rattle.std.specs.List.{flat_map}
 
 -- `segment` is the greatest number of data bytes in a segment
 
--- chunk number k, from 0: the bytes after k segments, at most as many as a segment has
+-- chunk number `k`, counted from 0: at most `segment` bytes, which follow the first `k` chunks
 abbrev pub chunk_at : (segment : ℕ) → (k : ℕ) → List ℕ → List ℕ
 chunk_at segment k bundle = take segment (drop (k * segment) bundle)
 

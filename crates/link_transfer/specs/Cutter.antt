@@ -23,12 +23,13 @@ held_size cutter = length cutter.held.bytes
 abbrev pub kept_size : Cutter → ℕ
 kept_size cutter = length cutter.held.given + length cutter.held.bytes
 
--- `given` is the chunk of the last cut, which has a byte, or it is empty if there is none
+-- `given` is the chunk of the last cut, which is not empty; or `given` is empty, if no chunk is
+-- kept
 abbrev pub IsLastChunk : Option (List ℕ) → List ℕ → Type 0
 IsLastChunk None given = given ≡ []
 IsLastChunk (Some chunk) given = (given ≡ chunk) × (0 < length chunk)
 
--- the cutter has this history
+-- this is exactly the history of the cutter
 pub record IsCutterAt (cutter : Cutter) (so_far : Cutting) : Type 0 where
   pub some : 0 < so_far.segment
   pub segment : cutter.segment ≡ so_far.segment

@@ -16,13 +16,13 @@ pub record Cutting : Type 0 where
   -- the chunk of the last cut, until the next push or cut
   pub chunk : Option (List ℕ)
 
--- no byte was pushed yet
+-- the history of a new cutter: no byte was pushed
 abbrev pub beginning : (segment hold : ℕ) → Cutting
 beginning segment hold =
     record { segment = segment; hold = hold; bundle = []; whole = false; given = []; chunk = None }
 
--- These bytes were pushed; `last` is whether they end with the bundle's last byte. Without bytes
--- nothing changes.
+-- The history after these bytes were pushed, too. `last` is whether they end with the bundle's last
+-- byte. Without bytes nothing changes.
 abbrev pub with_bytes : List ℕ → (last : Bool) → Cutting → Cutting
 with_bytes [] last so_far = so_far
 with_bytes (byte ∷ bytes) last so_far =
@@ -59,6 +59,7 @@ abbrev pub is_last : Cutting → Bool
 is_last so_far =
     so_far.whole && (length so_far.given + 1 == chunk_count so_far.segment (length so_far.bundle))
 
+-- whether the next chunk is the bundle's first
 abbrev pub is_first : Cutting → Bool
 is_first so_far = length so_far.given == 0
 
@@ -73,7 +74,7 @@ next_cut so_far =
     })
     else None
 
--- The chunk was cut. After the last one another bundle begins.
+-- The history after the next chunk was cut, too. After the last chunk, another bundle begins.
 abbrev pub with_chunk : Cutting → Cutting
 with_chunk so_far =
     if is_last so_far
@@ -83,7 +84,8 @@ with_chunk so_far =
       chunk = Some (next_chunk so_far);
     }
 
--- `cut` was called; if no chunk was ready, it only ends the showing of the last one
+-- The history after a call of `cut`. If no chunk was ready, only the chunk of the cut before is no
+-- longer shown.
 unfoldable pub after_cut : Cutting → Cutting
 after_cut so_far =
     if is_some (next_cut so_far) then with_chunk so_far else record so_far { chunk = None }
@@ -96,7 +98,7 @@ without_chunk so_far = record so_far { chunk = None }
 abbrev pub uncut : Cutting → List ℕ
 uncut so_far = drop (length so_far.given * so_far.segment) so_far.bundle
 
--- the bytes that are shown: the chunk of the last cut, or else the bytes that were not cut
+-- the bytes that are shown: the chunk of the last cut, or else `left`, the bytes that were not cut
 abbrev pub shown_by : Option (List ℕ) → List ℕ → List ℕ
 shown_by (Some chunk) left = chunk
 shown_by None left = left
@@ -109,8 +111,8 @@ abbrev pub is_empty : List ℕ → Bool
 is_empty [] = true
 is_empty (byte ∷ bytes) = false
 
--- These bytes were pushed one at a time until a chunk was ready. If `last` is true, the last of
--- them is the bundle's last.
+-- The history after these bytes were pushed, one at a time, until a chunk was ready. If `last` is
+-- true, the last of all these bytes is the bundle's last.
 unfoldable pub with_each : List ℕ → (last : Bool) → Cutting → Cutting
 with_each [] last so_far = so_far
 with_each (byte ∷ bytes) last so_far =

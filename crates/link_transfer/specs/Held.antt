@@ -11,12 +11,14 @@ pub record HeldBytes : Type 0 where
   pub given : List ℕ
   pub bytes : List ℕ
 
--- whether a chunk is ready: the bundle has ended, or a chunk is full and the length can no longer
--- be announced
+-- Whether a chunk is ready, if `size` bytes are held. `begun` is whether a chunk of the bundle was
+-- cut, and `ended` whether the bundle's last byte was pushed. A chunk is ready if the bundle has
+-- ended, or if a chunk is full and the length can no longer be announced.
 abbrev pub waits : (begun ended : Bool) (segment hold size : ℕ) → Bool
 waits begun ended segment hold size = ended || (nat_le segment size && (begun || nat_lt hold size))
 
--- the number of further bytes after which a chunk is ready, if none of them is the bundle's last
+-- The number of further bytes after which a chunk is ready, if `size` bytes are held, and none of
+-- the further bytes is the bundle's last.
 abbrev pub wanted_size : (begun : Bool) (segment hold size : ℕ) → ℕ
 wanted_size begun segment hold size = (if begun then segment else max segment (hold + 1)) - size
 
@@ -27,7 +29,7 @@ is_chunk begun last segment hold size =
     if last then nat_lt 0 size && nat_le size segment
     else (size == segment) && (begun || nat_lt hold size)
 
--- whether the bytes held are the bundle's last chunk
+-- whether the `size` bytes held are the bundle's last chunk
 abbrev pub is_last_of : (ended : Bool) (segment size : ℕ) → Bool
 is_last_of ended segment size = ended && nat_le size segment
 
@@ -37,7 +39,7 @@ abbrev pub announcement_of : (begun ended : Bool) (segment hold size : ℕ) → 
 announcement_of begun ended segment hold size =
     if not begun && (ended && (nat_lt segment size && nat_le size hold)) then Some size else None
 
--- the description of the next chunk; it has no meaning if none is ready
+-- the description of the next chunk, if one is ready
 abbrev pub cut_of : (begun ended : Bool) (segment hold size : ℕ) → Cut
 cut_of begun ended segment hold size =
     record {

@@ -53,8 +53,9 @@ has_sess_init before = list_any is_sess_init (events_of before)
 unfoldable pub has_sess_term : List Message → Bool
 has_sess_term before = list_any is_sess_term (events_of before)
 
--- The transfer that is open after a segment: its own, unless it has END. No other is open, since
--- segments of two transfers are never interleaved (sections 5.2 and 5.2.2).
+-- The ID of the transfer that is open after a segment: that of the segment, unless the segment has
+-- END. No other is open, since segments of two transfers are never interleaved (sections 5.2 and
+-- 5.2.2). This is only used for segments.
 abbrev pub open_after : Event → Option ℕ
 open_after (Segment flags id) = if is_end flags then None else Some id
 open_after SessInit = None
@@ -147,8 +148,8 @@ effect_by false done = Some done
 unfoldable pub effect_of : List Message → Event → Option Turn
 effect_of before event = effect_by (is_stray before event) (turn_of before event)
 
--- The messages that the order of the next one depends on, if every message is taken. Only stray
--- segments are left out.
+-- The messages before, and then this one unless it is stray. If every message is taken, the order
+-- of the next one depends on this list.
 abbrev pub appended_unless : (stray : Bool) → List Message → Message → List Message
 appended_unless true before message = before
 appended_unless false before message = before ++ message ∷ []

@@ -183,6 +183,8 @@ impl Cutter {
         if !self.is_chunk(bytes.len(), last) {
             return None;
         }
+        // Such a chunk announces no length: the bundle has no more bytes than a segment, or its
+        // length can no longer be announced.
         let cut = self.described(last, None);
         self.held.forget();
         self.begun = !last;
@@ -202,7 +204,8 @@ impl Cutter {
         size == self.segment && (self.begun || size > self.hold)
     }
 
-    /// The number of bytes after which a chunk is ready, if none of them is the bundle's last.
+    /// The number of further bytes after which a chunk is ready, if none of them is the bundle's
+    /// last.
     ///
     /// It may be called only if no chunk is ready.
     #[inline]

@@ -21,7 +21,9 @@ pub(crate) struct Held {
     buffer: Vec<u8>,
     /// The number of bytes for which the buffer has memory.
     room: usize,
+    /// Where the bytes that were given last begin.
     given: usize,
+    /// Where the held bytes begin.
     start: usize,
 }
 
@@ -44,9 +46,9 @@ impl Model for Held {
 
 /// Makes room for `count` bytes after the held ones, and returns where the held bytes begin.
 ///
-/// The held bytes are those from `start` on. If there are none, or there is too little room after
-/// them, they are moved to the beginning of the buffer. So short bundles use the same few bytes of
-/// the buffer, one after another.
+/// The held bytes are those from `start` on. With the new ones, there are at most `room`. If none
+/// are held, or there is too little room after them, they are moved to the beginning of the buffer.
+/// So short bundles use the same few bytes of the buffer, one after another.
 #[inline]
 fn with_room(buffer: &mut Vec<u8>, start: usize, count: usize, room: usize) -> usize
     requires order { start ≤ length buffer.old.items }

@@ -23,7 +23,8 @@ fn announced_by(item: &Item) -> Announced
     }
 }
 
-/// The announcement of the items before, with this item after them.
+/// The announcement of some items and of this one after them. `announced` is that of the items
+/// before.
 fn announced_with(announced: Announced, item: &Item) -> Announced
     ensures { result ≡ announced_with announced item.now }
 {
@@ -38,7 +39,8 @@ fn announced_with(announced: Announced, item: &Item) -> Announced
 
 /// The announcement of a transfer's extension items.
 ///
-/// For a Transfer Length item of 8 bytes, `total` has to be the number that they spell.
+/// `total` of a Transfer Length item of 8 bytes has to be the number that those bytes spell. Calls
+/// that read a message set it.
 pub fn announced(items: &Items) -> Announced
     requires { TotalsFit items.now.items }
     ensures { result ≡ announced_of items.now.items }

@@ -2,14 +2,15 @@
 -- constant of the code changes no definition.
 use Rattle.std.specs.Prelude.{ℕ, Bool, ◌==◌, bit_and}
 
--- the contact header (section 4.2): `dtn!`, and the version
+-- the four bytes `dtn!` with which a contact header begins (section 4.2), as a number
 abbrev pub magic : ℕ
 magic = 0x64746e21
 
+-- the version in a contact header (section 4.2)
 abbrev pub tcpcl_version : ℕ
 tcpcl_version = 4
 
--- message types (section 4.5)
+-- the type bytes of messages (section 4.5)
 abbrev pub xfer_segment : ℕ
 xfer_segment = 1
 
@@ -35,7 +36,7 @@ sess_init = 7
 abbrev pub is_end : ℕ → Bool
 is_end flags = bit_and flags 1 == 1
 
--- whether they have START: it is the first of its transfer
+-- whether the flags of an XFER_SEGMENT have START: it is the first of its transfer
 abbrev pub is_start : ℕ → Bool
 is_start flags = bit_and flags 2 == 2
 
@@ -47,6 +48,6 @@ item_head = 5
 abbrev pub transfer_length : ℕ
 transfer_length = 1
 
--- the number of bytes of its value
+-- the number of bytes in the value of a Transfer Length item
 abbrev pub total_size : ℕ
 total_size = 8

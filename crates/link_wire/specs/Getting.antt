@@ -60,13 +60,14 @@ module _ {R A : Type 0} where
     pub stops : TakesThenStops look old new given fault
     pub is_cut : part given ≡ Err Truncated
 
+  -- what holds after a part was read, by the result
   abbrev pub AfterPart : (R → Input) → (List ℕ → Part A) → Source R
       → Source R → Result A Halt → Type 0
   AfterPart look part old new (Ok value) = GivenPart look part old new value
   AfterPart look part old new (Err (halt.Wire fault)) = MetFault look part old new fault
   AfterPart look part old new (Err (halt.Io fault)) = MetStop look part old new fault
 
-  -- nothing was read: the part was at hand, or a fault
+  -- Nothing was read. The part was at hand and is given, or the outcome is an error.
   abbrev pub AfterPartAtHand : (R → Input) → (List ℕ → Part A) → Source R
       → Source R → Result A Halt → Type 0
   AfterPartAtHand look part old new (Ok value) =
@@ -89,15 +90,18 @@ with_value value (Err stop) = Err stop
 
 -- The cases of reading a type byte: none, since the input has ended before it; or this one.
 module _ {R : Type 0} where
+  -- no type byte: the input ends before the next message
   pub record GivenNoKind (look : R → Input) (old new : Source R) : Type 0 where
     pub takes : Takes look old new []
     pub live : IsLive look new
     pub over : IsOver look new
 
+  -- the type byte of the next message was given
   pub record GivenKind (look : R → Input) (old new : Source R) (kind : ℕ) : Type 0 where
     pub takes : Takes look old new (kind ∷ [])
     pub live : IsLive look new
 
+  -- what holds after a type byte was read, by the result
   abbrev pub AfterKind : (R → Input) → Source R → Source R → Result (Option ℕ) IoFault → Type 0
   AfterKind look old new (Ok None) = GivenNoKind look old new
   AfterKind look old new (Ok (Some kind)) = GivenKind look old new kind

@@ -23,7 +23,7 @@ read_part bytes (Err fault) = Err fault
 abbrev pub span_bytes : List ℕ → Span → List ℕ
 span_bytes bytes span = take span.length (drop span.offset bytes)
 
--- the same for a node ID: its bytes, in place of where they lie
+-- `read_part` for a node ID, with the bytes of the ID in place of the span where they lie
 abbrev pub read_node : List ℕ → Result (Span × ℕ) WireFault → Part (ArrayVec ℕ)
 read_node bytes (Ok (span, next)) = Ok (record { items = span_bytes bytes span }, drop next bytes)
 read_node bytes (Err fault) = Err fault
@@ -32,7 +32,7 @@ read_node bytes (Err fault) = Err fault
 abbrev pub head_of : Item → ItemHead
 head_of item = record { flags = item.flags; kind = item.kind; length = item.length }
 
--- `read_part` for an item's head
+-- `read_part` for an item's head, which the code returns as an item without its total
 abbrev pub read_head : List ℕ → Result (Item × ℕ) WireFault → Part ItemHead
 read_head bytes (Ok (item, next)) = Ok (head_of item, drop next bytes)
 read_head bytes (Err fault) = Err fault
@@ -54,14 +54,16 @@ LocatesItem owner bytes left offset (Err fault) =
     >>= λ (head, rest). total_at owner head.kind head.length rest)
     ≡ Err fault
 
--- the part is some items, after which the bytes from `next` on follow, and `next` is `end`
+-- The part is some items, and then the bytes from the offset `next` on. The items end where they
+-- have to: `next` is `end`.
 pub record EndsBefore (bytes : List ℕ) (end : ℕ) (part : Part (ArrayVec Item)) (next : ℕ) : Type 0 where
   pub items : ArrayVec Item
   pub is : part ≡ Ok (items, drop next bytes)
   pub within : next ≤ length bytes
   pub ends : next ≡ end
 
--- the result of reading a list of items: the offset `end`, at which they end, or the part's fault
+-- the result of reading the items of a list: the offset at which they end, which is `end`, or their
+-- fault
 abbrev pub LocatesEnd : List ℕ → (end : ℕ) → Part (ArrayVec Item) → Result ℕ WireFault → Type 0
 LocatesEnd bytes end part (Ok next) = EndsBefore bytes end part next
 LocatesEnd bytes end part (Err fault) = part ≡ Err fault

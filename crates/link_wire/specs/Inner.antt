@@ -7,7 +7,7 @@ use Rattle.link_wire.specs.Session.{left_of, GivenMessage, PassedBytes}
 use Rattle.link_wire.specs.declared.message.{Message.Message, Message.TheVariants.Segment}
 use Rattle.link_wire.specs.declared.session.Session.{Session}
 
--- a segment without flags; without START it has no items (section 5.2.2)
+-- a segment without flags, and so without START and without items (section 5.2.2)
 abbrev pub inner_segment : (id size : ℕ) → Message
 inner_segment id size =
     Segment (record { flags = 0; id = id; items = record { items = [] }; length = size })

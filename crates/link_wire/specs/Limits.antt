@@ -7,10 +7,11 @@ pub use Rattle.link_io.specs.Limits.{longest_input, window_size}
 abbrev pub longest_node : ℕ
 longest_node = 1024
 
--- the greatest length of an extension list, in bytes, and the greatest number of its items
+-- the greatest length of an extension list, in bytes
 abbrev pub longest_list : ℕ
 longest_list = 65536
 
+-- the greatest number of items in an extension list
 abbrev pub most_items : ℕ
 most_items = 64
 

@@ -12,7 +12,7 @@ use Rattle.link_wire.specs.declared.message.ListOf.TheVariants.{Session, Transfe
 use Rattle.link_wire.specs.declared.{list.ItemHead.ItemHead, message.Message.Message}
 use Rattle.link_wire.specs.declared.message.Message.TheVariants.{SessInit, Segment, Ack, Refuse, Keepalive, SessTerm, MsgReject}
 
--- the version and the flags of a contact header; `bytes` follow it
+-- the contact header with these six bytes, judged by its version; `bytes` follow it
 abbrev pub contact_by : (header bytes : List ℕ) → Part Contact
 contact_by header bytes =
     if slice_index header 4 == tcpcl_version
@@ -85,8 +85,9 @@ item_head_at left bytes =
           then Err ItemsOverrun
           else Ok (record { flags = flags; kind = kind; length = size }, bytes))
 
--- The items of a list that has `left` more bytes; at most `room` items may come. They fill these
--- bytes exactly.
+-- The items of a list that has `left` more bytes; at most `room` more items may come. They have to
+-- fill these bytes exactly. If the list goes on without room, a fault of the next item's head comes
+-- before `TooManyItems`.
 unfoldable pub items_at : ListOf → ℕ → ℕ → List ℕ → Part (List Item)
 items_at owner zero left bytes =
     if left == 0

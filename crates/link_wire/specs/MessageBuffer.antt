@@ -25,6 +25,7 @@ message_with fields.Keepalive node items = Keepalive
 message_with (fields.SessTerm flags reason) node items = SessTerm flags reason
 message_with (fields.MsgReject reason header) node items = MsgReject reason header
 
+-- the message that a buffer holds
 abbrev pub message_of : MessageBuffer → Message
 message_of buffer = message_with buffer.fields buffer.node buffer.items
 
@@ -34,5 +35,6 @@ abbrev pub SegmentTotalsFitBy : Fields → ArrayVec Item → Type 0
 SegmentTotalsFitBy (fields.Segment flags id size) items = TotalsFit items.items
 SegmentTotalsFitBy _ items = Unit {0}
 
+-- `SegmentTotalsFitBy` for the fields and items of a buffer
 abbrev pub SegmentTotalsFit : MessageBuffer → Type 0
 SegmentTotalsFit buffer = SegmentTotalsFitBy buffer.fields buffer.items

@@ -9,6 +9,7 @@ Part A = Result (A × List ℕ) WireFault
 
 -- one part, and then what depends on its value
 infixl 10 ◌>>=◌
+-- reading goes on with `f`, or ends at the fault; `do` blocks stand for this
 abbrev pub ◌>>=◌ : {A B : Type 0} → Result A WireFault
     → (A → Result B WireFault) → Result B WireFault
 (Ok x) >>= f = f x

@@ -18,20 +18,24 @@ use Rattle.link_wire.specs.declared.session.Phase.TheVariants as phase
 use Rattle.link_wire.specs.declared.session.Session.{Session}
 use Rattle.link_io.specs.declared.source.Source.{Source}
 
--- the reading with the messages of the stream after its own, and with the end of the stream
+-- the reading, with the messages of `rest` after its own, and with the end of `rest` in place of
+-- its end
 abbrev pub joined : Reading → Stream → Reading
 joined reading rest =
     record { contact = reading.contact; entries = reading.entries ++ rest.entries; end = rest.end }
 
--- the reading after the head of one more message, which is whole if it has no data
+-- The reading after the head of one more message. If this has no data, it is whole. Otherwise the
+-- reading ends inside its data.
 abbrev pub with_message : ℕ → Message → Reading → Reading
 with_message offset message reading =
     joined reading (if nat_lt 0 (data_length message)
     then ended (Cut offset message [])
     else with_entry (record { offset = offset; message = message; content = [] }) (ended Clean))
 
--- What the next bytes, which are data of the open segment, add to a reading with this end. `left`
--- more bytes of that data are to come. Only `Cut` has an open segment: other ends stay as they are.
+-- What takes the place of the end of a reading, after `bytes` of the open segment's data were read,
+-- too. After them, `left` bytes of its data are to come. If `left` is 0, the segment is whole, and
+-- the reading ends between two messages. Only at the end `Cut` a segment is open, so the other two
+-- ends stay as they are.
 abbrev pub data_after : ℕ → List ℕ → End → Stream
 data_after left bytes Clean = ended Clean
 data_after left bytes (Cut offset message content) =
@@ -41,8 +45,8 @@ data_after left bytes (Cut offset message content) =
     (ended Clean)
 data_after left bytes (Fault offset fault) = ended (Fault offset fault)
 
--- the reading after the next bytes, which are data of the open segment; `left` more of that data
--- are to come
+-- the reading after the next bytes, which are data of the open segment; after them, `left` bytes of
+-- its data are to come
 abbrev pub with_data : ℕ → List ℕ → Reading → Reading
 with_data left bytes reading = joined reading (data_after left bytes reading.end)
 
@@ -94,12 +98,13 @@ OnlyLastShows history bytes =
     → HaveSameMessages (reading_of history) (reading_of (history ++ take count bytes))
     × IsUndecided (reading_of (history ++ take count bytes)).end
 
+-- `open` was not called
 abbrev pub is_unopened : Phase → Bool
 is_unopened phase.Unopened = true
 is_unopened phase.Reading = false
 is_unopened (phase.Stopped why) = false
 
--- `open` was called
+-- `open` was called, and has returned a contact header or a stop
 abbrev pub past_opening : Phase → Bool
 past_opening phase.Unopened = false
 past_opening phase.Reading = true
@@ -116,7 +121,7 @@ module _ {R : Type 0} where
   abbrev pub source_of : Session R → Source R
   source_of session = session.source
 
-  -- the number of bytes of data that are to come
+  -- the number of bytes of the open segment's data that are to come; 0 between two messages
   abbrev pub left_of : Session R → ℕ
   left_of session = session.left
 
@@ -129,7 +134,7 @@ module _ {R : Type 0} where
   abbrev pub may_read : Session R → Bool
   may_read session = reads_next session.phase session.left
 
-  -- `open` was called
+  -- `open` was called, and has returned a contact header or a stop
   abbrev pub is_opened : Session R → Bool
   is_opened session = past_opening session.phase
 
@@ -219,6 +224,7 @@ module _ {R : Type 0} where
         ≡ record { contact = None; entries = []; end = Fault 0 wire.Truncated }
     pub stopped : HasStopped new (stop.Io fault)
 
+  -- what holds after `open`, by its result
   abbrev pub AfterOpen : (R → Input) → Session R → Session R → Result Contact Stop → Type 0
   AfterOpen look old new (Ok contact) = GivenContact look old new contact
   AfterOpen look old new (Err (stop.Wire offset fault)) =
@@ -269,6 +275,7 @@ module _ {R : Type 0} where
     pub undecided : IsUndecided (reading_of (history ++ given)).end
     pub stopped : HasStopped new (stop.Io fault)
 
+  -- what holds after a call that reads the next message, by its result
   abbrev pub AfterNext : (R → Input) → Session R → Session R → List ℕ
       → Result (Option (ℕ × Message)) Stop → Type 0
   AfterNext look old new history (Ok None) = ReachedEnd look old new history
@@ -319,6 +326,7 @@ module _ {R : Type 0} where
     pub stops : TakesThenStops look old.source new.source [] fault
     pub stopped : HasStopped new (stop.Io fault)
 
+  -- what holds after `data`, by its result; `buffer` is the slice after the call
   abbrev pub AfterData : (R → Input) → Session R → Session R → List ℕ
       → List ℕ → Result ℕ Stop → Type 0
   AfterData look old new history buffer (Ok n) = CopiedData look old new history buffer n
@@ -326,13 +334,14 @@ module _ {R : Type 0} where
       CutData look old new history offset fault
   AfterData look old new history buffer (Err (stop.Io fault)) = StoppedData look old new fault
 
+  -- what holds after a call that makes data ready, by its result
   abbrev pub AfterLoad : (R → Input) → Session R → Session R → List ℕ → Result ℕ Stop → Type 0
   AfterLoad look old new history (Ok n) = LoadedData look old new history n
   AfterLoad look old new history (Err (stop.Wire offset fault)) =
       CutData look old new history offset fault
   AfterLoad look old new history (Err (stop.Io fault)) = StoppedData look old new fault
 
-  -- What each call ensures that reads the next message into `message`.
+  -- Each call that reads the next message into `message` ensures this.
   pub record ReadsNext (look : R → Input) (old new : Session R) (message : MessageBuffer)
       (result : Result (Option ℕ) Stop) : Type 0 where
     pub settles : IfErr result (HasStopped new)
@@ -345,7 +354,7 @@ module _ {R : Type 0} where
     pub opened : IsTrue (is_opened new)
     pub stopped : (why : Stop) → HasStopped old why → (new ≡ old) × (result ≡ Err why)
 
-  -- What each call ensures that makes data of the segment ready.
+  -- Each call that makes data of the open segment ready ensures this.
   pub record LoadsData (look : R → Input) (old new : Session R)
       (result : Result ℕ Stop) : Type 0 where
     pub size : IfOk result (λ n. n ≡ length (data_in look new))

@@ -20,7 +20,8 @@ sess_init_bytes interval segment_mru transfer_mru node =
 unfoldable pub total_bytes : (total : ℕ) → List ℕ
 total_bytes total = be 1 0 ++ be 2 transfer_length ++ be 2 total_size ++ be 8 total
 
--- the list of transfer extension items (section 5.2.5): empty, or one item that announces the total
+-- The list of transfer extension items (section 5.2.5), after its length in bytes. It is empty, or
+-- has one item of 13 bytes, which announces the total.
 unfoldable pub announce_bytes : Option ℕ → List ℕ
 announce_bytes None = be 4 0
 announce_bytes (Some total) = be 4 13 ++ total_bytes total
@@ -39,26 +40,27 @@ segment_head_bytes flags id size announce =
 unfoldable pub sess_term_bytes : (flags reason : ℕ) → List ℕ
 sess_term_bytes flags reason = be 1 sess_term ++ be 1 flags ++ be 1 reason
 
--- the length in bytes of the extension list of a first segment
+-- the number of bytes of `announce_bytes`: 4 for the length of the list, and 13 for the item
 abbrev pub announce_size : Option ℕ → ℕ
 announce_size None = 4
 announce_size (Some total) = 17
 
--- the length in bytes of the extension list of a segment, which has one only with START
+-- the number of bytes of the extension list of a segment, which has one only with START
 abbrev pub list_size : (start : Bool) → Option ℕ → ℕ
 list_size true announce = announce_size announce
 list_size false announce = 0
 
--- the length in bytes of the head of a segment
+-- the number of bytes of the head of a segment: 18 for its type, flags, ID and length, and its list
 abbrev pub segment_head_size : (flags : ℕ) (announce : Option ℕ) → ℕ
 segment_head_size flags announce = 18 + list_size (is_start flags) announce
 
--- the items, and the messages, that these bytes spell
+-- the items that `announce_bytes` spells
 abbrev pub announced : Option ℕ → List Item
 announced None = []
 announced (Some total) =
     record { flags = 0; kind = transfer_length; length = total_size; total = Some total } ∷ []
 
+-- the message whose head `segment_head_bytes` spells
 abbrev pub segment_with : (flags id size : ℕ) (announce : Option ℕ) → Message
 segment_with flags id size announce =
     Segment (record {
@@ -68,6 +70,7 @@ segment_with flags id size announce =
       length = size;
     })
 
+-- the message that `sess_init_bytes` spells
 abbrev pub sess_init_with : (interval segment_mru transfer_mru : ℕ) (node : List ℕ) → Message
 sess_init_with interval segment_mru transfer_mru node =
     SessInit interval segment_mru transfer_mru (record { items = node }) (record { items = [] })

@@ -23,9 +23,11 @@ pub record Stream : Type 0 where
   pub entries : List Entry
   pub end : End
 
+-- a stream without further messages, which ends in this way
 abbrev pub ended : End → Stream
 ended end = record { entries = []; end = end }
 
+-- one whole message, and then the stream `rest`
 abbrev pub with_entry : Entry → Stream → Stream
 with_entry entry rest = record { entries = entry ∷ rest.entries; end = rest.end }
 
@@ -50,9 +52,9 @@ stream_by next offset size (Ok (message, bytes)) =
     (next (offset + (size - length bytes) + data_length message)
     (drop (data_length message) bytes))
 
--- The messages from an offset on, at most `count` of them. The second case has bytes left, but no
--- more messages may come. It is never met if `count` is the number of the bytes, since each message
--- has at least one byte.
+-- The messages from an offset on, at most `count` of them. In the second case bytes are left, but
+-- no more messages may come. This case does not occur if `count` is the number of bytes, since each
+-- message has at least one byte.
 unfoldable pub messages_at : ℕ → ℕ → List ℕ → Stream
 messages_at count offset [] = ended Clean
 messages_at zero offset (byte ∷ bytes) = ended Clean
@@ -77,6 +79,7 @@ reading_by (Ok (contact, bytes)) =
     let rest = stream_at 6 bytes in
     record { contact = Some contact; entries = rest.entries; end = rest.end }
 
+-- the reading of a recorded stream, from its first byte on
 unfoldable pub reading_of : List ℕ → Reading
 reading_of bytes = reading_by (contact_at bytes)
 

@@ -30,6 +30,7 @@ is_quiet Keepalive = true
 is_quiet (MsgReject reason header) = true
 is_quiet _ = false
 
+-- the message of the entry is quiet
 abbrev pub IsQuiet : Entry → Type 0
 IsQuiet entry = is_quiet entry.message ≡ true
 
@@ -39,8 +40,8 @@ pub record AreQuiet (offset : ℕ) (bytes : List ℕ) : Type 0 where
   pub quiet : All IsQuiet entries
   pub are : AreMessages offset bytes entries
 
--- the length of a quiet message with this type byte; more bytes than a slice can have if there is
--- none
+-- The length of a quiet message with this type byte. For a type byte that no quiet message has, it
+-- is 2^63, which is more bytes than a slice can have.
 abbrev pub quiet_size : ℕ → ℕ
 quiet_size kind =
     if kind == xfer_ack

@@ -24,7 +24,8 @@ pub struct ItemHead {
 }
 
 impl ItemHead {
-    /// Whether the value is a total length: the item is a Transfer Length item of 8 bytes.
+    /// Whether the value is a total length: the item is a Transfer Length item of 8 bytes in the
+    /// list of a transfer.
     fn has_total(&self, owner: ListOf) -> bool
         ensures { result ≡ is_total_length owner self.now.kind self.now.length }
     {

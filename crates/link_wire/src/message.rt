@@ -201,9 +201,9 @@ impl MessageBuffer {
         }
     }
 
-    /// Sets the numbers of a message without items.
+    /// Makes the buffer hold a message with these numbers and without items.
     ///
-    /// The node ID does not change.
+    /// The node ID in the buffer does not change. Only a SESS_INIT shows it.
     #[inline(always)]
     pub(crate) fn set(&mut self, fields: Fields)
         ensures message { message_of self.new

@@ -30,6 +30,8 @@ pub fn id_and_length(window: &[u8]) -> (u64, u64)
 
 /// [`plain`] for an XFER_SEGMENT: type, flags, ID, with START an empty list, and the data's length.
 /// `None` if the head is not whole in the window, or its list is not empty.
+///
+/// An empty list has four bytes, so the head has 22 bytes with START.
 #[tactic(auto, using(crate::proofs::Plains::first_head, crate::proofs::Plains::later_head))]
 #[inline(always)]
 fn segment(window: &[u8]) -> Option<(Fields, usize)>
@@ -115,10 +117,11 @@ fn msg_reject(window: &[u8]) -> Option<(Fields, usize)>
     Some((Fields::MsgReject { reason, header }, 3))
 }
 
-/// The numbers of the message whose head begins the window, and the length of that head.
+/// The numbers of the message whose head begins the window, and the length of that head, if it is a
+/// frequent head.
 ///
-/// It is `None` unless the head is whole in the window, has no node ID and no item, and shows no
-/// fault.
+/// A head is frequent if it has no node ID and no item, and shows no fault. The result is `None`
+/// for any other head, and for a head that is not whole in the window.
 #[tactic(auto, using(crate::proofs::Plains::keepalive_head))]
 #[inline(always)]
 pub fn plain(window: &[u8]) -> Option<(Fields, usize)>

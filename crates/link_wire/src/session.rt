@@ -152,8 +152,8 @@ impl<R: InDevice> Session<R> {
     /// Reads the next message into `message`, and returns the offset of its type byte.
     ///
     /// Only the head of a segment is read. If the stream ends between two messages, it returns
-    /// `None` at the end, and again on each later call. If it returns no offset, the content of
-    /// `message` has no meaning.
+    /// `None` at the end, and again on each later call. If it returns no offset, `message` may hold
+    /// anything.
     ///
     /// It may be called when the contact header and all data of the message before have been given.
     /// It may also be called after a stop: then it returns that stop again, and reads nothing.
@@ -171,7 +171,9 @@ impl<R: InDevice> Session<R> {
         }
     }
 
-    /// The frequent head that is whole in the window, and its length; after a stop `None`.
+    /// The numbers of the frequent head (see [`plain`]) that begins the window, and its length.
+    ///
+    /// It is `None` if the window begins with no such head, and after a stop.
     #[inline(always)]
     fn head_here(&self) -> Option<(Fields, usize)>
         ensures head { IfSome result (λ head. IsHead (window_of self.now.source) head.0 head.1) }
@@ -184,7 +186,8 @@ impl<R: InDevice> Session<R> {
         }
     }
 
-    /// Gives the next message if it has a frequent head that is whole in the window.
+    /// Gives the next message if it has a frequent head that is whole in the window, and returns
+    /// the offset of its type byte.
     ///
     /// This is [`Session::next`] for such a head, and it does not read from the reader. Without
     /// such a head, and after a stop, it returns `None` and gives nothing.
@@ -423,7 +426,7 @@ impl<R: InDevice> Session<R> {
         }
     }
 
-    /// Fills the slice with the next data at hand, and gives it.
+    /// Fills the slice with the next data at hand, and gives that data. As much has to be at hand.
     fn copy(&mut self, part: &mut [u8])
         requires { length part.old ≤ length (data_in R.state self.old) }
         ensures opened { is_opened self.new ≡ is_opened self.old }

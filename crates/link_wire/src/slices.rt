@@ -56,7 +56,7 @@ const NOWHERE: Span = Span {
     length: 0,
 };
 
-/// Reads `size` bytes from offset `at` on.
+/// Reads `size` bytes from offset `at` on. Returns them, and the offset after them.
 #[tactic(auto, unfolding(crate::specs::Part::bytes_at))]
 fn bytes_at(bytes: &[u8], at: usize, size: usize) -> Result<(&[u8], usize), WireFault>
     requires { at ≤ length bytes.now }
@@ -75,7 +75,7 @@ fn bytes_at(bytes: &[u8], at: usize, size: usize) -> Result<(&[u8], usize), Wire
     Ok((&bytes[at..next], next))
 }
 
-/// Reads a number of one byte.
+/// Reads a number of one byte at offset `at`. Returns it, and the offset after it.
 #[tactic(auto, unfolding(crate::specs::Part::number_at), using(crate::proofs::SliceReads::as_byte))]
 fn number8_at(bytes: &[u8], at: usize) -> Result<(u8, usize), WireFault>
     requires { at ≤ length bytes.now }
@@ -89,7 +89,7 @@ fn number8_at(bytes: &[u8], at: usize) -> Result<(u8, usize), WireFault>
     }
 }
 
-/// Reads a number of two bytes.
+/// Reads a number of two bytes at offset `at`. Returns it, and the offset after it.
 #[tactic(auto, unfolding(crate::specs::Part::number_at))]
 fn number16_at(bytes: &[u8], at: usize) -> Result<(u16, usize), WireFault>
     requires { at ≤ length bytes.now }
@@ -103,7 +103,7 @@ fn number16_at(bytes: &[u8], at: usize) -> Result<(u16, usize), WireFault>
     }
 }
 
-/// Reads a number of four bytes.
+/// Reads a number of four bytes at offset `at`. Returns it, and the offset after it.
 #[tactic(auto, unfolding(crate::specs::Part::number_at))]
 fn number32_at(bytes: &[u8], at: usize) -> Result<(u32, usize), WireFault>
     requires { at ≤ length bytes.now }
@@ -117,7 +117,7 @@ fn number32_at(bytes: &[u8], at: usize) -> Result<(u32, usize), WireFault>
     }
 }
 
-/// Reads a number of eight bytes.
+/// Reads a number of eight bytes at offset `at`. Returns it, and the offset after it.
 #[tactic(auto, unfolding(crate::specs::Part::number_at))]
 fn number64_at(bytes: &[u8], at: usize) -> Result<(u64, usize), WireFault>
     requires { at ≤ length bytes.now }
@@ -172,7 +172,8 @@ fn plain_at(fields: Fields, end: usize) -> MessageAt
     }
 }
 
-/// Reads a node ID: its length, and then its bytes (RFC 9174 section 4.6). Returns where they lie.
+/// Reads a node ID: its length, and then its bytes (RFC 9174 section 4.6). Returns where its bytes
+/// lie, and the offset after them.
 #[tactic(auto, unfolding(crate::specs::Message::node_at, crate::specs::Message::node_bytes_at))]
 fn node_at(bytes: &[u8], at: usize) -> Result<(Span, usize), WireFault>
     requires { at ≤ length bytes.now }
@@ -194,7 +195,8 @@ fn node_at(bytes: &[u8], at: usize) -> Result<(Span, usize), WireFault>
 
 /// Reads the head of the next item of a list that has `left` more bytes.
 ///
-/// The item has to end within the list. Its total is not read yet.
+/// The item has to end within the list. Its total is not read yet. Returns the item, and the offset
+/// of its value.
 #[tactic(auto, unfolding(crate::specs::Message::item_head_at))]
 fn item_head_at(bytes: &[u8], at: usize, left: u32) -> Result<(Item, usize), WireFault>
     requires { at ≤ length bytes.now }
@@ -221,7 +223,8 @@ fn item_head_at(bytes: &[u8], at: usize, left: u32) -> Result<(Item, usize), Wir
     Ok((item, value))
 }
 
-/// Whether the value of an item is a total length: it is a Transfer Length item of 8 bytes.
+/// Whether the value of an item is a total length: it is a Transfer Length item of 8 bytes in the
+/// list of a transfer.
 fn is_total_length(owner: ListOf, item: &Item) -> bool
     ensures { result ≡ is_total_length owner item.now.kind item.now.length }
 {
@@ -231,7 +234,8 @@ fn is_total_length(owner: ListOf, item: &Item) -> bool
     }
 }
 
-/// Reads the value of an item, and returns it if it is a total length, or `None` if it is not.
+/// Reads the value of an item. Returns it if it is a total length, or else `None`, and the offset
+/// after it.
 #[tactic(auto, unfolding(crate::specs::Message::total_at, crate::specs::Message::skipped_at))]
 fn total_at(
     bytes: &[u8],
@@ -292,7 +296,8 @@ fn items_of(bytes: &[u8], start: usize, owner: ListOf, size: u32) -> Result<usiz
     Ok(at)
 }
 
-/// Reads an extension list: its length, and then its items (RFC 9174 sections 4.6 and 4.8).
+/// Reads an extension list: its length, and then its items (RFC 9174 sections 4.6 and 4.8). Returns
+/// where its items lie, and the offset after them.
 #[tactic(auto, unfolding(crate::specs::Message::list_at))]
 fn list_at(bytes: &[u8], at: usize, owner: ListOf) -> Result<(Span, usize), WireFault>
     requires { at ≤ length bytes.now }

@@ -8,20 +8,21 @@ abbrev pub overwritten : (slice bytes : List ℕ) → List ℕ
 overwritten slice bytes =
     if nat_le (length bytes) (length slice) then bytes ++ drop (length bytes) slice else slice
 
--- the slice, if there are bytes to write and if there are none
+-- the slice after a writer that had these bytes to write; `None` writes nothing
 abbrev pub slice_after : (slice : List ℕ) → Option (List ℕ) → List ℕ
 slice_after slice None = slice
 slice_after slice (Some bytes) = overwritten slice bytes
 
--- the number of bytes written, or the length that would do for a slice that is too small
+-- What the writer returns: the number of bytes written, or the length that a larger slice needs. A
+-- writer without bytes to write was given a value out of its range.
 abbrev pub outcome : (slice : List ℕ) → Option (List ℕ) → Result ℕ WriteFault
 outcome slice None = Err OutOfRange
 outcome slice (Some bytes) =
     if nat_le (length bytes) (length slice) then Ok (length bytes)
     else Err (TooSmall (length bytes))
 
--- A writer had these bytes to write, or none if a value is out of its range. It left the slice so,
--- and returned this.
+-- A writer had these bytes to write, or `None` if a value is out of its range. It left `new` in the
+-- slice, which was `old`, and returned `result`.
 pub record WritesSlice (bytes : Option (List ℕ)) (old new : List ℕ)
     (result : Result ℕ WriteFault) : Type 0 where
   pub slice : new ≡ slice_after old bytes

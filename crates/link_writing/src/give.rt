@@ -5,7 +5,8 @@ ghost use Rattle.link_writing.specs.Writes.{WritesSlice};
 
 use crate::fault::WriteFault;
 
-/// Writes the bytes to the start of the slice, if it has room for them.
+/// Writes the bytes to the start of the slice, and returns their number. If the slice has no room
+/// for all of them, it writes nothing and returns their number in [`WriteFault::TooSmall`].
 pub fn write_bytes(bytes: &[u8], slice: &mut [u8]) -> Result<usize, WriteFault>
     ensures { WritesSlice (Some bytes.now) slice.old slice.new result }
 {
@@ -26,7 +27,7 @@ fn copy_at(slice: &mut [u8], at: usize, bytes: &[u8])
     slice[at..at + bytes.len()].copy_from_slice(bytes);
 }
 
-/// Writes three pieces to the start of the slice, one after another, if it has room for all.
+/// Writes three pieces to the start of the slice, one after another, as [`write_bytes`] writes one.
 pub fn write_parts(
     first: &[u8],
     second: &[u8],

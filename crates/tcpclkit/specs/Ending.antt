@@ -45,7 +45,8 @@ abbrev pub names_a_file : Option (List ℕ) → Bool
 names_a_file None = false
 names_a_file (Some name) = not (bytes_eq name (codes "-"))
 
--- The words ask for this tool, and for its input: a file if `is_file`, or else standard input.
+-- The words ask for this tool, and for its input: a file if `is_file` is true, or else standard
+-- input.
 abbrev pub AreWordsFor : (words : List (List ℕ)) → Job → (is_file : Bool) → Type 0
 AreWordsFor words job is_file =
     (invocation : Invocation) × IsInvoked words invocation × (options_of job ≡ invocation.options)

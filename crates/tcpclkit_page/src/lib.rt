@@ -15,6 +15,9 @@ ghost use Rattle.link_ffi_tools.specs.Tool.{ReturnsTexts, ReturnsUnpacked, Retur
 use link_ffi_tools::{Run, Wants, blocks_into, check_into, list_into, unpack_into};
 
 /// Runs `list` over the bytes. Returns 0, or 5 if a wanted text does not fit in its slice.
+///
+/// A text is wanted if its `wants_` number is not 0. `answer` gets the exit status, and the lengths
+/// of both texts.
 #[unsafe(no_mangle)]
 pub extern "C" fn list(
     bytes: &[u8],
@@ -40,7 +43,8 @@ pub extern "C" fn list(
 /// Runs `unpack` over the bytes.
 ///
 /// Returns 0, or 5 if a wanted text does not fit in its slice. If an option is out of range, writes
-/// nothing and returns 6.
+/// nothing and returns 6. A text is wanted if its `wants_` number is not 0. `answer` gets the exit
+/// status, and the lengths of both texts.
 #[unsafe(no_mangle)]
 pub extern "C" fn unpack(
     bytes: &[u8],
@@ -69,7 +73,8 @@ pub extern "C" fn unpack(
 /// Runs `blocks` over the bytes.
 ///
 /// Returns 0, or 5 if a wanted text does not fit in its slice. If an option is out of range, writes
-/// nothing and returns 6.
+/// nothing and returns 6. A text is wanted if its `wants_` number is not 0. `answer` gets the exit
+/// status, and the lengths of both texts.
 #[unsafe(no_mangle)]
 pub extern "C" fn blocks(
     bytes: &[u8],
@@ -98,7 +103,8 @@ pub extern "C" fn blocks(
 /// Runs `check` over the bytes.
 ///
 /// Returns 0, or 5 if a wanted text does not fit in its slice. If an option is out of range, writes
-/// nothing and returns 6.
+/// nothing and returns 6. A text is wanted if its `wants_` number is not 0. `answer` gets the exit
+/// status, and the lengths of both texts.
 #[unsafe(no_mangle)]
 pub extern "C" fn check(
     bytes: &[u8],

@@ -10,9 +10,7 @@ impl Check {
     ghost use Rattle.link_cbor.specs.Pushed.{HasPushed};
     ghost use Rattle.link_cbor.specs.declared.check.CheckKind.{CheckKind};
 
-    /// A check to which some bytes were pushed.
-    ///
-    /// The parts are its kind, and the register after these bytes.
+    /// The check that has these parts: its kind, and the register after the bytes that were pushed.
     pub fn from_parts(kind: CheckKind, register: u32) -> Check
         ensures { (bytes : List ℕ) → AreBytes bytes
             → register ≡ register_after kind (all_ones kind) bytes

@@ -43,7 +43,8 @@ pub(super) fn register_after_blocks(tables: &Tables, mut register: u32, blocks: 
 
 /// The register after sixteen more bytes.
 ///
-/// The last byte is looked up first, since only the first four bytes depend on the register.
+/// Table `zeros` is for a byte after which that many more of the sixteen follow. The last byte is
+/// looked up first, since only the first four bytes depend on the register.
 #[inline(always)]
 fn register_after_block(tables: &Tables, register: u32, block: &[u8; 16]) -> u32
     ensures { (kind : CheckKind) → AreTables kind tables.now

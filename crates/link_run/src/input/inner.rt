@@ -18,8 +18,8 @@ impl<R: InDevice, W: OutDevice, E: OutDevice> Input<Session<R>, W, E> {
         self.feed.given()
     }
 
-    /// The data of the next message, if this is an inner segment of this transfer that has data,
-    /// and all of it is in the window, as [`Session::inner_data`] returns it.
+    /// The data of the next message, as [`Session::inner_data`] returns it: if the message is an
+    /// inner segment of transfer `id`, has data, and lies whole in the window.
     #[inline(always)]
     pub fn inner_data(&self, id: u64) -> Option<&[u8]>
         ensures is { IfSome result (λ bytes.
@@ -31,7 +31,8 @@ impl<R: InDevice, W: OutDevice, E: OutDevice> Input<Session<R>, W, E> {
         self.feed.inner_data(id)
     }
 
-    /// Gives that inner segment, as [`Session::pass_inner`] does.
+    /// Gives the inner segment that [`Input::inner_data`] found, as [`Session::pass_inner`] does.
+    /// `size` is the number of bytes of its data.
     ///
     /// It reads nothing, so it hands nothing on.
     #[inline(always)]
