@@ -187,11 +187,11 @@ static size_t make_data(struct source *it, uint64_t block_type, uint8_t *data, c
 /* The check value of a block that was appended from an offset on, fed in pieces. */
 static void append_check(struct source *it, uint64_t kind, size_t offset) {
   struct tcpclkit_check fed, copy;
-  size_t at = offset, piece, size = 1 + draw_below(it, 300);
+  size_t at = offset, piece, size = 1 + draw_below(it, 300) + (streamed - offset) / 64;
   uint32_t status = tcpclkit_start_check(&fed, kind);
   CHECK(status == (kind == 0 ? TCPCLKIT_RANGE : TCPCLKIT_OK));
   for (; at < streamed; at += piece) {
-    piece = least(streamed - at, draw_byte(it) % 8 ? size : 1 + draw_below(it, 4000));
+    piece = least(streamed - at, draw_byte(it) % 8 ? size : size + draw_below(it, 4000));
     copy = fed;
     memset(&fed, 0x33, sizeof fed);
     CHECK(tcpclkit_feed_check(&copy, stream + at, piece) == status);

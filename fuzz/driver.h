@@ -73,9 +73,7 @@ static uint8_t *lend(int which, size_t length, int fill) {
 
 static void give_back(int which, size_t length) {
   const uint8_t *before = ends[which] - length - BEFORE;
-  size_t at;
-  for (at = 0; at < BEFORE; at++)
-    CHECK(before[at] == MARK);
+  CHECK(before[0] == MARK && memcmp(before, before + 1, BEFORE - 1) == 0);
 }
 
 static size_t least(size_t one, size_t other) { return one < other ? one : other; }

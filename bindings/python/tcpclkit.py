@@ -724,7 +724,7 @@ def blocks_of(content):
 # ---- bundles that are written
 
 
-def write_primary(bundle, check=0):
+def write_primary(bundle, check=2):
     """Returns a primary block with its check field (RFC 9171 section 4.3.1).
 
         content = tcpclkit.BUNDLE_FIRST + tcpclkit.write_primary(bundle, check=2)
@@ -734,7 +734,8 @@ def write_primary(bundle, check=0):
 
     The last of the blocks is the payload block, which alone has type 1 and number 1. Each other
     block has a number of its own, at least 2. There are at most 64 blocks. `check` is a type of
-    check values, as in a Block. The `blocks` and the `payload` of the Bundle are not read.
+    check values, as in a Block. The RFC asks for one here, unless an integrity block protects the
+    primary block. The `blocks` and the `payload` of the Bundle are not read.
     """
     it, names = _Bundle(is_fragment=bundle.fragment is not None), []
     for name in ("flags", "time", "sequence", "lifetime"):
@@ -1261,9 +1262,10 @@ def pack_more(content, first=0, peer_segment=65536, peer_transfer=2**64 - 1, ann
     """What `pack` writes, without the contact header, SESS_INIT and SESS_TERM.
 
     So the bundles are segments for a session that is open. Their transfers are `first`, `first + 1`
-    and so on. The next call begins with `first` and the number of lines in the report. Raises
-    ValueError if an option is out of its range; `first` and the length of the bytes are together
-    at most 2^64 - 1.
+    and so on. The next call begins with the sum of `first` and the number of lines in the report.
+    After a fault of the bytes, the output may end with segments of a transfer that gets no END,
+    which the line of the fault counts. Raises ValueError if an option is out of its range; `first`
+    and the length of the bytes are together at most 2^64 - 1.
     """
     lent = _Lent(content)
     options = _options(

@@ -17,7 +17,8 @@ pub const BUNDLE_LAST: u8 = raw::BUNDLE_LAST;
 /// payload block is the last block. It alone has type 1 and number 1, and each other block has a
 /// number of its own, at least 2. There are at most 64 canonical blocks.
 ///
-/// The `blocks` and the `payload` of the value are not read.
+/// The RFC asks for a check value here, unless an integrity block protects the primary block. The
+/// `blocks` and the `payload` of the value are not read.
 ///
 /// ```
 /// use tcpclkit::{Block, BlockKind, Bundle, CheckType, BUNDLE_FIRST, BUNDLE_LAST};

@@ -349,7 +349,8 @@ pub fn pack(bytes: &[u8], node: &[u8], options: &PackOptions) -> Result<Run, Too
 /// each as the report.
 ///
 /// That is what [`pack`] writes without the contact header, SESS_INIT and SESS_TERM. The next call
-/// begins with the ID that is `first` and the number of lines in the report.
+/// begins with the sum of `first` and the number of lines in the report. After a fault, the output
+/// may end with segments of a transfer that gets no END, which the line of the fault counts.
 ///
 /// ```
 /// use tcpclkit::{messages, pack_more, Fields, MoreOptions};
