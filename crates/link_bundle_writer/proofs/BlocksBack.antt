@@ -1,8 +1,8 @@
 -- Canonical blocks are read as they were written, up to the end of the bundle.
-use Rattle.std.proofs.Common.{◌≡◌, ℕ, zero, suc, ◌+◌, ◌<◌, ◌≤◌, Bool, true, false, not, ◌&&◌, ◌==◌, List, [], ◌∷◌, ◌++◌, map, length, take, drop, All, Option, Some, None, Ok, arith, refl, ap, ◌∙◌, sym, append_assoc, append-nil, length-append, length-drop, if◌then◌else◌}
+use Rattle.std.proofs.Common.{◌≡◌, ℕ, zero, suc, ◌+◌, ◌<◌, ◌≤◌, true, false, ◌==◌, List, [], ◌∷◌, ◌++◌, map, length, take, drop, All, Option, None, Ok, arith, refl, ap, ◌∙◌, append_assoc, append-nil, length-append, length-drop}
 use Rattle.std.specs.List.{AllByRecursion, IsDistinct, flat_map, list_any}
 use Rattle.std.proofs.lemmas.Map.Keys.{IsDistinct-head, IsDistinct-tail}
-use Rattle.std.proofs.lemmas.{Bool.{eqb-true, eq-eqb}, List.map_push, List.Elements.{All-head, All-tail}}
+use Rattle.std.proofs.lemmas.{Bool.{eq-eqb, Decides.nat_tests}, List.map_push, List.Elements.{All-head, All-tail}}
 use Rattle.std.proofs.Math.Seq.{take-append_seam}
 use Rattle.link_cbor.specs.declared.check.CheckKind.{CheckKind}
 use Rattle.link_bundle_heads.specs.Rows.{◌>>=◌, unsigned, block as block_row, block_number, block_check_type, block_data, check_elements, closing, fits_type}
@@ -13,12 +13,11 @@ use Rattle.link_bundle_blocks.specs.{Canonical.{heads_at, content_at}, Reading.{
 use Rattle.link_bundle_blocks.specs.Whole.{whole_canonical, bundle_with}
 use Rattle.link_bundle_blocks.proofs.{Readings.{payload_read, next_read}, Runs.drop-run}
 use Rattle.link_bundle_writer.proofs.There.{EndsThere, within_there, there_then, there_last, there_bytes, regrouped}
-use Rattle.link_bundle_writer.proofs.EidsBack.{six, there_unsigned}
+use Rattle.link_bundle_writer.proofs.EidsBack.{there_unsigned}
 use Rattle.link_bundle_writer.proofs.RowsThere.{there_block, there_number, there_check, there_data, there_closing}
 use Rattle.link_bundle_writer.proofs.CheckBack.{field_there}
 use Rattle.link_bundle_writer.specs.GoodBundle.{BlockFits, all_blocks, blocks_from}
-use Rattle.link_bundle_writer.specs.Heads.{head_bytes}
-use Rattle.link_bundle_writer.specs.NewBlocks.{check_type, check_bytes, block_head}
+use Rattle.link_bundle_writer.specs.NewBlocks.{check_bytes, block_head}
 use Rattle.link_bundle_writer.specs.NewBundles.{NewBlock, block_bytes}
 
 -- ---- one block
@@ -66,8 +65,7 @@ heads_from start numbers bytes offset = do
   )
 
 elements_fit : (check : Option CheckKind) → 5 + check_elements check ≤ 6
-elements_fit None = omega arith
-elements_fit (Some kind) = omega arith
+elements_fit check = grind arith
 
 there_heads : (block : NewBlock) (numbers : List ℕ) (start : ℕ) → BlockFits block
     → list_any (λ earlier. earlier == block.number) numbers ≡ false
@@ -76,22 +74,16 @@ unfolding block_head
 there_heads block numbers start fits new =
     let count = 5 + check_elements block.check in
     let least : 5 ≤ count = omega arith in
-    let a = head_bytes 4 count in
-    let b = head_bytes 0 block.type in
-    let c = head_bytes 0 block.number in
-    let d = head_bytes 0 block.flags in
-    let e = head_bytes 0 (check_type block.check) in
-    let f = head_bytes 2 (length block.content) in
-    regrouped (a ++ b ++ c ++ d ++ e ++ f) (a ++ (b ++ (c ++ (d ++ (e ++ f))))) (six a b c d e f)
-    (there_then (row_at block_row) _ a (b ++ (c ++ (d ++ (e ++ f))))
-    (there_block count least (elements_fit block.check))
-    (there_then (row_at unsigned) _ b (c ++ (d ++ (e ++ f))) (there_unsigned block.type fits.type)
-    (there_then (row_at (block_number block.type numbers)) _ c (d ++ (e ++ f))
+    regrouped
+    (there_then (row_at block_row) _ (there_block count least (elements_fit block.check))
+    (there_then (row_at unsigned) _ (there_unsigned block.type fits.type)
+    (there_then (row_at (block_number block.type numbers)) _
     (there_number block.type block.number numbers fits.number fits.fits new)
-    (there_then (row_at unsigned) _ d (e ++ f) (there_unsigned block.flags fits.flags)
-    (there_then (row_at (block_check_type count)) _ e f (there_check block.check)
-    (there_last (row_at block_data) _ f (there_data (length block.content) fits.size)
+    (there_then (row_at unsigned) _ (there_unsigned block.flags fits.flags)
+    (there_then (row_at (block_check_type count)) _ (there_check block.check)
+    (there_last (row_at block_data) _ (there_data (length block.content) fits.size)
     (λ bytes offset. refl)))))))
+    (simp append_assoc)
 
 module _ (block : NewBlock) (bytes more : List ℕ) (start : ℕ) (within : start ≤ length bytes)
     (here : drop start bytes ≡ block_bytes block ++ more) where
@@ -171,18 +163,9 @@ other_numbers (other ∷ front) number rest distinct =
     other_numbers front number rest (IsDistinct-tail ◌==◌ other (front ++ number ∷ rest) distinct)
 
 -- number 1 is that of the payload block
-same_tests : (none one is : Bool) → (not none && (if is then one else not one)) ≡ true → is ≡ one
-same_tests true one is fits = absurd (cc)
-same_tests false true true fits = refl
-same_tests false true false fits = absurd (cc)
-same_tests false false true fits = absurd (cc)
-same_tests false false false fits = refl
-
 no_payload : (type number last : ℕ) → fits_type type number ≡ true → fits_type 1 last ≡ true
     → (number == last) ≡ false → (type == 1) ≡ false
-no_payload type number last fits last_fits differs =
-    let one : last ≡ 1 = eqb-true last 1 (sym (same_tests (last == 0) (last == 1) true last_fits)) in
-    same_tests (number == 0) (number == 1) (type == 1) fits ∙ rw one at differs
+no_payload type number last fits last_fits differs = grind (arith, nat_tests)
 
 -- ---- all blocks
 

@@ -4,7 +4,7 @@ use Rattle.std.proofs.lemmas.{Bool.{eq-eqb, cond_both}, Nat.xor_lt}
 use Rattle.std.proofs.Math.Seq.{take-append_seam}
 use Rattle.byteorder.specs.Numbers.{big_number-reads_back, length-bytes_high_first}
 use Rattle.link_cbor.specs.declared.check.{CheckKind.CheckKind, CheckKind.TheVariants.{Crc16, Crc32}}
-use Rattle.link_cbor.specs.Crc.{polynomial, all_bits, turn, register_after, crc}
+use Rattle.link_cbor.specs.Crc.{polynomial, all_ones, all_bits, turn, register_after, crc}
 use Rattle.link_bundle_heads.specs.Rows.{check_width}
 use Rattle.link_bundle_blocks.specs.Reading.{bytes_at}
 use Rattle.link_bundle_blocks.specs.CheckField.{number_from, check_of, field_at}
@@ -22,33 +22,28 @@ number_back : (kind : CheckKind) (value : ℕ) → value < 256 ^ check_width kin
 number_back Crc16 value fits = let read = big_number-reads_back 2 value [] fits in omega (arith, read)
 number_back Crc32 value fits = let read = big_number-reads_back 4 value [] fits in omega (arith, read)
 
--- the register of a check fits in the width of its value
-turned : (kind : CheckKind) (register bit : ℕ) → register < 256 ^ check_width kind
-    → turn kind register bit < 256 ^ check_width kind
-unfolding turn
-turned Crc16 register bit below =
-    cond_both (register % 2 == bit) (register / 2) (bit_xor (register / 2) (polynomial Crc16))
-    (λ n. n < 2 ^ 16) (λ _. omega arith)
-    (λ _. xor_lt 16 (register / 2) (polynomial Crc16) (omega arith) (omega arith))
-turned Crc32 register bit below =
-    cond_both (register % 2 == bit) (register / 2) (bit_xor (register / 2) (polynomial Crc32))
-    (λ n. n < 2 ^ 32) (λ _. omega arith)
-    (λ _. xor_lt 32 (register / 2) (polynomial Crc32) (omega arith) (omega arith))
+module _ (kind : CheckKind) (width : ℕ) (fits : polynomial kind < 2 ^ width) where
+  turns_fit : (bits : List ℕ) (register : ℕ) → register < 2 ^ width
+      → fold (turn kind) register bits < 2 ^ width
+  unfolding turn
+  turns_fit [] register below = below
+  turns_fit (bit ∷ bits) register below =
+      let half : register / 2 < 2 ^ width = omega arith in
+      turns_fit bits (turn kind register bit)
+      (cond_both (register % 2 == bit) (register / 2) (bit_xor (register / 2) (polynomial kind))
+      (λ n. n < 2 ^ width) (λ _. half) (λ _. xor_lt width (register / 2) (polynomial kind) half fits))
 
-all_turned : (kind : CheckKind) (bits : List ℕ) (register : ℕ) → register < 256 ^ check_width kind
-    → fold (turn kind) register bits < 256 ^ check_width kind
-all_turned kind [] register below = below
-all_turned kind (bit ∷ bits) register below =
-    all_turned kind bits (turn kind register bit) (turned kind register bit below)
+-- the register of a check fits in the width of its value
+pub register_fits : (kind : CheckKind) (bytes : List ℕ)
+    → register_after kind (all_ones kind) bytes < 256 ^ check_width kind
+unfolding register_after
+register_fits Crc16 bytes = turns_fit Crc16 16 (omega arith) (all_bits bytes) 0xffff (omega arith)
+register_fits Crc32 bytes = turns_fit Crc32 32 (omega arith) (all_bits bytes) 0xffff_ffff (omega arith)
 
 crc_fits : (kind : CheckKind) (bytes : List ℕ) → crc kind bytes < 256 ^ check_width kind
-unfolding crc register_after
-crc_fits Crc16 bytes =
-    xor_lt 16 (fold (turn Crc16) 0xffff (all_bits bytes)) 0xffff
-    (all_turned Crc16 (all_bits bytes) 0xffff (omega arith)) (omega arith)
-crc_fits Crc32 bytes =
-    xor_lt 32 (fold (turn Crc32) 0xffff_ffff (all_bits bytes)) 0xffff_ffff
-    (all_turned Crc32 (all_bits bytes) 0xffff_ffff (omega arith)) (omega arith)
+unfolding crc
+crc_fits Crc16 bytes = xor_lt 16 _ 0xffff (register_fits Crc16 bytes) (omega arith)
+crc_fits Crc32 bytes = xor_lt 32 _ 0xffff_ffff (register_fits Crc32 bytes) (omega arith)
 
 -- ---- check fields
 

@@ -32,20 +32,18 @@ unfolding scheme unsigned
 there_ipn = there_row scheme scheme_of.Ipn 0 2 (omega arith) (omega arith) refl
 
 -- the specific part of an endpoint ID, after the array and the scheme
-there_part : (eid : Eid) (kind : Scheme) (number : ℕ) (part : List ℕ)
-    → ReadsThere (row_at scheme) kind (head_bytes 0 number)
-    → ReadsThere (specific_at kind) eid part
-    → ReadsThere eid_at eid (head_bytes 4 2 ++ (head_bytes 0 number ++ part))
+there_part : {eid : Eid} {kind : Scheme} {front part : List ℕ}
+    → ReadsThere (row_at scheme) kind front → ReadsThere (specific_at kind) eid part
+    → ReadsThere eid_at eid (head_bytes 4 2 ++ (front ++ part))
 unfolding eid_at
-there_part eid kind number part one two =
-    there_then (row_at pair) _ (head_bytes 4 2) (head_bytes 0 number ++ part) there_pair
-    (there_then (row_at scheme) _ (head_bytes 0 number) part one two)
+there_part one two =
+    there_then (row_at pair) _ there_pair (there_then (row_at scheme) _ one two)
 
 there_none : ReadsThere (specific_at scheme_of.Dtn) DtnNone (head_bytes 0 0)
 unfolding specific_at dtn_part dtn_at
 there_none =
-    there_last (row_at dtn_part) _ (head_bytes 0 0)
-    (there_row dtn_part None 0 0 (omega arith) (omega arith) refl) (λ bytes offset. refl)
+    there_last (row_at dtn_part) _ (there_row dtn_part None 0 0 (omega arith) (omega arith) refl)
+    (λ bytes offset. refl)
 
 there_name : (name : List ℕ) → length name ≤ 1024
     → ReadsThere (specific_at scheme_of.Dtn) (Dtn (record { items = name }))
@@ -53,19 +51,18 @@ there_name : (name : List ℕ) → length name ≤ 1024
 unfolding specific_at dtn_part dtn_at
 there_name name short =
     let fits : nat_le (length name) 1024 ≡ true = grind (arith, nat_tests) in
-    there_then (row_at dtn_part) _ (head_bytes 3 (length name)) name
+    there_then (row_at dtn_part) _
     (there_row dtn_part (Some (length name)) 3 (length name) (omega arith) (omega (arith, short)) (rw fits refl))
-    (there_last (bytes_at (length name)) _ name (there_bytes name) (λ bytes offset. refl))
+    (there_last (bytes_at (length name)) _ (there_bytes name) (λ bytes offset. refl))
 
 there_two : (node service : ℕ) → node < 2 ^ 64 → service < 2 ^ 64
     → ReadsThere (specific_at scheme_of.Ipn) (Ipn node service)
     (head_bytes 4 2 ++ (head_bytes 0 node ++ head_bytes 0 service))
 unfolding specific_at ipn_part array ipn_at
 there_two node service node_fits service_fits =
-    there_then (row_at ipn_part) _ (head_bytes 4 2) (head_bytes 0 node ++ head_bytes 0 service)
-    (there_row ipn_part 2 4 2 (omega arith) (omega arith) refl)
-    (there_then (row_at unsigned) _ (head_bytes 0 node) (head_bytes 0 service) (there_unsigned node node_fits)
-    (there_last (row_at unsigned) _ (head_bytes 0 service) (there_unsigned service service_fits) (λ bytes offset. refl)))
+    there_then (row_at ipn_part) _ (there_row ipn_part 2 4 2 (omega arith) (omega arith) refl)
+    (there_then (row_at unsigned) _ (there_unsigned node node_fits)
+    (there_last (row_at unsigned) _ (there_unsigned service service_fits) (λ bytes offset. refl)))
 
 there_three : (allocator node service : ℕ)
     → allocator < 2 ^ 64 → node < 2 ^ 64 → service < 2 ^ 64
@@ -73,61 +70,22 @@ there_three : (allocator node service : ℕ)
     (head_bytes 4 3 ++ (head_bytes 0 allocator ++ (head_bytes 0 node ++ head_bytes 0 service)))
 unfolding specific_at ipn_part array ipn_at
 there_three allocator node service allocator_fits node_fits service_fits =
-    there_then (row_at ipn_part) _ (head_bytes 4 3) (head_bytes 0 allocator ++ (head_bytes 0 node ++ head_bytes 0 service))
-    (there_row ipn_part 3 4 3 (omega arith) (omega arith) refl)
-    (there_then (row_at unsigned) _ (head_bytes 0 allocator) (head_bytes 0 node ++ head_bytes 0 service) (there_unsigned allocator allocator_fits)
-    (there_then (row_at unsigned) _ (head_bytes 0 node) (head_bytes 0 service) (there_unsigned node node_fits)
-    (there_last (row_at unsigned) _ (head_bytes 0 service) (there_unsigned service service_fits) (λ bytes offset. refl))))
-
--- parts one after another, grouped to the right
-three : (a b c : List ℕ) → a ++ b ++ c ≡ a ++ (b ++ c)
-three a b c = append_assoc a b c
-
-four : (a b c d : List ℕ) → a ++ b ++ c ++ d ≡ a ++ (b ++ (c ++ d))
-four a b c d = append_assoc (a ++ b) c d ∙ append_assoc a b (c ++ d)
-
-five : (a b c d e : List ℕ) → a ++ b ++ c ++ d ++ e ≡ a ++ (b ++ (c ++ (d ++ e)))
-five a b c d e = append_assoc (a ++ b ++ c) d e ∙ four a b c (d ++ e)
-
-pub six : (a b c d e f : List ℕ) → a ++ b ++ c ++ d ++ e ++ f ≡ a ++ (b ++ (c ++ (d ++ (e ++ f))))
-six a b c d e f = append_assoc (a ++ b ++ c ++ d) e f ∙ five a b c d (e ++ f)
+    there_then (row_at ipn_part) _ (there_row ipn_part 3 4 3 (omega arith) (omega arith) refl)
+    (there_then (row_at unsigned) _ (there_unsigned allocator allocator_fits)
+    (there_then (row_at unsigned) _ (there_unsigned node node_fits)
+    (there_last (row_at unsigned) _ (there_unsigned service service_fits) (λ bytes offset. refl))))
 
 pub there_eid : (eid : Eid) → EidFits eid → is_short eid ≡ true → ReadsThere eid_at eid (eid_bytes eid)
 unfolding eid_bytes
-there_eid DtnNone fits short =
-    let a = head_bytes 4 2 in
-    let b = head_bytes 0 1 in
-    let c = head_bytes 0 0 in
-    regrouped (a ++ b ++ c) (a ++ (b ++ c)) (three a b c)
-    (there_part DtnNone scheme_of.Dtn 1 c there_dtn there_none)
+there_eid DtnNone fits short = regrouped (there_part there_dtn there_none) (simp append_assoc)
 there_eid (Dtn name) fits short =
     let below : length name.items ≤ 1024 = grind (arith, nat_tests) in
-    let a = head_bytes 4 2 in
-    let b = head_bytes 0 1 in
-    let c = head_bytes 3 (length name.items) in
-    regrouped (a ++ b ++ c ++ name.items) (a ++ (b ++ (c ++ name.items)))
-    (four a b c name.items)
-    (there_part (Dtn name) scheme_of.Dtn 1 (c ++ name.items) there_dtn (there_name name.items below))
+    regrouped (there_part there_dtn (there_name name.items below)) (simp append_assoc)
 there_eid (Ipn node service) fits short =
-    let a = head_bytes 4 2 in
-    let b = head_bytes 0 2 in
-    let d = head_bytes 0 node in
-    let e = head_bytes 0 service in
-    regrouped (a ++ b ++ a ++ d ++ e) (a ++ (b ++ (a ++ (d ++ e))))
-    (five a b a d e)
-    (there_part (Ipn node service) scheme_of.Ipn 2 (a ++ (d ++ e)) there_ipn
-    (there_two node service fits.0 fits.1))
+    regrouped (there_part there_ipn (there_two node service fits.0 fits.1)) (simp append_assoc)
 there_eid (Ipn3 allocator node service) fits short =
-    let a = head_bytes 4 2 in
-    let b = head_bytes 0 2 in
-    let c = head_bytes 4 3 in
-    let d = head_bytes 0 allocator in
-    let e = head_bytes 0 node in
-    let f = head_bytes 0 service in
-    regrouped (a ++ b ++ c ++ d ++ e ++ f)
-    (a ++ (b ++ (c ++ (d ++ (e ++ f))))) (six a b c d e f)
-    (there_part (Ipn3 allocator node service) scheme_of.Ipn 2 (c ++ (d ++ (e ++ f))) there_ipn
-    (there_three allocator node service fits.0 fits.1 fits.2))
+    regrouped (there_part there_ipn (there_three allocator node service fits.0 fits.1 fits.2))
+    (simp append_assoc)
 
 -- a part that is all of some bytes
 at_start : {A : Type 0} (read : List ℕ → ℕ → ReadAt A) (value : A) (bytes : List ℕ)
@@ -166,10 +124,10 @@ hop_count_back limit count limit_fits count_fits =
     let whole : length a + length l + length k ≡ length b =
     omega (arith, front, length-append (a ++ l) k) in
     let one : row_at pair b 0 ≡ Ok (2, length a) =
-    there_pair.by b 0 (l ++ k) (omega arith) (three a l k)
+    there_pair.by b 0 (l ++ k) (omega arith) (append_assoc a l k)
     ∙ ap (λ n. Ok (2, n)) (zero-add (length a)) in
     let second : drop (length a) b ≡ l ++ k =
-    ap (λ (all : List ℕ). drop (length a) all) (three a l k) ∙ drop-append_seam a (l ++ k) in
+    ap (λ (all : List ℕ). drop (length a) all) (append_assoc a l k) ∙ drop-append_seam a (l ++ k) in
     let two : row_at unsigned b (length a) ≡ Ok (limit, length a + length l) =
     (there_unsigned limit limit_fits).by b (length a) k (omega (arith, whole)) second in
     let last : drop (length a + length l) b ≡ k ++ [] =

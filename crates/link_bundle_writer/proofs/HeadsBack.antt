@@ -1,6 +1,6 @@
 -- A head that was written is read as it was, and is the shortest.
-use Rattle.std.proofs.Common.{◌≡◌, ℕ, ◌+◌, ◌-◌, ◌^◌, ◌<◌, ◌≤◌, List, ◌∷◌, ◌++◌, length, take, Some, arith, refl, ◌∙◌, ⊎_elim, length-append}
-use Rattle.std.proofs.lemmas.{Bool.{cases_lt, lt-ltb, le-ltb, ne_eqb}, Nat.{div-mul-add, mod-mul-add}}
+use Rattle.std.proofs.Common.{◌≡◌, ℕ, ◌+◌, ◌-◌, ◌^◌, ◌<◌, ◌≤◌, List, ◌∷◌, ◌++◌, length, take, Some, arith, refl, ◌∙◌, length-append}
+use Rattle.std.proofs.lemmas.{Bool.{ne_eqb, Decides.nat_tests}, Nat.{div-mul-add, mod-mul-add}}
 use Rattle.byteorder.specs.Numbers.{big_number-reads_back, length-bytes_high_first}
 use Rattle.link_cbor.proofs.HeadLaws.{big_endian-big_from, argument_front-there, front_by-small, front_by-argument}
 use Rattle.link_cbor.specs.Head.{Whole, big_endian, with_argument, head_front}
@@ -44,28 +44,12 @@ small_there major value more below =
 pub head_back : HeadReadsBack
 unfolding head_bytes
 head_back major value more small fits =
-    ⊎_elim
-    (λ below.
-    rw (lt-ltb value 24 below) (small_there major value more below))
-    (λ least.
-    ⊎_elim
-    (λ below.
-    rw (le-ltb value 24 least, lt-ltb value (2 ^ 8) below)
-    (argument_there major 24 1 value more small (omega arith) (omega arith) refl below))
-    (λ one.
-    ⊎_elim
-    (λ below.
-    rw (le-ltb value 24 least, le-ltb value (2 ^ 8) one, lt-ltb value (2 ^ 16) below)
-    (argument_there major 25 2 value more small (omega arith) (omega arith) refl below))
-    (λ two.
-    ⊎_elim
-    (λ below.
-    rw (le-ltb value 24 least, le-ltb value (2 ^ 8) one, le-ltb value (2 ^ 16) two, lt-ltb value (2 ^ 32) below)
-    (argument_there major 26 4 value more small (omega arith) (omega arith) refl below))
-    (λ four.
-    rw (le-ltb value 24 least, le-ltb value (2 ^ 8) one, le-ltb value (2 ^ 16) two, le-ltb value (2 ^ 32) four)
-    (argument_there major 27 8 value more small (omega arith) (omega arith) refl fits))
-    (cases_lt value (2 ^ 32)))
-    (cases_lt value (2 ^ 16)))
-    (cases_lt value (2 ^ 8)))
-    (cases_lt value 24)
+    grind (
+      arith,
+      nat_tests,
+      small_there major value more,
+      argument_there major 24 1 value more small (omega arith) (omega arith) refl,
+      argument_there major 25 2 value more small (omega arith) (omega arith) refl,
+      argument_there major 26 4 value more small (omega arith) (omega arith) refl,
+      argument_there major 27 8 value more small (omega arith) (omega arith) refl,
+    )

@@ -2,7 +2,7 @@ pub mod HeadsBack
 pub mod There
 pub mod EidsBack
 mod RowsThere
-mod CheckBack
+pub mod CheckBack
 mod PrimaryBack
 mod BlocksBack
 mod BundleBack

@@ -11,10 +11,8 @@ use Rattle.link_bundle_writer.proofs.There.{EndsThere, ReadsThere, there_then, t
 use Rattle.link_bundle_writer.proofs.EidsBack.{there_unsigned, there_pair, there_eid}
 use Rattle.link_bundle_writer.proofs.RowsThere.{there_version, there_primary, there_primary_check}
 use Rattle.link_bundle_writer.proofs.CheckBack.{field_there}
-use Rattle.link_bundle_writer.specs.EndpointIds.{eid_bytes}
 use Rattle.link_bundle_writer.specs.GoodBundle.{PrimaryFits}
-use Rattle.link_bundle_writer.specs.Heads.{head_bytes}
-use Rattle.link_bundle_writer.specs.NewBlocks.{check_type, check_bytes, fragment_elements, fragment_bytes, says_fragment, primary_elements, primary_bytes, primary_is_writable}
+use Rattle.link_bundle_writer.specs.NewBlocks.{check_bytes, fragment_elements, fragment_bytes, says_fragment, primary_elements, primary_bytes, primary_is_writable}
 
 -- a part that comes after these fields
 abbrev part_after : {A : Type 0} → PrimaryFields → ReadAt A → ElementsAt A
@@ -31,13 +29,12 @@ element_there fields one = record {
 
 module _ {A B : Type 0} (fields : PrimaryFields) (read : List ℕ → ℕ → ReadAt A)
     (next : List ℕ → A × ℕ → ElementsAt B) {value : A} {given : ℕ → B × ℕ} where
-  element_then : (first second : List ℕ) → ReadsThere read value first
+  element_then : {first second : List ℕ} → ReadsThere read value first
       → EndsThere (λ bytes offset. next bytes (value, offset)) given second
       → EndsThere (λ bytes offset. part_after fields (read bytes offset) >>= next bytes) given
       (first ++ second)
-  element_then first second one =
-      there_then (λ bytes offset. part_after fields (read bytes offset)) next first second
-      (element_there fields one)
+  element_then one =
+      there_then (λ bytes offset. part_after fields (read bytes offset)) next (element_there fields one)
 
 -- the fields of a fragment, if the flags say that there are any
 there_fragment : (is : Bool) (fragment : Option (ℕ × ℕ)) (block : Primary)
@@ -52,22 +49,13 @@ there_fragment false None block says fits = record {
       let same : offset ≡ offset + 0 = omega arith in ap (λ n. Ok (None, n)) same;
 }
 there_fragment true (Some (offset, total)) block says fits =
-    element_then _ (row_at unsigned) _ (head_bytes 0 offset) (head_bytes 0 total)
-    (there_unsigned offset fits.0)
-    (there_last (λ bytes offset. part_after _ (row_at unsigned bytes offset)) _ (head_bytes 0 total)
+    element_then _ (row_at unsigned) _ (there_unsigned offset fits.0)
+    (there_last (λ bytes offset. part_after _ (row_at unsigned bytes offset)) _
     (element_there _ (there_unsigned total fits.1)) (λ bytes offset. refl))
 
 elements_fit : (fragment : Option (ℕ × ℕ)) (check : Option CheckKind)
     → 8 + fragment_elements fragment + check_elements check ≤ 11
-elements_fit None None = omega arith
-elements_fit None (Some kind) = omega arith
-elements_fit (Some fragment) None = omega arith
-elements_fit (Some fragment) (Some kind) = omega arith
-
-twelve : (a b c d e f g h i j k l : List ℕ)
-    → a ++ b ++ c ++ d ++ (e ++ f ++ g) ++ (h ++ i ++ j ++ k ++ l)
-    ≡ a ++ (b ++ (c ++ (d ++ (e ++ (f ++ (g ++ (h ++ (i ++ (j ++ (k ++ l))))))))))
-twelve a b c d e f g h i j k l = simp append_assoc
+elements_fit fragment check = grind arith
 
 module _ (primary : Primary) (check : Option CheckKind) (fits : PrimaryFits primary)
     (writable : primary_is_writable primary ≡ true) where
@@ -79,41 +67,24 @@ module _ (primary : Primary) (check : Option CheckKind) (fits : PrimaryFits prim
       let said = and_parts _ _ writable in
       let short = and_parts _ _ said.1 in
       let others = and_parts _ _ short.1 in
-      let a = head_bytes 4 count in
-      let b = head_bytes 0 7 in
-      let c = head_bytes 0 primary.flags in
-      let d = head_bytes 0 (check_type check) in
-      let e = eid_bytes primary.destination in
-      let f = eid_bytes primary.source in
-      let g = eid_bytes primary.report_to in
-      let h = head_bytes 4 2 in
-      let i = head_bytes 0 primary.time in
-      let j = head_bytes 0 primary.sequence in
-      let k = head_bytes 0 primary.lifetime in
-      let l = fragment_bytes primary.fragment in
-      let from_j = j ++ (k ++ l) in
-      let from_g = g ++ (h ++ (i ++ from_j)) in
-      let from_d = d ++ (e ++ (f ++ from_g)) in
-      regrouped (a ++ b ++ c ++ d ++ (e ++ f ++ g) ++ (h ++ i ++ j ++ k ++ l))
-      (a ++ (b ++ (c ++ from_d))) (twelve a b c d e f g h i j k l)
-      (element_then _ (row_at primary_block) _ a (b ++ (c ++ from_d))
+      regrouped
+      (element_then _ (row_at primary_block) _
       (there_primary count least (elements_fit primary.fragment check))
-      (element_then _ (row_at version) _ b (c ++ from_d) there_version
-      (element_then _ (row_at unsigned) _ c from_d (there_unsigned primary.flags fits.flags)
-      (element_then _ (row_at (primary_check_type count primary.flags)) _ d (e ++ (f ++ from_g))
+      (element_then _ (row_at version) _ there_version
+      (element_then _ (row_at unsigned) _ (there_unsigned primary.flags fits.flags)
+      (element_then _ (row_at (primary_check_type count primary.flags)) _
       (there_primary_check primary.flags primary.fragment check said.0)
-      (element_then _ eid_at _ e (f ++ from_g)
-      (there_eid primary.destination fits.destination short.0)
-      (element_then _ eid_at _ f from_g (there_eid primary.source fits.source others.0)
-      (element_then _ eid_at _ g (h ++ (i ++ from_j))
-      (there_eid primary.report_to fits.report_to others.1)
-      (element_then _ (row_at pair) _ h (i ++ from_j) there_pair
-      (element_then _ (row_at unsigned) _ i from_j (there_unsigned primary.time fits.time)
-      (element_then _ (row_at unsigned) _ j (k ++ l) (there_unsigned primary.sequence fits.sequence)
-      (element_then _ (row_at unsigned) _ k l (there_unsigned primary.lifetime fits.lifetime)
-      (there_last (fragment_read (is_fragment primary.flags) _) _ l
+      (element_then _ eid_at _ (there_eid primary.destination fits.destination short.0)
+      (element_then _ eid_at _ (there_eid primary.source fits.source others.0)
+      (element_then _ eid_at _ (there_eid primary.report_to fits.report_to others.1)
+      (element_then _ (row_at pair) _ there_pair
+      (element_then _ (row_at unsigned) _ (there_unsigned primary.time fits.time)
+      (element_then _ (row_at unsigned) _ (there_unsigned primary.sequence fits.sequence)
+      (element_then _ (row_at unsigned) _ (there_unsigned primary.lifetime fits.lifetime)
+      (there_last (fragment_read (is_fragment primary.flags) _) _
       (there_fragment (is_fragment primary.flags) primary.fragment _ said.0 fits.fragment)
       (λ bytes offset. refl)))))))))))))
+      (simp append_assoc)
 
   -- the primary block after the first byte of a bundle
   pub primary_there : (tail rest : List ℕ) → tail ≡ primary_bytes primary check ++ rest

@@ -1,7 +1,7 @@
 -- The heads of blocks, and the break, are read as they were written.
-use Rattle.std.proofs.Common.{◌≡◌, ℕ, ◌+◌, ◌^◌, ◌<◌, ◌≤◌, ◌==◌, Bool, true, false, nat_le, List, [], ◌∷◌, Option, Some, None, arith, refl, if◌then◌else◌}
+use Rattle.std.proofs.Common.{◌≡◌, ℕ, ◌+◌, ◌^◌, ◌<◌, ◌≤◌, ◌==◌, true, false, List, [], ◌∷◌, Option, None, arith, refl}
 use Rattle.std.specs.List.{list_any}
-use Rattle.std.proofs.lemmas.Bool.{eq-eqb, Decides.nat_tests}
+use Rattle.std.proofs.lemmas.Bool.{Decides.nat_tests}
 use Rattle.link_cbor.specs.declared.check.{CheckKind.CheckKind, CheckKind.TheVariants.{Crc16, Crc32}}
 use Rattle.link_cbor.specs.Head.{front_by, no_argument, head_front}
 use Rattle.link_bundle_heads.specs.Rows.{array, unsigned, is_break, primary_block, version, check_type, primary_check_type, is_fragment, check_elements, check_width, check_field, block, block_number, block_check_type, block_data, fits_type, closing}
@@ -21,35 +21,17 @@ pub there_primary : (count : ℕ) → 8 ≤ count → count ≤ 11
     → ReadsThere (row_at primary_block) count (head_bytes 4 count)
 unfolding primary_block array
 there_primary count least most =
-    let low : nat_le 8 count ≡ true = grind (arith, nat_tests) in
-    let high : nat_le count 11 ≡ true = grind (arith, nat_tests) in
-    there_row primary_block count 4 count (omega arith) (omega (arith, most)) (rw (low, high) refl)
+    there_row primary_block count 4 count (omega arith) (omega (arith, most)) (grind (arith, nat_tests))
 
 -- the number of elements is the one that the flags and the check type ask for
-counted : (is : Bool) (fragment : Option (ℕ × ℕ)) (check : Option CheckKind)
-    → says_fragment is fragment ≡ true
-    → (8 + fragment_elements fragment + check_elements check
-    == 8 + (if is then 2 else 0) + check_elements check) ≡ true
-counted true (Some fragment) check says = eq-eqb _ _ refl
-counted true None check says = absurd (cc)
-counted false (Some fragment) check says = absurd (cc)
-counted false None check says = eq-eqb _ _ refl
-
 pub there_primary_check : (flags : ℕ) (fragment : Option (ℕ × ℕ)) (check : Option CheckKind)
     → says_fragment (is_fragment flags) fragment ≡ true
     → ReadsThere
     (row_at (primary_check_type (8 + fragment_elements fragment + check_elements check) flags))
     check (head_bytes 0 (type_of check))
 unfolding primary_check_type check_type unsigned
-there_primary_check flags fragment None says =
-    let count = counted (is_fragment flags) fragment None says in
-    there_row _ None 0 0 (omega arith) (omega arith) (rw count refl)
-there_primary_check flags fragment (Some Crc16) says =
-    let count = counted (is_fragment flags) fragment (Some Crc16) says in
-    there_row _ (Some Crc16) 0 1 (omega arith) (omega arith) (rw count refl)
-there_primary_check flags fragment (Some Crc32) says =
-    let count = counted (is_fragment flags) fragment (Some Crc32) says in
-    there_row _ (Some Crc32) 0 2 (omega arith) (omega arith) (rw count refl)
+there_primary_check flags fragment check says =
+    there_row _ check 0 (type_of check) (omega arith) (grind arith) (grind (arith, nat_tests))
 
 -- ---- canonical blocks
 
@@ -57,9 +39,7 @@ pub there_block : (count : ℕ) → 5 ≤ count → count ≤ 6
     → ReadsThere (row_at block) count (head_bytes 4 count)
 unfolding block array is_break
 there_block count least most =
-    let low : nat_le 5 count ≡ true = grind (arith, nat_tests) in
-    let high : nat_le count 6 ≡ true = grind (arith, nat_tests) in
-    there_row block count 4 count (omega arith) (omega (arith, most)) (rw (low, high) refl)
+    there_row block count 4 count (omega arith) (omega (arith, most)) (grind (arith, nat_tests))
 
 -- a number that no block before has
 pub there_number : (type number : ℕ) (numbers : List ℕ) → number < 2 ^ 64
@@ -73,9 +53,7 @@ pub there_check : (check : Option CheckKind)
     → ReadsThere (row_at (block_check_type (5 + check_elements check))) check
     (head_bytes 0 (type_of check))
 unfolding block_check_type check_type unsigned
-there_check None = there_row _ None 0 0 (omega arith) (omega arith) refl
-there_check (Some Crc16) = there_row _ (Some Crc16) 0 1 (omega arith) (omega arith) refl
-there_check (Some Crc32) = there_row _ (Some Crc32) 0 2 (omega arith) (omega arith) refl
+there_check check = there_row _ check 0 (type_of check) (omega arith) (grind arith) (grind arith)
 
 pub there_data : (size : ℕ) → size < 2 ^ 64
     → ReadsThere (row_at block_data) size (head_bytes 2 size)

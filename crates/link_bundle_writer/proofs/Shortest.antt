@@ -1,10 +1,9 @@
 -- No head is shorter than the one that is written.
-use Rattle.std.proofs.Common.{◌≡◌, ℕ, zero, suc, ◌+◌, ◌-◌, ◌/◌, ◌%◌, ◌^◌, ◌<◌, ◌≤◌, Bool, true, false, List, [], ◌∷◌, length, take, get_or, Some, None, if◌then◌else◌, arith, refl, ap, sym, ◌∙◌, ⊎_elim}
+use Rattle.std.proofs.Common.{◌≡◌, ℕ, zero, suc, ◌+◌, ◌-◌, ◌/◌, ◌%◌, ◌^◌, ◌<◌, ◌≤◌, Bool, List, [], ◌∷◌, length, take, get_or, Some, None, if◌then◌else◌, arith, sym, ◌∙◌, ⊎_elim}
 use Rattle.std.proofs.lemmas.{Bool.cases_lt, List.Elements.{All-head, All-tail}, Bool.Decides.nat_tests}
 use Rattle.byteorder.specs.Numbers.{big_from-lt, length-bytes_high_first}
 use Rattle.link_cbor.proofs.HeadLaws.{big_endian-big_from, argument_front-cut, argument_front-there, front_by-small, front_by-argument, front_by-reserved, front_by-none}
-use Rattle.link_cbor.specs.declared.head.Head.{Head}
-use Rattle.link_cbor.specs.Head.{AreBytes, HeadFront, Whole, IllFormed, big_endian, with_argument, argument_front, no_argument, front_by, head_front}
+use Rattle.link_cbor.specs.Head.{AreBytes, HeadFront, Whole, IllFormed, big_endian, with_argument, no_argument, front_by, head_front}
 use Rattle.link_bundle_writer.specs.Heads.{head_bytes, HeadIsShortest}
 
 module _ (major value : ℕ) where
@@ -14,31 +13,30 @@ module _ (major value : ℕ) where
 
   length-one : value < 2 ^ 8 → length (head_bytes major value) ≤ 2
   unfolding head_bytes
-  length-one below = let one = length-bytes_high_first 1 value in grind (arith, nat_tests, one)
+  length-one below = grind (arith, nat_tests, length-bytes_high_first 1 value)
 
   length-two : value < 2 ^ 16 → length (head_bytes major value) ≤ 3
   unfolding head_bytes
-  length-two below =
-      let one = length-bytes_high_first 1 value in
-      let two = length-bytes_high_first 2 value in
-      grind (arith, nat_tests, one, two)
+  length-two below = grind (arith, nat_tests, length-bytes_high_first 1 value, length-bytes_high_first 2 value)
 
   length-four : value < 2 ^ 32 → length (head_bytes major value) ≤ 5
   unfolding head_bytes
   length-four below =
-      let one = length-bytes_high_first 1 value in
-      let two = length-bytes_high_first 2 value in
-      let four = length-bytes_high_first 4 value in
-      grind (arith, nat_tests, one, two, four)
+      grind (arith, nat_tests, length-bytes_high_first 1 value, length-bytes_high_first 2 value, length-bytes_high_first 4 value)
 
   length-eight : length (head_bytes major value) ≤ 9
   unfolding head_bytes
   length-eight =
-      let one = length-bytes_high_first 1 value in
-      let two = length-bytes_high_first 2 value in
-      let four = length-bytes_high_first 4 value in
-      let eight = length-bytes_high_first 8 value in
-      grind (arith, nat_tests, one, two, four, eight)
+      grind (arith, nat_tests, length-bytes_high_first 1 value, length-bytes_high_first 2 value, length-bytes_high_first 4 value, length-bytes_high_first 8 value)
+
+  -- an argument that fits in one, two, four or eight bytes
+  length-argument : (k : ℕ) → k < 4 → value < 256 ^ (2 ^ k)
+      → length (head_bytes major value) ≤ 1 + 2 ^ k
+  length-argument zero few fits = length-one fits
+  length-argument (suc zero) few fits = length-two fits
+  length-argument (suc (suc zero)) few fits = length-four fits
+  length-argument (suc (suc (suc zero))) few fits = length-eight
+  length-argument (suc (suc (suc (suc k)))) few fits = absurd (omega arith)
 
 byte_in : (bytes : List ℕ) → AreBytes bytes → (k : ℕ) → get_or bytes k 0 < 256
 byte_in [] all k = omega arith
@@ -51,48 +49,20 @@ with_argument-is : (test : Bool) (found major argument value size given : ℕ)
     else Whole (record { major = found; value = Some argument }) given in front)
     ≡ Whole (record { major = major; value = Some value }) size
     → (argument ≡ value) × (given ≡ size)
-with_argument-is true found major argument value size given is = absurd (cc)
-with_argument-is false found major argument value size given is =
-    let one : Head = record { major = found; value = Some argument } in
-    let other : Head = record { major = major; value = Some value } in
-    let heads : one ≡ other = cc in
-    let some : Some argument ≡ Some value = ap (λ (h : Head). h.value) heads in
-    let same : argument ≡ value = cc in
-    let sizes : given ≡ size = cc in
-    (same, sizes)
+with_argument-is test found major argument value size given is = grind arith
 
 no_argument-is : (test : Bool) (found major value size : ℕ)
     → (let front : HeadFront = if test then IllFormed
     else Whole (record { major = found; value = None }) 1 in front)
     ≡ Whole (record { major = major; value = Some value }) size → ⊥
-no_argument-is true found major value size is = cc
-no_argument-is false found major value size is =
-    let one : Head = record { major = found; value = None } in
-    let other : Head = record { major = major; value = Some value } in
-    let heads : one ≡ other = cc in
-    let never = ap (λ (h : Head). h.value) heads in
-    cc
+no_argument-is test found major value size is = grind arith
 
 module _ (first : ℕ) (rest : List ℕ) (all : AreBytes rest) (major value size : ℕ)
     (is : front_by (first / 32) (first % 32) rest
     ≡ Whole (record { major = major; value = Some value }) size) where
   small_shortest : first % 32 < 24 → length (head_bytes major value) ≤ size
   small_shortest below =
-      let whole = sym (front_by-small (first / 32) (first % 32) rest below) ∙ is in
-      let here : Head = record { major = first / 32; value = Some (first % 32) } in
-      let there : Head = record { major = major; value = Some value } in
-      let heads : here ≡ there = cc in
-      let some : Some (first % 32) ≡ Some value = ap (λ (h : Head). h.value) heads in
-      let same : first % 32 ≡ value = cc in
-      let one : 1 ≡ size = cc in
-      omega (arith, one, length-none major value (omega (arith, same, below)))
-
-  read_argument : (count : ℕ) → 24 ≤ first % 32 → first % 32 < 28
-      → 2 ^ (first % 32 - 24) ≡ count
-      → argument_front (first / 32) count rest
-      ≡ Whole (record { major = major; value = Some value }) size
-  read_argument count least below counted =
-      rw counted at (sym (front_by-argument (first / 32) (first % 32) rest least below) ∙ is)
+      grind (arith, front_by-small (first / 32) (first % 32) rest below, length-none major value)
 
   in_with : (count : ℕ) → with_argument (first / 32) count (big_endian (take count rest))
       ≡ Whole (record { major = major; value = Some value }) size
@@ -100,11 +70,12 @@ module _ (first : ℕ) (rest : List ℕ) (all : AreBytes rest) (major value size
   unfolding with_argument
   in_with count there = with_argument-is _ (first / 32) major (big_endian (take count rest)) value size (1 + count) there
 
-  -- the argument of a head whose information is that of `count` bytes
-  argument_is : (count : ℕ) → 24 ≤ first % 32 → first % 32 < 28
-      → 2 ^ (first % 32 - 24) ≡ count → (value < 256 ^ count) × (1 + count ≡ size)
-  argument_is count least below counted =
-      let read = read_argument count least below counted in
+  -- the argument of a head, in as many bytes as its information says
+  argument_is : 24 ≤ first % 32 → first % 32 < 28
+      → (let count = 2 ^ (first % 32 - 24) in (value < 256 ^ count) × (1 + count ≡ size))
+  argument_is least below =
+      let count = 2 ^ (first % 32 - 24) in
+      let read = sym (front_by-argument (first / 32) (first % 32) rest least below) ∙ is in
       ⊎_elim
       (λ short. absurd (
       let cut = sym (argument_front-cut (first / 32) count rest short) ∙ read in cc))
@@ -118,26 +89,8 @@ module _ (first : ℕ) (rest : List ℕ) (all : AreBytes rest) (major value size
 
   argument_shortest : 24 ≤ first % 32 → first % 32 < 28 → length (head_bytes major value) ≤ size
   argument_shortest least below =
-      ⊎_elim
-      (λ under.
-      let found = argument_is 1 least below (let e : first % 32 - 24 ≡ 0 = omega (arith, least, under) in rw e refl) in
-      omega (arith, found.1, length-one major value found.0))
-      (λ one.
-      ⊎_elim
-      (λ under.
-      let found = argument_is 2 least below (let e : first % 32 - 24 ≡ 1 = omega (arith, one, under) in rw e refl) in
-      omega (arith, found.1, length-two major value found.0))
-      (λ two.
-      ⊎_elim
-      (λ under.
-      let found = argument_is 4 least below (let e : first % 32 - 24 ≡ 2 = omega (arith, two, under) in rw e refl) in
-      omega (arith, found.1, length-four major value found.0))
-      (λ three.
-      let found = argument_is 8 least below (let e : first % 32 - 24 ≡ 3 = omega (arith, three, below) in rw e refl) in
-      omega (arith, found.1, length-eight major value))
-      (cases_lt (first % 32) 27))
-      (cases_lt (first % 32) 26))
-      (cases_lt (first % 32) 25)
+      let found = argument_is least below in
+      omega (arith, found.1, length-argument major value (first % 32 - 24) (omega arith) found.0)
 
   other : 28 ≤ first % 32 → ⊥
   unfolding no_argument

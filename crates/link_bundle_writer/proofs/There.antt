@@ -28,10 +28,10 @@ within_there bytes offset run more within here =
 
 module _ {A B E : Type 0} (read : List ℕ → ℕ → Result (A × ℕ) E)
     (next : List ℕ → A × ℕ → Result B E) {value : A} {given : ℕ → B} where
-  pub there_then : (first second : List ℕ) → ReadsThere read value first
+  pub there_then : {first second : List ℕ} → ReadsThere read value first
       → EndsThere (λ bytes offset. next bytes (value, offset)) given second
       → EndsThere (λ bytes offset. read bytes offset >>= next bytes) given (first ++ second)
-  there_then first second one two = record {
+  there_then {first} {second} one two = record {
     by = λ bytes offset more within here.
         let split = here ∙ append_assoc first second more in
         let end : offset + length first + length second ≡ offset + length (first ++ second) =
@@ -43,10 +43,10 @@ module _ {A B E : Type 0} (read : List ℕ → ℕ → Result (A × ℕ) E)
         ∙ ap (λ n. Ok (given n)) end;
   }
 
-  pub there_last : (written : List ℕ) → ReadsThere read value written
+  pub there_last : {written : List ℕ} → ReadsThere read value written
       → ((bytes : List ℕ) (offset : ℕ) → next bytes (value, offset) ≡ Ok (given offset))
       → EndsThere (λ bytes offset. read bytes offset >>= next bytes) given written
-  there_last written one last = record {
+  there_last {written} one last = record {
     by = λ bytes offset more within here.
         ap (λ found. found >>= next bytes) (one.by bytes offset more within here)
         ∙ last bytes (offset + length written);
@@ -86,5 +86,5 @@ there_bytes content = record {
 
 -- the same bytes, grouped in another way
 pub regrouped : {A E : Type 0} {read : List ℕ → ℕ → Result A E} {given : ℕ → A}
-    (left right : List ℕ) → left ≡ right → EndsThere read given right → EndsThere read given left
-regrouped left right same there = rw same there
+    {left right : List ℕ} → EndsThere read given right → left ≡ right → EndsThere read given left
+regrouped there same = rw same there

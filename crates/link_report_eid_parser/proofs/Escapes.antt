@@ -1,5 +1,5 @@
 -- The escaped text of a name shows each of its bytes.
-use Rattle.std.proofs.Common.{◌≡◌, ◌≢◌, ℕ, ◌+◌, ◌-◌, ◌*◌, ◌/◌, ◌%◌, ◌<◌, ◌≤◌, Bool, true, false, cond, eqb, ltb, List, [], ◌∷◌, ◌++◌, ◌∙◌, length, get_or, take, drop, refl, ap, sym, append_assoc, append-nil, length-append, arith}
+use Rattle.std.proofs.Common.{◌≡◌, ◌≢◌, ℕ, ◌+◌, ◌-◌, ◌*◌, ◌/◌, ◌%◌, ◌<◌, ◌≤◌, true, false, cond, eqb, ltb, List, [], ◌∷◌, ◌++◌, ◌∙◌, length, get_or, take, drop, refl, ap, sym, append_assoc, append-nil, length-append, arith}
 use Rattle.std.proofs.lemmas.{Bool.{agree_below_at, eqb-true, true≢false}, Bool.Decides.nat_tests, List.{flat_map_more, take_rest}, List.Elements.{All-head, All-tail}}
 use Rattle.link_io.specs.Bytes.{IsByte, AreBytes}
 use Rattle.link_report.specs.Text.{is_plain, hex_digit, hex2, escaped_byte, escaped}
@@ -64,43 +64,27 @@ same_hex2 one other after rest one_fits other_fits is =
 pub same_byte : (one other : ℕ) (after rest : List ℕ) → one < 256 → other < 256
     → escaped_byte one ++ after ≡ escaped_byte other ++ rest → (one ≡ other) × (after ≡ rest)
 same_byte one other after rest one_fits other_fits is =
-    by (is_plain one) (is_plain other) refl refl
-  where
-    by : (a b : Bool) → is_plain one ≡ a → is_plain other ≡ b → (one ≡ other) × (after ≡ rest)
-    by true true a b =
-        let texts : one ∷ after ≡ other ∷ rest = rw (plain_byte one a, plain_byte other b) at is in
-        (cc, cc)
-    by true false a b =
-        let texts : one ∷ after ≡ 92 ∷ 120 ∷ (hex2 other ++ rest) = rw (plain_byte one a, other_byte other b) at is in
-        absurd (no_backslash one a cc)
-    by false true a b =
-        let texts : 92 ∷ 120 ∷ (hex2 one ++ after) ≡ other ∷ rest = rw (other_byte one a, plain_byte other b) at is in
-        absurd (no_backslash other b cc)
-    by false false a b =
-        let texts : 92 ∷ 120 ∷ (hex2 one ++ after) ≡ 92 ∷ 120 ∷ (hex2 other ++ rest) = rw (other_byte one a, other_byte other b) at is in
-        same_hex2 one other after rest one_fits other_fits cc
+    grind (
+      arith,
+      plain_byte one,
+      plain_byte other,
+      other_byte one,
+      other_byte other,
+      no_backslash one,
+      no_backslash other,
+      same_hex2 one other after rest one_fits other_fits,
+    )
 
 pub some_text : (byte : ℕ) → 0 < length (escaped_byte byte)
-some_text byte = by (is_plain byte) refl
-  where
-    by : (a : Bool) → is_plain byte ≡ a → 0 < length (escaped_byte byte)
-    by true a = rw (plain_byte byte a) (omega arith)
-    by false a = rw (other_byte byte a) (omega arith)
+some_text byte = grind (arith, plain_byte byte, other_byte byte)
 
 -- ---- a byte that a text begins with
 
 -- a text that begins as an escape shows two digits
 escape_shows : (text escape more : List ℕ) (byte : ℕ) → text ≡ 92 ∷ 120 ∷ escape
     → text ≡ escaped_byte byte ++ more → (is_plain byte ≡ false) × (escape ≡ hex2 byte ++ more)
-escape_shows text escape more byte begins is = by (is_plain byte) refl
-  where
-    by : (a : Bool) → is_plain byte ≡ a → (is_plain byte ≡ false) × (escape ≡ hex2 byte ++ more)
-    by true a =
-        let texts : 92 ∷ 120 ∷ escape ≡ byte ∷ more = sym begins ∙ rw (plain_byte byte a) at is in
-        absurd (no_backslash byte a cc)
-    by false a =
-        let texts : 92 ∷ 120 ∷ escape ≡ 92 ∷ 120 ∷ (hex2 byte ++ more) = sym begins ∙ rw (other_byte byte a) at is in
-        (a, cc)
+escape_shows text escape more byte begins is =
+    grind (arith, plain_byte byte, other_byte byte, no_backslash byte)
 
 pub short_escape : (text escape : List ℕ) → text ≡ 92 ∷ 120 ∷ escape → length escape < 2
     → (byte : ℕ) (more : List ℕ) → text ≢ escaped_byte byte ++ more
@@ -144,14 +128,8 @@ escape_is text escape byte begins enough digits other =
 pub no_plain : (text rest : List ℕ) (first : ℕ) → text ≡ first ∷ rest → is_plain first ≡ false
     → ((after : List ℕ) → text ≢ 92 ∷ 120 ∷ after)
     → (byte : ℕ) (more : List ℕ) → text ≢ escaped_byte byte ++ more
-no_plain text rest first begins other none byte more is = by (is_plain byte) refl
-  where
-    by : (a : Bool) → is_plain byte ≡ a → ⊥
-    by true a =
-        let texts : first ∷ rest ≡ byte ∷ more = sym begins ∙ rw (plain_byte byte a) at is in
-        let same : first ≡ byte = cc in
-        true≢false (sym a ∙ rw same at other)
-    by false a = none (hex2 byte ++ more) (rw (other_byte byte a) at is)
+no_plain text rest first begins other none byte more is =
+    grind (arith, plain_byte byte, other_byte byte, none (hex2 byte ++ more))
 
 pub no_text : (text : List ℕ) → length text ≡ 0 → (byte : ℕ) (more : List ℕ)
     → text ≢ escaped_byte byte ++ more

@@ -97,8 +97,7 @@ pub no_dtn : (text : List ℕ) → text ≢ codes "none"
 unfolding eid_text number_text
 no_dtn text none names DtnNone possible is = none (sym (ap (drop 4) is))
 no_dtn text none names (Dtn name) possible is = names name.items possible.0 possible.1 (ap (drop 4) is)
-no_dtn text none names (Ipn node service) possible is = other_first _ _ (omega arith) is
-no_dtn text none names (Ipn3 allocator node service) possible is = other_first _ _ (omega arith) is
+no_dtn text none names _ possible is = other_first _ _ (omega arith) is
 
 -- no two numbers have this text, and no three
 pub record IsNoIpn (text : List ℕ) : Type 0 where
@@ -109,13 +108,12 @@ pub record IsNoIpn (text : List ℕ) : Type 0 where
 
 pub no_ipn : (text : List ℕ) → IsNoIpn text → IsNoText (codes "ipn:" ++ text)
 unfolding eid_text number_text
-no_ipn text none DtnNone possible is = other_first _ _ (omega arith) is
-no_ipn text none (Dtn name) possible is = other_first _ _ (omega arith) is
 no_ipn text none (Ipn node service) possible is =
     none.two node service possible.0 possible.1 (ap (drop 4) is)
 no_ipn text none (Ipn3 allocator node service) possible is =
     none.three allocator node service possible.0 possible.1 possible.2
     (ap (drop 4) (sym (three_is allocator node service) ∙ is))
+no_ipn text none _ possible is = other_first _ _ (omega arith) is
 
 -- after the first number, neither one number nor two
 pub no_ipn_after : (first : ℕ) (rest text : List ℕ) → first < 2 ^ 64
@@ -147,16 +145,10 @@ unfolding eid_text number_text escaped escaped_byte is_plain
 same_eid DtnNone DtnNone one other is = refl
 same_eid DtnNone (Dtn name) one other is =
     absurd (none_alone name.items other.0 other.2 (sym (ap (drop 4) is)))
-same_eid DtnNone (Ipn _ _) one other is = absurd (other_first _ _ (omega arith) is)
-same_eid DtnNone (Ipn3 _ _ _) one other is = absurd (other_first _ _ (omega arith) is)
 same_eid (Dtn name) DtnNone one other is =
     absurd (none_alone name.items one.0 one.2 (ap (drop 4) is))
 same_eid (Dtn name) (Dtn name') one other is =
     ap (λ (items : List ℕ). Dtn (record { items = items })) (same_name name.items name'.items one.0 other.0 (ap (drop 4) is))
-same_eid (Dtn name) (Ipn _ _) one other is = absurd (other_first _ _ (omega arith) is)
-same_eid (Dtn name) (Ipn3 _ _ _) one other is = absurd (other_first _ _ (omega arith) is)
-same_eid (Ipn node service) DtnNone one other is = absurd (other_first _ _ (omega arith) is)
-same_eid (Ipn node service) (Dtn _) one other is = absurd (other_first _ _ (omega arith) is)
 same_eid (Ipn node service) (Ipn node' service') one other is =
     let same = same_pair node node' (decimal service) (decimal service') one.0 other.0 (ap (drop 4) is) in
     let last = decimal_injective service service' one.1 other.1 same.1 in
@@ -165,8 +157,6 @@ same_eid (Ipn node service) (Ipn3 allocator node' service') one other is =
     let texts = ap (drop 4) (is ∙ three_is allocator node' service') in
     let same = same_pair node allocator (decimal service) (decimal node' ++ 46 ∷ decimal service') one.0 other.0 texts in
     absurd (no_pair service node' (decimal service') one.1 same.1)
-same_eid (Ipn3 allocator node service) DtnNone one other is = absurd (other_first _ _ (omega arith) is)
-same_eid (Ipn3 allocator node service) (Dtn _) one other is = absurd (other_first _ _ (omega arith) is)
 same_eid (Ipn3 allocator node service) (Ipn node' service') one other is =
     let texts = ap (drop 4) (sym (three_is allocator node service) ∙ is) in
     let same = same_pair allocator node' (decimal node ++ 46 ∷ decimal service) (decimal service') one.0 other.0 texts in
@@ -177,3 +167,4 @@ same_eid (Ipn3 allocator node service) (Ipn3 allocator' node' service') one othe
     let second = same_pair node node' (decimal service) (decimal service') one.1 other.1 first.1 in
     let last = decimal_injective service service' one.2 other.2 second.1 in
     rw (first.0, second.0, last) refl
+same_eid _ _ one other is = absurd (other_first _ _ (omega arith) is)

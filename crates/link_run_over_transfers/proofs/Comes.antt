@@ -1,15 +1,13 @@
 -- The walk of a reading that goes on: with a head, with data of a segment, or with quiet messages.
-use Rattle.std.proofs.Common.{◌≡◌, ℕ, zero, suc, ◌+◌, ◌<◌, Bool, true, false, not, ◌&&◌, ◌||◌, ◌==◌, nat_lt, is_some, All, List, [], ◌∷◌, ◌++◌, length, Option, Some, None, if◌then◌else◌, refl, ap, sym, ◌∙◌, ⊎_elim, append-nil, append_assoc, length-append, arith}
+use Rattle.std.proofs.Common.{◌≡◌, ℕ, ◌+◌, ◌<◌, Bool, true, false, not, ◌&&◌, ◌||◌, ◌==◌, nat_lt, is_some, All, List, [], ◌∷◌, ◌++◌, length, Option, Some, None, if◌then◌else◌, refl, ap, sym, ◌∙◌, append-nil, append_assoc, length-append, arith}
 use Rattle.std.specs.List.{fold}
-use Rattle.std.proofs.Math.Bool.{and-true}
-use Rattle.std.proofs.lemmas.Bool.{cases_Bool, and_right, eq-eqb, ne_eqb, lt-ltb, Decides.nat_tests}
+use Rattle.std.proofs.lemmas.Bool.{and_right, Decides.nat_tests}
 use Rattle.std.proofs.lemmas.{Grind.fold-append, List.map-append}
 use Rattle.std.proofs.lemmas.List.Elements.{All-head, All-tail}
 use Rattle.link_wire.specs.{Message.data_length, Session.{joined, with_message, with_data, IsLeft}}
 use Rattle.link_wire.specs.Stream.{Entry, End, Clean, Cut, Fault, Stream, ended, with_entry, Reading, heads_of}
 use Rattle.link_wire.specs.{Whole.{is_quiet, IsQuiet}, declared.message.Contact.Contact}
 use Rattle.link_wire.specs.declared.message.Message.{Message}
-use Rattle.link_wire.specs.declared.message.Message.TheVariants as message
 use Rattle.link_transfer.specs.{Event.event_of, Joiner.IsJoinerAt}
 use Rattle.link_transfer.specs.Order.{effect_of, open_of, refusal, with_taken}
 use Rattle.link_transfer.specs.declared.event.Event.TheVariants as event
@@ -40,11 +38,7 @@ MayTake manner before sent = manner.goes_on ≡ false → refusal before (event_
 module _ (manner : Manner) (before : Walked) (head : Entry) where
   judged_taken : (refused : Option OrderFault) → (manner.goes_on ≡ false → refused ≡ None)
       → with_judged refused manner before head ≡ taken_with manner before head
-  judged_taken None may = refl
-  judged_taken (Some fault) may =
-      ⊎_elim (λ goes. rw goes refl)
-      (λ stops. let none : Some fault ≡ None = may stops in absurd (cc))
-      (cases_Bool manner.goes_on)
+  judged_taken refused may = grind arith
 
   next_taken : before.refused ≡ None → MayTake manner before.taken head.message
       → with_next manner before head ≡ taken_with manner before head
@@ -62,17 +56,12 @@ module _ (manner : Manner) (before : Walked) (head : Entry) where
   may_by : (refused : Option OrderFault)
       → (with_judged refused manner before head).refused ≡ None → manner.goes_on ≡ false
       → refused ≡ None
-  may_by None is stops = refl
-  may_by (Some fault) is stops =
-      let bad : ◌≡◌ {A = Option (ℕ × OrderFault)} (Some (head.offset, fault)) None =
-      rw stops at is in
-      absurd (cc)
+  may_by refused is stops = grind arith
 
   taken_by : (refused : Option (ℕ × OrderFault)) → before.refused ≡ refused
       → (with_entry_unless refused manner before head).refused ≡ None
       → (before.refused ≡ None) × MayTake manner before.taken head.message
-  taken_by None was is = (was, may_by (refusal before.taken (event_of head.message)) is)
-  taken_by (Some stop) was is = absurd (cc)
+  taken_by refused was is = grind (arith, may_by (refusal before.taken (event_of head.message)))
 
 -- ---- the state, by what the heads have told
 
@@ -120,16 +109,10 @@ in_segment (Some effect) = (λ is. cc, λ is. cc)
 
 -- no bytes that were given wait for the contact header
 pub never_contact : (before : Walked) (end : End) → StageFits stage.Contact before end → ⊥
-never_contact before Clean waits = cc
-never_contact before (Cut offset sent content) waits =
-    (in_segment (effect_of before.taken (event_of sent))).1 waits
-never_contact before (Fault offset fault) waits = waits
+never_contact before end waits = grind arith
 
 clean_by : (before : Walked) (end : End) → StageFits stage.Message before end → end ≡ Clean
-clean_by before Clean waits = refl
-clean_by before (Cut offset sent content) waits =
-    absurd ((in_segment (effect_of before.taken (event_of sent))).0 waits)
-clean_by before (Fault offset fault) waits = absurd waits
+clean_by before end waits = grind arith
 
 -- before the head of a message, the reading ends between two messages
 pub at_clean : {telling : Telling} {joiner : Joiner} {reading : Reading}
@@ -155,9 +138,8 @@ waits_with : (manner : Manner) (contact : Option Contact) (entries : List Entry)
     else with_entry (entry offset sent content) (ended Clean) in
     StageFits (stage_by (effect_of (walked_of manner contact entries).taken (event_of sent)) left)
     (walked_of manner contact (entries ++ rest.entries)) rest.end)
-waits_with manner contact entries offset sent content zero = refl
-waits_with manner contact entries offset sent content (suc left) =
-    rw (lt-ltb 0 (suc left) (omega arith), append-nil entries) refl
+waits_with manner contact entries offset sent content left =
+    grind (arith, nat_tests, append-nil {A = Entry})
 
 -- a head has come after the whole messages of a reading
 with_comes : (telling : Telling) (joiner : Joiner) (reading : Reading) (offset : ℕ)
@@ -186,15 +168,13 @@ pub plain_open : (all in_order : Bool) (effect : Option Turn) (closing was : Boo
     → ((last : Bool) → effect ≡ Some (turn.Continue last) → was ≡ true)
     → (all || not (in_order && (not (is_beginning effect) && not closing))) ≡ false
     → was ≡ open_with effect closing was
-plain_open false true (Some (turn.Continue last)) false was continues is = continues last refl
-plain_open all in_order effect closing was continues is = cc
+plain_open all in_order effect closing was continues is = grind arith
 
 pub open_if : (told : Bool) (head : Head) (was : Bool)
     → (told ≡ false → was ≡ open_with head.turn (closes head) was)
     → fold open_after_event was (if told then MessageHead head ∷ [] else [])
     ≡ open_with head.turn (closes head) was
-open_if true head was same = refl
-open_if false head was same = same refl
+open_if told head was same = grind arith
 
 module _ (was : Bool) (taken : List Message) where
   -- the same transfers are open at the stage that comes next
@@ -203,27 +183,14 @@ module _ (was : Bool) (taken : List Message) where
       → (effect ≡ Some turn.Other → size ≡ 0)
       → open_with effect (is_last effect && (size == 0)) was
       ≡ is_open_at (stage_by effect size) taken
-  open_stage effect zero after other =
-      ap (λ b. open_with effect (is_last effect && b) was) (eq-eqb 0 0 refl)
-      ∙ ap (λ b. open_with effect b was) (and-true (is_last effect)) ∙ sym after
-  open_stage None (suc size) after other = sym after
-  open_stage (Some turn.Other) (suc size) after other = absurd (omega (arith, other refl))
-  open_stage effect (suc size) after other =
-      ap not (and_right (is_last effect) (suc size == 0)
-      (ne_eqb (suc size) 0 (λ same. absurd (omega arith))))
+  open_stage effect size after other = grind (arith, nat_tests)
 
 abbrev whole_events : Bool → List WalkEvent
 whole_events test = if test then Whole ∷ [] else []
 
 -- nothing of its data has come
 no_content : (effect : Option Turn) (size : ℕ) → content_events effect size [] ≡ []
-no_content (Some turn.Other) size = refl
-no_content None size = refl
-no_content (Some effect) size =
-    ap whole_events (and_right (is_last (Some effect)) _ (not_both size))
-  where
-    not_both : (n : ℕ) → (not (n == 0) && (0 == n)) ≡ false
-    not_both n = grind (arith, nat_tests)
+no_content effect size = grind (arith, nat_tests)
 
 module _ (manner : Manner) (was : Walked) (old new : Joiner) {events : List WalkEvent}
     (has : HasEvents events stage.Message old was) (head : Entry)
@@ -339,8 +306,7 @@ module _ (content bytes : List ℕ) (left size : ℕ)
 
 whole_open : (test was : Bool) → was ≡ true
     → fold open_after_event was (whole_events test) ≡ not test
-whole_open true was is = refl
-whole_open false was is = is
+whole_open test was is = grind arith
 
 more_open : (effect : Option Turn) (left : ℕ) (bytes : List ℕ) (was first : Bool)
     (taken : List Message) → was ≡ is_open_at (stage_in effect) taken
@@ -395,8 +361,7 @@ data_has manner before joiner {events} offset sent content bytes left size some 
 -- segments at the same stage are at the same stage later
 later_is : (effect other : Option Turn) (left : ℕ) → stage_in effect ≡ stage_in other
     → stage_by effect left ≡ stage_by other left
-later_is effect other zero is = refl
-later_is effect other (suc left) is = is
+later_is effect other left is = grind arith
 
 module _ (telling : Telling) (effect : Option Turn) {joiner : Joiner} {reading after : Reading}
     {events : List WalkEvent} (at : TellsEvents telling (stage_in effect) joiner reading events)
@@ -431,15 +396,13 @@ module _ (telling : Telling) (effect : Option Turn) {joiner : Joiner} {reading a
 
 pub stage_some : (effect : Option Turn) (left : ℕ) → 0 < left
     → stage_by effect left ≡ stage_in effect
-stage_some effect zero some = absurd (omega arith)
-stage_some effect (suc left) some = refl
+stage_some effect left some = grind (arith, nat_tests)
 
 -- ---- messages that lie whole in the window
 
 quiet_event : (sent : Message) → is_quiet sent ≡ true
     → (event_of sent ≡ event.Other) × (data_length sent ≡ 0)
-quiet_event (message.Segment head) is = absurd (cc)
-quiet_event sent is = (cc, refl)
+quiet_event sent is = grind arith
 
 module _ (telling : Telling) (unwanted : telling.manner.all_heads ≡ false) (joiner : Joiner)
     {events : List WalkEvent} where

@@ -1,14 +1,13 @@
 -- The heads of a reading that goes on, and what a message or an event does to the open transfer.
-use Rattle.std.proofs.Common.{◌≡◌, ℕ, ◌+◌, Bool, true, false, not, ◌&&◌, ◌==◌, nat_lt, is_some, List, [], ◌∷◌, ◌++◌, length, Option, Some, None, if◌then◌else◌, refl, ap, ◌∙◌, append-nil, arith}
+use Rattle.std.proofs.Common.{◌≡◌, ℕ, ◌+◌, Bool, true, false, ◌==◌, nat_lt, is_some, List, [], ◌∷◌, ◌++◌, length, Option, Some, None, if◌then◌else◌, refl, ap, ◌∙◌, append-nil, arith}
 use Rattle.std.specs.List.{fold}
 use Rattle.std.proofs.lemmas.{Bool.Decides.nat_tests, Grind.fold-append}
 use Rattle.std.proofs.lemmas.List.Sums.{sum_by-cons, sum_by-append}
 use Rattle.link_wire.specs.{Codes.{is_start, is_end}, Message.data_length, Session.joined}
-use Rattle.link_wire.specs.Stream.{Entry, Clean, Cut, Stream, ended, with_entry, Reading, cut_heads, heads_of}
+use Rattle.link_wire.specs.Stream.{Entry, Clean, Cut, ended, with_entry, Reading, cut_heads, heads_of}
 use Rattle.link_wire.specs.declared.message.Message.{Message}
-use Rattle.link_wire.specs.declared.message.Message.TheVariants as message
 use Rattle.link_transfer.specs.Event.{event_of}
-use Rattle.link_transfer.specs.Order.{is_segment, is_stray, is_stray_by, effect_of, effect_by, turn_of, turn_by, open_of, with_taken, appended_unless}
+use Rattle.link_transfer.specs.Order.{is_segment, is_stray, effect_of, effect_by, turn_of, turn_by, open_of, with_taken, appended_unless}
 use Rattle.link_transfer.specs.declared.event.Event.{Event}
 use Rattle.link_transfer.specs.declared.event.Event.TheVariants as event
 use Rattle.link_transfer.specs.declared.joiner.Turn.{Turn}
@@ -31,20 +30,10 @@ with_head reading offset sent content left =
     then ended (Cut offset sent content)
     else with_entry (entry offset sent content) (ended Clean))
 
-one_head_by : (test : Bool) (offset : ℕ) (sent : Message) (content : List ℕ) (entries : List Entry)
-    → (let rest : Stream = if test then ended (Cut offset sent content)
-    else with_entry (entry offset sent content) (ended Clean) in
-    (entries ++ rest.entries) ++ cut_heads rest.end) ≡ entries ++ entry offset sent content ∷ []
-one_head_by true offset sent content entries =
-    ap (λ es. es ++ entry offset sent content ∷ []) (append-nil entries)
-one_head_by false offset sent content entries =
-    append-nil (entries ++ entry offset sent content ∷ [])
-
 pub heads_with : (reading : Reading) (offset : ℕ) (sent : Message) (content : List ℕ) (left : ℕ)
     → heads_of (with_head reading offset sent content left)
     ≡ reading.entries ++ entry offset sent content ∷ []
-heads_with reading offset sent content left =
-    one_head_by (nat_lt 0 left) offset sent content reading.entries
+heads_with reading offset sent content left = grind (arith, append-nil {A = Entry})
 
 -- a segment is whole exactly if none of its data is left
 pub is_whole : (content left size : ℕ) → size ≡ content + left → (content == size) ≡ (left == 0)
@@ -52,49 +41,24 @@ is_whole content left size is = grind (arith, nat_tests)
 
 -- ---- the effect of a message
 
-not_other : (stray starts ends : Bool) (transfer : Option ℕ)
-    → effect_by stray (if starts then turn.Begin transfer ends else turn.Continue ends)
-    ≡ Some turn.Other → ⊥
-not_other false true ends transfer is = absurd (cc)
-not_other stray starts ends transfer is = absurd (cc)
-
 -- a message that does nothing to the transfers has no data
 pub other_has_none : (before : List Message) (sent : Message)
     → effect_of before (event_of sent) ≡ Some turn.Other → data_length sent ≡ 0
 unfolding effect_of turn_of
-other_has_none before (message.Segment head) is =
-    absurd (not_other (is_stray before (event.Segment head.flags head.id)) (is_start head.flags)
-    (is_end head.flags) (open_of before) is)
-other_has_none before sent is = refl
-
-none_continues : (starts ends last : Bool)
-    → effect_by (not starts && true) (if starts then turn.Begin None ends else turn.Continue ends)
-    ≡ Some (turn.Continue last) → ⊥
-none_continues true ends last is = absurd (cc)
-none_continues false ends last is = absurd (cc)
-
-continues_by : (transfer : Option ℕ) (happened : Event) (last : Bool)
-    → effect_by (is_stray_by transfer happened) (turn_by transfer happened)
-    ≡ Some (turn.Continue last) → is_some transfer ≡ true
-continues_by (Some id) happened last is = refl
-continues_by None (event.Segment flags id) last is =
-    absurd (none_continues (is_start flags) (is_end flags) last is)
-continues_by None happened last is = absurd (cc)
+other_has_none before sent is = grind arith
 
 -- a segment that continues a transfer finds one open
 pub continues_some : (before : List Message) (happened : Event) (last : Bool)
     → effect_of before happened ≡ Some (turn.Continue last) → is_some (open_of before) ≡ true
 unfolding effect_of turn_of is_stray
-continues_some before happened last is = continues_by (open_of before) happened last is
+continues_some before happened last is = grind arith
 
 open_segment : (starts ends : Bool) (transfer : Option ℕ) (id : ℕ) (was : Bool)
     → is_some (if ends then None else Some id)
     ≡ (let done : Option Turn =
     Some (if starts then turn.Begin transfer ends else turn.Continue ends) in
     open_with done (is_last done) was)
-open_segment true true transfer id was = refl
-open_segment false true transfer id was = refl
-open_segment starts ends transfer id was = refl
+open_segment starts ends transfer id was = grind arith
 
 open_by : (stray : Bool) (before : List Message) (sent : Message) (happened : Event)
     → event_of sent ≡ happened

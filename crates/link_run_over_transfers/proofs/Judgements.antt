@@ -1,5 +1,5 @@
 -- How a message is judged, by the judgement of its event.
-use Rattle.std.proofs.Common.{◌≡◌, List, [], ◌∷◌, ◌++◌, Option, Some, None, Ok, Err, refl}
+use Rattle.std.proofs.Common.{arith, ◌≡◌, List, [], ◌∷◌, ◌++◌, Option, Some, None, Ok, Err, refl}
 use Rattle.link_wire.specs.declared.message.Message.{Message}
 use Rattle.link_transfer.specs.Event.{event_of}
 use Rattle.link_transfer.specs.Order.{has_sess_init, has_sess_term, is_stray, effect_of, open_of, refusal, turn_of, with_taken, judged_message, judged_message_by}
@@ -9,13 +9,7 @@ use Rattle.link_transfer.proofs.Joining.{not_stray}
 
 accepted_by : (refused : Option OrderFault) (done turn : Turn)
     → judged_message_by refused done ≡ Ok turn → (refused ≡ None) × (done ≡ turn)
-accepted_by (Some fault) done turn is = absurd (cc)
-accepted_by None done turn is = (refl, cc)
-
-refused_by : (refused : Option OrderFault) (done : Turn) (fault : OrderFault)
-    → judged_message_by refused done ≡ Err fault → refused ≡ Some fault
-refused_by (Some fault) done other is = cc
-refused_by None done other is = absurd (cc)
+accepted_by refused done turn is = grind arith
 
 -- an accepted message is not stray, so it has its effect
 pub accepted : (before : List Message) (sent : Message) (turn : Turn)
@@ -34,5 +28,4 @@ accepted before sent turn is =
 pub refused_for : (before : List Message) (happened : Event) (fault : OrderFault)
     → judged_message before happened ≡ Err fault → refusal before happened ≡ Some fault
 unfolding judged_message
-refused_for before happened fault is =
-    refused_by (refusal before happened) (turn_of before happened) fault is
+refused_for before happened fault is = grind arith

@@ -1,12 +1,12 @@
 -- What holds after a step of a walk, or after inner segments, by what its consumer has written.
-use Rattle.std.proofs.Common.{◌≡◌, ℕ, zero, suc, ◌+◌, ◌^◌, ◌<◌, ◌≤◌, inl, inr, Bool, true, false, ◌||◌, ◌&&◌, ◌==◌, not, nat_lt, List, [], ◌∷◌, ◌++◌, length, Some, None, Result, Ok, Err, Option, if◌then◌else◌, refl, ap, sym, ◌∙◌, append-nil, append_assoc, length-append, arith}
+use Rattle.std.proofs.Common.{◌≡◌, ℕ, zero, suc, ◌+◌, ◌^◌, ◌<◌, ◌≤◌, inl, inr, Bool, true, false, ◌||◌, ◌&&◌, ◌==◌, not, List, [], ◌∷◌, ◌++◌, length, Some, None, Result, Ok, Err, Option, if◌then◌else◌, refl, ap, sym, ◌∙◌, append-nil, append_assoc, length-append, arith}
 use Rattle.std.proofs.KnownBytes.{Consumes-trans}
 use Rattle.link_io.proofs.Sources.{Takes-none, Takes-then}
 use Rattle.link_wire.specs.{Device.Input, Inner.{PassedInner, inner_segment}, Limits.longest_head}
 use Rattle.link_wire.specs.Message.{data_length}
 use Rattle.link_wire.specs.Session.{source_of, left_of, IsSessionAt, GivenContact, ReachedEnd, GivenMessage, LoadedData, PassedBytes, with_message}
 use Rattle.link_wire.specs.Source.{Takes, ahead, given_by}
-use Rattle.link_wire.specs.Stream.{Entry, Clean, Cut, Stream, ended, with_entry, Reading, reading_of, cut_heads}
+use Rattle.link_wire.specs.Stream.{Reading, reading_of, cut_heads}
 use Rattle.link_wire.specs.{Whole.PassedQuietMessages, declared.IoFault.IoFault}
 use Rattle.link_wire.specs.declared.message.{Contact.Contact, Message.Message}
 use Rattle.link_wire.specs.declared.session.Session.{Session}
@@ -73,8 +73,7 @@ module _ {R C : Type 0} {look : R → Input} {telling : Telling} {now : Stage} {
 one_size : (test : Bool) (event : WalkEvent) → data_size_of event ≡ 0
     → data_size (if test then event ∷ [] else []) ≡ 0
 unfolding data_size
-one_size true event none = rw none refl
-one_size false event none = refl
+one_size test event none = grind arith
 
 told_size : (now : Stage) (left : ℕ) (bytes : List ℕ)
     → data_size (told_in now left bytes) ≤ length bytes
@@ -267,17 +266,9 @@ module _ {R W E C : Type 0} {look : Looks R W E} {start : Devices R W E} {tellin
       }
 
 -- a head has no data yet
-none_in : (offset : ℕ) (sent : Message) (test : Bool) (entries : List Entry)
-    → (let rest : Stream = if test then ended (Cut offset sent [])
-    else with_entry (record { offset = offset; message = sent; content = [] }) (ended Clean) in
-    HasNoDataYet stage.Message rest.end)
-none_in offset sent true entries = refl
-none_in offset sent false entries = tt
-
 pub waits_after : (offset : ℕ) (sent : Message) (reading after : Reading)
     → after ≡ with_message offset sent reading → HasNoDataYet stage.Message after.end
-waits_after offset sent reading after is =
-    rw is (none_in offset sent (nat_lt 0 (data_length sent)) reading.entries)
+waits_after offset sent reading after is = rw is (grind arith)
 
 -- ---- the end
 

@@ -20,9 +20,7 @@ use Rattle.link_run_over_transfers.proofs.Comes.{never_contact}
 
 -- each step may be given a byte
 pub most_some : (piece : ℕ) (now : Stage) → 0 < piece → 0 < most_by piece now
-most_some piece stage.Contact some = omega arith
-most_some piece stage.Message some = omega arith
-most_some piece now some = some
+most_some piece now some = grind arith
 
 -- less than a window is left after bytes were given, or none
 few_later : {R : Type 0} (look : R → Seen) (mid new : Source R) (given : List ℕ)

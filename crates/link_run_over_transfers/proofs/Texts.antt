@@ -1,19 +1,18 @@
 -- What a tool over transfers makes of a reading: where it stops, and that a fault at which it stops
 -- stays.
-use Rattle.std.proofs.Common.{◌≡◌, ℕ, ◌<◌, Bool, true, false, List, [], ◌∷◌, ◌++◌, Option, Some, None, Result, Ok, Err, refl, ap, sym, ◌∙◌, ⊎_elim, append_assoc}
+use Rattle.std.proofs.Common.{arith, ◌≡◌, ℕ, ◌<◌, true, false, List, [], ◌∷◌, ◌++◌, Option, Some, None, refl, ap, sym, ◌∙◌, ⊎_elim, append_assoc}
 use Rattle.std.specs.List.{fold}
 use Rattle.std.proofs.lemmas.List.Folds.{fold_stays}
-use Rattle.link_wire.specs.{Device.Input, Message.contact_at, Session.{IsLeft, left_of}}
-use Rattle.link_wire.specs.Stream.{Entry, End, Clean, Cut, Fault, Stream, Reading, reading_by, reading_of, cut_heads}
-use Rattle.link_wire.specs.declared.{fault.WireFault.WireFault, message.Contact.Contact}
+use Rattle.link_wire.specs.{Device.Input, Session.{IsLeft, left_of}}
+use Rattle.link_wire.specs.Stream.{Entry, End, Clean, Cut, Fault, Stream, Reading, reading_of, cut_heads}
 use Rattle.link_wire.specs.declared.session.Session.{Session}
 use Rattle.link_wire.proofs.Contacts.{reading-none}
-use Rattle.link_transfer.specs.{Event.event_of, Order.refusal, declared.fault.OrderFault.OrderFault}
+use Rattle.link_transfer.specs.{declared.fault.OrderFault.OrderFault}
 use Rattle.link_transfer.specs.declared.joiner.Joiner.{Joiner}
 use Rattle.link_run.specs.Made.{Made, IsLasting, shows_fault, stop_of}
 use Rattle.link_run.proofs.Continued.{LastGoesOn, ReadingGoesOn, reading_on}
 use Rattle.link_run.proofs.Sessions.{IsUncut, SameTexts}
-use Rattle.link_run_over_transfers.specs.Walk.{WalkEvent, Walked, with_judged, with_entry_unless, with_next, none_walked, walked_of, walked, Telling, stop_by, told_by, told_of}
+use Rattle.link_run_over_transfers.specs.Walk.{WalkEvent, Walked, with_entry_unless, with_next, none_walked, walked_of, walked, Telling, stop_by, told_by, told_of}
 use Rattle.link_run_over_transfers.specs.declared.consumer.Manner.{Manner}
 use Rattle.link_run_over_transfers.specs.{WalkRun.{StageFits, IsWalkAt, walked_before}, declared.walk.Stage.Stage}
 use Rattle.link_run_over_transfers.specs.declared.walk.Stage.TheVariants as stage
@@ -40,8 +39,7 @@ pub stop_is : (telling : Telling) (reading : Reading)
 stop_is telling reading none = ap (λ refused. stop_by refused reading.end) none
 
 cut_heads-nil : (end : End) → IsUncut end → cut_heads end ≡ []
-cut_heads-nil (Cut offset message content) is = absurd is
-cut_heads-nil end is = refl
+cut_heads-nil end is = grind arith
 
 -- bytes that complete no head add no text
 pub same_texts : (telling : Telling) (first : Reading)
@@ -57,8 +55,7 @@ same_texts telling first unrefused none = λ other same is.
 
 waiting_unshown : (now : Stage) (before : Walked) (end : End) → StageFits now before end
     → shows_fault (stop_of end) ≡ false
-waiting_unshown now before (Fault offset fault) waits = absurd waits
-waiting_unshown now before end waits = refl
+waiting_unshown now before end waits = grind arith
 
 -- between two messages, and inside data, no fault is shown
 pub at_unshown : (telling : Telling) (now : Stage) (bytes : List ℕ)
@@ -123,20 +120,10 @@ module _ (manner : Manner) where
     abbrev grown : Entry
     grown = entry head.offset head.message content
 
-    judged_same : (goes : Bool) → manner.goes_on ≡ goes → (refused : Option OrderFault)
-        → (with_judged refused manner was head).refused ≡ Some stop
-        → with_judged refused manner was grown ≡ with_judged refused manner was head
-    judged_same goes goes_is None is = absurd (cc)
-    judged_same true goes_is (Some fault) is =
-        let bad : ◌≡◌ {A = Option (ℕ × OrderFault)} None (Some stop) = rw goes_is at is in absurd (cc)
-    judged_same false goes_is (Some fault) is = rw goes_is refl
-
     unless_same : (refused : Option (ℕ × OrderFault))
         → (with_entry_unless refused manner was head).refused ≡ Some stop
         → with_entry_unless refused manner was grown ≡ with_entry_unless refused manner was head
-    unless_same (Some first) is = refl
-    unless_same None is =
-        judged_same manner.goes_on refl (refusal was.taken (event_of head.message)) is
+    unless_same refused is = grind arith
 
   -- the run ends at the last head, whatever comes of its data and after it
   last_same : (last more : List Entry) (was : Walked) (stop : ℕ × OrderFault)
@@ -183,15 +170,10 @@ module _ (manner : Manner) where
       (none_walked before.contact) stop on.messages.follows is)
 
 -- without a contact header no message is read
-unread_by : (read : Result (Contact × List ℕ) WireFault) → (reading_by read).contact ≡ None
-    → cut_heads (reading_by read).end ≡ []
-unread_by (Ok (contact, rest)) is = absurd (cc)
-unread_by (Err fault) is = refl
-
 pub unread : (bytes : List ℕ) → (reading_of bytes).contact ≡ None
     → cut_heads (reading_of bytes).end ≡ []
 unfolding reading_of
-unread bytes is = unread_by (contact_at bytes) is
+unread bytes is = grind arith
 
 module _ (telling : Telling) (bytes more : List ℕ) where
   -- a run that has ended at a head makes the same of all longer inputs

@@ -2,4 +2,4 @@ pub mod Sending
 pub mod Outcomes
 mod MoreOutcomes
 mod Packs
-mod Moved
+pub mod Moved

@@ -1,17 +1,17 @@
 -- What `pack_more` makes of an input, and what it has written once bytes have come.
-use Rattle.std.proofs.Common.{◌≡◌, ℕ, zero, suc, ◌+◌, ◌<◌, ◌%◌, ◌^◌, Bool, true, false, List, [], ◌∷◌, ◌++◌, length, Option, Some, None, refl, ap, ap₂, sym, ◌∙◌, append-nil, append_assoc, arith}
+use Rattle.std.proofs.Common.{◌≡◌, ℕ, zero, suc, ◌+◌, ◌<◌, ◌%◌, ◌^◌, Bool, true, false, List, [], ◌∷◌, ◌++◌, length, Option, Some, None, refl, ap, sym, ◌∙◌, append-nil, append_assoc, arith}
 use Rattle.std.proofs.Math.Path.{fun_ext}
 use Rattle.std.proofs.lemmas.Nat.{field_of}
 use Rattle.std.specs.Int.{byte_at}
 use Rattle.link_wire.specs.Spelled.{be}
 use Rattle.link_wire.specs.{Codes.{xfer_segment, is_start}, Spelling.{list_bytes, segment_head_bytes}}
 use Rattle.link_transfer.specs.Chunks.{chunk_at}
-use Rattle.link_run.specs.Made.{StreamStop, shows_fault, so_far_by, tool_of}
-use Rattle.link_run.specs.Run.{Texts, Outcome, Tool, ◌then◌, no_texts}
+use Rattle.link_run.specs.Made.{tool_of}
+use Rattle.link_run.specs.Run.{◌then◌, no_texts}
 use Rattle.link_run.specs.Writers.{on_output}
 use Rattle.link_run.proofs.Runs.{texts_as}
-use Rattle.link_run_over_bundle_files.specs.Bundles.{Packed, Rest, Divided, divided}
-use Rattle.link_run_over_bundle_files.specs.Telling.{BundleTelling, stop_by, told_by, told_of}
+use Rattle.link_run_over_bundle_files.specs.Bundles.{Packed, Rest, Divided}
+use Rattle.link_run_over_bundle_files.specs.Telling.{BundleTelling, told_by, told_of}
 use Rattle.link_run_over_bundle_files.proofs.{Outcomes.whole_of}
 use Rattle.link_tool_pack.specs.Segments.{flags_of, Sending, cut_at, segments_from, segments_of}
 use Rattle.link_tool_pack.specs.Packing.{segment_size, sending, transfer_bytes, report_line}
@@ -135,33 +135,15 @@ module _ (options : MoreOptions) where
   abbrev telling : BundleTelling
   telling = more_telling options
 
-  same_texts : (bundles : List Packed) (rest : Option Rest)
-      → (told_by telling (record { bundles = bundles; rest = rest })).texts
-      ≡ (more_by options (record { bundles = bundles; rest = rest })).texts
-  same_texts bundles None =
-      rw (segments_none (next_id bundles) (segment_size options.pack) options.pack.announce) refl
-  same_texts bundles (Some rest) = refl
-
-  same_outcome : (bundles : List Packed) (rest : Option Rest)
-      → whole_of (told_by telling (record { bundles = bundles; rest = rest }))
-      ≡ whole_of (more_by options (record { bundles = bundles; rest = rest }))
-  same_outcome bundles None =
-      rw (segments_none (next_id bundles) (segment_size options.pack) options.pack.announce) refl
-  same_outcome bundles (Some rest) = refl
-
-  abbrev input : List ℕ → Divided
-  input bytes = divided options.pack.peer_transfer bytes
-
-  abbrev stop : List ℕ → Option StreamStop
-  stop bytes = stop_by (length (input bytes).bundles) (input bytes).rest
-
-  abbrev as_tool : (List ℕ → Outcome) → (List ℕ → Texts) → Tool
-  as_tool whole so_far =
-      record { whole = whole; so_far = so_far; shows = λ bytes. shows_fault (stop bytes) }
+  same_by : (bundles : List Packed) (rest : Option Rest)
+      → (let input : Divided = record { bundles = bundles; rest = rest } in
+      ((told_by telling input).texts ≡ (more_by options input).texts)
+      × (whole_of (told_by telling input) ≡ whole_of (more_by options input)))
+  same_by bundles None =
+      rw (segments_none (next_id bundles) (segment_size options.pack) options.pack.announce)
+      (refl, refl)
+  same_by bundles (Some rest) = (refl, refl)
 
   pub same_tool : tool_of (told_of telling) ≡ more_tool options
   unfolding told_of more_of
-  same_tool =
-      ap₂ (λ (whole : List ℕ → Outcome) (so_far : List ℕ → Texts). as_tool whole so_far)
-      (fun_ext (λ bytes. same_outcome (input bytes).bundles (input bytes).rest))
-      (fun_ext (λ bytes. ap (so_far_by (stop bytes)) (same_texts (input bytes).bundles (input bytes).rest)))
+  same_tool = grind (arith, fun_ext, same_by)

@@ -1,22 +1,14 @@
 -- With another first ID, the segments of `pack_more` are read as the same except for their IDs.
 use Rattle.std.specs.Prelude.{IfSome}
-use Rattle.std.proofs.Common.{◌≡◌, ℕ, zero, suc, ◌+◌, ◌*◌, ◌<◌, ◌≤◌, ◌^◌, Bool, true, false, List, [], ◌∷◌, ◌++◌, length, drop, map, Option, Some, None, Ok, nat_lt, if◌then◌else◌, refl, ap, sym, ◌∙◌, append_assoc, append-nil, length-append, zero-add, add-zero, arith}
-use Rattle.std.proofs.lemmas.Bool.{le-ltb}
+use Rattle.std.proofs.Common.{◌≡◌, ℕ, zero, suc, ◌+◌, ◌*◌, ◌<◌, ◌≤◌, ◌^◌, Bool, true, false, List, [], ◌∷◌, ◌++◌, length, drop, map, Option, Some, None, if◌then◌else◌, refl, append_assoc, append-nil, zero-add, add-zero, arith}
 use Rattle.std.proofs.lemmas.Bool.Decides.{nat_tests}
 use Rattle.std.proofs.lemmas.List.{length-take}
-use Rattle.std.proofs.Math.Seq.{take-append_seam, drop-append_seam}
-use Rattle.byteorder.specs.Endian.{big_number}
-use Rattle.byteorder.specs.Numbers.{big_number-reads_back, length-bytes_high_first}
-use Rattle.link_wire.specs.Codes.{is_start}
-use Rattle.link_wire.specs.Message.{total_at, item_head_at, items_at, items_of, list_at, segment_items_at, segment_at, fields_at, message_at}
-use Rattle.link_wire.specs.Part.{bytes_at, number_at}
-use Rattle.link_wire.specs.Spelled.{be}
-use Rattle.link_wire.specs.Spelling.{total_bytes, announce_bytes, list_bytes, segment_head_bytes, announced, segment_with}
+use Rattle.link_wire.specs.Spelled.{HeadSpelled}
+use Rattle.link_wire.specs.Spelling.{segment_head_bytes, segment_with}
 use Rattle.link_wire.specs.Stream.{Entry, Clean, with_entry, stream_at}
-use Rattle.link_wire.specs.declared.message.{ListOf.TheVariants.Transfer}
 use Rattle.link_wire.specs.declared.message.Message.{Message}
-use Rattle.link_wire.proofs.FieldReads.{bytes_at-there}
-use Rattle.link_wire.proofs.Streams.{stream_at-nil, stream_at-head}
+use Rattle.link_wire.proofs.{Sound.only_message, Spellings.segment_spelled}
+use Rattle.link_wire.proofs.{Streams.stream_at-nil, Wholes.one_message}
 use Rattle.link_transfer.specs.{Chunks.chunk_at, Cutting.{Cutting, announcement, due}}
 use Rattle.link_transfer.specs.declared.cut.Cut.{Cut}
 use Rattle.link_run_over_bundle_files.specs.Bundles.{Packed, Rest, divided}
@@ -26,84 +18,15 @@ use Rattle.link_tool_pack.specs.Packing.{sending, transfer_bytes, rest_segments}
 use Rattle.link_tool_pack.specs.More.{more_of}
 use Rattle.link_tool_pack.specs.MoreLaws.{moved_entry, IsMoved}
 
--- ---- the head of a segment is read as it was written
+-- ---- the head of a segment
 
-number_there : (k n : ℕ) (more : List ℕ) → n < 256 ^ k
-    → number_at k (be k n ++ more) ≡ Ok (n, more)
-unfolding number_at
-number_there k n more fits =
-    let there : bytes_at k (be k n ++ more) ≡ Ok (be k n, more) =
-    ap (λ m. bytes_at m (be k n ++ more)) (sym (length-bytes_high_first k n))
-    ∙ bytes_at-there (be k n) more in
-    let back : big_number k (be k n) ≡ n =
-    ap (big_number k) (sym (append-nil (be k n))) ∙ big_number-reads_back k n [] fits in
-    rw (there, back) refl
-
--- the extension list of a first segment
-announce_there : (announce : Option ℕ) (more : List ℕ) → IfSome announce (λ total. total < 2 ^ 64)
-    → list_at Transfer (announce_bytes announce ++ more)
-    ≡ Ok (record { items = announced announce }, more)
-unfolding list_at items_of items_at item_head_at total_at announce_bytes total_bytes
-announce_there None more fits = rw (number_there 4 0 more (omega arith)) refl
-announce_there (Some total) more fits =
-    let value = be 8 total ++ more in
-    let size = be 2 8 ++ value in
-    let kind = be 2 1 ++ size in
-    let item = be 1 0 ++ kind in
-    rw (
-      number_there 4 13 item (omega arith),
-      number_there 1 0 kind (omega arith),
-      number_there 2 1 size (omega arith),
-      number_there 2 8 value (omega arith),
-      number_there 8 total more fits,
-    ) refl
-
--- only the first segment announces a length
-abbrev announce_if : (first : Bool) → Option ℕ → Option ℕ
-announce_if first announce = if first then announce else None
-
-list_there : (first last : Bool) (announce : Option ℕ) (more : List ℕ)
-    → IfSome announce (λ total. total < 2 ^ 64)
-    → segment_items_at (flags_of first last)
-    (list_bytes (is_start (flags_of first last)) (announce_if first announce) ++ more)
-    ≡ Ok (record { items = announced (announce_if first announce) }, more)
-unfolding segment_items_at
-list_there true true announce more fits = announce_there announce more fits
-list_there true false announce more fits = announce_there announce more fits
-list_there false true announce more fits = refl
-list_there false false announce more fits = refl
-
--- fields one after another, with more bytes after them
-fields : (a b c d e more : List ℕ)
-    → a ++ b ++ c ++ d ++ e ++ more ≡ a ++ (b ++ (c ++ (d ++ (e ++ more))))
-fields a b c d e more = simp append_assoc
-
-head_there : (first last : Bool) (id size : ℕ) (announce : Option ℕ) (more : List ℕ)
+-- it announces a length only with the first chunk
+pub head_spelled : (first last : Bool) (id size : ℕ) (announce : Option ℕ)
     → id < 2 ^ 64 → size < 2 ^ 64 → IfSome announce (λ total. total < 2 ^ 64)
-    → message_at (segment_head_bytes (flags_of first last) id size (announce_if first announce) ++ more)
-    ≡ Ok (segment_with (flags_of first last) id size (announce_if first announce), more)
-unfolding message_at fields_at segment_at segment_head_bytes
-head_there first last id size announce more id_fits size_fits fits =
-    let flags = flags_of first last in
-    let list = list_bytes (is_start flags) (announce_if first announce) in
-    let three = be 8 size ++ more in
-    let two = list ++ three in
-    let one = be 8 id ++ two in
-    rw (
-      fields (be 1 1) (be 1 flags) (be 8 id) list (be 8 size) more,
-      number_there 1 1 (be 1 flags ++ one) (omega arith),
-      number_there 1 flags one (grind arith),
-      number_there 8 id two id_fits,
-      list_there first last announce three fits,
-      number_there 8 size more size_fits,
-    ) refl
-
--- its length is the same under any ID
-head_size : (flags id size : ℕ) (announce : Option ℕ)
-    → length (segment_head_bytes flags id size announce)
-    ≡ length (segment_head_bytes flags 0 size announce)
-unfolding segment_head_bytes
-head_size flags id size announce = refl
+    → (let told = if first then announce else None in
+    HeadSpelled (segment_with (flags_of first last) id size told)
+    (segment_head_bytes (flags_of first last) id size told))
+head_spelled first last id size announce id_fits size_fits fits = grind (arith, segment_spelled)
 
 -- ---- a segment
 
@@ -112,7 +35,8 @@ record SendingFits (sending : Sending) : Type 0 where
   pub small : sending.segment ≤ 65536
   pub hold : sending.hold ≤ 1048576
 
-announcement_fits : (so_far : Cutting) → so_far.hold ≤ 1048576
+-- a length that is announced fits in its field
+pub announcement_fits : (so_far : Cutting) → so_far.hold ≤ 1048576
     → IfSome (announcement so_far) (λ total. total < 2 ^ 64)
 unfolding announcement
 announcement_fits so_far small = grind (arith, nat_tests)
@@ -141,21 +65,13 @@ module _ (sending : Sending) (fits : SendingFits sending) (k : ℕ) where
   segment_there : (id offset : ℕ) (more : List ℕ) → id < 2 ^ 64
       → stream_at offset (segment_bytes id cut chunk ++ more)
       ≡ with_entry (entry_at id offset) (stream_at (offset + size) more)
+  unfolding segment_head_bytes
   segment_there id offset more id_fits =
       let head = segment_head_bytes (flags_of cut.first cut.last) id (length chunk) cut.announce in
-      let reads : (tail : List ℕ) → message_at (head ++ tail) ≡ Ok (message_of id, tail) = λ tail.
-      head_there cut.first cut.last id (length chunk) (announcement (cutting_of sending)) tail
+      let spelled = head_spelled cut.first cut.last id (length chunk) (announcement (cutting_of sending))
       id_fits small_chunk (announcement_fits (cutting_of sending) fits.hold) in
-      let enough : nat_lt (length (chunk ++ more)) (length chunk) ≡ false =
-      le-ltb (length (chunk ++ more)) (length chunk) (omega (arith, length-append chunk more)) in
-      let after : offset + length head + length chunk ≡ offset + size = omega (
-        arith,
-        head_size (flags_of cut.first cut.last) id (length chunk) cut.announce,
-        length-append (segment_head_bytes (flags_of cut.first cut.last) 0 (length chunk) cut.announce) chunk,
-      ) in
-      ap (stream_at offset) (append_assoc head chunk more)
-      ∙ stream_at-head offset head (message_of id) reads (chunk ++ more)
-      ∙ rw (enough, take-append_seam chunk more, drop-append_seam chunk more, after) refl
+      let reads = (only_message (message_of id)).by head spelled in
+      (one_message offset head chunk (message_of id) reads refl).all more
 
 -- ---- with another first ID
 

@@ -1,11 +1,11 @@
 -- What `pack` makes of an input, and what it has written and keeps once bytes have come.
-use Rattle.std.proofs.Common.{◌≡◌, ℕ, false, List, [], ◌∷◌, ◌++◌, length, Option, Some, None, refl, ap, ap₂, sym, ◌∙◌, append-nil, suc, ◌+◌, ◌<◌, Bool, true, append_assoc, arith, ◌-◌, ◌*◌, ◌/◌, ◌≤◌, max, ◌%◌, min, OnOk, Result, Ok, Err}
+use Rattle.std.proofs.Common.{◌≡◌, ℕ, false, List, [], ◌∷◌, ◌++◌, length, Option, Some, None, refl, ap, sym, ◌∙◌, append-nil, suc, ◌+◌, ◌<◌, Bool, true, append_assoc, arith, ◌-◌, ◌*◌, ◌/◌, ◌≤◌, max, ◌%◌, min, OnOk, Result, Ok, Err}
 use Rattle.std.proofs.Math.Path.{fun_ext}
-use Rattle.link_run.specs.Made.{StreamStop, shows_fault, so_far_by, tool_of}
-use Rattle.link_run.specs.Run.{Texts, Outcome, Tool, ◌then◌}
+use Rattle.link_run.specs.Made.{tool_of}
+use Rattle.link_run.specs.Run.{Texts, ◌then◌}
 use Rattle.link_run.proofs.Runs.{texts_as, part_of_more, output_then}
-use Rattle.link_run_over_bundle_files.specs.Bundles.{Packed, Rest, Divided, divided}
-use Rattle.link_run_over_bundle_files.specs.Telling.{SoFar, BundleTelling, stop_by, told_by, told_of, between, WritesRest, with_run}
+use Rattle.link_run_over_bundle_files.specs.Bundles.{Packed, Rest, Divided}
+use Rattle.link_run_over_bundle_files.specs.Telling.{SoFar, BundleTelling, told_by, told_of, between, WritesRest, with_run}
 use Rattle.link_run_over_bundle_files.proofs.{Outcomes.whole_of, Told.on_ok_by}
 use Rattle.link_tool_pack.specs.Packing.{prelude_bytes, segment_size, sending, transfer_bytes, report_lines, packing_of, packing_by, pack_tool, report_line}
 use Rattle.link_tool_pack.specs.PackRun.{texts_of, pack_telling, Sends}
@@ -66,13 +66,13 @@ module _ (options : PackOptions) where
   pub grown_any : (number : ℕ) (begun run : List ℕ)
       → segments_of number (sending options false begun) ++ due_with number begun run false
       ≡ segments_of number (sending options false (begun ++ run))
-  grown_any number begun [] =
-      rw (
+  grown_any number begun run =
+      grind (
+        arith,
         segments_idle number (segment_size options) options.announce begun,
-        append-nil,
-        append-nil,
-      ) refl
-  grown_any number begun (byte ∷ bytes) = segments_of-append number begun (byte ∷ bytes) false (omega arith)
+        append-nil {A = ℕ},
+        segments_of-append number begun run false,
+      )
 
   -- the same, after the texts of the bundles before it
   prelude_bytes-append : (bundles : List Packed) (segments more all : List ℕ) → segments ++ more ≡ all
@@ -81,46 +81,18 @@ module _ (options : PackOptions) where
   prelude_bytes-append bundles segments more all is =
       rw (append_assoc (prelude_bytes options ++ transfer_bytes options 0 bundles), is) refl
 
-  -- the bundle goes on
-  pub texts_grown : (bundles : List Packed) (begun run : List ℕ)
-      → texts_of options bundles begun
-      then on_output (due_with (length bundles) begun run false)
-      ≡ texts_of options bundles (begun ++ run)
-  texts_grown bundles begun run =
-      texts_as (prelude_bytes-append bundles _ _ _ (grown_any (length bundles) begun run))
-      (append-nil (report_lines options 0 bundles))
-
-  -- the bundle is whole, and no byte of the next one has come
-  pub texts_whole : (bundles : List Packed) (begun run : List ℕ) (bundle : Packed)
-      → bundle.bytes ≡ begun ++ run → 0 < length run
-      → texts_of options bundles begun
-      then (record {
-        output = due_with (length bundles) begun run true;
-        report = report_line options (length bundles) bundle;
-      })
-      ≡ texts_of options (bundles ++ bundle ∷ []) []
-  texts_whole bundles begun run bundle is some =
-      let n = length bundles in
-      let segments = λ (bytes : List ℕ). segments_of n (sending options true bytes) in
-      let all = bundles ++ bundle ∷ [] in
-      texts_as
-      (prelude_bytes-append bundles _ _ _ (segments_of-append n begun run true some ∙ ap segments (sym is))
-      ∙ rw (
-        segments_none (length all) (segment_size options) options.announce,
-        transfers_of_push 0 n bundles bundle (omega arith),
-        append-nil,
-        append_assoc (prelude_bytes options),
-      ) refl)
-      (sym (lines_of_push 0 n bundles bundle (omega arith)))
-
-  -- the same for the bundle with this number
-  pub grown_at : (number : ℕ) (bundles : List Packed) (begun run : List ℕ)
+  -- the bundle with this number goes on
+  pub texts_grown : (number : ℕ) (bundles : List Packed) (begun run : List ℕ)
       → number ≡ length bundles
       → texts_of options bundles begun then on_output (due_with number begun run false)
       ≡ texts_of options bundles (begun ++ run)
-  grown_at number bundles begun run numbered = rw numbered (texts_grown bundles begun run)
+  texts_grown number bundles begun run numbered =
+      rw numbered (texts_as
+      (prelude_bytes-append bundles _ _ _ (grown_any (length bundles) begun run))
+      (append-nil (report_lines options 0 bundles)))
 
-  pub whole_at : (number : ℕ) (bundles : List Packed) (begun run : List ℕ) (bundle : Packed)
+  -- it is whole, and no byte of the next one has come
+  pub texts_whole : (number : ℕ) (bundles : List Packed) (begun run : List ℕ) (bundle : Packed)
       → number ≡ length bundles → bundle.bytes ≡ begun ++ run → 0 < length run
       → texts_of options bundles begun
       then (record {
@@ -128,8 +100,19 @@ module _ (options : PackOptions) where
         report = report_line options number bundle;
       })
       ≡ texts_of options (bundles ++ bundle ∷ []) []
-  whole_at number bundles begun run bundle numbered is some =
-      rw numbered (texts_whole bundles begun run bundle is some)
+  texts_whole number bundles begun run bundle numbered is some =
+      let n = length bundles in
+      let segments = λ (bytes : List ℕ). segments_of n (sending options true bytes) in
+      let all = bundles ++ bundle ∷ [] in
+      rw numbered (texts_as
+      (prelude_bytes-append bundles _ _ _ (segments_of-append n begun run true some ∙ ap segments (sym is))
+      ∙ rw (
+        segments_none (length all) (segment_size options) options.announce,
+        transfers_of_push 0 n bundles bundle (omega arith),
+        append-nil,
+        append_assoc (prelude_bytes options),
+      ) refl)
+      (sym (lines_of_push 0 n bundles bundle (omega arith))))
 
 -- ---- how many bytes the cutter keeps between two steps
 
@@ -255,36 +238,17 @@ module _ (options : PackOptions) where
   abbrev telling : BundleTelling
   telling = pack_telling options
 
-  same_texts : (bundles : List Packed) (rest : Option Rest)
-      → (told_by telling (record { bundles = bundles; rest = rest })).texts
-      ≡ (packing_by options (record { bundles = bundles; rest = rest })).texts
-  same_texts bundles None =
-      rw (segments_none (length bundles) (segment_size options) options.announce) refl
-  same_texts bundles (Some rest) = refl
-
-  same_outcome : (bundles : List Packed) (rest : Option Rest)
-      → whole_of (told_by telling (record { bundles = bundles; rest = rest }))
-      ≡ whole_of (packing_by options (record { bundles = bundles; rest = rest }))
-  same_outcome bundles None =
+  same_by : (bundles : List Packed) (rest : Option Rest)
+      → (let input : Divided = record { bundles = bundles; rest = rest } in
+      ((told_by telling input).texts ≡ (packing_by options input).texts)
+      × (whole_of (told_by telling input) ≡ whole_of (packing_by options input)))
+  same_by bundles None =
       rw (
         segments_none (length bundles) (segment_size options) options.announce,
         append-nil (report_lines options 0 bundles),
-      ) refl
-  same_outcome bundles (Some rest) = refl
-
-  abbrev input : List ℕ → Divided
-  input bytes = divided options.peer_transfer bytes
-
-  abbrev stop : List ℕ → Option StreamStop
-  stop bytes = stop_by (length (input bytes).bundles) (input bytes).rest
-
-  abbrev as_tool : (List ℕ → Outcome) → (List ℕ → Texts) → Tool
-  as_tool whole so_far =
-      record { whole = whole; so_far = so_far; shows = λ bytes. shows_fault (stop bytes) }
+      ) (refl, refl)
+  same_by bundles (Some rest) = (refl, refl)
 
   pub same_tool : tool_of (told_of telling) ≡ pack_tool options
   unfolding told_of packing_of
-  same_tool =
-      ap₂ (λ (whole : List ℕ → Outcome) (so_far : List ℕ → Texts). as_tool whole so_far)
-      (fun_ext (λ bytes. same_outcome (input bytes).bundles (input bytes).rest))
-      (fun_ext (λ bytes. ap (so_far_by (stop bytes)) (same_texts (input bytes).bundles (input bytes).rest)))
+  same_tool = grind (arith, fun_ext, same_by)

@@ -1,5 +1,5 @@
 -- What `pack` writes is the prelude and then the segments alone, and which IDs the lines have.
-use Rattle.std.proofs.Common.{◌≡◌, ℕ, zero, suc, Result, Ok, Err, drop, ◌+◌, ◌≤◌, ◌^◌, List, [], ◌∷◌, ◌++◌, length, refl, ap, sym, append_assoc, zero-add, arith}
+use Rattle.std.proofs.Common.{◌≡◌, ℕ, zero, suc, Result, drop, ◌+◌, ◌≤◌, ◌^◌, List, [], ◌∷◌, ◌++◌, length, refl, ap, sym, append_assoc, zero-add, arith}
 use Rattle.link_bundle_types.specs.declared.info.BundleInfo.{BundleInfo}
 use Rattle.link_run_over_bundle_files.specs.Bundles.{Packed, Refusal, Divided, bundle_prefix, divided_by, divided_in, divided}
 use Rattle.link_tool_option_types.specs.declared.pack.PackOptions.{PackOptions}
@@ -30,9 +30,7 @@ few_by : (next : List ℕ → Divided) (count : ℕ) (front bytes : List ℕ)
     (said : Result BundleInfo Refusal)
     → ((left : List ℕ) → length (next left).bundles ≤ count)
     → length (divided_by next front bytes said).bundles ≤ suc count
-few_by next count front bytes (Ok info) few =
-    let left = few (drop (length front) bytes) in omega arith
-few_by next count front bytes (Err refusal) few = omega arith
+few_by next count front bytes said few = grind (arith, few (drop (length front) bytes))
 
 few_in : (count limit : ℕ) (bytes : List ℕ) → length (divided_in count limit bytes).bundles ≤ count
 unfolding divided_in

@@ -40,8 +40,7 @@ last_kept true segment k size more some next within =
 -- it announces no length
 none_kept : (last : Bool) (segment hold size : ℕ) → hold < size
     → None ≡ cond (last && (ltb segment size && leb size hold)) (Some size) None
-none_kept false segment hold size over = refl
-none_kept true segment hold size over = grind (arith, nat_tests)
+none_kept last segment hold size over = grind (arith, nat_tests)
 
 -- the bytes that have come, and whether they are the whole bundle
 abbrev sends : (segment hold : ℕ) (bundle : List ℕ) (last : Bool) → Sending
@@ -170,10 +169,7 @@ pub head_spelled : (id size : ℕ) (first last : Bool) (announce : Option ℕ)
     → segment_head_bytes (flags_of first last) id size announce
     ≡ (1 ∷ flags_of first last ∷ []) ++ be 8 id ++ list_bytes first announce ++ be 8 size
 unfolding segment_head_bytes
-head_spelled id size true true announce = refl
-head_spelled id size true false announce = refl
-head_spelled id size false true announce = refl
-head_spelled id size false false announce = refl
+head_spelled id size first last announce = grind arith
 
 -- a fact that holds in any case
 pub holds_if : {A E : Type 0} {P : Type 0} (result : Result A E) → P → OnOk result P

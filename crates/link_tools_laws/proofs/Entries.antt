@@ -2,7 +2,7 @@
 use Rattle.std.specs.Prelude.{IfSome}
 use Rattle.std.proofs.Common.{◌≡◌, ℕ, zero, suc, ◌<◌, ◌≤◌, false, List, [], ◌∷◌, ◌++◌, length, take, drop, None, Result, Ok, Err, refl, ap, sym, ◌∙◌, subst, length-take, length-drop, arith, ◌+◌, append-nil, append_assoc, length-append, ◌*◌, ◌^◌, Bool, Option, if◌then◌else◌, min, true, Some}
 use Rattle.std.proofs.lemmas.{Bool.{ltb-false}, List.take-append-drop}
-use Rattle.std.proofs.lemmas.{List.Elements.{All-take, All-drop, All-nil}, Bool.Decides.nat_tests}
+use Rattle.std.proofs.lemmas.{List.Elements.{All-take, All-drop, All-nil}}
 use Rattle.link_cbor.specs.PieceLaws.{takes_shortest}
 use Rattle.link_tool_option_types.specs.declared.pack.PackOptions.{PackOptions}
 use Rattle.link_wire.specs.{Bytes.{IsByte, AreBytes}, Message.data_length, Spelled.HeadSpelled}
@@ -10,15 +10,16 @@ use Rattle.link_wire.specs.{SpelledStream.{IsStream, IsReading}, declared.messag
 use Rattle.link_wire.specs.declared.message.Message.TheVariants.{SessTerm}
 use Rattle.link_wire.specs.Stream.{Entry, End, Clean, Reading}
 use Rattle.link_wire.specs.Spelling.{segment_head_bytes, segment_with, sess_init_bytes, sess_term_bytes, sess_init_with}
-use Rattle.link_wire.proofs.Spellings.{segment_spelled, contact_spelled, sess_init_spelled, sess_term_spelled}
+use Rattle.link_wire.proofs.Spellings.{contact_spelled, sess_init_spelled, sess_term_spelled}
 use Rattle.link_bundle_types.specs.declared.info.BundleInfo.{BundleInfo}
 use Rattle.link_bundle_blocks.specs.Bundle.{verdict, bundle_goes}
-use Rattle.link_transfer.specs.{Chunks.chunk_at, Cutting.{Cutting, announcement, due}}
+use Rattle.link_transfer.specs.{Chunks.chunk_at, Cutting.{announcement, due}}
 use Rattle.link_run.proofs.Continued.{entry}
 use Rattle.link_run_over_bundle_files.specs.Bundles.{Packed, Refusal, Rest, Divided, bundle_prefix, judged_front, accepted_by, divided_by, divided_in, divided}
 use Rattle.link_run_over_bundle_files.proofs.{Dividing.{whole_stops, some_stopped}, Outcomes.whole_of}
 use Rattle.link_tool_pack.specs.Segments.{Sending, cutting_of, cut_at, flags_of, segment_bytes, segments_from, segments_of}
 use Rattle.link_tool_pack.specs.Packing.{prelude_bytes, sending, transfer_bytes, end_bytes, packing_by}
+use Rattle.link_tool_pack.proofs.Moved.{announcement_fits, head_spelled}
 use Rattle.link_tools_laws.specs.Ranges.{OptionsFit}
 
 -- ---- the parts of an input: bundles that the peer takes, and the rest after them
@@ -170,20 +171,6 @@ pub record SendingFits (sending : Sending) : Type 0 where
   pub small : sending.segment ≤ 65536
   pub hold : sending.hold ≤ 1048576
   pub are : AreBytes sending.bundle
-
--- a length that is announced fits in its field
-announcement_fits : (so_far : Cutting) → so_far.hold ≤ 1048576
-    → IfSome (announcement so_far) (λ total. total < 2 ^ 64)
-unfolding announcement
-announcement_fits so_far small = grind (arith, nat_tests)
-
--- the head of a segment, which announces a length only with the first chunk
-head_spelled : (first last : Bool) (id size : ℕ) (announce : Option ℕ) → id < 2 ^ 64 → size < 2 ^ 64
-    → IfSome announce (λ total. total < 2 ^ 64)
-    → (let outcome = if first then announce else None in
-    HeadSpelled (segment_with (flags_of first last) id size outcome)
-    (segment_head_bytes (flags_of first last) id size outcome))
-head_spelled first last id size announce id_fits size_fits fits = grind (arith, segment_spelled)
 
 module _ (id : ℕ) (sending : Sending) (fits : SendingFits sending) (id_fits : id < 2 ^ 64) where
   small_chunk : (k : ℕ) → length (chunk_of sending k) < 2 ^ 64

@@ -304,11 +304,11 @@ bundle_check_prefix must bytes more =
 
 packing_grows : (options : PackOptions) → Grows (pack_telling options)
 packing_grows options = record {
-  part = λ before run. fronts_then _ _ _ (texts_grown options before.bundles before.begun run);
+  part = λ before run. fronts_then _ _ _ (texts_grown options _ before.bundles before.begun run refl);
   whole = λ before run info some.
       fronts_then _ _ _
-      (texts_whole options before.bundles before.begun run
-      (record { bytes = before.begun ++ run; info = info }) refl some);
+      (texts_whole options _ before.bundles before.begun run
+      (record { bytes = before.begun ++ run; info = info }) refl refl some);
   ended = λ bundles. fronts_then _ _ _ refl;
 }
 

@@ -9,7 +9,7 @@ pub mod Steady
 pub mod Contacts
 pub mod Streams
 mod Rests
-mod Wholes
+pub mod Wholes
 mod Sessions
 mod Inners
 pub mod Sound

@@ -75,7 +75,7 @@ only_bytes content n size = record {
       ap (λ all. bytes_at n (all ++ more)) is ∙ ap (λ k. bytes_at k (content ++ more)) (sym size) ∙ bytes_at-there content more;
 }
 
-only_number : (k n : ℕ) → Only (number_at k) n (λ bytes. (n < 256 ^ k) × (bytes ≡ be k n))
+pub only_number : (k n : ℕ) → Only (number_at k) n (λ bytes. (n < 256 ^ k) × (bytes ≡ be k n))
 unfolding number_at
 only_number k n = only_given (λ fits.
     only_last _ _ (only_bytes (be k n) k (length-bytes_high_first k n)) (λ more.

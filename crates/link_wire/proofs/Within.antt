@@ -180,7 +180,7 @@ within_item_head left enough =
     within_if (nat_lt (left - 5) size) _ _ (λ is. within_err _ (λ e. cc)) (λ is. within_pure _)))))
 
 -- a value was read, so a test on the way to it was passed
-taken_else : {A : Type 0} (test : Bool) (read : Result A WireFault) (value : A) (fault : WireFault)
+pub taken_else : {A : Type 0} (test : Bool) (read : Result A WireFault) (value : A) (fault : WireFault)
     → (if test then Err fault else read) ≡ Ok value → (test ≡ false) × (read ≡ Ok value)
 taken_else true read value fault is = absurd (cc)
 taken_else false read value fault is = (refl, is)

@@ -1,7 +1,6 @@
 -- Whether bytes are the items of a list, item by item.
-use Rattle.std.proofs.Common.{◌≡◌, ℕ, zero, suc, ◌+◌, ◌-◌, ◌<◌, ◌≤◌, Bool, true, false, List, ◌∷◌, length, Option, Ok, Err, is_ok, nat_le, drop, arith, refl}
+use Rattle.std.proofs.Common.{◌≡◌, ℕ, zero, suc, ◌+◌, ◌-◌, ◌<◌, ◌≤◌, Bool, true, false, List, length, Option, Result, Ok, Err, is_ok, drop, arith, refl}
 use Rattle.std.proofs.lemmas.{Bool.ne_eqb, Bool.Decides.nat_tests}
-use Rattle.arrayvec.specs.ArrayVec.{ArrayVec}
 use Rattle.link_wire.specs.InSlice.{LocatesItem, head_of}
 use Rattle.link_wire.specs.Limits.{longest_list, most_items}
 use Rattle.link_wire.specs.Message.{total_at, item_head_at, items_at, items_of}
@@ -22,12 +21,18 @@ never : {A : Type 0} (B : Type 0) (part : Part A) (fault : WireFault)
 never B (Ok read) fault = refl
 never B (Err other) fault = refl
 
+-- two parts one after another, and then others
+second_failed : {A B C : Type 0} (first : Result A WireFault) (second : A → Result B WireFault)
+    (others : A → B → Result C WireFault) (fault : WireFault) → first >>= second ≡ Err fault
+    → is_ok (first >>= λ value. second value >>= others value) ≡ false
+second_failed (Ok value) second others fault is = rw is refl
+second_failed (Err other) second others fault is = refl
+
 pub is_ok-items_of : (owner : ListOf) (size : ℕ) (bytes : List ℕ)
     → is_ok (items_of owner size bytes) ≡ is_ok (items_at owner most_items size bytes)
 unfolding items_of
 is_ok-items_of owner size bytes =
-    is_ok-changed (items_at owner most_items size bytes)
-    (λ (items, rest). let read : ArrayVec Item × List ℕ = (record { items = items }, rest) in read)
+    is_ok-changed (items_at owner most_items size bytes) _
 
 module _ (owner : ListOf) (left : ℕ) (bytes : List ℕ) (some : 0 < left) where
   -- an item that is read, and the items after it
@@ -39,16 +44,7 @@ module _ (owner : ListOf) (left : ℕ) (bytes : List ℕ) (some : 0 < left) wher
   unfolding items_at
   item_read room head rest after total is_head is_total =
       rw (ne_eqb left 0 (λ none. absurd (omega arith)), is_head, is_total)
-      (is_ok-changed (items_at owner room (left - (5 + head.length)) after)
-      (λ (others, bytes). (
-        record {
-          flags = head.flags;
-          kind = head.kind;
-          length = head.length;
-          total = total;
-        } ∷ others,
-        bytes,
-      )))
+      (is_ok-changed (items_at owner room (left - (5 + head.length)) after) _)
 
   -- an item that is not read
   pub item_refused : (room : ℕ) (fault : WireFault)
@@ -60,23 +56,7 @@ module _ (owner : ListOf) (left : ℕ) (bytes : List ℕ) (some : 0 < left) wher
       rw (ne_eqb left 0 (λ none. absurd (omega arith))) (never (List Item) (item_head_at left bytes) _)
   item_refused (suc room) fault is =
       rw (ne_eqb left 0 (λ none. absurd (omega arith)))
-      (refused_by (item_head_at left bytes) is)
-    where
-      refused_by : (read : Part ItemHead)
-          → (read >>= λ (head, rest). total_at owner head.kind head.length rest) ≡ Err fault
-          → is_ok (read >>= λ (head, bytes). total_at owner head.kind head.length bytes
-          >>= λ (total, bytes). items_at owner room (left - (5 + head.length)) bytes
-          >>= λ (others, bytes). let r : Part (List Item) = Ok (
-            record {
-              flags = head.flags;
-              kind = head.kind;
-              length = head.length;
-              total = total;
-            } ∷ others,
-            bytes,
-          ) in r) ≡ false
-      refused_by (Err other) failed = refl
-      refused_by (Ok (head, rest)) failed = rw failed refl
+      (second_failed (item_head_at left bytes) _ _ fault is)
 
   -- no room is left for another item
   pub no_room : is_ok (items_at owner zero left bytes) ≡ false
@@ -98,12 +78,9 @@ is_ok-one_more owner (suc room) left at bytes found some more lies =
 pub no_more : (owner : ListOf) (room : ℕ) (bytes : List ℕ)
     → is_ok (items_at owner room 0 bytes) ≡ true
 unfolding items_at
-no_more owner zero bytes = refl
-no_more owner (suc room) bytes = refl
+no_more owner room bytes = grind arith
 
 pub are_items_by : (owner : ListOf) (items : List ℕ) (found : Bool)
     → length items ≤ longest_list → is_ok (items_of owner (length items) items) ≡ found
     → found ≡ are_items owner items
-are_items_by owner items found short is =
-    let room : nat_le (length items) longest_list ≡ true = grind (arith, nat_tests) in
-    rw (room, is) refl
+are_items_by owner items found short is = grind (arith, nat_tests)
