@@ -9,13 +9,14 @@ use Rattle.link_bundle.specs.declared.stage.ScanStage.{ScanStage}
 use Rattle.link_bundle.specs.declared.stage.ScanStage.TheVariants.{PrimaryBlock, BlockHeads, BlockData, CheckField, Break, Ended, Failed}
 use Rattle.link_bundle.specs.Stages.{limit, is_cut, is_part, any_reading}
 
+-- whether two checks have the same kind
 abbrev pub same_kind : CheckKind → CheckKind → Bool
 same_kind Crc16 Crc16 = true
 same_kind Crc16 Crc32 = false
 same_kind Crc32 Crc16 = false
 same_kind Crc32 Crc32 = true
 
--- whether a block has a check of this kind
+-- whether a block has a check, and the check is of this kind; `None` is a block without a check
 abbrev pub is_kind : Option CheckKind → CheckKind → Bool
 is_kind None kind = false
 is_kind (Some found) kind = same_kind found kind
@@ -24,7 +25,8 @@ is_kind (Some found) kind = same_kind found kind
 abbrev pub has_block : Draft → Bool
 has_block draft = draft.whole && not (length draft.numbers == 0)
 
--- what a draft has at each stage
+-- Whether the draft has what belongs to the stage. It has the numbers of the canonical blocks whose
+-- heads were read, and the place of the payload if the last of them is the payload block.
 abbrev pub stage_fits : ScanStage → Draft → Bool
 stage_fits PrimaryBlock draft =
     is_none draft.payload_span && (not draft.whole && length draft.numbers == 0)
@@ -40,10 +42,12 @@ abbrev pub hold_fits : ScanStage → Cursor → Bool
 hold_fits (Failed fault offset) cursor = true
 hold_fits stage cursor = nat_lt (length cursor.hold) (limit stage)
 
--- whether the held bytes end inside the part, if the stage has one; `numbers` are those before it
+-- whether the held bytes end inside the part, if the stage has one; `numbers` are those of the
+-- blocks before
 abbrev pub part_goes : ScanStage → (numbers hold : List ℕ) → Bool
 part_goes stage numbers hold = not (is_part stage) || is_cut (any_reading stage numbers hold)
 
+-- whether the stage, the cursor and the draft of a scan fit together
 abbrev pub scan_fits : ScanStage → Cursor → Draft → Bool
 scan_fits stage cursor draft =
     nat_le (length cursor.hold) cursor.count

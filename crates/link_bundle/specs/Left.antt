@@ -77,7 +77,7 @@ abbrev pub with_known_payload : Option (ℕ × ℕ) → Result Bundle Stop → R
 with_known_payload None reading = reading
 with_known_payload (Some payload) reading = with_payload payload reading
 
--- the current canonical block
+-- the canonical block that the scan is in, whose end is not known yet
 abbrev pub current : Draft → CanonicalBlock
 current draft = record draft.block { end = None }
 
@@ -94,7 +94,7 @@ stage_last BlockHeads draft start = last_block draft start ∷ []
 stage_last Break draft start = last_block draft start ∷ []
 stage_last _ draft start = []
 
--- the rest after a block: the next blocks, or the break if the block was the payload block
+-- what is read after a block: the next blocks, or the break if the block was the payload block
 abbrev pub block_end : Option (ℕ × ℕ) → List ℕ → Primary → List ℕ → ℕ → Result Bundle Stop
 block_end None numbers primary bytes offset =
     blocks_at (64 - length numbers) numbers primary bytes offset
@@ -113,21 +113,22 @@ read_alone bytes reading = do
   bundle ← reading
   if_alone bytes bundle
 
--- the rest after a block that ends before `start`
+-- what is read of the bundle after a block that ends before `start`
 abbrev pub after_block : Draft → List ℕ → ℕ → Result Bundle Stop
 after_block draft bytes start =
     read_alone bytes (with_known_payload draft.payload_span
     (block_end draft.payload_span draft.numbers (primary_of draft) bytes start))
 
--- The data of the current block and its check field, and the rest after the block. It is the same
--- at each offset within the block.
+-- What is read of the bundle after the heads of the current block: its data, its check field, and
+-- all that follows. It does not matter how much of the block was seen.
 abbrev pub in_block : Draft → List ℕ → Result Bundle Stop
 in_block draft bytes = read_alone bytes (with_known_payload draft.payload_span do
   (_, end) ← rest_of (current draft) bytes
   with_blocks (CanonicalOf (ended (current draft) end) ∷ [])
       (block_end draft.payload_span draft.numbers (primary_of draft) bytes end))
 
--- what is read of the bundle from a stage on; the part of the stage begins at `start`
+-- What is read of the bundle from a stage on, without the blocks before. `bytes` are all bytes of
+-- the bundle, and the part of the stage begins at `start`.
 unfoldable pub stage_left : ScanStage → Draft → ℕ → List ℕ → Result Bundle Stop
 stage_left InPrimaryBlock draft start bytes = judged_bundle bytes
 stage_left BlockHeads draft start bytes = after_block draft bytes start
@@ -138,7 +139,8 @@ stage_left Ended draft start bytes = if_alone bytes (bundle_of draft start)
 stage_left (Failed fault at) draft start bytes =
     with_known_payload draft.payload_span (Err (stopped fault at))
 
--- the block in whose data or check field the bytes end, if they end at this stage
+-- the block in whose data or check field the bytes end, if they end at this stage; `None` at any
+-- other stage
 abbrev pub stage_block : ScanStage → Draft → Option CanonicalBlock
 stage_block (BlockData left) draft = Some (current draft)
 stage_block (CheckField kind) draft = Some (current draft)

@@ -21,8 +21,8 @@ use Rattle.link_bundle.specs.declared.stage.ScanStage.TheVariants.{PrimaryBlock,
 use Rattle.link_bundle.specs.Left.{primary_of, stage_last, stage_left, with_block}
 use Rattle.link_bundle.specs.Stages.{stage_state, takes_bytes, stage_after, stage_in_data, HasCovered, part_reading}
 
--- where the part of a stage begins: after the bytes `front`; `covered` are the bytes of its block
--- before a check field
+-- The part of a stage begins after the bytes `front`. At a check field, `covered` are the bytes of
+-- its block before the field.
 abbrev pub IsPlaced : ScanStage → Draft → (front covered : List ℕ) → Type 0
 IsPlaced PrimaryBlock draft front covered = front ≡ []
 IsPlaced (CheckField kind) draft front covered =
@@ -71,8 +71,8 @@ HasDraftedPrimary cursor draft seen = MatchBool draft.whole
 abbrev pub part_start : Cursor → ℕ
 part_start cursor = cursor.count - length cursor.hold
 
--- The held bytes begin with the part of a stage, which has `size` bytes. The draft `new` keeps it,
--- `check` covers it in a block's heads, and `next` is the stage after it.
+-- The held bytes begin with the part of a stage, which has `size` bytes. The draft `new` keeps the
+-- part, and `next` is the stage after it. If the part is the heads of a block, `check` covers them.
 abbrev pub PartLeadsTo : ScanStage → Draft → Cursor → ℕ → ScanStage → Draft → Check → Type 0
 PartLeadsTo PrimaryBlock old cursor size next new check =
     (whole_primary cursor.hold ≡ Ok ((primary_of new, new.check), size)) × (next ≡ BlockHeads)

@@ -14,6 +14,7 @@ use Rattle.link_bundle_blocks.specs.Whole.{whole_primary}
 use Rattle.link_bundle.specs.declared.stage.ScanStage.{ScanStage}
 use Rattle.link_bundle.specs.declared.stage.ScanStage.TheVariants.{PrimaryBlock, BlockHeads, BlockData, CheckField, Break, Ended, Failed}
 
+-- the state of a scan that a caller sees at each stage
 abbrev pub stage_state : ScanStage → State
 stage_state Ended = state.Ended
 stage_state (Failed fault offset) = state.Failed fault offset
@@ -39,9 +40,11 @@ is_part (CheckField kind) = true
 is_part Break = true
 is_part _ = false
 
--- Fewer bytes than this show how a part is read: the opening byte and a primary block, the heads of
--- a canonical block, a check field, and a break. An endpoint ID has at most 1,051 bytes: a name of
--- 1,024, and three heads of at most 9. A check value has at most 4.
+-- So many bytes always show the end of a part or its fault. A head has at most 9 bytes. A check
+-- field has at most 13: a head and a value of 4. An endpoint ID has at most 1,051: three heads and
+-- a name of 1,024. So the opening byte and a primary block have at most 1 + 3 * 1,051 + 10 * 9
+-- + 13, and the six heads of a canonical block at most 54. At a stage without a part, no byte is
+-- held.
 abbrev pub limit : ScanStage → ℕ
 limit PrimaryBlock = 3257
 limit BlockHeads = 54
@@ -49,7 +52,8 @@ limit (CheckField kind) = 13
 limit Break = 9
 limit _ = 1
 
--- at a check field, `covered` was pushed to the check: the bytes of the block before the field
+-- At a check field, `covered` was pushed to the check: the bytes of the block before the field. At
+-- any other stage nothing is said.
 abbrev pub HasCovered : ScanStage → Check → List ℕ → Type 0
 HasCovered (CheckField kind) check covered = HasPushed kind check covered
 HasCovered _ check covered = Unit {0}
@@ -79,12 +83,13 @@ abbrev pub part_end : Result (ℕ × ScanStage) PartFault → Result ℕ Stop
 part_end (Ok (size, next)) = Ok size
 part_end (Err stop) = Err (stopped stop.fault stop.offset)
 
--- whether the bytes end inside a part
+-- whether this reading of a part found that the bytes end inside it
 abbrev pub is_cut : Result ℕ Stop → Bool
 is_cut (Ok next) = false
 is_cut (Err stop) = not (lasts stop.fault)
 
--- the stage after a block; it was the payload block, which the break follows, if `payload` is known
+-- The stage after a block. If `payload` is known, the block was the payload block, and the break
+-- follows.
 abbrev pub stage_after : Option (ℕ × ℕ) → ScanStage
 stage_after None = BlockHeads
 stage_after (Some payload) = Break

@@ -29,7 +29,7 @@ impl Cursor {
         }
     }
 
-    /// Makes the cursor one before the first byte.
+    /// Makes the cursor one that stands before the first byte of a bundle.
     pub fn restart(&mut self)
         ensures count { self.new.count ≡ 0 }
         ensures hold { self.new.hold ≡ [] }
@@ -81,7 +81,9 @@ impl Cursor {
         self.hold.truncate(size);
     }
 
-    /// Passes over a part of `size` bytes, and holds nothing.
+    /// Passes over a part, the first `size` bytes held, and gives back the held bytes after it.
+    ///
+    /// Then the cursor holds nothing.
     #[inline(always)]
     pub fn pass(&mut self, size: usize)
         requires within { size ≤ length self.old.hold }

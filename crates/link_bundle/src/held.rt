@@ -88,9 +88,9 @@ fn is_cut(stage: ScanStage, numbers: &BlockNumbers, check: Check, bytes: &[u8]) 
     )
 }
 
-/// The least number of bytes that show the fault of the part, more than `held`.
+/// How many of the bytes show the fault of the part: the least number, which is above `held`.
 ///
-/// The bytes show a fault, and the first `held` of them end inside the part.
+/// All bytes together show a fault, and the first `held` of them end inside the part.
 #[cold]
 #[inline(never)]
 pub(crate) fn shown(

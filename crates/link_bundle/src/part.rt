@@ -5,7 +5,7 @@ ghost use Rattle.link_bundle.specs.Part.{part_in};
 
 /// Returns the bytes of a piece that are among `count` bytes of the data, from `offset` on.
 ///
-/// The piece comes after the first `before` bytes of the data, and the data has all of these bytes.
+/// The piece comes after the first `before` bytes of the data, which has all of the `count` bytes.
 #[inline]
 pub fn part_in(piece: &[u8], before: u64, offset: u64, count: u64) -> &[u8]
     ensures part { (0 < count → offset + count < 2 ^ 64) → result.now ≡ part_in piece.now before

@@ -37,7 +37,7 @@ unfoldable pub alone : List ℕ → ℕ → BlockData → Result BlockData Stop
 alone bytes offset found =
     if offset == length bytes then Ok found else Err (stopped Trailing offset)
 
--- that many items, one after another
+-- as many items as the number says, each read by `item_at`, and the offset after them
 unfoldable pub items_at : {A : Type 0} → (List ℕ → ℕ → ReadAt A) → ℕ → List ℕ → ℕ → ReadAt (List A)
 items_at item_at zero bytes offset = Ok ([], offset)
 items_at item_at (suc left) bytes offset = do
@@ -159,9 +159,10 @@ reading_of kind.HopCount bytes = hop_count bytes
 reading_of kind.Security bytes = security bytes
 reading_of kind.Record bytes = administrative_record bytes
 
--- Whether an item with this fault exceeds a limit of this toolkit, by the head at which it fails.
--- Its length is indefinite, its endpoint scheme is neither dtn nor ipn, or its dtn name is long.
--- RFC 9171 may permit such an item (sections 4.1 and 4.2.5.1), whatever else is due in its place.
+-- Whether an item with this fault exceeds a limit of this toolkit: its length is indefinite, its
+-- endpoint scheme is neither dtn nor ipn, or its dtn name is long. RFC 9171 may permit such an item
+-- (sections 4.1 and 4.2.5.1). Only the fault and the head at which the item fails decide, even if
+-- an item of another kind is due there.
 abbrev pub is_limit : BundleFault → HeadFront → Bool
 is_limit BadScheme front = true
 is_limit EidTooLong front = true
@@ -175,6 +176,7 @@ abbrev pub fault_at : List ℕ → BundleFault → ℕ → DataFault
 fault_at bytes fault offset =
     record { offset = offset; is_limit = is_limit fault (head_front (drop offset bytes)) }
 
+-- the result of a reading, with its stop as the fault of the data
 abbrev pub located : List ℕ → Result BlockData Stop → Result BlockData DataFault
 located bytes (Ok found) = Ok found
 located bytes (Err stop) = Err (fault_at bytes stop.fault stop.offset)

@@ -7,6 +7,7 @@ use Rattle.link_bundle_data.specs.declared.values.{DataFault.DataFault, DataView
 use Rattle.link_bundle_data.specs.declared.values.DataView.TheVariants as view
 use Rattle.link_bundle_data.specs.BlockData.{BlockData, PreviousNode, BundleAge, HopCount, Security, StatusReport, OtherRecord}
 
+-- what the data says, without borrowed bytes
 abbrev pub viewed_data : DataView → BlockData
 viewed_data (view.PreviousNode node) = PreviousNode (viewed_eid node)
 viewed_data (view.BundleAge age) = BundleAge age

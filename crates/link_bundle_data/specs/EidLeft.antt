@@ -12,22 +12,25 @@ abbrev pub numbered : Option ℕ → ℕ → ℕ → Eid
 numbered None node service = Ipn node service
 numbered (Some allocator) node service = Ipn3 allocator node service
 
+-- an ipn endpoint ID of which only the service number is left to be read
 unfoldable pub service_left : Option ℕ → ℕ → List ℕ → ℕ → ReadAt Eid
 service_left allocator node bytes offset = do
   (service, offset) ← row_at unsigned bytes offset
   Ok (numbered allocator node service, offset)
 
+-- an ipn endpoint ID of which the node number and the service number are left
 unfoldable pub node_left : Option ℕ → List ℕ → ℕ → ReadAt Eid
 node_left allocator bytes offset = do
   (node, offset) ← row_at unsigned bytes offset
   service_left allocator node bytes offset
 
+-- an endpoint ID from its scheme on, after the head of its array
 unfoldable pub scheme_left : List ℕ → ℕ → ReadAt Eid
 scheme_left bytes offset = do
   (scheme, offset) ← row_at scheme bytes offset
   specific_at scheme bytes offset
 
--- the last `left` bytes of a dtn name that begins with these bytes
+-- a dtn endpoint ID whose name begins with `name`, and of which `left` bytes of the name are left
 unfoldable pub name_left : List ℕ → ℕ → List ℕ → ℕ → ReadAt Eid
 name_left name left bytes offset = do
   (rest, offset) ← bytes_at left bytes offset

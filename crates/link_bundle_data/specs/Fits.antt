@@ -18,6 +18,7 @@ abbrev pub head_fits : DataStage → HeadScan → Bool
 head_fits (Head which) head = may_scan_head head
 head_fits _ head = true
 
+-- whether the stage, the scan of the current head and the draft fit together
 abbrev pub scan_fits : DataStage → HeadScan → Draft → Bool
 scan_fits stage head draft = head_fits stage head && stage_fits stage draft
 

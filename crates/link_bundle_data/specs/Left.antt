@@ -64,23 +64,27 @@ ended found draft bytes offset =
 
 -- ---- a status report, from the end on
 
+-- the rest after the fields of a fragment, if `reading` is the reading of them
 abbrev pub after_fragment : Draft → List ℕ → ReadAt (Option (ℕ × ℕ)) → Result BlockData Stop
 after_fragment draft bytes reading = do
   (fragment, offset) ← reading
   ended found.StatusReport
       (record draft { report = record draft.report { fragment = fragment } }) bytes offset
 
+-- the rest from the sequence number on
 unfoldable pub sequence_left : Draft → List ℕ → ℕ → Result BlockData Stop
 sequence_left draft bytes offset = do
   (sequence, offset) ← row_at unsigned bytes offset
   after_fragment (record draft { report = record draft.report { sequence = sequence } }) bytes
       (fragment_at draft.is_fragment bytes offset)
 
+-- the rest from the creation time on
 unfoldable pub time_left : Draft → List ℕ → ℕ → Result BlockData Stop
 time_left draft bytes offset = do
   (time, offset) ← row_at unsigned bytes offset
   sequence_left (record draft { report = record draft.report { time = time } }) bytes offset
 
+-- the rest from the creation timestamp on, an array of the time and the sequence number
 unfoldable pub timestamp_left : Draft → List ℕ → ℕ → Result BlockData Stop
 timestamp_left draft bytes offset = do
   (_, offset) ← row_at pair bytes offset
@@ -88,13 +92,13 @@ timestamp_left draft bytes offset = do
 
 -- ---- endpoint IDs
 
--- the rest after an endpoint ID
+-- the rest after the endpoint ID of this owner
 abbrev pub owner_left : Owner → Draft → List ℕ → ℕ → Result BlockData Stop
 owner_left owner.PreviousNode draft bytes offset = ended found.PreviousNode draft bytes offset
 owner_left owner.Security draft bytes offset = ended found.Security draft bytes offset
 owner_left owner.Report draft bytes offset = timestamp_left draft bytes offset
 
--- the rest from an endpoint ID on, if this is the reading of it
+-- the rest from an endpoint ID on, if `reading` is the reading of it
 abbrev pub by_eid : Owner → Draft → List ℕ → ReadAt Eid → Result BlockData Stop
 by_eid owner draft bytes reading = do
   (eid, offset) ← reading
@@ -102,40 +106,46 @@ by_eid owner draft bytes reading = do
 
 -- ---- status assertions
 
+-- the rest from the reason of a status report on
 unfoldable pub reason_left : Draft → List ℕ → ℕ → Result BlockData Stop
 reason_left draft bytes offset = do
   (reason, offset) ← row_at unsigned bytes offset
   by_eid owner.Report (record draft { report = record draft.report { reason = reason } }) bytes
       (eid_at bytes offset)
 
+-- the rest after the first four assertions and some others, if `left` more assertions follow
 unfoldable pub others_left : ℕ → Draft → List ℕ → ℕ → Result BlockData Stop
 others_left left draft bytes offset = do
   (others, offset) ← items_at assertion_at left bytes offset
   reason_left (fold with_times draft others) bytes offset
 
--- the rest after the assertion of each status
+-- ---- the rest from the assertion of each status on, if `reading` is the reading of the assertion
 
+-- from the assertion of deletion on
 abbrev pub deleted_left : Draft → List ℕ → ReadAt Assertion → Result BlockData Stop
 deleted_left draft bytes reading = do
   (deleted, offset) ← reading
   others_left draft.others (with_assertion status.Deleted deleted draft) bytes offset
 
+-- from the assertion of delivery on
 abbrev pub delivered_left : Draft → List ℕ → ReadAt Assertion → Result BlockData Stop
 delivered_left draft bytes reading = do
   (delivered, offset) ← reading
   deleted_left (with_assertion status.Delivered delivered draft) bytes (assertion_at bytes offset)
 
+-- from the assertion of forwarding on
 abbrev pub forwarded_left : Draft → List ℕ → ReadAt Assertion → Result BlockData Stop
 forwarded_left draft bytes reading = do
   (forwarded, offset) ← reading
   delivered_left (with_assertion status.Forwarded forwarded draft) bytes (assertion_at bytes offset)
 
+-- from the assertion of reception on
 abbrev pub received_left : Draft → List ℕ → ReadAt Assertion → Result BlockData Stop
 received_left draft bytes reading = do
   (received, offset) ← reading
   forwarded_left (with_assertion status.Received received draft) bytes (assertion_at bytes offset)
 
--- the rest from a status assertion on, if this is the reading of it
+-- from the assertion of this status on
 abbrev pub by_assertion : Status → Draft → List ℕ → ReadAt Assertion → Result BlockData Stop
 by_assertion status.Received draft bytes reading = received_left draft bytes reading
 by_assertion status.Forwarded draft bytes reading = forwarded_left draft bytes reading
@@ -145,23 +155,27 @@ by_assertion (status.Other left) draft bytes reading = do
   (other, offset) ← reading
   others_left left (with_times draft other) bytes offset
 
--- the Boolean of a status assertion, and what follows it
+-- ---- the Boolean of a status assertion, and what follows it
 
+-- a status assertion, if `reading` is the reading of its Boolean; a time follows it if `has_time`
 abbrev pub boolean_left : Bool → List ℕ → ReadAt Bool → ReadAt Assertion
 boolean_left has_time bytes reading = do
   (asserted, offset) ← reading
   if has_time then asserted_at bytes offset else Ok (if asserted then Yes else No, offset)
 
+-- the Boolean of a status assertion, which begins at `offset`
 unfoldable pub boolean_at : Bool → List ℕ → ℕ → ReadAt Bool
 boolean_at has_time bytes offset = do
   (head, next) ← head_at bytes offset
   outcome_at offset next (assertion has_time (next - offset) head)
 
+-- the rest from the array of the status assertions on
 unfoldable pub assertions_left : Draft → List ℕ → ℕ → Result BlockData Stop
 assertions_left draft bytes offset = do
   (assertions, offset) ← row_at four_or_more bytes offset
   received_left (with_others (assertions - 4) draft) bytes (assertion_at bytes offset)
 
+-- the rest from the array of the status report on
 unfoldable pub report_left : Draft → List ℕ → ℕ → Result BlockData Stop
 report_left draft bytes offset = do
   (elements, offset) ← row_at four_or_six bytes offset
@@ -169,33 +183,39 @@ report_left draft bytes offset = do
 
 -- ---- a security block
 
+-- the rest from the flags of the security context on
 unfoldable pub flags_left : Draft → List ℕ → ℕ → Result BlockData Stop
 flags_left draft bytes offset = do
   (flags, offset) ← row_at unsigned bytes offset
   by_eid owner.Security (with_flags flags draft) bytes (eid_at bytes offset)
 
+-- the rest from the ID of the security context on
 unfoldable pub context_left : Draft → List ℕ → ℕ → Result BlockData Stop
 context_left draft bytes offset = do
   (context, offset) ← row_at integer bytes offset
   flags_left (with_context context draft) bytes offset
 
+-- the rest after the targets, if `reading` is the reading of those that were left
 abbrev pub after_targets : Draft → List ℕ → ReadAt (List ℕ) → Result BlockData Stop
 after_targets draft bytes reading = do
   (targets, offset) ← reading
   context_left (fold with_target draft targets) bytes offset
 
+-- the rest of a security block, if `left` targets are left
 unfoldable pub targets_left : ℕ → Draft → List ℕ → ℕ → Result BlockData Stop
 targets_left left draft bytes offset =
     after_targets draft bytes (items_at (row_at unsigned) left bytes offset)
 
 -- ---- the rest after each unsigned integer, and from each head on
 
+-- the rest from the hop limit on
 unfoldable pub limit_left : Draft → List ℕ → ℕ → Result BlockData Stop
 limit_left draft bytes offset = do
   (limit, offset) ← row_at unsigned bytes offset
   (count, offset) ← row_at unsigned bytes offset
   ended (found.HopCount limit count) draft bytes offset
 
+-- the rest from the type code of an administrative record on
 unfoldable pub type_left : Draft → List ℕ → ℕ → Result BlockData Stop
 type_left draft bytes offset = do
   (type, offset) ← row_at unsigned bytes offset
@@ -241,6 +261,7 @@ number_left (number.Node owner allocator) draft node bytes offset =
 number_left (number.Service owner allocator node) draft service bytes offset =
     by_eid owner draft bytes (Ok (numbered allocator node service, offset))
 
+-- the rest after the head of this array of two elements
 abbrev pub pair_left : Pair → Draft → List ℕ → ℕ → Result BlockData Stop
 pair_left (pair_.Eid owner) draft bytes offset = by_eid owner draft bytes (scheme_left bytes offset)
 pair_left pair_.HopCount draft bytes offset = limit_left draft bytes offset
@@ -281,7 +302,8 @@ stage_left (Name owner left) draft bytes head offset =
 stage_left (Read found) draft bytes head offset = located bytes (ended found draft bytes head)
 stage_left (Failed fault) draft bytes head offset = Err fault
 
--- the rest after a complete head that begins at `offset` and ends before `next`
+-- The rest after a complete head that begins at `offset` and ends before `next`. The first argument
+-- is what the head leads to, or its fault.
 abbrev pub goes_on : Result (DataStage × Draft) BundleFault → List ℕ → ℕ → ℕ
     → Result BlockData DataFault
 goes_on (Ok (stage, draft)) bytes offset next = stage_left stage draft bytes next next

@@ -15,6 +15,7 @@ judged_part (Security block targets source) bytes = take block.size bytes
 judged_part (StatusReport report source) bytes = []
 judged_part (OtherRecord type) bytes = []
 
+-- the first long head, if this is what the data says; `None` in malformed data
 abbrev pub long_in : Result BlockData DataFault → List ℕ → Option ℕ
 long_in (Ok found) bytes = first_from is_long 0 0 (judged_part found bytes)
 long_in (Err fault) bytes = None

@@ -25,8 +25,9 @@ IsAtStage (Head which) head offset seen = IsInHead head offset seen
 IsAtStage (Read found) head offset seen = IsTrue (may_follow found || (offset == length seen))
 IsAtStage _ head offset seen = Unit {0}
 
--- Whatever bytes follow, the first long head is `long`, or else the first from this stage on. After
--- the item it is the first up to there.
+-- `long` is the first long head before this stage, if there is one. Whatever bytes follow, the
+-- first of all is `long`, or else the first from this stage on. After the item (`Read`), `long` is
+-- the first in the item, which ended before `offset`.
 abbrev pub IsFirstLong : DataStage → Option ℕ → ℕ → List ℕ → Type 0
 IsFirstLong (Head which) long offset seen =
     (more : List ℕ) → first_from is_long 0 0 (seen ++ more)

@@ -104,6 +104,8 @@ with_times draft assertion =
       };
     }
 
+-- the draft after the assertion about a status; of assertions after the first four, only `timed`
+-- and `untimed` are kept
 abbrev pub with_assertion : Status → Assertion → Draft → Draft
 with_assertion status.Received assertion draft =
     with_times (record draft { report = record draft.report { received = assertion } }) assertion
@@ -115,6 +117,7 @@ with_assertion status.Deleted assertion draft =
     with_times (record draft { report = record draft.report { deleted = assertion } }) assertion
 with_assertion (status.Other left) assertion draft = with_times draft assertion
 
+-- the draft before the first target of a security block that has `count` targets
 abbrev pub with_targets : ℕ → Draft → Draft
 with_targets count draft =
     record draft {
@@ -146,15 +149,18 @@ with_flags flags draft = record draft { security = record draft.security { flags
 abbrev pub with_eid : Eid → Draft → Draft
 with_eid eid draft = record draft { eid = eid }
 
--- the stage after a head, and the values with that of the head
+-- ---- the stage after a head, and the draft with the value that was read
 
+-- after an endpoint ID
 abbrev pub took_eid : Owner → Eid → Draft → DataStage × Draft
 took_eid owner eid draft = (after_eid owner, with_eid eid draft)
 
+-- after a whole status assertion
 abbrev pub took_assertion : Status → Assertion → Draft → DataStage × Draft
 took_assertion status assertion draft =
     (Head (after_status status draft.others), with_assertion status assertion draft)
 
+-- after the sequence number of a status report: only a report on a fragment has more fields
 abbrev pub took_sequence : ℕ → Draft → DataStage × Draft
 took_sequence sequence draft =
     if draft.is_fragment
@@ -198,19 +204,21 @@ took (number.Node owner allocator) node draft =
 took (number.Service owner allocator node) service draft =
     took_eid owner (numbered allocator node service) draft
 
--- the specific part of a dtn endpoint ID: the length of its name, or `None` for dtn:none
+-- after the head of the specific part of a dtn endpoint ID: the length of its name, or `None` for
+-- dtn:none
 abbrev pub took_dtn : Owner → Option ℕ → Draft → DataStage × Draft
 took_dtn owner None draft = took_eid owner DtnNone draft
 took_dtn owner (Some size) draft =
     (name_due owner size, with_eid (Dtn (record { items = [] })) draft)
 
--- the bytes of a run, in a name that has `left` bytes left
+-- after the bytes `run` of a dtn name, of which `left` bytes were left before them
 abbrev pub took_run : Owner → ℕ → List ℕ → Draft → DataStage × Draft
 took_run owner left run draft = (
   name_due owner (left - length run),
   with_eid (Dtn (record { items = name_of draft.eid ++ run })) draft,
 )
 
+-- after the Boolean of a status assertion; the first Boolean is whether a time follows it
 abbrev pub took_asserted : Status → Bool → Bool → Draft → DataStage × Draft
 took_asserted status true asserted draft = (Head (due.Number (number.AssertedTime status)), draft)
 took_asserted status false asserted draft =

@@ -62,7 +62,7 @@ impl Draft {
         }
     }
 
-    /// What data says whose item was read. The item ends before `offset`.
+    /// What the data says, if its item `found` was read and ends before `offset`.
     pub fn view(&self, found: Found, offset: u64) -> DataView<'_>
         ensures view { viewed_data result ≡ data_from found self.now offset }
         ensures short { HasShortName (viewed_data result) }
@@ -207,7 +207,7 @@ impl Draft {
         DataStage::Head(Due::targets(left))
     }
 
-    /// Takes the Boolean of a status assertion.
+    /// Takes the Boolean `asserted` of a status assertion. A time follows it if `has_time`.
     fn asserted(&mut self, status: Status, has_time: bool, asserted: bool) -> DataStage
         ensures took { (result, self.new)
             ≡ turns.took_asserted status has_time asserted self.old }
@@ -243,7 +243,8 @@ impl Draft {
         DataStage::Head(status.next(self.others))
     }
 
-    /// Takes the sequence number of a status report, after which the fields of a fragment are due.
+    /// Takes the sequence number of a status report. If the report is on a fragment, the offset of
+    /// that is due next. Otherwise the report is complete.
     fn sequence(&mut self, sequence: u64) -> DataStage
         ensures took { (result, self.new) ≡ turns.took_sequence sequence self.old }
         ensures fits { IsTrue (stage_fits result self.new) }
@@ -275,7 +276,8 @@ impl Draft {
         owner.after_eid()
     }
 
-    /// Takes the specific part of a dtn endpoint ID: the length of its name, or `None`.
+    /// Takes the specific part of a dtn endpoint ID: the length of its name, or `None` for
+    /// `dtn:none`.
     fn dtn(&mut self, owner: Owner, part: Option<u64>) -> DataStage
         requires { IfSome part (λ size. size ≤ 1024) }
         ensures took { (result, self.new) ≡ turns.took_dtn owner part self.old }
@@ -293,7 +295,7 @@ impl Draft {
         }
     }
 
-    /// Takes bytes of a dtn name that has `left` bytes left.
+    /// Takes the bytes `run` of a dtn name, of which `left` bytes are left before them.
     pub fn name(&mut self, owner: Owner, left: u64, run: &[u8]) -> DataStage
         requires fits { IsTrue (stage_fits (DataStage.Name owner left) self.old) }
         requires within { length run.now ≤ left }

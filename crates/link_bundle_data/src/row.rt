@@ -14,7 +14,7 @@ const NEGATIVE: u8 = 1;
 /// The major type of simple values and floats (RFC 8949 section 3.3).
 const SIMPLE: u8 = 7;
 
-/// The number of elements of an array.
+/// The number of elements of an array. Any other head is `WrongKind`.
 #[inline(always)]
 #[tactic(auto, unfolding(link_bundle_heads::specs::Rows::array))]
 pub fn array(head: Head) -> Result<u64, BundleFault>
@@ -62,7 +62,7 @@ pub fn one_or_two(head: Head) -> Result<u64, BundleFault>
     }
 }
 
-/// The value of an integer of either sign.
+/// The value of an integer of either sign. Any other head is `WrongKind`.
 #[tactic(auto, unfolding(crate::specs::DataRows::integer))]
 pub fn integer(head: Head) -> Result<Integer, BundleFault>
     ensures { result ≡ row.integer head }

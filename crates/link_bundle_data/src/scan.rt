@@ -55,7 +55,8 @@ fn no_limit(offset: u64) -> DataFault
     }
 }
 
-/// Whether an item with this head, of any size, and this fault exceeds a limit of this toolkit.
+/// Whether an item exceeds a limit of this toolkit, by its fault and its head. The size of the head
+/// does not matter.
 fn is_limit(fault: BundleFault, head: Head) -> bool
     ensures { (size : ℕ) → result ≡ is_limit fault (Whole head size) }
 {
@@ -268,7 +269,7 @@ impl DataScan {
         }
     }
 
-    /// Takes bytes of a dtn name that has `left` bytes left.
+    /// Takes the bytes `run` of a dtn name, of which `left` bytes are left before them.
     fn name_run(&mut self, owner: Owner, left: u64, run: &[u8])
         requires stage { self.old.stage ≡ DataStage.Name owner left }
         requires some { 0 < length run.now }

@@ -9,8 +9,8 @@ use Rattle.link_bundle_types.specs.declared.fault.BundleFault.{BundleFault}
 use Rattle.link_bundle_types.specs.declared.fault.BundleFault.TheVariants.{WrongKind, WrongDataKind, WrongCheckKind, BadCount, BadVersion, BadCheckType, BadScheme, BadSpecificPart, EidTooLong, BadCheckLength, BadBlockNumber, RepeatedBlockNumber, TooManyBlocks, NoPayloadLast}
 use Rattle.link_bundle_heads.specs.declared.endpoint.{Scheme.Scheme, Scheme.TheVariants.{Dtn, Ipn}}
 
--- the first fault, or the result of the next part
 infixl 10 ◌>>=◌
+-- the first fault, or the result of the next part
 abbrev pub ◌>>=◌ : {A B E : Type 0} → Result A E → (A → Result B E) → Result B E
 (Ok value) >>= next = next value
 (Err fault) >>= next = Err fault
@@ -30,13 +30,15 @@ valued fault false value = Err fault
 abbrev pub of_major : BundleFault → ℕ → Head → Result ℕ BundleFault
 of_major fault major head = valued fault (head.major == major) head.value
 
+-- the value of an unsigned integer
 unfoldable pub unsigned : Head → Result ℕ BundleFault
 unsigned head = of_major WrongKind 0 head
 
--- the data of a block is a byte string of definite length (section 4.3.2)
+-- the length of the data of a block, which is a byte string of definite length (section 4.3.2)
 unfoldable pub block_data : Head → Result ℕ BundleFault
 block_data head = of_major WrongDataKind 2 head
 
+-- the number of elements of an array of definite length
 unfoldable pub array : Head → Result ℕ BundleFault
 array head = of_major WrongKind 4 head
 
@@ -62,6 +64,7 @@ primary_block head = do
   count ← array head
   wanted (nat_le 8 count && nat_le count 11) count BadCount
 
+-- the version of a bundle, which has to be 7 (section 4.3.1)
 unfoldable pub version : Head → Result ℕ BundleFault
 version head = do
   number ← unsigned head
@@ -78,6 +81,7 @@ kind_of_type number =
     (if number == 1 then Ok (Some Crc16) else
     (if number == 2 then Ok (Some Crc32) else Err BadCheckType))
 
+-- the check type that a head has the number of
 unfoldable pub check_type : Head → Result (Option CheckKind) BundleFault
 check_type head = do
   number ← unsigned head
@@ -100,7 +104,8 @@ scheme head = do
   number ← unsigned head
   if number == 1 then Ok Dtn else (if number == 2 then Ok Ipn else Err BadScheme)
 
--- the specific part of scheme dtn: the length of its name in bytes, or `None` for dtn:none
+-- the specific part of scheme dtn, by its major type and its value: the length of its name in
+-- bytes, or `None` for dtn:none, which is the number 0
 abbrev pub dtn_by : ℕ → Option ℕ → Result (Option ℕ) BundleFault
 dtn_by major None = Err BadSpecificPart
 dtn_by major (Some value) =
@@ -110,7 +115,7 @@ dtn_by major (Some value) =
 unfoldable pub dtn_part : Head → Result (Option ℕ) BundleFault
 dtn_part head = dtn_by head.major head.value
 
--- the specific part of scheme ipn: an array of two or three numbers
+-- the number of elements of the specific part of scheme ipn: an array of two or three numbers
 abbrev pub ipn_count : Result ℕ BundleFault → Result ℕ BundleFault
 ipn_count (Ok count) = wanted ((count == 2) || (count == 3)) count BadCount
 ipn_count (Err fault) = Err BadSpecificPart
@@ -118,8 +123,8 @@ ipn_count (Err fault) = Err BadSpecificPart
 unfoldable pub ipn_part : Head → Result ℕ BundleFault
 ipn_part head = ipn_count (array head)
 
--- The array of a canonical block (section 4.3.2), while the payload block is still to come. It has
--- five elements, and one more with a check field.
+-- The number of elements of a canonical block's array (section 4.3.2): five, and one more with a
+-- check field. The payload block is still to come, so the break is a fault.
 unfoldable pub block : Head → Result ℕ BundleFault
 block head =
     if is_break head then Err NoPayloadLast else do
@@ -155,12 +160,12 @@ abbrev pub check_width : CheckKind → ℕ
 check_width Crc16 = 2
 check_width Crc32 = 4
 
--- a check value is a byte string of this length (section 4.2.2)
+-- the length of a check value, which is a byte string as long as this kind asks (section 4.2.2)
 unfoldable pub check_field : CheckKind → Head → Result ℕ BundleFault
 check_field kind head = do
   count ← of_major WrongCheckKind 2 head
   wanted (count == check_width kind) count BadCheckLength
 
--- the break that closes the bundle, after the payload block; `true` has no meaning
+-- `true` for the break that closes the bundle, after the payload block, and else a fault
 unfoldable pub closing : Head → Result Bool BundleFault
 closing head = wanted (is_break head) true NoPayloadLast

@@ -31,6 +31,7 @@ judged_bundle_rules bundle =
 unfoldable pub broken_bundle_rules : ReadBundle → List BundleRule
 broken_bundle_rules bundle = filter_map (λ judged. judged) (judged_bundle_rules bundle)
 
+-- the name under which `check` reports a rule
 unfoldable pub bundle_name_of : BundleRule → List ℕ
 bundle_name_of (rule.LongHead byte level) = codes "long-head"
 bundle_name_of (rule.BundleFlags flags) = codes "bundle-flags"
@@ -69,6 +70,7 @@ bundle_name_of (rule.ConfidentialFlags block flags) = codes "confidential-flags"
 bundle_name_of (rule.ConfidentialContext block) = codes "confidential-context"
 bundle_name_of (rule.SharedTarget block target) = codes "shared-target"
 
+-- how strictly a rule is meant
 unfoldable pub bundle_level_of : BundleRule → Level
 bundle_level_of (rule.LongHead byte level) = level
 bundle_level_of (rule.BundleFlags flags) = Should

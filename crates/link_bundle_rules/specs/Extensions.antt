@@ -35,6 +35,7 @@ abbrev pub node_rule : (number : ℕ) → DataFacts → Option BundleRule
 node_rule number (PreviousNode node) = option_map (λ level. rule.PreviousNodeId number level) node.level
 node_rule number _ = None
 
+-- the rule that a block breaks by a node that is forbidden; `None` for a block of another type
 abbrev pub if_no_node_id : BlockFacts → Option BundleRule
 if_no_node_id read = node_rule read.number read.data
 
@@ -51,6 +52,7 @@ age_rule lifetime (BundleAge age) =
     if nat_lt lifetime age then Some (rule.Expired lifetime age) else None
 age_rule lifetime _ = None
 
+-- the rule that a block breaks by an age above the lifetime; `None` for a block of another type
 abbrev pub if_expired : (lifetime : ℕ) → BlockFacts → Option BundleRule
 if_expired lifetime read = age_rule lifetime read.data
 
@@ -67,6 +69,7 @@ abbrev pub hops_in : DataFacts → Option Hops
 hops_in (HopCount limit count) = Some (record { limit = limit; count = count })
 hops_in _ = None
 
+-- what a hop count block says; `None` for a block of another type, or with malformed data
 abbrev pub hops_of : BlockFacts → Option Hops
 hops_of read = hops_in read.data
 
@@ -89,7 +92,7 @@ hop_count bundle =
     then Some (rule.HopCount blocks (option_map (λ hops. hops.limit) first))
     else None
 
--- the rule that a hop count above its hop limit breaks
+-- the rule that is broken if the hop count is above the hop limit, and else `None`
 abbrev pub if_exceeded : Hops → Option BundleRule
 if_exceeded hops =
     if nat_lt hops.limit hops.count then Some (rule.Hops hops.limit hops.count) else None
@@ -100,7 +103,8 @@ hops bundle = option_and_then if_exceeded (first_hops bundle)
 
 -- ---- block types
 
--- whether a block type is reserved: 0, of protocol version 6 alone (section 9.1), or above 255
+-- whether a block type is reserved: 0, a type that only version 6 of the protocol has (2 to 5, 8
+-- and 9, section 9.1), or a type above 255
 abbrev pub is_reserved : (type : ℕ) → Bool
 is_reserved type =
     (type == 0) || ((nat_le 2 type && nat_le type 5)
@@ -137,7 +141,7 @@ if_malformed_extension bundle read =
 
 -- block-data: the data of previous node, bundle age, hop count and security blocks is well formed
 -- (sections 4.4.1, 4.4.2 and 4.4.3, RFC 9172 section 3.6), as far as it is read. The first block
--- with other data counts.
+-- with malformed data counts.
 unfoldable pub block_data : ReadBundle → Option BundleRule
 block_data bundle = find_map (if_malformed_extension bundle) bundle.blocks
 
@@ -146,8 +150,8 @@ abbrev pub unread_rule : (number : ℕ) → DataFacts → Option BundleRule
 unread_rule number (NotRead byte) = Some (rule.DataNotRead number byte)
 unread_rule number _ = None
 
--- the rule that a block breaks by such data, if the data cannot be ciphertext; the payload can
--- break it too, as an administrative record
+-- the rule that a block breaks by data that exceeds a limit of this toolkit, if the data cannot be
+-- ciphertext; the payload can break it too, as an administrative record
 abbrev pub if_unread : ReadBundle → BlockFacts → Option BundleRule
 if_unread bundle read =
     if (has_read_data read || is_of_type block.payload read)
@@ -155,7 +159,8 @@ if_unread bundle read =
     then unread_rule read.number read.data
     else None
 
--- data-not-read: this toolkit reads data of extension and security blocks, and records. RFC 9171
--- permits data that exceeds its limits (section 4.1). The first block with such data counts.
+-- data-not-read: the data of extension and security blocks, and an administrative record, exceed no
+-- limit of this toolkit. RFC 9171 permits data that does (section 4.1). The first block with such
+-- data counts.
 unfoldable pub data_not_read : ReadBundle → Option BundleRule
 data_not_read bundle = find_map (if_unread bundle) bundle.blocks

@@ -21,8 +21,8 @@ no_fragments = 0x000004
 abbrev pub report_requests : ℕ
 report_requests = 0x074000
 
--- all flags that are defined: these, the flag of a fragment, and those that request an
--- acknowledgement by the application, and times in status reports
+-- all flags that are defined: those above, the flag of a fragment (0x01), and those that request an
+-- acknowledgement by the application (0x20) and times in status reports (0x40)
 abbrev pub bundle_flags_defined : ℕ
 bundle_flags_defined = 0x074067
 
@@ -32,8 +32,8 @@ bundle_flags_defined = 0x074067
 abbrev pub block_report : ℕ
 block_report = 0x02
 
--- all flags that are defined: this one, those that copy the block into every fragment, and that
--- delete the bundle or discard the block if the block cannot be processed
+-- All flags that are defined: the one above, and the flag that copies the block into every fragment
+-- (0x01). If the block cannot be processed, 0x04 deletes the bundle, and 0x10 discards the block.
 abbrev pub block_flags_defined : ℕ
 block_flags_defined = 0x17
 
@@ -74,7 +74,7 @@ record_reports bundle =
 abbrev pub forbids_reports : PrimaryFacts → Bool
 forbids_reports primary = is_set record_flag primary.flags || primary.is_anonymous
 
--- the rule that a block breaks if it requests a status report, in a bundle that forbids it
+-- the rule that a block breaks if it requests a status report; only for a bundle that forbids this
 abbrev pub if_reporting : BlockFacts → Option BundleRule
 if_reporting block =
     if is_set block_report block.flags then Some (rule.BlockReports block.number) else None

@@ -8,8 +8,9 @@ use Rattle.link_bundle_rules.specs.ReadBundle.{ReadBundle, is_later}
 use Rattle.link_bundle_rules.specs.declared.rule.BundleRule.{BundleRule}
 use Rattle.link_bundle_rules.specs.declared.rule.BundleRule.TheVariants.{Fragment, WholeFragment}
 
--- The level of a rule that asks for a block or a check. The node that fragments a bundle copies the
--- blocks into the first fragment, and into the others only if a flag asks for it (section 5.8).
+-- The level of a rule that asks for a block or a check: `Should` in a later fragment, and else
+-- `Must`. The node that fragments a bundle copies the blocks into the first fragment, and into the
+-- others only if a flag asks for it (section 5.8).
 abbrev pub level_in : ReadBundle → Level
 level_in bundle = if is_later bundle.primary.fragment then Should else Must
 

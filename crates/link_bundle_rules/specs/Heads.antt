@@ -8,7 +8,7 @@ use Rattle.link_bundle_rules.specs.declared.block.BlockFacts.{BlockFacts}
 use Rattle.link_bundle_rules.specs.declared.rule.BundleRule.{BundleRule}
 use Rattle.link_bundle_rules.specs.declared.rule.BundleRule.TheVariants.{LongHead}
 
--- the lesser of two offsets, or the only one
+-- the lesser of two offsets, or the only one, or `None`
 abbrev pub least : (one other : Option ℕ) → Option ℕ
 least None other = other
 least one None = one
@@ -24,7 +24,7 @@ abbrev pub data_head : (BlockFacts → Bool) → ReadBundle → Option ℕ
 data_head test bundle =
     find_map (λ read. if test read then readable_head bundle read else None) bundle.blocks
 
--- the rule of a long head at this offset, if there is one
+-- the rule that a long head at this offset breaks; `None` without a long head
 abbrev pub of_level : Level → Option ℕ → Option BundleRule
 of_level level byte = option_map (λ byte. LongHead byte level) byte
 

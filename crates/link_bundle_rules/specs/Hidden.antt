@@ -5,7 +5,7 @@ use Rattle.link_bundle_rules.specs.ReadBundle.{ReadBundle, block_confidentiality
 use Rattle.link_bundle_rules.specs.declared.block.BlockFacts.{BlockFacts}
 use Rattle.link_bundle_rules.specs.declared.security.SecurityFacts.{SecurityFacts}
 
--- whether the targets of a security block are all known
+-- whether the targets of a security block are all known: only the first 64 are kept
 abbrev pub has_known_targets : SecurityFacts → Bool
 has_known_targets block = not block.is_malformed && not (nat_lt 64 block.count)
 

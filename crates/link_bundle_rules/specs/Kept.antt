@@ -39,7 +39,7 @@ is_plain_primary primary =
     && (not (has_other_flags bundle_flags_defined primary.flags)
     && not (is_set record_flag primary.flags && requests_reports primary.flags))))))
 
--- the numbers of blocks of the types that may occur once
+-- how many blocks there are of each type of which a bundle has at most one
 abbrev pub counts_of : List BlockFacts → Counts
 counts_of blocks = record {
   previous_nodes = count_of_type block.previous_node blocks;
@@ -47,7 +47,8 @@ counts_of blocks = record {
   hop_counts = count_of_type block.hop_count blocks;
 }
 
--- whether the numbers of these blocks break no rule; with creation time 0, a bundle needs its age
+-- Whether no rule is broken by how many previous node, hop count and bundle age blocks there are:
+-- at most one of each. If the creation time is 0, there has to be a bundle age block.
 abbrev pub has_plain_counts : ReadBundle → Bool
 has_plain_counts bundle =
     let ages = count_of_type block.bundle_age bundle.blocks in

@@ -30,32 +30,39 @@ pub record ReadBundle : Type 0 where
 
 -- ---- block types (RFC 9171 sections 4.3.2 and 4.4, RFC 9172 section 3)
 
+-- the type code of the payload block
 abbrev pub payload : ℕ
 payload = 1
 
+-- the type code of a previous node block
 abbrev pub previous_node : ℕ
 previous_node = 6
 
+-- the type code of a bundle age block
 abbrev pub bundle_age : ℕ
 bundle_age = 7
 
+-- the type code of a hop count block
 abbrev pub hop_count : ℕ
 hop_count = 10
 
+-- the type code of a block integrity block
 abbrev pub block_integrity : ℕ
 block_integrity = 11
 
+-- the type code of a block confidentiality block
 abbrev pub block_confidentiality : ℕ
 block_confidentiality = 12
 
 abbrev pub is_of_type : (type : ℕ) → BlockFacts → Bool
 is_of_type type block = block.block_type == type
 
--- a previous node, bundle age or hop count block
+-- whether a block is a previous node, bundle age or hop count block
 abbrev pub is_extension : BlockFacts → Bool
 is_extension block =
     is_of_type previous_node block || (is_of_type bundle_age block || is_of_type hop_count block)
 
+-- whether a block of this type is a security block
 abbrev pub is_security : (type : ℕ) → Bool
 is_security type = (type == block_integrity) || (type == block_confidentiality)
 
@@ -77,6 +84,7 @@ abbrev pub is_none_eid : Eid → Bool
 is_none_eid eid.DtnNone = true
 is_none_eid _ = false
 
+-- what the rules need of a primary block with this check
 abbrev pub primary_facts : Primary → Option CheckKind → PrimaryFacts
 primary_facts primary check = record {
   flags = primary.flags;
@@ -96,8 +104,8 @@ is_later (Some (offset, total)) = nat_lt 0 offset
 
 -- ---- a canonical block
 
--- Why the data of a block is malformed; it begins at offset `data_start` of the bundle. If a limit
--- of this toolkit is the reason, RFC 9171 may permit the data.
+-- Why the data of a block is malformed. The data begins at offset `data_start` of the bundle.
+-- RFC 9171 may permit data that exceeds a limit of this toolkit, which is `NotRead`.
 abbrev pub fault_facts : (data_start : ℕ) → DataFault → DataFacts
 fault_facts data_start fault =
     if fault.is_limit
@@ -119,6 +127,7 @@ report_facts report source = record {
   has_bad_source = has_bad_name source;
 }
 
+-- what the rules need of well-formed data
 abbrev pub said_facts : BlockData → DataFacts
 said_facts (PreviousNode node) = facts.PreviousNode (node_facts node)
 said_facts (BundleAge age) = facts.BundleAge age
@@ -127,18 +136,19 @@ said_facts (Security block targets source) = facts.Security (has_bad_name source
 said_facts (StatusReport report source) = facts.StatusReport (report_facts report source)
 said_facts (OtherRecord type) = facts.OtherRecord type
 
--- What the rules need of the data of a block, if data of its type is read. The payload is read if
--- it is an administrative record and the bundle is no fragment.
+-- What the rules need of the data of a block; `None` is data of a type that is not read. The
+-- payload is read if it is an administrative record and the bundle is no fragment.
 abbrev pub data_facts : (data_start : ℕ) → Option (Result BlockData DataFault) → DataFacts
 data_facts data_start (Some (Ok said)) = said_facts said
 data_facts data_start (Some (Err fault)) = fault_facts data_start fault
 data_facts data_start None = facts.Nothing
 
--- The offset in the bundle of the first head in the data of a block that is longer than its number
--- needs, by its offset in the data.
+-- The offset in the bundle of the first long head in the data of a block. `long_head` is the offset
+-- of the same head in the data.
 abbrev pub long_head_at : CanonicalBlock → (long_head : Option ℕ) → Option ℕ
 long_head_at block long_head = option_map (λ offset. block.data_start + offset) long_head
 
+-- what the rules need of a block; `found` and `long_head` are of its data
 abbrev pub block_facts : CanonicalBlock → Option (Result BlockData DataFault)
     → (long_head : Option ℕ) → BlockFacts
 block_facts block found long_head = record {
@@ -177,6 +187,7 @@ security_facts read _ = record {
   context_flags = 0;
 }
 
+-- what the rules need of a security block, as a list; `[]` for any other block
 abbrev pub if_security : CanonicalBlock → Option (Result BlockData DataFault) → List SecurityFacts
 if_security block found =
     if is_security block.block_type then security_facts block found ∷ [] else []

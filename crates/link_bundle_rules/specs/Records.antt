@@ -9,7 +9,8 @@ use Rattle.link_bundle_rules.specs.declared.block.DataFacts.TheVariants.{StatusR
 use Rattle.link_bundle_rules.specs.declared.rule.BundleRule.{BundleRule}
 use Rattle.link_bundle_rules.specs.declared.rule.BundleRule.TheVariants as rule
 
--- the payload block, unless its data may be ciphertext
+-- The payload block, unless its data may be ciphertext. The data of a payload is read only if it is
+-- an administrative record.
 abbrev pub record_of : ReadBundle → Option BlockFacts
 record_of bundle = first_readable payload bundle
 
@@ -44,6 +45,7 @@ report_in _ = None
 unfoldable pub report_of : ReadBundle → Option ReportFacts
 report_of bundle = option_and_then (λ read. report_in read.data) (record_of bundle)
 
+-- the rule that a status report breaks if only some of its asserted statuses have a time
 abbrev pub if_mixed_times : ReportFacts → Option BundleRule
 if_mixed_times report =
     if report.timed && report.untimed then Some rule.ReportTimes else None
@@ -53,6 +55,7 @@ if_mixed_times report =
 unfoldable pub report_times : ReadBundle → Option BundleRule
 report_times bundle = option_and_then if_mixed_times (report_of bundle)
 
+-- the rule that a status report breaks if it asserts no status
 abbrev pub if_empty : ReportFacts → Option BundleRule
 if_empty report =
     if not report.timed && not report.untimed then Some rule.ReportEmpty else None
@@ -61,6 +64,7 @@ if_empty report =
 unfoldable pub report_empty : ReadBundle → Option BundleRule
 report_empty bundle = option_and_then if_empty (report_of bundle)
 
+-- the rule that a status report breaks by a reason above 16
 abbrev pub if_other_reason : ReportFacts → Option BundleRule
 if_other_reason report =
     if nat_lt 16 report.reason then Some (rule.ReportReason report.reason) else None
@@ -69,6 +73,7 @@ if_other_reason report =
 unfoldable pub report_reason : ReadBundle → Option BundleRule
 report_reason bundle = option_and_then if_other_reason (report_of bundle)
 
+-- the rule that a status report breaks if it is about a bundle without a source
 abbrev pub if_no_source : ReportFacts → Option BundleRule
 if_no_source report = if report.has_no_source then Some rule.ReportSource else None
 

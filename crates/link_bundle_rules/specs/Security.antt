@@ -26,6 +26,7 @@ primary_check bundle =
     then None
     else Some (PrimaryCheck (level_in bundle))
 
+-- the rule that a block confidentiality block breaks by having the primary block as a target
 abbrev pub if_confidential_primary : SecurityFacts → Option BundleRule
 if_confidential_primary block =
     if (block.block_type == block_confidentiality) && block.targets_primary
@@ -39,10 +40,12 @@ confidential_primary bundle = find_map if_confidential_primary bundle.security
 
 -- ---- flags and contexts of security blocks that count
 
--- security context parameters are present (RFC 9172 section 3.6)
+-- the only flag of a security context that is defined: its parameters are present (RFC 9172 section
+-- 3.6)
 abbrev pub context_flags_defined : ℕ
 context_flags_defined = 0x01
 
+-- the rule that a security block breaks by a flag of its context that is not defined
 abbrev pub if_other_context_flags : SecurityFacts → Option BundleRule
 if_other_context_flags block =
     if has_other_flags context_flags_defined block.context_flags
@@ -53,6 +56,7 @@ if_other_context_flags block =
 unfoldable pub security_flags : ReadBundle → Option BundleRule
 security_flags bundle = first_counted bundle if_other_context_flags
 
+-- the rule that a security block breaks by a context whose ID is reserved: 0 or negative
 abbrev pub if_reserved_context : SecurityFacts → Option BundleRule
 if_reserved_context block =
     if block.context.negative || (block.context.argument == 0)
@@ -72,12 +76,14 @@ copied = 0x01
 abbrev pub discarded : ℕ
 discarded = 0x10
 
--- whether the flags permit to discard a block, or to leave it out of a fragment that it encrypts
+-- whether the flags of a block permit to discard it, or to leave it out of a fragment although it
+-- encrypts the payload, which has number 1
 abbrev pub may_be_lost : SecurityFacts → Bool
 may_be_lost block =
     is_set discarded block.flags
     || (has_target 1 block && not (is_set copied block.flags))
 
+-- the rule that a block confidentiality block breaks by its flags
 abbrev pub if_may_be_lost : SecurityFacts → Option BundleRule
 if_may_be_lost block =
     if is_confidentiality block && may_be_lost block
@@ -93,6 +99,7 @@ confidential_flags bundle = first_counted bundle if_may_be_lost
 abbrev pub hmac_sha2 : ℕ
 hmac_sha2 = 1
 
+-- the rule that a block confidentiality block breaks by a context without a cipher
 abbrev pub if_no_cipher : SecurityFacts → Option BundleRule
 if_no_cipher block =
     if is_confidentiality block

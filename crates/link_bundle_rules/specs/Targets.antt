@@ -32,7 +32,7 @@ if_counted bundle judge block = if counts bundle block then judge block else Non
 abbrev pub first_counted : {A : Type 0} → ReadBundle → (SecurityFacts → Option A) → Option A
 first_counted bundle judge = find_map (if_counted bundle judge) bundle.security
 
--- the number of a block, and its first target of which a test holds
+-- the number of a block and its first target of which a test holds; `None` without such a target
 abbrev pub first_target : (SecurityFacts → ℕ → Bool) → SecurityFacts → Option (ℕ × ℕ)
 first_target test block =
     find_map (λ target. then_some (test block target) (block.number, target)) block.targets.items
@@ -48,7 +48,7 @@ is_target_of bundle type target block =
 
 -- ---- security-targets
 
--- the first of these targets that also comes earlier, in `before` or among these
+-- the first of `targets` that is also in `before`, or earlier in `targets`
 abbrev pub first_repeated : (before targets : List ℕ) → Option ℕ
 first_repeated before [] = None
 first_repeated before (target ∷ more) =
@@ -56,7 +56,8 @@ first_repeated before (target ∷ more) =
     then Some target
     else first_repeated (before ++ target ∷ []) more
 
--- the rule that a block breaks without a target (`None`), or by naming one twice
+-- the rule that a block breaks if it has no target, or names one twice; in the rule, `None` stands
+-- for no target
 abbrev pub if_bad_targets : SecurityFacts → Option BundleRule
 if_bad_targets block =
     if block.count == 0
@@ -69,7 +70,8 @@ abbrev pub is_missing : ReadBundle → (target : ℕ) → Bool
 is_missing bundle target =
     not (target == 0) && not (list_any (λ read. read.number == target) bundle.blocks)
 
--- the rule of targets that are no blocks of the bundle; a fragment may lack blocks
+-- the rule that a security block breaks by a target that is no block of the bundle; a fragment may
+-- lack blocks, and never breaks it
 abbrev pub missing_target : ReadBundle → Option BundleRule
 missing_target bundle =
     if is_none bundle.primary.fragment
@@ -85,7 +87,7 @@ security_targets bundle = option_or (first_counted bundle if_bad_targets) (missi
 
 -- ---- targets that two blocks have
 
--- the number of the first block of a type that has this target
+-- the number of the first block of a type that has this target, and counts
 abbrev pub first_with : ReadBundle → (type target : ℕ) → Option ℕ
 first_with bundle type target =
     find_map (λ block. then_some (is_target_of bundle type target block) block.number)
@@ -112,6 +114,7 @@ abbrev pub is_confidential : ReadBundle → (target : ℕ) → Bool
 is_confidential bundle target =
     list_any (is_target_of bundle block_confidentiality target) bundle.security
 
+-- whether `block` is a block integrity block, and a block confidentiality block has its target too
 abbrev pub is_shared : ReadBundle → SecurityFacts → (target : ℕ) → Bool
 is_shared bundle block target = is_integrity block && is_confidential bundle target
 
@@ -150,6 +153,7 @@ confidential_target bundle =
 
 -- ---- what a rule asks of a target
 
+-- whether the target of a block is as a rule asks
 abbrev pub is_asked : Asked → ReadBundle → SecurityFacts → (target : ℕ) → Bool
 is_asked asked.Missing bundle block target = is_missing bundle target
 is_asked asked.Taken bundle block target = is_taken bundle block target

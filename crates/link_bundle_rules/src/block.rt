@@ -76,7 +76,7 @@ pub(crate) struct ReportFacts {
 }
 
 impl ReportFacts {
-    /// What the rules need of this status report, about a bundle with this source.
+    /// What the rules need of this status report. It is about a bundle with this source.
     fn of(report: &Report, source: &EidView<'_>) -> ReportFacts
         ensures { result ≡ report_facts report.now (viewed_eid source.now) }
     {
@@ -125,7 +125,7 @@ pub(crate) struct BlockFacts {
     pub(crate) long_head: Option<u64>,
 }
 
-/// Why the data of a block is malformed; it begins at offset `data_start` of the bundle.
+/// Why the data of a block is malformed. The data begins at offset `data_start` of the bundle.
 fn fault_facts(data_start: u64, fault: DataFault) -> DataFacts
     ensures { data_start + fault.offset < 2 ^ 64 → result ≡ fault_facts data_start fault }
 {
@@ -246,7 +246,7 @@ impl Counts {
     ghost use Rattle.std.specs.Prelude.{◌≡◌};
     ghost use Rattle.link_bundle_rules.specs.Kept.{counts_of};
 
-    /// Counts the blocks of these types.
+    /// Counts the previous node, bundle age and hop count blocks.
     pub(crate) fn of(blocks: &[BlockFacts]) -> Counts
         ensures { result ≡ counts_of blocks.now }
     {

@@ -51,7 +51,7 @@ impl Hops {
     }
 }
 
-/// The rule that a previous node block breaks by a node that is forbidden.
+/// The rule that a block breaks by a node that is forbidden. `None` for a block of another type.
 fn if_no_node_id(block: &BlockFacts) -> Option<BundleRule>
     ensures { result ≡ if_no_node_id block.now }
 {
@@ -65,7 +65,7 @@ fn if_no_node_id(block: &BlockFacts) -> Option<BundleRule>
     })
 }
 
-/// The rule that a bundle age block breaks by an age above the lifetime.
+/// The rule that a block breaks by an age above the lifetime. `None` for a block of another type.
 fn if_expired(lifetime: u64, block: &BlockFacts) -> Option<BundleRule>
     ensures { result ≡ if_expired lifetime block.now }
 {
@@ -75,7 +75,8 @@ fn if_expired(lifetime: u64, block: &BlockFacts) -> Option<BundleRule>
     }
 }
 
-/// Whether a block type is reserved: 0, of version 6 of the protocol alone, or above 255.
+/// Whether a block type is reserved: 0, a type that only version 6 of the protocol has, or a type
+/// above 255.
 fn is_reserved(block_type: u64) -> bool
     ensures { result ≡ is_reserved block_type }
 {
@@ -180,7 +181,7 @@ impl BundleHistory {
         (blocks > 1).then_some(BundleRule::PreviousNode { blocks })
     }
 
-    /// The rule of the node of the first previous node block, if it is broken.
+    /// The rule that the first previous node block has a node ID, if the rule is broken.
     #[tactic(auto, unfolding(crate::specs::Extensions::previous_node_id))]
     pub(crate) fn previous_node_id(&self) -> Option<BundleRule>
         ensures { (long_head : Option ℕ) (payload_length : ℕ)
@@ -189,7 +190,7 @@ impl BundleHistory {
         if_no_node_id(&self.first_readable(PREVIOUS_NODE)?)
     }
 
-    /// The rule of the age of the first bundle age block, if it is broken.
+    /// The rule that the age is not above the lifetime, if the first bundle age block breaks it.
     #[tactic(auto, unfolding(crate::specs::Extensions::expired))]
     pub(crate) fn expired(&self) -> Option<BundleRule>
         ensures { (long_head : Option ℕ) (payload_length : ℕ)
@@ -228,7 +229,7 @@ impl BundleHistory {
         is_wrong.then_some(BundleRule::HopCount { blocks, limit })
     }
 
-    /// The rule of the first hop count, if it is broken.
+    /// The rule that the first hop count is within its hop limit, if the rule is broken.
     ///
     /// `plain` is whether all blocks are plain. Plain blocks do not break the rule, so then none is
     /// looked at.

@@ -20,7 +20,7 @@ fn least(one: Option<u64>, other: Option<u64>) -> Option<u64>
     }
 }
 
-/// The rule of a long head at this offset, if there is one.
+/// The rule that a long head at this offset breaks. `None` without a long head.
 fn of_level(level: Level, byte: Option<u64>) -> Option<BundleRule>
     ensures { result ≡ of_level level byte }
 {

@@ -20,7 +20,8 @@ const RULES: usize = 36;
 /// The rules that a bundle breaks, in order.
 pub type BrokenBundleRules = ArrayVec<BundleRule, RULES>;
 
-/// The first `Some` that `find` returns, in order. `found` is `find` as the definitions have it.
+/// The first `Some` that `find` returns for the elements, in order. In the contract, `found` is the
+/// function that the definitions have for `find`.
 pub(crate) fn first_found<T, U, F: Fn(&T) -> Option<U>>(elements: &[T], find: F) -> Option<U>
     requires { F.IsAlwaysCallable find }
     ensures { (found : T → Option U)

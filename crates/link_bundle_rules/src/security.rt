@@ -60,7 +60,7 @@ pub(crate) fn has_number(number: u64, numbers: &[u64]) -> bool
     numbers.iter().any(|&other| other == number)
 }
 
-/// The first targets of a security block.
+/// The first 64 of these targets.
 fn kept_targets(targets: &[u64]) -> ArrayVec<u64, TARGETS_KEPT>
     ensures { result.items ≡ take 64 targets.now }
 {
@@ -111,14 +111,14 @@ impl SecurityFacts {
         }
     }
 
-    /// Whether its targets are all known.
+    /// Whether the targets of this security block are all known: only the first 64 are kept.
     fn has_known_targets(&self) -> bool
         ensures { result ≡ has_known_targets self.now }
     {
         !self.is_malformed && self.count <= TARGETS_KEPT as u64
     }
 
-    /// Whether the block with this number is among its targets.
+    /// Whether the block with this number is among the first 64 targets.
     pub(crate) fn has_target(&self, number: u64) -> bool
         ensures { result ≡ has_target number self.now }
     {
@@ -137,7 +137,7 @@ impl SecurityFacts {
         self.block_type == BLOCK_CONFIDENTIALITY
     }
 
-    /// Whether the block with this number is, or may be, one that it encrypts.
+    /// Whether this security block encrypts, or may encrypt, the block with this number.
     pub(crate) fn may_hide(&self, number: u64) -> bool
         ensures { result ≡ may_hide number self.now }
     {
@@ -145,7 +145,7 @@ impl SecurityFacts {
             && (!self.has_known_targets() || self.has_target(number))
     }
 
-    /// Whether it is a block integrity block that may have the primary block as a target.
+    /// Whether this is a block integrity block that may have the primary block as a target.
     pub(crate) fn may_protect_primary(&self, history: &BundleHistory) -> bool
         ensures { result ≡ may_protect_primary (bundle_of history.now None 0) self.now }
     {
@@ -163,7 +163,7 @@ impl SecurityFacts {
         is_wrong.then_some(BundleRule::ConfidentialPrimary { block: self.number })
     }
 
-    /// The rule that it breaks by a flag of its context that is not defined.
+    /// The rule that this block breaks by a flag of its context that is not defined.
     pub(crate) fn if_other_context_flags(&self) -> Option<BundleRule>
         ensures { result ≡ if_other_context_flags self.now }
     {
@@ -174,7 +174,7 @@ impl SecurityFacts {
         })
     }
 
-    /// The rule that it breaks by a context that is reserved.
+    /// The rule that this block breaks by a context whose ID is reserved: 0 or negative.
     pub(crate) fn if_reserved_context(&self) -> Option<BundleRule>
         ensures { result ≡ if_reserved_context self.now }
     {
@@ -186,7 +186,8 @@ impl SecurityFacts {
         })
     }
 
-    /// Whether its flags permit to discard it, or to leave it out of a fragment that it encrypts.
+    /// Whether the flags permit to discard this block, or to leave it out of a fragment although it
+    /// encrypts the payload.
     fn may_be_lost(&self) -> bool
         ensures { result ≡ may_be_lost self.now }
     {

@@ -22,7 +22,8 @@ fn first_repeated(targets: &[u64]) -> Option<u64>
     None
 }
 
-/// The rule that a security block breaks without a target (`None`), or by naming one twice.
+/// The rule that a security block breaks if it has no target, or names one twice. In the rule,
+/// `None` stands for no target.
 fn if_bad_targets(block: &SecurityFacts) -> Option<BundleRule>
     ensures { result ≡ if_bad_targets block.now }
 {
@@ -144,7 +145,7 @@ impl BundleHistory {
         security.iter().any(|other| other.number == number && other.is_confidentiality())
     }
 
-    /// Whether a target is as a rule asks.
+    /// Whether the target of a block is as a rule asks.
     fn is_asked(&self, asked: Asked, block: &SecurityFacts, target: u64) -> bool
         ensures { result ≡ is_asked asked (bundle_of self.now None 0) block.now target }
     {
@@ -157,7 +158,8 @@ impl BundleHistory {
         }
     }
 
-    /// The number of a block, and its first target that is as a rule asks, if the block counts.
+    /// The number of a block and its first target that is as a rule asks. `None` without such a
+    /// target, or if the block does not count.
     fn first_target(&self, asked: Asked, block: &SecurityFacts) -> Option<(u64, u64)>
         ensures { result ≡ if_counted (bundle_of self.now None 0)
             (first_target (is_asked asked (bundle_of self.now None 0))) block.now }
@@ -173,7 +175,8 @@ impl BundleHistory {
         )
     }
 
-    /// The first block that counts and has a target as a rule asks, and the first such target.
+    /// The number of the first block that counts and has a target as a rule asks, and the first
+    /// such target.
     fn first_asked(&self, asked: Asked) -> Option<(u64, u64)>
         ensures { result ≡ first_counted (bundle_of self.now None 0)
             (first_target (is_asked asked (bundle_of self.now None 0))) }

@@ -16,7 +16,8 @@ use Rattle.link_report_blocks.specs.Fields.{control_text, type_text, length_to}
 use Rattle.link_report_blocks.specs.Words.{words_text}
 
 -- The line of a primary block (RFC 9171 section 4.3.1) that ends before `end`, up to the source.
--- The rest of the line is another text.
+-- The block begins at offset 1, after the opening byte of its bundle. The rest of the line is
+-- another text. `id` is that of the transfer, or the number of the bundle.
 unfoldable pub primary_start_text : ℕ → Primary → Option CheckKind → ℕ → List ℕ
 primary_start_text id primary check end =
     decimal id ++ number_text (codes " primary at=1 length=") (end - 1)
@@ -30,6 +31,7 @@ primary_rest_text primary =
     ++ number_text (codes " sequence=") primary.sequence
     ++ number_text (codes " lifetime=") primary.lifetime ++ fragment_text primary.fragment ++ newline
 
+-- the whole line of a primary block
 unfoldable pub primary_text : ℕ → Primary → Option CheckKind → ℕ → List ℕ
 primary_text id primary check end =
     primary_start_text id primary check end ++ primary_rest_text primary

@@ -42,8 +42,8 @@ type_name type =
 unfoldable pub type_text : ℕ → List ℕ
 type_text type = number_text (codes " type=") type ++ codes "/" ++ type_name type
 
--- The length in bytes of a block that begins at `start` and ends before an offset. A block without
--- an end is not whole and has no line.
+-- The length in bytes of a block that begins at `start` and ends before the given offset. A block
+-- without an end is not whole and has no line.
 abbrev pub length_to : Option ℕ → ℕ → ℕ
 length_to (Some end) start = end - start
 length_to None start = 0

@@ -9,7 +9,8 @@ use Rattle.link_bundle_data.specs.declared.values.DataFault.{DataFault}
 use Rattle.link_bundle_data.specs.DataView.{HasShortName}
 use Rattle.link_report.specs.ShortNames.{IsShort-prop}
 
--- if data is read, its dtn name has at most 1,024 bytes, or the offset of its fault is below 2^64
+-- The words for the data of a block can be written. A dtn name in well-formed data has at most
+-- 1,024 bytes. The offset in the bundle at which malformed data fails is below 2^64.
 abbrev pub WordsFit : ℕ → Option (Result BlockData DataFault) → Type 0
 WordsFit data_start None = Unit {0}
 WordsFit data_start (Some (Ok found)) = HasShortName found

@@ -66,7 +66,7 @@ pub struct EndText<'a> {
     pub judgement: &'a JudgementView<'a>,
 }
 
-/// Writes the line of a primary block up to its source.
+/// Writes the line of a primary block up to its source, and returns the index after the text.
 #[tactic(auto, unfolding(crate::specs::Blocks::primary_start_text))]
 #[inline(never)]
 fn write_primary_start(page: &mut [u8], at: usize, id: u64, block: &PrimaryBlock<'_>) -> usize
@@ -91,7 +91,8 @@ fn write_primary_start(page: &mut [u8], at: usize, id: u64, block: &PrimaryBlock
     write_eid(page, at, &block.source)
 }
 
-/// Writes the line of a primary block from its report-to endpoint ID on.
+/// Writes the line of a primary block from its report-to endpoint ID on, and returns the index
+/// after the line.
 #[tactic(auto, unfolding(crate::specs::Blocks::primary_rest_text))]
 #[inline(never)]
 fn write_primary_rest(page: &mut [u8], at: usize, block: &PrimaryBlock<'_>) -> usize
@@ -111,7 +112,7 @@ fn write_primary_rest(page: &mut [u8], at: usize, block: &PrimaryBlock<'_>) -> u
     write_bytes(page, at, *b"\n")
 }
 
-/// Writes the fields of a canonical block.
+/// Writes the fields of a canonical block, and returns the index after them.
 #[tactic(auto, unfolding(crate::specs::Blocks::fields_text))]
 #[inline(always)]
 fn write_fields(page: &mut [u8], at: usize, block: &CanonicalBlock) -> usize
@@ -127,7 +128,7 @@ fn write_fields(page: &mut [u8], at: usize, block: &CanonicalBlock) -> usize
     write_number(page, at, *b" data-length=", block.data_length)
 }
 
-/// Writes the line of a canonical block.
+/// Writes the line of a canonical block, and returns the index after the line.
 #[tactic(auto, unfolding(crate::specs::Blocks::block_text))]
 #[inline(never)]
 fn write_block(page: &mut [u8], at: usize, line: &BlockText<'_>) -> usize
@@ -142,7 +143,8 @@ fn write_block(page: &mut [u8], at: usize, line: &BlockText<'_>) -> usize
     write_bytes(page, at, *b"\n")
 }
 
-/// Writes the line of the end of a transfer or of a good bundle.
+/// Writes the line of the end of a transfer or of a good bundle, and returns the index after the
+/// line.
 #[tactic(auto, unfolding(crate::specs::Blocks::end_text))]
 #[inline(never)]
 fn write_end(page: &mut [u8], at: usize, line: &EndText<'_>) -> usize

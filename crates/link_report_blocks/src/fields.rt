@@ -28,7 +28,7 @@ fn significant(bytes: &[u8]) -> &[u8]
     &bytes[first..]
 }
 
-/// Writes flags of more than one byte.
+/// Writes flags of more than one byte, as `write_flags` does.
 #[inline(never)]
 #[tactic(auto, unfolding(crate::specs::Fields::flags_text))]
 fn write_long_flags(page: &mut [u8], at: usize, flags: u64) -> usize
@@ -44,7 +44,7 @@ fn write_long_flags(page: &mut [u8], at: usize, flags: u64) -> usize
     end
 }
 
-/// Writes flags in pairs of hexadecimal digits, without a label, and returns the index after it.
+/// Writes flags in pairs of hexadecimal digits, without a label, and returns the index after them.
 #[inline(always)]
 pub fn write_flags(page: &mut [u8], at: usize, flags: u64) -> usize
     requires { at + 16 ≤ length page.old }
@@ -129,7 +129,8 @@ pub(crate) fn write_type(page: &mut [u8], at: usize, block_type: u64) -> usize
     }
 }
 
-/// The length of a block in bytes that begins at `start`, or 0 if it is not whole.
+/// The length in bytes of a block that begins at `start` and ends before `end`, or 0 if the block
+/// is not whole.
 #[inline(always)]
 pub(crate) fn length_to(end: Option<u64>, start: u64) -> u64
     ensures { result ≡ length_to end start }

@@ -1,5 +1,8 @@
 //! The words that end the line of a block: what its data says (RFC 9171 sections 4.4 and 6.1, RFC
 //! 9172 section 3.6).
+//!
+//! Each `write_` function writes a text into a page, from an index on, and returns the index after
+//! the text.
 
 ghost use Rattle.std.specs.Prelude.{◌≡◌, ◌+◌, ◌≤◌, ◌++◌, length, take, codes, decimal, option_map};
 ghost use Rattle.link_bundle_types.specs.EidView.{viewed_eid};
@@ -63,7 +66,7 @@ pub fn report_reason_name(reason: u64) -> &'static str
     }
 }
 
-/// Writes `number` + 1 in decimal.
+/// Writes `number` + 1 in decimal, also if the sum needs more than 64 bits.
 fn write_next(page: &mut [u8], at: usize, number: u64) -> usize
     requires { at + 20 ≤ length page.old }
     ensures text { take result page.new ≡ take at page.old ++ decimal (number + 1) }
@@ -103,7 +106,7 @@ fn write_context(page: &mut [u8], at: usize, block: &SecurityBlock) -> usize
     write_flags(page, at, block.flags)
 }
 
-/// Writes a label and a status.
+/// Writes a label and a status: `no`, `yes`, or the time at which it is asserted.
 #[tactic(auto, unfolding(crate::specs::Words::assertion_text))]
 fn write_assertion<const N: usize>(
     page: &mut [u8],
@@ -140,7 +143,8 @@ fn write_statuses(page: &mut [u8], at: usize, report: &Report) -> usize
     write_text(page, at, report_reason_name(report.reason))
 }
 
-/// Writes the offset and the length of the payload, if the bundle is a fragment, or else nothing.
+/// Writes the offset and the length of the fragment that a status report is about. For a report on
+/// a whole bundle, it writes nothing.
 #[tactic(auto, unfolding(crate::specs::Words::subject_fragment))]
 fn write_part(page: &mut [u8], at: usize, fragment: Option<(u64, u64)>) -> usize
     requires { at + PART_MAX ≤ length page.old }
@@ -157,7 +161,7 @@ fn write_part(page: &mut [u8], at: usize, fragment: Option<(u64, u64)>) -> usize
     }
 }
 
-/// Writes the bundle that a status report is about.
+/// Writes which bundle a status report is about: its source, its timestamp and its fragment.
 #[tactic(auto, unfolding(crate::specs::Words::subject_text))]
 fn write_subject(page: &mut [u8], at: usize, report: &Report, source: &EidView<'_>) -> usize
     requires short { IsShort (viewed_eid source.now) }

@@ -27,7 +27,7 @@ pub record IsTextOf (eid : Eid) (text : List ℕ) : Type 0 where
 abbrev pub IsNoText : List ℕ → Type 0
 IsNoText text = (eid : Eid) → IsPossibleEid eid → eid_text eid ≢ text
 
--- the endpoint ID of this form; only the form `Dtn` has the name
+-- the endpoint ID of this form; the name matters only for the form `Dtn`
 abbrev pub formed_eid : EidForm → (name : List ℕ) → Eid
 formed_eid form.DtnNone name = DtnNone
 formed_eid form.Dtn name = Dtn (record { items = name })

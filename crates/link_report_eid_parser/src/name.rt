@@ -16,7 +16,7 @@ fn is_plain(byte: u8) -> bool
     byte.is_ascii_graphic() && byte != b'\\'
 }
 
-/// The number of a lower-case hexadecimal digit.
+/// The number of a lower-case hexadecimal digit, or `None` for any other byte.
 #[tactic(auto, using(crate::proofs::Escapes::digits))]
 fn read_digit(digit: u8) -> Option<u8>
     ensures some { IfSome result (λ number. hex_digit number ≡ digit) }
@@ -30,7 +30,7 @@ fn read_digit(digit: u8) -> Option<u8>
     }
 }
 
-/// The byte that two lower-case hexadecimal digits show.
+/// The byte that two lower-case hexadecimal digits show, or `None` for other bytes.
 fn read_hex2(high: u8, low: u8) -> Option<u8>
     ensures some { IfSome result (λ byte. hex2 byte ≡ high ∷ low ∷ []) }
     ensures fits { IfSome result (λ byte. byte < 256) }
@@ -41,7 +41,8 @@ fn read_hex2(high: u8, low: u8) -> Option<u8>
     Some(16 * high + low)
 }
 
-/// The byte that a text begins with, and the text after it.
+/// The byte that an escaped text begins with, and the text after the byte. `None` if the text
+/// begins neither with a plain byte nor with the escape of another one.
 fn read_byte(text: &[u8]) -> Option<(u8, &[u8])>
     ensures some { IfSome result (λ read. text.now ≡ escaped_byte read.0 ++ read.1.now) }
     ensures fits { IfSome result (λ read. read.0 < 256) }

@@ -29,7 +29,8 @@ fn first_dot(text: &[u8]) -> Option<usize>
     text.iter().position(|byte| *byte == b'.')
 }
 
-/// The number before the first dot, and the text after it.
+/// The number before the first dot, and the text after the dot. `None` without a dot, or if the
+/// text before the dot is no number below 2^64.
 fn read_pair(text: &[u8]) -> Option<(u64, &[u8])>
     ensures some { IfSome result (λ read. decimal read.0 ++ 46 ∷ read.1.now ≡ text.now) }
     ensures fits { IfSome result (λ read. read.0 < 2 ^ 64) }
@@ -41,7 +42,7 @@ fn read_pair(text: &[u8]) -> Option<(u64, &[u8])>
     Some((first, &text[dot + 1..]))
 }
 
-/// The form of an ipn endpoint ID, by the text after `ipn:`.
+/// The form of an ipn endpoint ID, by the text after `ipn:`. `None` if no endpoint ID has the text.
 fn read_ipn(text: &[u8]) -> Option<EidForm>
     ensures some { IfSome result (λ form. IsTextOf (formed_eid form []) (codes "ipn:" ++ text.now)) }
     ensures none { IfNone result (IsNoText (codes "ipn:" ++ text.now)) }

@@ -20,9 +20,11 @@ pub record Keeping (S : Type 0) : Type 0 where
   pub next : S → WalkEvent → S
   -- what is said of an event, given what was kept of the events before it
   pub says : S → WalkEvent → Texts
+  -- whether everything is good so far, by what is kept
   pub good : S → Bool
 
 module _ {S : Type 0} (keeping : Keeping S) where
+  -- what is kept after these events, if the first argument was kept before them
   abbrev pub kept_after : S → List WalkEvent → S
   kept_after kept events = fold keeping.next kept events
 
@@ -32,6 +34,7 @@ module _ {S : Type 0} (keeping : Keeping S) where
   said_from kept (event ∷ more) =
       keeping.says kept event then said_from (keeping.next kept event) more
 
+  -- what is said of all events, if they come in this manner
   abbrev pub telling_of : Manner → Telling
   telling_of manner = record {
     manner = manner;

@@ -14,6 +14,7 @@ use Rattle.link_run_over_transfers.specs.declared.consumer.{Manner.Manner, Event
 use Rattle.link_run_over_transfers.specs.declared.consumer.EventView.TheVariants as view
 use Rattle.link_run_over_transfers.specs.declared.head.HeadView.{HeadView}
 
+-- the head that a view is of
 abbrev pub viewed_head : HeadView → Head
 viewed_head head = record {
   offset = head.offset;
@@ -48,7 +49,7 @@ pub record InnerComes (manner : Manner) (before : List WalkEvent) (head : Head) 
   pub opened : has_open before ≡ true
   pub few : data_size before + size < 2 ^ 63
 
--- data, and the end of its transfer if it is whole
+-- the events of some data, and of the end of its transfer if `whole`
 abbrev pub data_ends : List ℕ → (whole : Bool) → List WalkEvent
 data_ends bytes whole = data_events bytes ++ (if whole then Whole ∷ [] else [])
 
@@ -75,6 +76,7 @@ MayCome manner before (view.Data bytes whole) =
     (has_open before ≡ true) × (data_size before + length bytes.now < 2 ^ 63)
 MayCome manner before view.LeftOpen = has_open before ≡ true
 
+-- if this is the head of a segment, the total of each of its Transfer Length items was kept
 abbrev pub EventTotalsFit : EventView → Type 0
 EventTotalsFit (view.Head head) = SegmentTotalsFit head.message.now
 EventTotalsFit (view.Inner head bytes) = SegmentTotalsFit head.message.now

@@ -40,6 +40,7 @@ is_last (Some (turn.Begin abandoned last)) = last
 is_last (Some (turn.Continue last)) = last
 is_last _ = false
 
+-- whether the message begins a transfer
 abbrev pub is_beginning : Option Turn → Bool
 is_beginning (Some (turn.Begin abandoned last)) = true
 is_beginning _ = false
@@ -126,7 +127,7 @@ content_events (Some turn) size content =
     then Whole ∷ []
     else [])
 
--- a head that the walk takes, with the data that has come of it
+-- the walk after a head that it takes, with the data that has come of the message
 abbrev pub taken_with : Manner → Walked → Entry → Walked
 taken_with manner before entry =
     let head = head_at before.taken entry.offset entry.message in
@@ -138,7 +139,8 @@ taken_with manner before entry =
       refused = None;
     }
 
--- a head without a fault is taken; at one with a fault, the run ends or goes on
+-- The walk after one more head. A head without a fault is taken. At one with this fault, the run
+-- ends or goes on, as the manner says.
 abbrev pub with_judged : Option OrderFault → Manner → Walked → Entry → Walked
 with_judged None manner before entry = taken_with manner before entry
 with_judged (Some fault) manner before entry =
@@ -156,6 +158,7 @@ with_entry_unless (Some refused) manner before entry = before
 abbrev pub with_next : Manner → Walked → Entry → Walked
 with_next manner before entry = with_entry_unless before.refused manner before entry
 
+-- the event of a contact header, if that is whole
 abbrev pub contact_events : Option Contact → List WalkEvent
 contact_events None = []
 contact_events (Some contact) = ContactHeader contact ∷ []
@@ -164,10 +167,11 @@ contact_events (Some contact) = ContactHeader contact ∷ []
 abbrev pub none_walked : Option Contact → Walked
 none_walked contact = record { taken = []; events = contact_events contact; refused = None }
 
--- the events of the heads of a reading
+-- the events of a contact header and of the heads after it
 unfoldable pub walked_of : Manner → Option Contact → List Entry → Walked
 walked_of manner contact heads = fold (with_next manner) (none_walked contact) heads
 
+-- the events of a reading
 abbrev pub walked : Manner → Reading → Walked
 walked manner reading = walked_of manner reading.contact (heads_of reading)
 

@@ -33,13 +33,15 @@ use Rattle.link_run_over_transfers.specs.declared.walk.Walker.{Walker}
 
 -- ---- the stages
 
--- one number for the contact header, one for the head of a message, and one for a piece of data
+-- the number that is for the stage: one for the contact header, one for the head of a message, and
+-- one for a piece of data
 abbrev pub by_stage : (contact head piece : ℕ) → Stage → ℕ
 by_stage contact head piece stage.Contact = contact
 by_stage contact head piece stage.Message = head
 by_stage contact head piece _ = piece
 
--- the most bytes that a step is given, and at most `piece` bytes of data
+-- the most bytes that a step at this stage is given: the 6 bytes of a contact header (RFC 9174
+-- section 4.2), those of the longest head, or `piece` bytes of data
 abbrev pub most_by : (piece : ℕ) → Stage → ℕ
 most_by piece now = by_stage 6 longest_head piece now
 
@@ -150,6 +152,7 @@ module _ {R C : Type 0} (look : R → Seen) (telling : Telling) (knows : C → L
     pub at : IsWalkAtReading telling (knows consumer) now joiner (reading_of history)
     pub size : data_size (walked telling.manner (reading_of history)).events ≤ length history
 
+  -- the state of a walk at this stage that was given these bytes; at `Contact` they are none
   abbrev pub IsWalkAtStage : Stage → Joiner → C → Session R → (history : List ℕ) → Type 0
   IsWalkAtStage stage.Contact joiner consumer session history = IsNewWalk session joiner consumer
       history
@@ -168,6 +171,7 @@ pub record WalkState (R W E C : Type 0) : Type 0 where
   pub joiner : Joiner
   pub consumer : C
 
+-- the state of the walk before or after a call
 abbrev pub at : {R W E C : Type 0} → Input (Session R) W E → Writers W E → Walker C
     → WalkState R W E C
 at input writers walker = record {
@@ -177,6 +181,7 @@ at input writers walker = record {
   consumer = walker.consumer;
 }
 
+-- the place of the run in this state of the walk: its source and its writers
 abbrev pub place_at : {R W E C : Type 0} → WalkState R W E C → Place R W E
 place_at now = place_of (source_of (feed_of now.input)) now.writers
 
@@ -240,7 +245,7 @@ module _ {R W E C : Type 0} (look : Looks R W E) (start : Devices R W E) (tellin
 
 module _ {R W E C : Type 0} (look : Looks R W E) (telling : Telling)
     (knows : C → List WalkEvent → Type 0) where
-  -- the walk was given these bytes, and comes to the stage `now`
+  -- if the walk was given these bytes and is at the stage `now`, then `after` holds
   abbrev pub IfWalkAtStage : (start : Devices R W E) → (now : Stage) → WalkState R W E C
       → (history : List ℕ)
       → (after : Type 0) → Type 0
@@ -258,7 +263,7 @@ module _ {R W E C : Type 0} (look : Looks R W E) (telling : Telling)
       (feed_of old.input) history
       → SessionWaits look old.input new.input old.writers
 
-  -- a step at the stage `now`
+  -- what a step at the stage `now` does, which takes at most `piece` bytes of data
   pub record Steps (piece : ℕ) (now : Stage) (old new : WalkState R W E C) (result : Next Stage)
       : Type 0 where
     pub holds : (start : Devices R W E) (history : List ℕ) → IfWalkAtStage start now old history
@@ -266,7 +271,7 @@ module _ {R W E C : Type 0} (look : Looks R W E) (telling : Telling)
         new.writers new.joiner new.consumer history result)
     pub waits : WalkWaits now old new
 
-  -- a stride that begins at the stage `now`
+  -- what a stride does that begins at the stage `now`
   pub record Strides (now : Stage) (old new : WalkState R W E C)
       (result : Next Stage) : Type 0 where
     pub holds : (start : Devices R W E) (history : List ℕ) → IfWalkAtStage start now old history

@@ -46,7 +46,8 @@ pub trait Consumer: Sized {
     /// Exactly these events have come, and the tool's fields agree with them.
     ghost knows: { Self.Options → Self → List WalkEvent → Type 0 };
 
-    /// How the tool goes about a stream.
+    /// How the tool goes about a stream: whether it goes on after a fault of the order, and whether
+    /// it is told of all heads.
     fn manner(options: &Self::Options) -> Manner
         ensures { result ≡ (telling options.now).manner };
 

@@ -163,7 +163,9 @@ impl<C: Consumer> Walker<C> {
         }
     }
 
-    /// Reads the contact header.
+    /// Reads the contact header, and tells the consumer of it.
+    ///
+    /// It takes no data. So the limit in the contract, 4096 bytes of data, does not matter.
     fn open<R: InDevice, W: OutDevice, E: OutDevice>(
         &mut self,
         options: &C::Options,
@@ -186,6 +188,8 @@ impl<C: Consumer> Walker<C> {
     }
 
     /// Reads the head of a message, and tells the consumer of it.
+    ///
+    /// It takes no data. So the limit in the contract, 4096 bytes of data, does not matter.
     #[inline(always)]
     fn take_message<R: InDevice, W: OutDevice, E: OutDevice>(
         &mut self,
@@ -476,7 +480,7 @@ impl<C: Consumer> Walker<C> {
         consumer.event(options, EventView::Inner { head, bytes }, writers)
     }
 
-    /// Ends the run after a stream that ends between two messages.
+    /// Ends the run after a stream that ends between two messages, and returns the status.
     #[inline(never)]
     fn finish<W: OutDevice, E: OutDevice>(
         &mut self,

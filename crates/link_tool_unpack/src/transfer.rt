@@ -55,7 +55,7 @@ impl TransferScan {
     /// Begins the transfer whose first segment has this head. Its bytes in the output come after
     /// those of the transfer before it.
     ///
-    /// The contract holds for any `wanted` and any `closed`.
+    /// The contract holds for any `wanted`, whether the transfer is `closed` or not.
     pub fn begin(&mut self, message: &MessageBuffer)
         requires { SegmentTotalsFit message.now }
         ensures follows { (wanted : Wanted) (head : SegmentHead) (closed : _)
@@ -97,7 +97,7 @@ impl TransferScan {
         part
     }
 
-    /// The bytes to be written of a piece that the judge has seen.
+    /// The bytes to be written of a piece, the last that the judge has seen.
     ///
     /// The contract holds for any `closed`.
     fn part<'a>(&self, wanted: &Wanted, piece: &'a [u8]) -> &'a [u8]
@@ -122,7 +122,7 @@ impl TransferScan {
         }
     }
 
-    /// The line of the transfer, which was `abandoned`, or else is closed.
+    /// The line of the transfer. If `abandoned`, the transfer was abandoned, and else it is closed.
     #[inline(always)]
     pub fn line(&self, abandoned: bool) -> TransferText<'_>
         ensures text { (wanted : Wanted) (transfer : Transfer) (earlier : List Transfer)

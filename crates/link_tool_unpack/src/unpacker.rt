@@ -66,6 +66,7 @@ impl Consumer for Unpacker {
                 if let Err(fault) = tell_order(head.offset, head.fault, writers, &mut self.good) {
                     return Err(fault);
                 }
+                // `report` takes whether the line is due, and whether the transfer was abandoned.
                 if let Err(fault) = report(options, head.abandons(), true, writers, self) {
                     return Err(fault);
                 }
@@ -95,7 +96,7 @@ impl Consumer for Unpacker {
 }
 
 /// If the line of the latest transfer is `due`, writes it, and sets `good` to false if the transfer
-/// is not good. The transfer was `abandoned`, or else is closed.
+/// is not good. If `abandoned`, the transfer was abandoned, and else it is closed.
 #[inline(always)]
 fn report<W: OutDevice, E: OutDevice>(
     wanted: &Wanted,
@@ -120,8 +121,8 @@ fn report<W: OutDevice, E: OutDevice>(
     }
 }
 
-/// Writes the line of the latest transfer, which was `abandoned`, or else is closed. If the
-/// transfer is not good, `good` becomes false.
+/// Writes the line of the latest transfer. If `abandoned`, the transfer was abandoned, and else it
+/// is closed. If the transfer is not good, `good` becomes false.
 #[inline(never)]
 fn report_line<W: OutDevice, E: OutDevice>(
     abandoned: bool,

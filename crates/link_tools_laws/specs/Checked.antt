@@ -22,6 +22,7 @@ IsGoodOrUnread content (LengthDiffers announced) = ⊥
 IsGoodOrUnread content (Bad fault offset) = may_be_bundle (unread_of content) fault offset ≡ true
 IsGoodOrUnread content (Good info) = Unit {0}
 
+-- the report may have this transfer
 abbrev pub IsAllowed : Transfer → Type 0
 IsAllowed transfer = IsGoodOrUnread transfer.content (judgement_of transfer)
 

@@ -24,7 +24,7 @@ abbrev pub going_on : Wanted → Wanted
 going_on wanted =
     record { only = wanted.only; payload = wanted.payload; keep_going = true }
 
--- the same options, with which it ends the run
+-- the same options, with which a fault of the order ends the run
 abbrev pub stopping : Wanted → Wanted
 stopping wanted =
     record { only = wanted.only; payload = wanted.payload; keep_going = false }
@@ -45,7 +45,7 @@ abbrev pub HasEveryByte : List ℕ → Type 0
 HasEveryByte bytes =
     ((unpack_tool all).whole bytes).texts.output ≡ flat_map data_of (order_of bytes).heads
 
--- the heads that are not stray, of those that come after the messages `before`
+-- a head and the rest, or the rest alone if the head is stray
 abbrev pub prepended_unless : (stray : Bool) → Entry → List Entry → List Entry
 prepended_unless true head rest = rest
 prepended_unless false head rest = head ∷ rest
@@ -73,12 +73,13 @@ entries_of wanted [] = []
 entries_of wanted (latest ∷ earlier) =
     entries_of wanted earlier ++ entry_of wanted latest (length (parts_of wanted earlier)) ∷ []
 
--- the first entry begins at `start`, and each other where the one before it ends
+-- in the output, the first entry begins at `start`, and each other one where the one before it ends
 unfoldable pub AreConsecutive : (start : ℕ) → List TransferEntry → Type 0
 AreConsecutive start [] = Unit {0}
 AreConsecutive start (entry ∷ more) = (entry.start ≡ start)
     × AreConsecutive (start + entry.written) more
 
+-- the number of bytes in the output that the lines of these entries describe
 unfoldable pub total_written : List TransferEntry → ℕ
 total_written [] = 0
 total_written (entry ∷ more) = entry.written + total_written more
@@ -97,7 +98,7 @@ lined (Some stop) transfers = settled transfers
 abbrev pub reported : List ℕ → List Transfer
 reported bytes = lined (stream_stop bytes) (transfers_of (order_of bytes).heads)
 
--- the line of the fault, if there is one
+-- the line of the fault at which a stream stops, if there is one
 abbrev pub stop_line : Option StreamStop → List ℕ
 stop_line None = []
 stop_line (Some stop) = fault_text stop.fault
@@ -127,14 +128,17 @@ pub data ReportLine : Type 0 where
   OfHead : (offset : ℕ) (fault : OrderFault) → ReportLine
   OfTransfer : (entry : TransferEntry) → ReportLine
 
+-- the text of a line
 abbrev pub line_text : ReportLine → List ℕ
 line_text (OfHead offset fault) = fault_text (Order offset fault)
 line_text (OfTransfer entry) = transfer_text entry
 
+-- the entry of a line of a transfer, as a list; `[]` for a line of a head
 abbrev pub entry_in : ReportLine → List TransferEntry
 entry_in (OfHead offset fault) = []
 entry_in (OfTransfer entry) = entry ∷ []
 
+-- the offset and the fault of a line of a head, as a list; `[]` for a line of a transfer
 abbrev pub fault_in : ReportLine → List (ℕ × OrderFault)
 fault_in (OfHead offset fault) = (offset, fault) ∷ []
 fault_in (OfTransfer entry) = []
@@ -144,14 +148,15 @@ abbrev pub fault_at : (offset : ℕ) → Option OrderFault → List (ℕ × Orde
 fault_at offset None = []
 fault_at offset (Some fault) = (offset, fault) ∷ []
 
--- the faults of those of these heads that are not in order; the heads come after `before`
+-- the offsets and faults of the heads that are not in order, if the heads come after `before`
 unfoldable pub faults_after : List Message → List Entry → List (ℕ × OrderFault)
 faults_after before [] = []
 faults_after before (head ∷ more) =
     fault_at head.offset (refusal before (event_of head.message))
     ++ faults_after (with_taken before head.message) more
 
--- the transfers that have a line in the report, if a fault of the order does not end the run
+-- the transfers that have a line in the report, the latest first, if a fault of the order does not
+-- end the run
 abbrev pub reported_on : Wanted → List ℕ → List Transfer
 reported_on wanted bytes =
     let reading = reading_of bytes in

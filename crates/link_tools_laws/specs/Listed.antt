@@ -12,9 +12,11 @@ use Rattle.link_tool_pack.specs.Segments.{Sending, cut_at, flags_of}
 
 -- ---- a segment
 
+-- the flags of the segment of chunk number `k`
 abbrev pub flags_at : Sending → (k : ℕ) → ℕ
 flags_at sending k = flags_of (cut_at sending k).first (cut_at sending k).last
 
+-- the number of bytes of data in the segment of chunk number `k`
 abbrev pub length_at : Sending → (k : ℕ) → ℕ
 length_at sending k = length (chunk_at sending.segment k sending.bundle)
 
@@ -24,7 +26,7 @@ segment_line id sending k offset =
     message_text offset (segment_with (flags_at sending k) id (length_at sending k)
     (cut_at sending k).announce)
 
--- the number of bytes of the segment: its head and its data
+-- the number of bytes of the segment of chunk number `k`: its head and its data
 abbrev pub size_of_segment : Sending → (k : ℕ) → ℕ
 size_of_segment sending k =
     segment_head_size (flags_at sending k) (cut_at sending k).announce + length_at sending k
@@ -46,6 +48,7 @@ size_of_segments sending k (suc count) =
 
 -- ---- bundles
 
+-- the number of chunks of a bundle, each of which is the data of one segment
 abbrev pub chunks_of : PackOptions → Packed → ℕ
 chunks_of options bundle = chunk_count (segment_size options) (length bundle.bytes)
 

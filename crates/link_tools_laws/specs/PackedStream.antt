@@ -10,7 +10,7 @@ use Rattle.link_run_judge.specs.Transfers.{Transfer}
 use Rattle.link_tools_laws.specs.Transfers.{ordered, transfers_of}
 
 -- A segment has some data. It has no more than the peer takes (RFC 9174 section 4.6), and no more
--- than 65,536 bytes.
+-- than the 65,536 bytes that `pack` puts into one segment.
 abbrev pub SegmentFits : PackOptions → Message → Type 0
 SegmentFits options (Segment head) =
     (0 < head.length) × (head.length ≤ options.peer_segment) × (head.length ≤ 65536)

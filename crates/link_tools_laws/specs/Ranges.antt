@@ -12,7 +12,7 @@ pub record OptionsFit (options : PackOptions) : Type 0 where
   pub node : AreBytes options.node.items
   pub short : length options.node.items ≤ longest_node
 
--- the input is bytes, and fewer of them than there are transfer IDs
+-- the members of the input are bytes, and there are fewer of them than transfer IDs (2^64)
 pub record InputFits (bytes : List ℕ) : Type 0 where
   pub are : AreBytes bytes
   pub few : length bytes < 2 ^ 64

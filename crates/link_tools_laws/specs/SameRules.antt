@@ -29,13 +29,14 @@ broken_in_transfer carried =
     (map (λ rule. Bundle (place.Transfer carried.id) rule)
     (bundle_rules carried.bundle.bytes carried.bundle.info))
 
--- whether it is a rule of bundles
+-- whether a broken rule is a rule of bundles
 abbrev pub is_of_bundle : BrokenRule → Bool
 is_of_bundle (Message rule) = false
 is_of_bundle (Transfer id rule) = false
 is_of_bundle (Bundle where_it_is rule) = true
 
--- the lines of these rules, and the status that says whether any of them counts
+-- What `check` makes of these broken rules: a line for each that counts, and status 1 if one does.
+-- If `must`, only rules of that level count.
 abbrev pub reports : (must : Bool) → (broken : List RuleText) → Outcome
 reports must broken = record {
   texts = on_output (lines_of must broken);

@@ -25,14 +25,15 @@ abbrev pub ordered_by : Option OrderFault → Entry → Ordered → Ordered
 ordered_by (Some fault) head rest = record { heads = []; refused = Some (head.offset, fault) }
 ordered_by None head rest = record { heads = head ∷ rest.heads; refused = rest.refused }
 
--- The order of heads that come after these messages. All messages before a head decide whether it
--- is in order.
+-- The order of heads that come after the messages `before`. All messages before a head decide
+-- whether the head is in order.
 unfoldable pub ordered_after : List Message → List Entry → Ordered
 ordered_after before [] = record { heads = []; refused = None }
 ordered_after before (head ∷ more) =
     ordered_by (refusal before (event_of head.message)) head
     (ordered_after (before ++ head.message ∷ []) more)
 
+-- the order of the heads of a whole stream
 unfoldable pub ordered : List Entry → Ordered
 ordered heads = ordered_after [] heads
 
@@ -48,19 +49,21 @@ abbrev pub settled : List Transfer → List Transfer
 settled [] = []
 settled (latest ∷ earlier) = if latest.closed then latest ∷ earlier else earlier
 
--- a line for each transfer
+-- a line for each transfer; the list begins with the latest, and the lines end with it
 unfoldable pub lines_of : Wanted → List Transfer → List ℕ
 lines_of wanted [] = []
 lines_of wanted (latest ∷ earlier) = lines_of wanted earlier ++ line_of wanted latest earlier
 
+-- whether all transfers are good
 unfoldable pub are_good : List Transfer → Bool
 are_good transfers = list_all (λ transfer. is_good (judgement_of transfer)) transfers
 
 -- ---- a stream that stops at a fault of the order
 
--- The stream stops at the first head that is not in order, or else where its reading stops. An open
--- transfer has no line, since it may go on. If the stream ends between two messages, the open
--- transfer is abandoned, and has its line.
+-- What `unpack` makes of heads if a fault of the order ends the run. The stream stops at the first
+-- head that is not in order, or else where its reading stops. An open transfer has no line, since
+-- it may go on. If the stream ends between two messages, the open transfer is abandoned, and has
+-- its line.
 abbrev pub unpacking_by : Wanted → End → Ordered → Made
 unpacking_by wanted end order =
     let transfers = transfers_of order.heads in
@@ -87,6 +90,7 @@ pub record Unpacked : Type 0 where
   -- whether every head was in order
   pub in_order : Bool
 
+-- before the first head
 abbrev pub none_unpacked : Unpacked
 none_unpacked = record { taken = []; transfers = []; report = []; in_order = true }
 
@@ -131,10 +135,12 @@ with_head wanted before head =
       in_order = before.in_order && not (is_some fault);
     }
 
+-- what `unpack` makes of these heads, if a fault of the order does not end the run
 unfoldable pub unpacked_of : Wanted → List Entry → Unpacked
 unpacked_of wanted heads = fold (with_head wanted) none_unpacked heads
 
--- Only the end of the reading stops such a stream. At a clean end the open transfer is abandoned.
+-- What `unpack` makes of a stream if a fault of the order does not end the run. Only the end of the
+-- reading stops the stream. At a clean end the open transfer is abandoned.
 abbrev pub going_on_by : Wanted → End → Unpacked → Made
 going_on_by wanted end unpacked = record {
   texts = record { output = parts_of wanted unpacked.transfers; report = unpacked.report };

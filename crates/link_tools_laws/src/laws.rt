@@ -213,7 +213,7 @@ fn are_bytes(bytes: &[u8])
     ensures { AreBytes bytes.now }
 {}
 
-/// A node ID is at most 1,024 bytes.
+/// A node ID has at most 1,024 bytes.
 fn node_fits(node: &NodeId)
     ensures bytes { AreBytes node.now.items }
     ensures short { length node.now.items ≤ 1024 }
@@ -221,7 +221,7 @@ fn node_fits(node: &NodeId)
     are_bytes(node.as_slice());
 }
 
-/// The options fit in the fields of SESS_INIT (RFC 9174 section 4.6).
+/// The options of `pack` fit in the fields of SESS_INIT (RFC 9174 section 4.6).
 fn options_fit(options: &PackOptions)
     ensures { OptionsFit options.now }
 {
@@ -231,7 +231,7 @@ fn options_fit(options: &PackOptions)
     node_fits(&options.node);
 }
 
-/// The input is bytes, and fewer of them than there are transfer IDs.
+/// The members of a slice are bytes, and there are fewer of them than transfer IDs (2^64).
 fn input_fits(bytes: &[u8])
     ensures { InputFits bytes.now }
 {

@@ -13,8 +13,8 @@ ghost use Rattle.link_tools_laws.specs.Withheld.{SaysLess, WithholdsNothing};
 
 use link_wire::laws::exactly_one_reading;
 
-/// The texts that some bytes determine have all that the texts of the inputs that begin with these
-/// bytes share.
+/// What the texts of all inputs that begin with some bytes share, the texts that these bytes
+/// determine have too.
 ///
 /// Let all these inputs have the same bytes at the beginning of their outputs. Then the determined
 /// output has these bytes. Let all of them have the same whole lines at the beginning of their
@@ -29,8 +29,8 @@ pub fn sofar_is_all()
 
 /// A definition that withholds something breaks the law.
 ///
-/// It makes the same of whole inputs, and lacks bytes of the output that some bytes determine, or
-/// whole lines of the report.
+/// Let a definition make the same of whole inputs as the tool. After some bytes, let it lack bytes
+/// of the output, or whole lines of the report. Then the law `sofar_is_all` does not hold of it.
 pub fn less_is_not_all()
     ensures list { (less : Tool) (bytes : List ℕ) → SaysLess list_tool less bytes
         → WithholdsNothing less bytes → ⊥ }
