@@ -110,7 +110,11 @@ impl BundleScan {
         if !self.ends_block() {
             return None;
         }
-        Some(self.draft.last_block(self.cursor.count))
+        let end = self.cursor.count;
+        if self.draft.numbers.as_slice().is_empty() {
+            return Some(BlockView::Primary(self.draft.primary_block(end)));
+        }
+        Some(BlockView::Canonical(self.draft.canonical_block(end)))
     }
 
     /// The canonical block that the bytes seen cut short, if they end in its data or check field.

@@ -3,7 +3,7 @@ ghost use Rattle.std.specs.Prelude.{◌≡◌, ◌<◌, [], IsTrue, None, length
 ghost use Rattle.link_bundle.specs.Fits.{stage_fits};
 
 use crate::stage::ScanStage;
-use link_bundle_blocks::{BlockView, CanonicalBlock, PrimaryBlock};
+use link_bundle_blocks::{CanonicalBlock, PrimaryBlock};
 use link_bundle_heads::row;
 use link_bundle_types::{BlockNumbers, BundleView, KeptEid};
 use link_cbor::CheckKind;
@@ -36,8 +36,8 @@ impl Draft {
     ghost use Rattle.link_bundle_blocks.specs.Bundle.{info_of};
     ghost use Rattle.link_bundle_types.specs.BundleView.{viewed_info};
     ghost use Rattle.link_bundle_types.specs.ShortNames.{HasShortNames};
-    ghost use Rattle.link_bundle_blocks.specs.Blocks.{PrimaryOf, viewed_block, viewed_primary, IsShortBlock, HasShortEids};
-    ghost use Rattle.link_bundle.specs.Left.{primary_of, span_of, last_block, stage_block, with_primary};
+    ghost use Rattle.link_bundle_blocks.specs.Blocks.{ended, viewed_primary, HasShortEids};
+    ghost use Rattle.link_bundle.specs.Left.{primary_of, span_of, stage_block, with_primary};
 
     /// The draft of a bundle before its first byte.
     pub fn new() -> Draft
@@ -125,18 +125,14 @@ impl Draft {
         }
     }
 
-    /// The block that ended last, before the offset `end`.
+    /// The last canonical block, which ends before the offset `end`.
     #[inline(always)]
-    pub fn last_block(&self, end: u64) -> BlockView<'_>
-        ensures block { viewed_block result ≡ last_block self.now end }
-        ensures short { IsShortBlock (viewed_block result) }
+    pub fn canonical_block(&self, end: u64) -> CanonicalBlock
+        ensures { result ≡ ended self.now.block end }
     {
-        if self.numbers.as_slice().is_empty() {
-            return BlockView::Primary(self.primary_block(end));
-        }
         let mut block = self.block;
         block.end = Some(end);
-        BlockView::Canonical(block)
+        block
     }
 
     /// The canonical block whose data or check field goes on at a stage.

@@ -43,6 +43,7 @@ pub struct PrimaryView<'a> {
 
 impl<'a> PrimaryView<'a> {
     /// The fields of a whole block.
+    #[inline(always)]
     pub fn of(block: PrimaryBlock<'a>) -> PrimaryView<'a>
         ensures { viewed_fields result ≡ all_fields (viewed_primary block.entry) }
     {
@@ -65,6 +66,8 @@ impl<'a> PrimaryView<'a> {
     /// The fields of a block whose first elements were accepted, `count` of them.
     ///
     /// Endpoint IDs of later elements are left out. Their other fields have to be 0 or `None`.
+    // Inlined, since a caller knows most fields of the block: they are not read yet.
+    #[inline(always)]
     pub(crate) fn first(count: u64, block: PrimaryBlock<'a>) -> PrimaryView<'a>
         ensures { viewed_fields result ≡ first_elements count (viewed_primary block.entry) }
     {

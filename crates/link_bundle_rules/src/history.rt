@@ -67,7 +67,12 @@ impl BundleHistory {
         }
         self.blocks.push(BlockFacts::of(read));
         if is_security(read.block.block_type) {
-            self.take_security(read);
+            // The call gets copies. Otherwise every block would be put into memory for it.
+            let block = *read.block;
+            self.take_security(&ReadBlockView {
+                block: &block,
+                ..*read
+            });
         }
     }
 

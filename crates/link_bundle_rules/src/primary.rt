@@ -58,6 +58,7 @@ impl PrimaryFacts {
     ghost use Rattle.link_rules_shared.specs.declared.level.Level.TheVariants.{Must, Should};
 
     /// What the rules need of this primary block.
+    #[inline(always)]
     pub(crate) fn of(primary: &PrimaryBlock<'_>) -> PrimaryFacts
         ensures { result ≡ primary_facts (viewed_primary primary.now) primary.now.check }
     {

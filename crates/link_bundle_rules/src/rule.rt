@@ -272,6 +272,9 @@ impl BundleRule {
 
 /// Any rule, for the places of a list that are not used.
 impl Default for BundleRule {
+    // Not inlined: the compiler would fill the 36 places of a list one by one, in 1,700
+    // instructions.
+    #[inline(never)]
     fn default() -> BundleRule {
         BundleRule::PreviousNode { blocks: 0 }
     }

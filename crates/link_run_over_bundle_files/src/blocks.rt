@@ -118,11 +118,47 @@ fn tell_ended<C: BlockConsumer, W: OutDevice, E: OutDevice>(
         (IsDataReaderAt reader.new (seen ++ run.now) × C.knows consumer.new (seen ++ run.now))
         writers.old writers.new result }
 {
-    let ended = scan.ended_block();
-    let Some(block) = &ended else {
+    match scan.ended_block() {
+        // Each kind has a call of its own. For one call, the compiler would merge their fields.
+        Some(BlockView::Primary(block)) => {
+            let block = BlockView::Primary(block);
+            tell_block(number, before, run, &block, scan, reader, consumer, writers)
+        }
+        Some(BlockView::Canonical(block)) => {
+            let block = BlockView::Canonical(block);
+            tell_block(number, before, run, &block, scan, reader, consumer, writers)
+        }
         // No run comes here without a block, by the condition `ended`.
-        return Ok(());
-    };
+        None => Ok(()),
+    }
+}
+
+/// [`tell_run`] for a run that ends with this block.
+#[inline(always)]
+fn tell_block<C: BlockConsumer, W: OutDevice, E: OutDevice>(
+    number: u64,
+    before: u64,
+    run: &[u8],
+    block: &BlockView<'_>,
+    scan: &BundleScan,
+    reader: &mut DataReader,
+    consumer: &mut C,
+    writers: &mut Writers<W, E>,
+) -> Result<(), IoFault>
+    requires room { before + length run.now < 2 ^ 63 }
+    requires read { read_size reader.old ≤ before }
+    requires ended { ending scan.now ≡ viewed_block block.now ∷ [] }
+    requires short { IsShortBlock (viewed_block block.now) }
+    ensures read { read_size reader.new ≤ before + length run.now }
+    ensures gives { (seen : List ℕ) → length seen ≡ before → bundle_goes seen ≡ true
+        → HasScanned scan.now (seen ++ run.now)
+        → blocks_in (seen ++ run.now) ≡ blocks_in seen ++ ending scan.now
+        → IsDataReaderAt reader.old seen → C.knows consumer.old seen
+        → WritesRest W.state E.state (on_output (C.says number seen))
+        (on_output (C.says number (seen ++ run.now)))
+        (IsDataReaderAt reader.new (seen ++ run.now) × C.knows consumer.new (seen ++ run.now))
+        writers.old writers.new result }
+{
     reader.follow(before, run, block, scan);
     consumer.block(number, block, reader, writers)
 }

@@ -3,4 +3,5 @@ mod Blocks
 mod BundleTexts
 mod Closed
 mod Kept
+mod Offsets
 mod Writing

@@ -71,8 +71,33 @@ impl BlockConsumer for KeptBlocks {
         (refl, history_same before more kept.begun kept.history same) };
 }
 
-/// Adds a whole block to a history. Its data was read.
-fn add<'a>(history: &mut BundleHistory, block: &'a CanonicalBlock, reader: &'a DataReader)
+/// Adds a whole block to a history. The reader has read its data, if such data is read.
+#[inline(always)]
+fn add(history: &mut BundleHistory, block: &CanonicalBlock, reader: &DataReader)
+    requires { read_size reader.now < 2 ^ 63 }
+    ensures { (seen : List ℕ) → length history.old.blocks.items < 64
+        → block.now.data_start < 2 ^ 63
+        → IsDataReaderIn reader.now seen block.now
+        → bundle_of history.new None 0 ≡ with_block (bundle_of history.old None 0) block.now
+        (found_in reader.now.flags seen block.now) (long_head_in reader.now.flags seen block.now) }
+{
+    match reader.found() {
+        None => history.take(&ReadBlockView {
+            block,
+            found: None,
+            long_head: reader.long_head(),
+        }),
+        Some(_) => {
+            // The call gets a copy. Otherwise every block would be put into memory for it.
+            let block = *block;
+            add_read(history, &block, reader);
+        }
+    }
+}
+
+/// [`add`] for a block whose data is read. This one is not inlined.
+#[inline(never)]
+fn add_read<'a>(history: &mut BundleHistory, block: &'a CanonicalBlock, reader: &'a DataReader)
     requires { read_size reader.now < 2 ^ 63 }
     ensures { (seen : List ℕ) → length history.old.blocks.items < 64
         → block.now.data_start < 2 ^ 63
